@@ -1,0 +1,5 @@
+pub mod Cut
+pub mod Faults
+pub mod Inputs
+pub mod Numbers
+pub mod Turns

@@ -1,0 +1,16 @@
+use Rattle.std.proofs.Common.{◌≡◌, subst, sym}
+use Rattle.wasm_ast.specs.declared.module.Module.{Module}
+use Rattle.console.specs.Engine.{Answers}
+use Rattle.console.proofs.Faults.{OnOk-along}
+use Rattle.console.proofs.engine.call.Goals as goal
+
+pub returns-clause-answer : goal.returns-clause-answer
+returns-clause-answer g c =
+    OnOk-along c.answer.result
+    (λ h. (h.0, record { m = c.in_ok-straight.straight; loads = c.in_ok-straight.ensures.loaded; answers = h.1 }, h.2))
+    c.answer.ensures.answer
+
+pub returns-clause-answered : goal.returns-clause-answered
+returns-clause-answered g c = λ lines is.
+    let same : c.in_ok-straight.straight ≡ is.m = c.in_ok-straight.ensures.only is.m is.loads in
+    c.answer.ensures.answered lines (subst (λ (m : Module). Answers m c.args.input.now lines) (sym same) is.answers)

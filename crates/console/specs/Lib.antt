@@ -1,0 +1,5 @@
+pub mod Fields
+pub mod Input
+pub mod Lines
+pub mod Refusal
+pub mod Engine

@@ -1,0 +1,28 @@
+-- How a call's outcome is printed.
+use Rattle.std.specs.Prelude.{ℕ, ℤ, Bool, true, false, List, [], ◌∷◌, ◌++◌, codes}
+use Rattle.std.specs.List.{flat_map}
+use Rattle.std.specs.Fmt.{decimal, signed_decimal}
+use Rattle.interp.specs.declared.call.CallOutcome.{CallOutcome}
+
+abbrev pub line : List ℕ → List ℕ
+line text = text ++ 10 ∷ []
+
+-- a vertex that voted to halt is not active
+abbrev pub active_digit : Bool → ℕ
+active_digit true = 0
+active_digit false = 1
+
+abbrev pub send_line : ℤ × ℤ → List ℕ
+send_line message = line (codes "send " ++ signed_decimal message.0 ++ codes " " ++ signed_decimal message.1)
+
+abbrev pub give_line : ℕ × ℤ → List ℕ
+give_line contribution = line (codes "give " ++ decimal contribution.0 ++ codes " " ++ signed_decimal contribution.1)
+
+-- the value, whether the vertex is active, the units, and then sends and contributions in their order
+abbrev pub outcome_lines : CallOutcome → List ℕ
+outcome_lines outcome =
+    line (codes "value " ++ signed_decimal outcome.value)
+    ++ line (codes "active " ++ decimal (active_digit outcome.halted))
+    ++ line (codes "units " ++ decimal outcome.units)
+    ++ flat_map send_line outcome.sends.items
+    ++ flat_map give_line outcome.contributions.items

@@ -1,0 +1,50 @@
+//! The lines of an outcome.
+
+ghost use Rattle.std.specs.Prelude.{◌≡◌, ◌++◌, IfOk, OnOk, string_bytes};
+ghost use Rattle.std.specs.List.{flat_map};
+ghost use Rattle.console.specs.Lines.{active_digit, give_line, outcome_lines, send_line};
+
+use interp::CallOutcome;
+use std::alloc::{AllocError, Global};
+
+/// What is printed of a call's outcome.
+///
+/// The first three lines are `value V`, `active 1`, or `active 0` where the vertex voted to halt, and `units U`. Then
+/// come `send TARGET VALUE` for each message and `give SLOT VALUE` for each contribution. Each line ends with a line
+/// feed. It fails only for want of memory.
+pub fn outcome_text(alloc: Global, outcome: &CallOutcome) -> Result<String, AllocError>
+    ensures { IfOk result (λ text. string_bytes text ≡ outcome_lines outcome.now) }
+{
+    let mut text = String::new(alloc);
+    writeln!(text, "value {}", outcome.value)?;
+    let active = active_digit(outcome.halted);
+    writeln!(text, "active {active}")?;
+    writeln!(text, "units {}", outcome.units)?;
+    push_sends(&mut text, &outcome.sends)?;
+    push_contributions(&mut text, &outcome.contributions)?;
+    Ok(text)
+}
+
+fn active_digit(halted: bool) -> u8
+    ensures { result ≡ active_digit halted }
+{
+    if halted { 0 } else { 1 }
+}
+
+fn push_sends(text: &mut String, sends: &[(i64, i64)]) -> Result<(), AllocError>
+    ensures { OnOk result (string_bytes text.new ≡ string_bytes text.old ++ flat_map send_line sends.now) }
+{
+    for (target, value) in sends {
+        writeln!(text, "send {target} {value}")?;
+    }
+    Ok(())
+}
+
+fn push_contributions(text: &mut String, contributions: &[(u32, i64)]) -> Result<(), AllocError>
+    ensures { OnOk result (string_bytes text.new ≡ string_bytes text.old ++ flat_map give_line contributions.now) }
+{
+    for (slot, value) in contributions {
+        writeln!(text, "give {slot} {value}")?;
+    }
+    Ok(())
+}

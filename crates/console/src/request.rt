@@ -1,0 +1,8 @@
+//! What the program is asked for.
+
+/// What the command line asks for.
+#[derive(Clone, Copy, Debug, PartialEq, Eq)]
+pub enum Options<'a> {
+    /// Call the module in one file with the input in the other.
+    Call { module: &'a str, input: &'a str },
+}

@@ -1,0 +1,12 @@
+pub mod Names
+pub mod Steps
+pub mod Calls
+pub mod Walks
+pub mod Numbers
+pub mod Effects
+pub mod Sound
+pub mod Outcome
+pub mod Modules
+pub mod Exact
+pub mod Distinct
+pub mod Types

@@ -1,0 +1,9 @@
+pub mod Host
+pub mod Machine
+pub mod Call
+pub mod Typing
+pub mod Straight
+pub mod Checker
+pub mod Acts
+pub mod HostCalls
+pub mod Walk

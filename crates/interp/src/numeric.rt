@@ -1,0 +1,98 @@
+//! Numeric instructions (Core 1.0, 4.4.1) on the operands.
+
+ghost use Rattle.interp.specs.Machine.{State, numeric_effect};
+ghost use Rattle.interp.specs.Acts.{Acts};
+ghost use Rattle.wasm_ast.specs.declared.numeric.Numeric.TheVariants as numeric;
+
+use crate::operands::Operands;
+use crate::walk_fault::WalkFault;
+use wasm_ast::{
+    Binary, Comparison, Conversion, Numeric, Unary, ValType, Value, i32_eqz, i32_wrap_i64, i64_eqz,
+    i64_extend_i32_s, i64_extend_i32_u,
+};
+
+/// Takes the operands of a numeric instruction and gives its result; the divisions have none.
+pub fn act_numeric(op: Numeric, operands: &mut Operands) -> Result<(), WalkFault>
+    ensures { (st : State) → Acts result (numeric_effect op operands.old st) operands.new st }
+{
+    match op {
+        Numeric::Eqz(of) => act_eqz(of, operands),
+        Numeric::Comparison(of, comparison) => act_comparison(of, comparison, operands),
+        Numeric::Unary(of, unary) => act_unary(of, unary, operands),
+        Numeric::Binary(of, binary) => act_binary(of, binary, operands),
+        Numeric::Division(_, _) => Err(WalkFault::Stuck),
+        Numeric::Conversion(conversion) => act_conversion(conversion, operands),
+    }
+}
+
+fn act_eqz(of: ValType, operands: &mut Operands) -> Result<(), WalkFault>
+    ensures { (st : State) → Acts result (numeric_effect (numeric.Eqz of) operands.old st) operands.new st }
+{
+    let answer = match of {
+        ValType::I32 => i32_eqz(operands.pop_i32()?),
+        ValType::I64 => i64_eqz(operands.pop_i64()?),
+    };
+    operands.push(Value::I32(answer))?;
+    Ok(())
+}
+
+fn act_comparison(
+    of: ValType,
+    comparison: Comparison,
+    operands: &mut Operands,
+) -> Result<(), WalkFault>
+    ensures { (st : State) → Acts result (numeric_effect (numeric.Comparison of comparison) operands.old st) operands.new st }
+{
+    let holds = match of {
+        ValType::I32 => {
+            let second = operands.pop_i32()?;
+            comparison.holds_i32(operands.pop_i32()?, second)
+        }
+        ValType::I64 => {
+            let second = operands.pop_i64()?;
+            comparison.holds_i64(operands.pop_i64()?, second)
+        }
+    };
+    operands.push(Value::I32(u32::from(holds)))?;
+    Ok(())
+}
+
+fn act_unary(of: ValType, unary: Unary, operands: &mut Operands) -> Result<(), WalkFault>
+    ensures { (st : State) → Acts result (numeric_effect (numeric.Unary of unary) operands.old st) operands.new st }
+{
+    let value = match of {
+        ValType::I32 => Value::I32(unary.apply_i32(operands.pop_i32()?)),
+        ValType::I64 => Value::I64(unary.apply_i64(operands.pop_i64()?)),
+    };
+    operands.push(value)?;
+    Ok(())
+}
+
+fn act_binary(of: ValType, binary: Binary, operands: &mut Operands) -> Result<(), WalkFault>
+    ensures { (st : State) → Acts result (numeric_effect (numeric.Binary of binary) operands.old st) operands.new st }
+{
+    let value = match of {
+        ValType::I32 => {
+            let second = operands.pop_i32()?;
+            Value::I32(binary.apply_i32(operands.pop_i32()?, second))
+        }
+        ValType::I64 => {
+            let second = operands.pop_i64()?;
+            Value::I64(binary.apply_i64(operands.pop_i64()?, second))
+        }
+    };
+    operands.push(value)?;
+    Ok(())
+}
+
+fn act_conversion(conversion: Conversion, operands: &mut Operands) -> Result<(), WalkFault>
+    ensures { (st : State) → Acts result (numeric_effect (numeric.Conversion conversion) operands.old st) operands.new st }
+{
+    let value = match conversion {
+        Conversion::Wrap => Value::I32(i32_wrap_i64(operands.pop_i64()?)),
+        Conversion::ExtendS => Value::I64(i64_extend_i32_s(operands.pop_i32()?)),
+        Conversion::ExtendU => Value::I64(i64_extend_i32_u(operands.pop_i32()?)),
+    };
+    operands.push(value)?;
+    Ok(())
+}

@@ -1,0 +1,9 @@
+pub mod Bits
+pub mod Answers
+pub mod Faults
+pub mod Places
+pub mod Powers
+pub mod Shortest
+pub mod Signed
+pub mod Unsigned
+pub mod Writing

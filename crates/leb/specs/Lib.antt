@@ -1,0 +1,4 @@
+pub mod Bytes
+pub mod Faults
+pub mod Reading
+pub mod Spelling

@@ -1,0 +1,133 @@
+-- The values of numeric instructions (Core 1.0, 4.3). A value of N bits is a number below 2 ^ N, and each
+-- operation takes N first.
+use Rattle.std.specs.Prelude.{ℕ, suc, ◌+◌, ◌-◌, ◌*◌, ◌/◌, ◌%◌, ◌^◌, ℤ, pos, negsuc, ◌-ℤ◌, Bool, true, false, not, ◌==◌, nat_lt, nat_le, int_lt, int_le, if◌then◌else◌, bit_and, bit_or, bit_xor, count_ones}
+use Rattle.std.specs.Int.{int_div_euclid}
+use lib.Count.{count_leading_zeros, count_trailing_zeros}
+use Rattle.wasm_ast.specs.declared.types.ValType.{ValType}
+use Rattle.wasm_ast.specs.declared.types.ValType.TheVariants.{I32, I64}
+use Rattle.wasm_ast.specs.declared.numeric.Unary.{Unary}
+use Rattle.wasm_ast.specs.declared.numeric.Unary.TheVariants.{Clz, Ctz, Popcnt}
+use Rattle.wasm_ast.specs.declared.numeric.Binary.{Binary}
+use Rattle.wasm_ast.specs.declared.numeric.Binary.TheVariants.{Add, Sub, Mul, And, Or, Xor, Shl, ShrS, ShrU, Rotl, Rotr}
+use Rattle.wasm_ast.specs.declared.numeric.Comparison.{Comparison}
+use Rattle.wasm_ast.specs.declared.numeric.Comparison.TheVariants.{Eq, Ne, LtS, LtU, GtS, GtU, LeS, LeU, GeS, GeU}
+use Rattle.wasm_ast.specs.declared.numeric.Conversion.{Conversion}
+use Rattle.wasm_ast.specs.declared.numeric.Conversion.TheVariants.{Wrap, ExtendS, ExtendU}
+
+-- the number of bits of a type's values (4.2.1)
+abbrev pub bits_of : ValType → ℕ
+bits_of I32 = 32
+bits_of I64 = 64
+
+-- ---- values as signed numbers (4.3.2, sign interpretation)
+
+-- signed_N: what the value stands for in two's complement
+abbrev pub signed : ℕ → ℕ → ℤ
+signed bits x = if nat_lt x (2 ^ (bits - 1)) then pos x else pos x -ℤ pos (2 ^ bits)
+
+-- the value that stands for this number, signed_N turned round; `negsuc n` is -(n + 1)
+abbrev pub unsigned : ℕ → ℤ → ℕ
+unsigned bits (pos n) = n
+unsigned bits (negsuc n) = 2 ^ bits - suc n
+
+-- ---- one operand (4.3.2)
+
+-- how many zeros stand above the highest bit that is 1: all of them for 0
+abbrev pub clz : ℕ → ℕ → ℕ
+clz bits x = count_leading_zeros bits x
+
+-- how many zeros stand below the lowest bit that is 1: all of them for 0
+abbrev pub ctz : ℕ → ℕ → ℕ
+ctz bits x = count_trailing_zeros bits x
+
+-- how many bits are 1
+abbrev pub popcnt : ℕ → ℕ → ℕ
+popcnt bits x = count_ones x
+
+-- ---- two operands (4.3.2)
+
+abbrev pub add : ℕ → ℕ → ℕ → ℕ
+add bits x y = (x + y) % 2 ^ bits
+
+abbrev pub sub : ℕ → ℕ → ℕ → ℕ
+sub bits x y = (x + (2 ^ bits - y)) % 2 ^ bits
+
+abbrev pub mul : ℕ → ℕ → ℕ → ℕ
+mul bits x y = (x * y) % 2 ^ bits
+
+-- shifts and rotations go by `y` modulo N
+abbrev pub shl : ℕ → ℕ → ℕ → ℕ
+shl bits x y = (x * 2 ^ (y % bits)) % 2 ^ bits
+
+abbrev pub shr_u : ℕ → ℕ → ℕ → ℕ
+shr_u bits x y = x / 2 ^ (y % bits)
+
+-- on the signed number, rounded down
+abbrev pub shr_s : ℕ → ℕ → ℕ → ℕ
+shr_s bits x y = unsigned bits (int_div_euclid (signed bits x) (pos (2 ^ (y % bits))))
+
+-- the bits that a shift leaves, and those that it drops, at the other end
+abbrev pub rotl : ℕ → ℕ → ℕ → ℕ
+rotl bits x y = (x * 2 ^ (y % bits)) % 2 ^ bits + x / 2 ^ (bits - y % bits)
+
+abbrev pub rotr : ℕ → ℕ → ℕ → ℕ
+rotr bits x y = x / 2 ^ (y % bits) + (x * 2 ^ (bits - y % bits)) % 2 ^ bits
+
+-- ---- tests and comparisons (4.3.2)
+
+-- bool(C): an i32 that is 1 where the condition holds, else 0
+abbrev pub truth : Bool → ℕ
+truth true = 1
+truth false = 0
+
+abbrev pub eqz_value : ℕ → ℕ
+eqz_value x = truth (x == 0)
+
+-- ---- each instruction
+
+abbrev pub unary_value : ℕ → Unary → ℕ → ℕ
+unary_value bits Clz x = clz bits x
+unary_value bits Ctz x = ctz bits x
+unary_value bits Popcnt x = popcnt bits x
+
+abbrev pub binary_value : ℕ → Binary → ℕ → ℕ → ℕ
+binary_value bits Add x y = add bits x y
+binary_value bits Sub x y = sub bits x y
+binary_value bits Mul x y = mul bits x y
+binary_value bits And x y = bit_and x y
+binary_value bits Or x y = bit_or x y
+binary_value bits Xor x y = bit_xor x y
+binary_value bits Shl x y = shl bits x y
+binary_value bits ShrS x y = shr_s bits x y
+binary_value bits ShrU x y = shr_u bits x y
+binary_value bits Rotl x y = rotl bits x y
+binary_value bits Rotr x y = rotr bits x y
+
+abbrev pub comparison_holds : ℕ → Comparison → ℕ → ℕ → Bool
+comparison_holds bits Eq x y = x == y
+comparison_holds bits Ne x y = not (x == y)
+comparison_holds bits LtS x y = int_lt (signed bits x) (signed bits y)
+comparison_holds bits LtU x y = nat_lt x y
+comparison_holds bits GtS x y = int_lt (signed bits y) (signed bits x)
+comparison_holds bits GtU x y = nat_lt y x
+comparison_holds bits LeS x y = int_le (signed bits x) (signed bits y)
+comparison_holds bits LeU x y = nat_le x y
+comparison_holds bits GeS x y = int_le (signed bits y) (signed bits x)
+comparison_holds bits GeU x y = nat_le y x
+
+-- ---- conversions (4.3.4)
+
+abbrev pub conversion_from : Conversion → ValType
+conversion_from Wrap = I64
+conversion_from ExtendS = I32
+conversion_from ExtendU = I32
+
+abbrev pub conversion_to : Conversion → ValType
+conversion_to Wrap = I32
+conversion_to ExtendS = I64
+conversion_to ExtendU = I64
+
+abbrev pub conversion_value : Conversion → ℕ → ℕ
+conversion_value Wrap x = x % 2 ^ 32
+conversion_value ExtendS x = unsigned 64 (signed 32 x)
+conversion_value ExtendU x = x

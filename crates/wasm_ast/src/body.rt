@@ -1,0 +1,100 @@
+//! Instructions in sequence, and those that hold sequences.
+
+use crate::plain::{Branch, Plain};
+use crate::types::BlockType;
+use std::alloc::Global;
+use std::marker::Model;
+
+/// Instructions in sequence (Core 1.0, 2.4.6), which contracts see as `Code`.
+#[cycle(syntax)]
+#[derive(Debug, Drop)]
+pub struct Body {
+    instrs: Vec<Instr>,
+}
+
+/// An instruction (Core 1.0, 2.4).
+#[cycle(syntax)]
+#[derive(Debug, Drop)]
+pub enum Instr {
+    Plain(Plain),
+    Branch(Branch),
+    /// A call of the function with this number, imports counted.
+    Call(u32),
+    /// A call through the table of a function that has the type with this number.
+    CallIndirect(u32),
+    Unreachable,
+    Block(BlockType, Body),
+    Loop(BlockType, Body),
+    /// The instructions for an operand other than 0, and those for 0.
+    If(BlockType, Body, Body),
+}
+
+impl Instr {
+    ghost use Rattle.std.specs.Prelude.{◌≡◌};
+    ghost use Rattle.wasm_ast.specs.Units.{units_of};
+
+    /// What taking this instruction from a sequence counts. The size of code, the machine's count of steps and
+    /// the interpreter's all go by it.
+    pub fn units(&self) -> u32
+        ensures { result ≡ units_of self.now }
+    {
+        1
+    }
+}
+
+impl Model for Body {
+    ghost use Rattle.wasm_ast.specs.Code.{Code, coded_code, size_of};
+
+    ghost Value = { Code };
+
+    ghost coded = { coded_code };
+
+    ghost use Rattle.wasm_ast.specs.View.{code_of};
+
+    ghost view = { λ a. code_of a.instrs.items };
+
+    ghost size = { size_of };
+
+    ghost use Rattle.wasm_ast.specs.Falls.{falls};
+    ghost use Rattle.std.proofs.Common.{arith};
+
+    ghost size_decreases = { λ a h. omega (arith, falls a.instrs.items) };
+}
+
+impl Body {
+    ghost use Rattle.std.specs.Prelude.{◌≡◌};
+    ghost use Rattle.wasm_ast.specs.Code.{end};
+    ghost use Rattle.wasm_ast.specs.View.{code_of};
+
+    /// No instructions; it takes no memory.
+    pub fn empty(alloc: Global) -> Body
+        ensures { result ≡ end }
+    {
+        Body {
+            instrs: Vec::new(alloc),
+        }
+    }
+
+    pub fn as_slice(&self) -> &[Instr]
+        ensures { code_of result.now ≡ self.now }
+    {
+        &self.instrs
+    }
+
+    pub fn into_vec(self) -> Vec<Instr>
+        ensures { code_of result.items ≡ self }
+    {
+        self.instrs
+    }
+}
+
+impl From<Vec<Instr>> for Body {
+    ghost use Rattle.std.specs.Prelude.{◌≡◌};
+    ghost use Rattle.wasm_ast.specs.View.{code_of};
+
+    ghost from_gives = { λ instrs body. body ≡ code_of instrs.items };
+
+    fn from(instrs: Vec<Instr>) -> Body {
+        Body { instrs }
+    }
+}

@@ -1,0 +1,82 @@
+//! Instructions that hold no others.
+
+use crate::numeric::Numeric;
+use crate::sequence::Sequence;
+use crate::types::Value;
+
+/// Reads and writes of locals and globals (Core 1.0, 2.4.3), each with the number of its variable.
+#[derive(Clone, Copy, Debug, PartialEq, Eq)]
+pub enum Variable {
+    LocalGet(u32),
+    LocalSet(u32),
+    LocalTee(u32),
+    GlobalGet(u32),
+    GlobalSet(u32),
+}
+
+/// The immediates of a load or a store (Core 1.0, 2.4.4): the alignment is 2 to the power `align`, a hint.
+#[derive(Clone, Copy, Debug, PartialEq, Eq)]
+pub struct MemoryArgument {
+    pub align: u32,
+    pub offset: u32,
+}
+
+/// The loads (Core 1.0, 2.4.4): the type that is given, and the bytes that are read where they are fewer.
+#[derive(Clone, Copy, Debug, PartialEq, Eq)]
+pub enum Load {
+    I32,
+    I64,
+    I32From8S,
+    I32From8U,
+    I32From16S,
+    I32From16U,
+    I64From8S,
+    I64From8U,
+    I64From16S,
+    I64From16U,
+    I64From32S,
+    I64From32U,
+}
+
+/// The stores (Core 1.0, 2.4.4): the type that is taken, and the bytes that are written where they are fewer.
+#[derive(Clone, Copy, Debug, PartialEq, Eq)]
+pub enum Store {
+    I32,
+    I64,
+    I32To8,
+    I32To16,
+    I64To8,
+    I64To16,
+    I64To32,
+}
+
+/// Memory instructions (Core 1.0, 2.4.4).
+#[derive(Clone, Copy, Debug, PartialEq, Eq)]
+pub enum Memory {
+    Load(Load, MemoryArgument),
+    Store(Store, MemoryArgument),
+    Size,
+    Grow,
+}
+
+/// An instruction that neither branches nor calls: it acts on operands, locals, globals and memory alone.
+#[derive(Clone, Copy, Debug, PartialEq, Eq)]
+pub enum Plain {
+    Nop,
+    Drop,
+    Select,
+    Const(Value),
+    Numeric(Numeric),
+    Variable(Variable),
+    Memory(Memory),
+}
+
+/// An instruction that goes on elsewhere (Core 1.0, 2.4.5). Labels count from 0, the innermost.
+#[derive(Debug, Drop)]
+pub enum Branch {
+    Br(u32),
+    BrIf(u32),
+    /// The labels by operand, and the one for all operands past them.
+    BrTable(Sequence<u32>, u32),
+    Return,
+}

@@ -1,0 +1,87 @@
+//! Lists and names, as the syntax holds them.
+
+use std::alloc::Global;
+use std::marker::Model;
+
+/// Items in order, which contracts see as their list.
+#[derive(Debug, Drop)]
+pub struct Sequence<T> {
+    items: Vec<T>,
+}
+
+impl<T> Model for Sequence<T> {
+    ghost use Rattle.std.specs.Prelude.{List};
+
+    ghost Value = { List T };
+
+    ghost view = { λ a. a.items.items };
+}
+
+impl<T> Sequence<T> {
+    ghost use Rattle.std.specs.Prelude.{◌≡◌, []};
+
+    /// No items; it takes no memory.
+    pub fn empty(alloc: Global) -> Sequence<T>
+        ensures { result ≡ [] }
+    {
+        Sequence {
+            items: Vec::new(alloc),
+        }
+    }
+
+    pub fn as_slice(&self) -> &[T]
+        ensures { result.now ≡ self.now }
+    {
+        &self.items
+    }
+
+    pub fn into_vec(self) -> Vec<T>
+        ensures { result.items ≡ self }
+    {
+        self.items
+    }
+}
+
+impl<T> From<Vec<T>> for Sequence<T> {
+    ghost use Rattle.std.specs.Prelude.{◌≡◌};
+
+    ghost from_gives = { λ items sequence. sequence ≡ items.items };
+
+    fn from(items: Vec<T>) -> Sequence<T> {
+        Sequence { items }
+    }
+}
+
+/// The name of an import or an export (Core 1.0, 2.2.4), which contracts see as its bytes in UTF-8.
+#[derive(Debug, Drop)]
+pub struct Name {
+    text: String,
+}
+
+impl Model for Name {
+    ghost use Rattle.std.specs.Prelude.{List, ℕ, string_bytes};
+
+    ghost Value = { List ℕ };
+
+    ghost view = { λ a. string_bytes a.text };
+}
+
+impl Name {
+    ghost use Rattle.std.specs.Prelude.{◌≡◌};
+
+    pub fn as_str(&self) -> &str
+        ensures { result.now ≡ self.now }
+    {
+        self.text.as_str()
+    }
+}
+
+impl From<String> for Name {
+    ghost use Rattle.std.specs.Prelude.{◌≡◌, string_bytes};
+
+    ghost from_gives = { λ text name. name ≡ string_bytes text };
+
+    fn from(text: String) -> Name {
+        Name { text }
+    }
+}

@@ -1,0 +1,135 @@
+//! Locals and bodies of functions (Core 1.0, 5.5.13).
+
+ghost use Rattle.std.specs.Prelude.{◌≡◌, ◌++◌, replicate, slice_get, OnOk};
+ghost use Rattle.wasm_decode.specs.Grammar.{count_of};
+ghost use Rattle.wasm_decode.specs.Reading.{Gives, groups_at, locals_at, function_in, function_at, bodies_at, code_at};
+
+use crate::fault::DecodeFault;
+use crate::instructions::expression;
+use crate::item::Item;
+use crate::reader::Reader;
+use crate::types::LIMIT;
+use std::alloc::{AllocError, Global};
+use wasm_ast::{FuncType, Function, Sequence, ValType};
+
+/// What the code section holds: a body for each of the functions, whose type numbers are given.
+#[tactic(auto, unfolding(crate::specs::Reading::code_at))]
+pub fn code(
+    alloc: Global,
+    reader: &mut Reader,
+    types: &[FuncType],
+    type_numbers: &[u32],
+) -> Result<Sequence<Function>, DecodeFault>
+    ensures { Gives (λ functions. (functions, reader.new)) result (code_at types.now type_numbers.now reader.old) }
+{
+    let place = reader.place();
+    let count = reader.u32()? as usize;
+    if count != type_numbers.len() {
+        return Err(DecodeFault::CountMismatch(place));
+    }
+    let functions = bodies(alloc, reader, types, type_numbers)?;
+    Ok(Sequence::from(functions))
+}
+
+fn bodies(
+    alloc: Global,
+    reader: &mut Reader,
+    types: &[FuncType],
+    type_numbers: &[u32],
+) -> Result<Vec<Function>, DecodeFault>
+    ensures { Gives (λ functions. (functions.items, reader.new)) result (bodies_at types.now type_numbers.now reader.old) }
+{
+    let mut functions = Vec::new(alloc);
+    for type_number in type_numbers {
+        let function = function(alloc, reader, types, *type_number)?;
+        functions.push(function)?;
+    }
+    Ok(functions)
+}
+
+// How many parameters a type has: none where its number names nothing.
+fn parameter_count(types: &[FuncType], type_number: u32) -> usize
+    ensures { result ≡ count_of (slice_get types.now type_number) }
+{
+    match types.get(type_number as usize) {
+        Some(function_type) => function_type.parameters.as_slice().len(),
+        None => 0,
+    }
+}
+
+// A size, and the locals and the body of a function of just so many bytes.
+#[tactic(auto, unfolding(crate::specs::Reading::function_at))]
+fn function(
+    alloc: Global,
+    reader: &mut Reader,
+    types: &[FuncType],
+    type_number: u32,
+) -> Result<Function, DecodeFault>
+    ensures { Gives (λ f. (f, reader.new)) result (function_at types.now type_number reader.old) }
+{
+    let inside = reader.part()?;
+    let parameters = parameter_count(types, type_number);
+    function_inside(alloc, inside, type_number, parameters)
+}
+
+// All of the bytes are the locals and the body of a function with so many parameters.
+#[tactic(auto, unfolding(crate::specs::Reading::function_in))]
+fn function_inside(
+    alloc: Global,
+    mut inside: Reader,
+    type_number: u32,
+    parameters: usize,
+) -> Result<Function, DecodeFault>
+    ensures { Gives (λ f. f) result (function_in type_number parameters inside.entry) }
+{
+    let room = (LIMIT as usize).saturating_sub(parameters) as u32;
+    let locals = locals(alloc, &mut inside, room)?;
+    let body = expression(alloc, &mut inside)?;
+    inside.finish()?;
+    Ok(Function {
+        type_number,
+        locals,
+        body,
+    })
+}
+
+// Locals in groups of one type, at most so many in all.
+#[tactic(auto, unfolding(crate::specs::Reading::locals_at))]
+fn locals(alloc: Global, reader: &mut Reader, room: u32) -> Result<Sequence<ValType>, DecodeFault>
+    ensures { Gives (λ locals. (locals, reader.new)) result (locals_at room reader.old) }
+{
+    let count = reader.u32()?;
+    let locals = groups(alloc, reader, count, room)?;
+    Ok(Sequence::from(locals))
+}
+
+fn groups(
+    alloc: Global,
+    reader: &mut Reader,
+    count: u32,
+    mut room: u32,
+) -> Result<Vec<ValType>, DecodeFault>
+    ensures { Gives (λ locals. (locals.items, reader.new)) result (groups_at count room reader.old) }
+{
+    let mut locals = Vec::new(alloc);
+    for _ in 0..count {
+        let place = reader.place();
+        let len = reader.u32()?;
+        if len > room {
+            return Err(DecodeFault::OverLimit(place));
+        }
+        let local = ValType::read(alloc, reader)?;
+        push_copies(&mut locals, len, local)?;
+        room -= len;
+    }
+    Ok(locals)
+}
+
+fn push_copies(locals: &mut Vec<ValType>, count: u32, local: ValType) -> Result<(), AllocError>
+    ensures { OnOk result (locals.new.items ≡ locals.old.items ++ replicate count local) }
+{
+    for _ in 0..count {
+        locals.push(local)?;
+    }
+    Ok(())
+}

@@ -1,0 +1,58 @@
+//! What stands one after another in a vector.
+
+ghost use Rattle.std.specs.Prelude.{◌≡◌, List, ℕ, Option};
+ghost use Rattle.wasm_decode.specs.Reading.{Gives, vector_at, items_at, u32_at};
+
+use crate::fault::DecodeFault;
+use crate::reader::Reader;
+use std::alloc::Global;
+use wasm_ast::Sequence;
+
+/// What can be read from the front of the bytes.
+pub trait Item: Sized {
+    ghost item_at: { List ℕ → Option (Self × List ℕ) };
+
+    fn read(alloc: Global, reader: &mut Reader) -> Result<Self, DecodeFault>
+        ensures { Gives (λ x. (x, reader.new)) result (item_at reader.old) };
+}
+
+impl Item for u32 {
+    ghost item_at = { u32_at };
+
+    fn read(_alloc: Global, reader: &mut Reader) -> Result<u32, DecodeFault> {
+        reader.u32()
+    }
+}
+
+/// A count that is at most so many, and so many items (Core 1.0, 5.1.3).
+#[tactic(auto, unfolding(crate::specs::Reading::vector_at))]
+pub fn vector<T: Item + Drop>(
+    alloc: Global,
+    reader: &mut Reader,
+    most: u32,
+) -> Result<Sequence<T>, DecodeFault>
+    ensures { Gives (λ xs. (xs, reader.new)) result (vector_at T.item_at most reader.old) }
+{
+    let place = reader.place();
+    let count = reader.u32()?;
+    if count > most {
+        return Err(DecodeFault::OverLimit(place));
+    }
+    let all = items(alloc, reader, count)?;
+    Ok(Sequence::from(all))
+}
+
+fn items<T: Item + Drop>(
+    alloc: Global,
+    reader: &mut Reader,
+    count: u32,
+) -> Result<Vec<T>, DecodeFault>
+    ensures { Gives (λ xs. (xs.items, reader.new)) result (items_at T.item_at count reader.old) }
+{
+    let mut all = Vec::new(alloc);
+    for _ in 0..count {
+        let item = T::read(alloc, reader)?;
+        all.push(item)?;
+    }
+    Ok(all)
+}

@@ -1,0 +1,32 @@
+//! Names.
+
+ghost use Rattle.wasm_decode.specs.Reading.{Gives, name_at};
+
+use crate::fault::DecodeFault;
+use crate::reader::Reader;
+use std::alloc::Global;
+use std::str;
+use wasm_ast::Name;
+
+/// The text of a name (Core 1.0, 5.2.4), where it lies in the bytes.
+#[tactic(auto, unfolding(crate::specs::Reading::name_at, crate::specs::Reading::part_at))]
+pub fn text<'a>(reader: &mut Reader<'a>) -> Result<&'a str, DecodeFault>
+    ensures { Gives (λ text. (text.now, reader.new)) result (name_at reader.old) }
+{
+    let len = reader.u32()?;
+    let place = reader.place();
+    let bytes = reader.take(len)?;
+    match str::from_utf8(bytes) {
+        Ok(text) => Ok(text),
+        Err(_) => Err(DecodeFault::Utf8(place)),
+    }
+}
+
+/// A name (Core 1.0, 5.2.4).
+pub fn name(alloc: Global, reader: &mut Reader) -> Result<Name, DecodeFault>
+    ensures { Gives (λ name. (name, reader.new)) result (name_at reader.old) }
+{
+    let text = text(reader)?;
+    let name = String::from_str(alloc, text)?;
+    Ok(Name::from(name))
+}

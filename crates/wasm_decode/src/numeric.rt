@@ -1,0 +1,69 @@
+//! Numeric instructions (Core 1.0, 5.4.5).
+
+ghost use Rattle.std.specs.Prelude.{◌≡◌};
+ghost use Rattle.wasm_decode.specs.Reading.{numeric_of, test_of, arithmetic_of};
+
+use wasm_ast::{Binary, Comparison, Conversion, Numeric, Unary, ValType};
+
+/// The instruction with this opcode, or `None` where it is no numeric one, or one that is not read: a constant, a
+/// division, or one on floats.
+#[tactic(auto, unfolding(crate::specs::Reading::numeric_of))]
+pub fn numeric(opcode: u8) -> Option<Numeric>
+    ensures { result ≡ numeric_of opcode }
+{
+    match opcode {
+        0x45..=0x4F => test(ValType::I32, opcode - 0x45),
+        0x50..=0x5A => test(ValType::I64, opcode - 0x50),
+        0x67..=0x78 => arithmetic(ValType::I32, opcode - 0x67),
+        0x79..=0x8A => arithmetic(ValType::I64, opcode - 0x79),
+        0xA7 => Some(Numeric::Conversion(Conversion::Wrap)),
+        0xAC => Some(Numeric::Conversion(Conversion::ExtendS)),
+        0xAD => Some(Numeric::Conversion(Conversion::ExtendU)),
+        _ => None,
+    }
+}
+
+// The test or comparison at a place among those of its type.
+fn test(operand: ValType, place: u8) -> Option<Numeric>
+    ensures { result ≡ test_of operand place }
+{
+    let comparison = match place {
+        0 => return Some(Numeric::Eqz(operand)),
+        1 => Comparison::Eq,
+        2 => Comparison::Ne,
+        3 => Comparison::LtS,
+        4 => Comparison::LtU,
+        5 => Comparison::GtS,
+        6 => Comparison::GtU,
+        7 => Comparison::LeS,
+        8 => Comparison::LeU,
+        9 => Comparison::GeS,
+        10 => Comparison::GeU,
+        _ => return None,
+    };
+    Some(Numeric::Comparison(operand, comparison))
+}
+
+// The arithmetic at a place among that of its type. The divisions, which stand from 6 to 9, are not read.
+fn arithmetic(operand: ValType, place: u8) -> Option<Numeric>
+    ensures { result ≡ arithmetic_of operand place }
+{
+    let binary = match place {
+        0 => return Some(Numeric::Unary(operand, Unary::Clz)),
+        1 => return Some(Numeric::Unary(operand, Unary::Ctz)),
+        2 => return Some(Numeric::Unary(operand, Unary::Popcnt)),
+        3 => Binary::Add,
+        4 => Binary::Sub,
+        5 => Binary::Mul,
+        10 => Binary::And,
+        11 => Binary::Or,
+        12 => Binary::Xor,
+        13 => Binary::Shl,
+        14 => Binary::ShrS,
+        15 => Binary::ShrU,
+        16 => Binary::Rotl,
+        17 => Binary::Rotr,
+        _ => return None,
+    };
+    Some(Numeric::Binary(operand, binary))
+}

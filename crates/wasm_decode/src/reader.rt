@@ -1,0 +1,191 @@
+//! A reader of bytes from left to right.
+
+ghost use Rattle.std.specs.Prelude.{◌≡◌, ◌≤◌, ◌<◌, drop, length, slice_get, true, false, OnOk, IfErr};
+ghost use Rattle.wasm_decode.specs.Reading.{Gives, IsRefusal, byte_at, u32_at, signed_number_at, take_at, part_at, is_empty};
+
+use crate::fault::DecodeFault;
+use leb::{LebFault, read_s32, read_s64, read_u32};
+use std::marker::Model;
+
+/// What ends the bytes of a reader.
+#[derive(Clone, Copy)]
+enum End {
+    /// The end of the file.
+    File,
+    /// The end of a section or a body that lies in the file.
+    Part,
+}
+
+/// The bytes of a file, of a section or of a body that are not read yet, which contracts see as their list.
+#[derive(Drop)]
+pub struct Reader<'a> {
+    // the file up to the end of what is read
+    bytes: &'a [u8],
+    // the place in the file of the next byte
+    at: usize,
+    end: End,
+}
+
+impl<'a> Model for Reader<'a> {
+    ghost use Rattle.std.specs.Prelude.{◌≤◌, List, ℕ, drop, length};
+
+    ghost Value = { List ℕ };
+
+    ghost view = { λ reader. drop reader.at reader.bytes.now };
+
+    ghost invariant = { λ reader. reader.at ≤ length reader.bytes.now };
+}
+
+impl<'a> Reader<'a> {
+    /// A reader of a whole file.
+    pub fn new(bytes: &'a [u8]) -> Reader<'a>
+        ensures { result ≡ bytes.now }
+    {
+        Reader {
+            bytes,
+            at: 0,
+            end: End::File,
+        }
+    }
+
+    /// The place in the file of the next byte.
+    pub fn place(&self) -> usize {
+        self.at
+    }
+
+    // What it means that the bytes end here.
+    fn past_end(&self) -> DecodeFault
+        ensures { IsRefusal result }
+    {
+        match self.end {
+            End::File => DecodeFault::Truncated(self.bytes.len()),
+            End::Part => DecodeFault::SectionSize(self.bytes.len()),
+        }
+    }
+
+    /// The next byte.
+    #[tactic(auto, unfolding(crate::specs::Reading::byte_at))]
+    pub fn byte(&mut self) -> Result<u8, DecodeFault>
+        ensures { Gives (λ b. (b, self.new)) result (byte_at self.old) }
+    {
+        if self.at < self.bytes.len() {
+            let byte = self.bytes[self.at];
+            self.at += 1;
+            Ok(byte)
+        } else {
+            Err(self.past_end())
+        }
+    }
+
+    // What it means that a number is not read here.
+    fn misspelled(&self, fault: LebFault) -> DecodeFault
+        ensures { IsRefusal result }
+    {
+        match fault {
+            LebFault::Truncated => self.past_end(),
+            LebFault::TooLong | LebFault::UnusedBits => DecodeFault::Leb(self.at),
+        }
+    }
+
+    /// The next byte, which is not read yet, or `None` at the end.
+    pub fn peek(&self) -> Option<u8>
+        ensures { result ≡ slice_get self.now 0 }
+    {
+        self.bytes.get(self.at).copied()
+    }
+
+    /// Passes the next byte, which has been looked at.
+    pub fn pass(&mut self)
+        requires { 0 < length self.old }
+        ensures { self.new ≡ drop 1 self.old }
+    {
+        self.at += 1;
+    }
+
+    /// The next number of 32 bits (Core 1.0, 5.2.2).
+    #[tactic(auto, unfolding(crate::specs::Reading::u32_at))]
+    pub fn u32(&mut self) -> Result<u32, DecodeFault>
+        ensures { Gives (λ n. (n, self.new)) result (u32_at self.old) }
+    {
+        match read_u32(self.bytes, self.at) {
+            Ok((n, next)) => {
+                self.at = next;
+                Ok(n)
+            }
+            Err(fault) => Err(self.misspelled(fault)),
+        }
+    }
+
+    /// The next signed number of 32 bits (Core 1.0, 5.2.2).
+    #[tactic(auto, unfolding(crate::specs::Reading::signed_number_at))]
+    pub fn s32(&mut self) -> Result<i32, DecodeFault>
+        ensures { Gives (λ z. (z, self.new)) result (signed_number_at 32 self.old) }
+    {
+        match read_s32(self.bytes, self.at) {
+            Ok((z, next)) => {
+                self.at = next;
+                Ok(z)
+            }
+            Err(fault) => Err(self.misspelled(fault)),
+        }
+    }
+
+    /// The next signed number of 64 bits (Core 1.0, 5.2.2).
+    #[tactic(auto, unfolding(crate::specs::Reading::signed_number_at))]
+    pub fn s64(&mut self) -> Result<i64, DecodeFault>
+        ensures { Gives (λ z. (z, self.new)) result (signed_number_at 64 self.old) }
+    {
+        match read_s64(self.bytes, self.at) {
+            Ok((z, next)) => {
+                self.at = next;
+                Ok(z)
+            }
+            Err(fault) => Err(self.misspelled(fault)),
+        }
+    }
+
+    /// The next bytes, so many.
+    #[tactic(auto, unfolding(crate::specs::Reading::take_at))]
+    pub fn take(&mut self, len: u32) -> Result<&'a [u8], DecodeFault>
+        ensures { Gives (λ s. (s.now, self.new)) result (take_at len self.old) }
+    {
+        let len = len as usize;
+        if len <= self.bytes.len() - self.at {
+            let taken = &self.bytes[self.at..self.at + len];
+            self.at += len;
+            Ok(taken)
+        } else {
+            Err(self.past_end())
+        }
+    }
+
+    /// A size, and a reader of the section or the body of just so many bytes that follows it.
+    #[tactic(auto, unfolding(crate::specs::Reading::part_at, crate::specs::Reading::take_at))]
+    pub fn part(&mut self) -> Result<Reader<'a>, DecodeFault>
+        ensures { Gives (λ part. (part, self.new)) result (part_at self.old) }
+    {
+        let len = self.u32()? as usize;
+        let at = self.at;
+        if len > self.bytes.len() - at {
+            return Err(self.past_end());
+        }
+        self.at += len;
+        Ok(Reader {
+            bytes: &self.bytes[..at + len],
+            at,
+            end: End::Part,
+        })
+    }
+
+    /// Ends a section or a body: bytes that are left over are refused, at the first of them.
+    pub fn finish(self) -> Result<(), DecodeFault>
+        ensures ok { OnOk result (is_empty self.entry ≡ true) }
+        ensures err { IfErr result (λ fault. IsRefusal fault × (is_empty self.entry ≡ false)) }
+    {
+        if self.at < self.bytes.len() {
+            Err(DecodeFault::SectionSize(self.at))
+        } else {
+            Ok(())
+        }
+    }
+}

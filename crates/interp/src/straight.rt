@@ -1,6 +1,6 @@
 //! Modules of one function without control, and calls of it.
 
-ghost use Rattle.std.specs.Prelude.{◌≡◌, ◌↔◌, IfOk, IsOkUnless, IsErrOf};
+ghost use Rattle.std.specs.Prelude.{◌≡◌, ◌↔◌, IfOk, OnOk, IsOkUnless, IsErrOf};
 ghost use Rattle.interp.specs.Straight.{IsStraight};
 ghost use Rattle.interp.specs.Typing.{IsTyped};
 
@@ -37,6 +37,7 @@ impl Straight {
     /// it has the shape and is not). It takes memory for the types of the operands and for the names of the exports.
     pub fn new(alloc: Global, module: Module) -> Result<Straight, StraightFault>
         ensures ok { IfOk result (λ straight. straight ≡ «module») }
+        ensures promised { OnOk result (IsStraight «module» × IsTyped «module») }
         ensures shape { IsErrOf result StraightFault.Shape ↔ (¬ IsStraight «module») }
         ensures typing { IsErrOf result StraightFault.Typing → IsStraight «module» × (¬ IsTyped «module») }
         ensures accepts { IsStraight «module» → IsTyped «module» → IsOkUnless result StraightFault.OutOfMemory }

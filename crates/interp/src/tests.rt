@@ -2,6 +2,9 @@
 //! function has a local of each type.
 
 use crate::call::{CallInput, CallOutcome};
+use crate::fault::RunFault;
+use crate::runs::run;
+use crate::straight::Straight;
 use crate::walk::walk;
 use crate::walk_fault::WalkFault;
 use std::alloc::{AllocError, Global};
@@ -70,20 +73,22 @@ fn module_of(alloc: Global, body: Vec<Instr>) -> Result<Module, AllocError> {
     })
 }
 
-/// A walk with the vertex's value 34.
+/// A vertex with the value 34.
+const VERTEX: CallInput = CallInput {
+    id: 0,
+    superstep: 0,
+    count: 1,
+    value: 34,
+    messages: &[],
+    edges: &[],
+    aggregated: [0; 8],
+};
+
+/// A walk for that vertex.
 fn walked(alloc: Global, body: Vec<Instr>, budget: u128) -> Result<CallOutcome, WalkFault> {
     let module = module_of(alloc, body)?;
-    let input = CallInput {
-        id: 0,
-        superstep: 0,
-        count: 1,
-        value: 34,
-        messages: &[],
-        edges: &[],
-        aggregated: [0; 8],
-    };
     match module.functions.as_slice() {
-        [function] => walk(alloc, &module, function, &input, budget),
+        [function] => walk(alloc, &module, function, &VERTEX, budget),
         _ => Err(WalkFault::Stuck),
     }
 }
@@ -155,6 +160,21 @@ fn keeps_to_the_budget(rt: HostRuntime) -> Result<(), Fail> {
     let empty = walked(alloc, vec![in alloc]?, 0)?;
     assert_eq!(rt; empty.value, 34);
     assert_eq!(rt; empty.units, 0);
+    Ok(())
+}
+
+#[test]
+fn a_straight_module_is_called(rt: HostRuntime) -> Result<(), Fail> {
+    let alloc = rt.alloc();
+    let module = module_of(alloc, ten_times_and_seven(alloc)?)?;
+    let straight = Straight::new(alloc, module)?;
+    let outcome = run(alloc, &straight, &VERTEX, 6)?;
+    assert_eq!(rt;
+        (outcome.value, outcome.halted, outcome.units),
+        (347, false, 6)
+    );
+    assert!(rt; outcome.sends.is_empty() && outcome.contributions.is_empty());
+    assert!(rt; matches!(run(alloc, &straight, &VERTEX, 5), Err(RunFault::Budget)));
     Ok(())
 }
 

@@ -7,7 +7,9 @@ ghost use Rattle.wasm_decode.specs.Reading.{Gives, IsRefusal, found, after_bytes
 
 use crate::fault::DecodeFault;
 use crate::reader::Reader;
-use crate::sections::{code_section, end_of_sections, skip_customs, vector_section};
+use crate::sections::{
+    EXPORT, FUNCTION, IMPORT, TYPE, code_section, end_of_sections, skip_customs, vector_section,
+};
 use std::alloc::Global;
 use wasm_ast::{Export, FuncType, Import, Module, Sequence};
 
@@ -67,11 +69,11 @@ fn sections(alloc: Global, reader: &mut Reader) -> Result<Module, DecodeFault>
     ensures { Gives (λ m. m) result (sections_at reader.old) }
 {
     skip_customs(reader)?;
-    let types: Sequence<FuncType> = vector_section(alloc, reader, 1, u32::MAX)?;
-    let imports: Sequence<Import> = vector_section(alloc, reader, 2, MOST_FUNCTIONS)?;
+    let types: Sequence<FuncType> = vector_section(alloc, reader, TYPE, u32::MAX)?;
+    let imports: Sequence<Import> = vector_section(alloc, reader, IMPORT, MOST_FUNCTIONS)?;
     let room = (MOST_FUNCTIONS as usize).saturating_sub(imports.as_slice().len()) as u32;
-    let type_numbers: Sequence<u32> = vector_section(alloc, reader, 3, room)?;
-    let exports: Sequence<Export> = vector_section(alloc, reader, 7, u32::MAX)?;
+    let type_numbers: Sequence<u32> = vector_section(alloc, reader, FUNCTION, room)?;
+    let exports: Sequence<Export> = vector_section(alloc, reader, EXPORT, u32::MAX)?;
     let functions = code_section(alloc, reader, types.as_slice(), type_numbers.as_slice())?;
     end_of_sections(reader)?;
     Ok(Module {

@@ -11,7 +11,18 @@ use crate::reader::Reader;
 use std::alloc::Global;
 use wasm_ast::{FuncType, Function, Sequence};
 
+// The numbers of the sections that are read (Core 1.0, 5.5.2).
 const CUSTOM: u8 = 0;
+
+pub const TYPE: u8 = 1;
+
+pub const IMPORT: u8 = 2;
+
+pub const FUNCTION: u8 = 3;
+
+pub const EXPORT: u8 = 7;
+
+const CODE: u8 = 10;
 
 /// Skips the custom sections that come next (Core 1.0, 5.5.3).
 #[tactic(auto, unfolding(crate::specs::Reading::skip_customs))]
@@ -63,7 +74,7 @@ pub fn code_section(
 ) -> Result<Sequence<Function>, DecodeFault>
     ensures { Gives (λ functions. (functions, reader.new)) result (section_with (code_at types.now type_numbers.now) (no_bodies type_numbers.now) 10 reader.old) }
 {
-    let Some(mut inside) = section(reader, 10)? else {
+    let Some(mut inside) = section(reader, CODE)? else {
         if type_numbers.is_empty() {
             return Ok(Sequence::empty(alloc));
         }
@@ -116,7 +127,7 @@ fn section<'a>(reader: &mut Reader<'a>, number: u8) -> Result<Option<Reader<'a>>
 fn is_later(id: u8, number: u8) -> bool
     ensures { result ≡ is_among id (later_sections number) }
 {
-    id > number && matches!(id, 2 | 3 | 7 | 10)
+    id > number && matches!(id, IMPORT | FUNCTION | EXPORT | CODE)
 }
 
 // A section that cannot come now is out of order, or of the format and not read, or none.
@@ -124,7 +135,7 @@ fn no_section(id: u8, place: usize) -> DecodeFault
     ensures { IsRefusal result }
 {
     match id {
-        1 | 2 | 3 | 7 | 10 => DecodeFault::SectionOrder(place),
+        TYPE | IMPORT | FUNCTION | EXPORT | CODE => DecodeFault::SectionOrder(place),
         4..=12 => DecodeFault::Unsupported(place),
         _ => DecodeFault::BadByte(place),
     }

@@ -1,1 +1,2 @@
 mod Rotations
+pub mod Codes

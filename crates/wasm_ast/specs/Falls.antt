@@ -1,6 +1,6 @@
 -- A body is larger than those in it.
-use Rattle.std.specs.Prelude.{◌+◌, ◌≤◌, List, [], ◌∷◌}
-use Rattle.std.proofs.Common.{arith}
+use Rattle.std.specs.Prelude.{◌≡◌, ℕ, zero, suc, ◌+◌, ◌<◌, ◌≤◌, List, [], ◌∷◌, length, get_or}
+use Rattle.std.proofs.Common.{arith, subst, sym}
 use denote.Param.Weighed.{most}
 use Rattle.wasm_ast.specs.Code.{Code, size_of, end, plain, branch, call, call_indirect, unreachable, block, loop, choice}
 use Rattle.wasm_ast.specs.View.{code_of, then_code}
@@ -36,3 +36,17 @@ falls [] = omega arith
 falls (i ∷ is) =
     let b = both_fall i (code_of is) in
     omega (arith, b.0, b.1, falls is)
+
+-- each instruction of a body is smaller than the body
+at_falls : (is : List Instr) (k : ℕ) (d : Instr) → k < length is → deep-Instr (get_or is k d) < size_of (code_of is)
+at_falls [] k d h = absurd (omega arith)
+at_falls (i ∷ is) zero d h = let b = both_fall i (code_of is) in omega (arith, b.0)
+at_falls (i ∷ is) (suc k) d h =
+    let b = both_fall i (code_of is) in
+    let g : k < length is = omega arith in
+    omega (arith, b.1, at_falls is k d g)
+
+-- the measure of a recursion that goes through a body's instructions
+pub item_falls : (is : List Instr) (k : ℕ) (i : Instr) (body : Code) → k < length is → i ≡ get_or is k i → code_of is ≡ body → deep-Instr i < size_of body
+item_falls is k i body h e f =
+    subst (λ c. deep-Instr i < size_of c) f (subst (λ x. deep-Instr x < size_of (code_of is)) (sym e) (at_falls is k i h))

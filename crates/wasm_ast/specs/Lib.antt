@@ -5,3 +5,8 @@ pub mod Numeric
 pub mod NumericTypes
 pub mod Units
 pub mod Values
+pub mod Limits
+pub mod Widths
+pub mod Same
+pub mod Stored
+pub mod Modules

@@ -1,6 +1,6 @@
 -- The values of numeric instructions (Core 1.0, 4.3). A value of N bits is a number below 2 ^ N, and each
 -- operation takes N first.
-use Rattle.std.specs.Prelude.{ℕ, suc, ◌+◌, ◌-◌, ◌*◌, ◌/◌, ◌%◌, ◌^◌, ℤ, pos, negsuc, ◌-ℤ◌, Bool, true, false, not, ◌==◌, nat_lt, nat_le, int_lt, int_le, if◌then◌else◌, bit_and, bit_or, bit_xor, count_ones}
+use Rattle.std.specs.Prelude.{ℕ, suc, ◌+◌, ◌-◌, ◌*◌, ◌/◌, ◌%◌, ◌^◌, ℤ, pos, negsuc, ◌-ℤ◌, Bool, true, false, not, ◌==◌, ◌&&◌, ◌||◌, nat_lt, nat_le, int_lt, int_le, int_div, int_rem, if◌then◌else◌, bit_and, bit_or, bit_xor, count_ones}
 use Rattle.std.specs.Int.{int_div_euclid}
 use lib.Count.{count_leading_zeros, count_trailing_zeros}
 use Rattle.wasm_ast.specs.declared.types.ValType.{ValType}
@@ -9,6 +9,8 @@ use Rattle.wasm_ast.specs.declared.numeric.Unary.{Unary}
 use Rattle.wasm_ast.specs.declared.numeric.Unary.TheVariants.{Clz, Ctz, Popcnt}
 use Rattle.wasm_ast.specs.declared.numeric.Binary.{Binary}
 use Rattle.wasm_ast.specs.declared.numeric.Binary.TheVariants.{Add, Sub, Mul, And, Or, Xor, Shl, ShrS, ShrU, Rotl, Rotr}
+use Rattle.wasm_ast.specs.declared.numeric.Division.{Division}
+use Rattle.wasm_ast.specs.declared.numeric.Division.TheVariants.{DivS, DivU, RemS, RemU}
 use Rattle.wasm_ast.specs.declared.numeric.Comparison.{Comparison}
 use Rattle.wasm_ast.specs.declared.numeric.Comparison.TheVariants.{Eq, Ne, LtS, LtU, GtS, GtU, LeS, LeU, GeS, GeU}
 use Rattle.wasm_ast.specs.declared.numeric.Conversion.{Conversion}
@@ -73,6 +75,29 @@ rotl bits x y = (x * 2 ^ (y % bits)) % 2 ^ bits + x / 2 ^ (bits - y % bits)
 abbrev pub rotr : ℕ → ℕ → ℕ → ℕ
 rotr bits x y = x / 2 ^ (y % bits) + (x * 2 ^ (bits - y % bits)) % 2 ^ bits
 
+-- ---- divisions (4.3.2), which some operands have no value for
+
+-- the quotient of the signed numbers, rounded towards 0
+abbrev pub div_s : ℕ → ℕ → ℕ → ℕ
+div_s bits x y = unsigned bits (int_div (signed bits x) (signed bits y))
+
+abbrev pub div_u : ℕ → ℕ → ℕ → ℕ
+div_u bits x y = x / y
+
+-- what that quotient leaves of the first: it has the sign of the first
+abbrev pub rem_s : ℕ → ℕ → ℕ → ℕ
+rem_s bits x y = unsigned bits (int_rem (signed bits x) (signed bits y))
+
+abbrev pub rem_u : ℕ → ℕ → ℕ → ℕ
+rem_u bits x y = x % y
+
+-- the least of the signed numbers, and -1
+abbrev pub least : ℕ → ℕ
+least bits = 2 ^ (bits - 1)
+
+abbrev pub minus_one : ℕ → ℕ
+minus_one bits = 2 ^ bits - 1
+
 -- ---- tests and comparisons (4.3.2)
 
 -- bool(C): an i32 that is 1 where the condition holds, else 0
@@ -102,6 +127,19 @@ binary_value bits ShrS x y = shr_s bits x y
 binary_value bits ShrU x y = shr_u bits x y
 binary_value bits Rotl x y = rotl bits x y
 binary_value bits Rotr x y = rotr bits x y
+
+abbrev pub division_value : ℕ → Division → ℕ → ℕ → ℕ
+division_value bits DivS x y = div_s bits x y
+division_value bits DivU x y = div_u bits x y
+division_value bits RemS x y = rem_s bits x y
+division_value bits RemU x y = rem_u bits x y
+
+-- whether there is no such value: by 0, and where the quotient of the signed numbers is greater than all of them
+abbrev pub division_traps : ℕ → Division → ℕ → ℕ → Bool
+division_traps bits DivS x y = y == 0 || (x == least bits && y == minus_one bits)
+division_traps bits DivU x y = y == 0
+division_traps bits RemS x y = y == 0
+division_traps bits RemU x y = y == 0
 
 abbrev pub comparison_holds : ℕ → Comparison → ℕ → ℕ → Bool
 comparison_holds bits Eq x y = x == y

@@ -1,8 +1,9 @@
 //! Instructions in sequence, and those that hold sequences.
 
+use crate::copies::Duplicate;
 use crate::plain::{Branch, Plain};
 use crate::types::BlockType;
-use std::alloc::Global;
+use std::alloc::{AllocError, Global};
 use std::marker::Model;
 
 /// Instructions in sequence (Core 1.0, 2.4.6), which contracts see as `Code`.
@@ -62,7 +63,7 @@ impl Model for Body {
 }
 
 impl Body {
-    ghost use Rattle.std.specs.Prelude.{◌≡◌};
+    ghost use Rattle.std.specs.Prelude.{◌≡◌, IfOk};
     ghost use Rattle.wasm_ast.specs.Code.{end};
     ghost use Rattle.wasm_ast.specs.View.{code_of};
 
@@ -85,6 +86,13 @@ impl Body {
         ensures { code_of result.items ≡ self }
     {
         self.instrs
+    }
+
+    /// The same instructions once more. The only refusal is that there is no memory for them.
+    pub fn copy(&self, alloc: Global) -> Result<Body, AllocError>
+        ensures { IfOk result (λ copy. copy ≡ self.now) }
+    {
+        self.duplicate(alloc)
     }
 }
 

@@ -2,8 +2,10 @@
 //! and globals.
 
 use crate::body::Body;
+use crate::copies::Duplicate;
 use crate::sequence::{Name, Sequence};
 use crate::types::{FuncType, GlobalType, Limits, ValType};
+use std::alloc::{AllocError, Global as Heap};
 
 /// What an import brings in (Core 1.0, 2.5.11).
 #[derive(Clone, Copy, Debug, PartialEq, Eq)]
@@ -85,4 +87,34 @@ pub struct Module {
     pub start: Option<u32>,
     pub elements: Sequence<Element>,
     pub data: Sequence<Data>,
+}
+
+impl Module {
+    ghost use Rattle.std.specs.Prelude.{◌≡◌, [], None, IfOk};
+    ghost use Rattle.wasm_ast.specs.Modules.{empty_module};
+
+    /// The module that has nothing; it takes no memory.
+    pub fn empty(alloc: Heap) -> Module
+        ensures { result ≡ empty_module }
+    {
+        Module {
+            types: Sequence::empty(alloc),
+            imports: Sequence::empty(alloc),
+            functions: Sequence::empty(alloc),
+            tables: Sequence::empty(alloc),
+            memories: Sequence::empty(alloc),
+            globals: Sequence::empty(alloc),
+            exports: Sequence::empty(alloc),
+            start: None,
+            elements: Sequence::empty(alloc),
+            data: Sequence::empty(alloc),
+        }
+    }
+
+    /// The same module once more. The only refusal is that there is no memory for it.
+    pub fn copy(&self, alloc: Heap) -> Result<Module, AllocError>
+        ensures { IfOk result (λ copy. copy ≡ self.now) }
+    {
+        self.duplicate(alloc)
+    }
 }

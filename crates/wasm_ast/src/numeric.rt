@@ -5,14 +5,14 @@ pub mod i32;
 pub mod i64;
 
 use self::i32::{
-    i32_add, i32_and, i32_clz, i32_ctz, i32_eq, i32_ge_s, i32_ge_u, i32_gt_s, i32_gt_u, i32_le_s,
-    i32_le_u, i32_lt_s, i32_lt_u, i32_mul, i32_ne, i32_or, i32_popcnt, i32_rotl, i32_rotr, i32_shl,
-    i32_shr_s, i32_shr_u, i32_sub, i32_xor,
+    i32_add, i32_and, i32_clz, i32_ctz, i32_div_s, i32_div_u, i32_eq, i32_ge_s, i32_ge_u, i32_gt_s,
+    i32_gt_u, i32_le_s, i32_le_u, i32_lt_s, i32_lt_u, i32_mul, i32_ne, i32_or, i32_popcnt,
+    i32_rem_s, i32_rem_u, i32_rotl, i32_rotr, i32_shl, i32_shr_s, i32_shr_u, i32_sub, i32_xor,
 };
 use self::i64::{
-    i64_add, i64_and, i64_clz, i64_ctz, i64_eq, i64_ge_s, i64_ge_u, i64_gt_s, i64_gt_u, i64_le_s,
-    i64_le_u, i64_lt_s, i64_lt_u, i64_mul, i64_ne, i64_or, i64_popcnt, i64_rotl, i64_rotr, i64_shl,
-    i64_shr_s, i64_shr_u, i64_sub, i64_xor,
+    i64_add, i64_and, i64_clz, i64_ctz, i64_div_s, i64_div_u, i64_eq, i64_ge_s, i64_ge_u, i64_gt_s,
+    i64_gt_u, i64_le_s, i64_le_u, i64_lt_s, i64_lt_u, i64_mul, i64_ne, i64_or, i64_popcnt,
+    i64_rem_s, i64_rem_u, i64_rotl, i64_rotr, i64_shl, i64_shr_s, i64_shr_u, i64_sub, i64_xor,
 };
 use crate::types::ValType;
 
@@ -117,6 +117,57 @@ pub enum Division {
     DivU,
     RemS,
     RemU,
+}
+
+impl Division {
+    ghost use Rattle.std.specs.Prelude.{◌≡◌, false};
+    ghost use Rattle.wasm_ast.specs.Numeric.{division_value, division_traps};
+
+    /// Whether the operands trap at i32: `y` is 0, or for the signed quotient -1 where `x` is the least signed number.
+    pub fn traps_i32(self, x: u32, y: u32) -> bool
+        ensures { result ≡ division_traps 32 self x y }
+    {
+        match self {
+            Division::DivS => y == 0 || (x == 1 << 31 && y == u32::MAX),
+            Division::DivU | Division::RemS | Division::RemU => y == 0,
+        }
+    }
+
+    /// Whether the operands trap at i64: `y` is 0, or for the signed quotient -1 where `x` is the least signed number.
+    pub fn traps_i64(self, x: u64, y: u64) -> bool
+        ensures { result ≡ division_traps 64 self x y }
+    {
+        match self {
+            Division::DivS => y == 0 || (x == 1 << 63 && y == u64::MAX),
+            Division::DivU | Division::RemS | Division::RemU => y == 0,
+        }
+    }
+
+    /// The result at i32. It asks operands that do not trap.
+    pub fn apply_i32(self, x: u32, y: u32) -> u32
+        requires { division_traps 32 self x y ≡ false }
+        ensures { result ≡ division_value 32 self x y }
+    {
+        match self {
+            Division::DivS => i32_div_s(x, y),
+            Division::DivU => i32_div_u(x, y),
+            Division::RemS => i32_rem_s(x, y),
+            Division::RemU => i32_rem_u(x, y),
+        }
+    }
+
+    /// The result at i64. It asks operands that do not trap.
+    pub fn apply_i64(self, x: u64, y: u64) -> u64
+        requires { division_traps 64 self x y ≡ false }
+        ensures { result ≡ division_value 64 self x y }
+    {
+        match self {
+            Division::DivS => i64_div_s(x, y),
+            Division::DivU => i64_div_u(x, y),
+            Division::RemS => i64_rem_s(x, y),
+            Division::RemU => i64_rem_u(x, y),
+        }
+    }
 }
 
 /// Two operands of a type, and an i32 that is 1 where the comparison holds, else 0.

@@ -2,7 +2,7 @@
 
 use crate::numeric::Numeric;
 use crate::sequence::Sequence;
-use crate::types::Value;
+use crate::types::{ValType, Value};
 
 /// Reads and writes of locals and globals (Core 1.0, 2.4.3), each with the number of its variable.
 #[derive(Clone, Copy, Debug, PartialEq, Eq)]
@@ -38,6 +38,40 @@ pub enum Load {
     I64From32U,
 }
 
+impl Load {
+    ghost use Rattle.std.specs.Prelude.{◌≡◌};
+    ghost use Rattle.wasm_ast.specs.Widths.{load_width, load_type};
+
+    /// How many bytes are read: 1, 2, 4 or 8.
+    pub fn width(self) -> u32
+        ensures { result ≡ load_width self }
+    {
+        match self {
+            Load::I32From8S | Load::I32From8U | Load::I64From8S | Load::I64From8U => 1,
+            Load::I32From16S | Load::I32From16U | Load::I64From16S | Load::I64From16U => 2,
+            Load::I32 | Load::I64From32S | Load::I64From32U => 4,
+            Load::I64 => 8,
+        }
+    }
+
+    /// The type of the value that is given.
+    pub fn val_type(self) -> ValType
+        ensures { result ≡ load_type self }
+    {
+        match self {
+            Load::I32 | Load::I32From8S | Load::I32From8U | Load::I32From16S | Load::I32From16U =>
+                ValType::I32,
+            Load::I64
+            | Load::I64From8S
+            | Load::I64From8U
+            | Load::I64From16S
+            | Load::I64From16U
+            | Load::I64From32S
+            | Load::I64From32U => ValType::I64,
+        }
+    }
+}
+
 /// The stores (Core 1.0, 2.4.4): the type that is taken, and the bytes that are written where they are fewer.
 #[derive(Clone, Copy, Debug, PartialEq, Eq)]
 pub enum Store {
@@ -48,6 +82,33 @@ pub enum Store {
     I64To8,
     I64To16,
     I64To32,
+}
+
+impl Store {
+    ghost use Rattle.std.specs.Prelude.{◌≡◌};
+    ghost use Rattle.wasm_ast.specs.Widths.{store_width, store_type};
+
+    /// How many bytes are written: 1, 2, 4 or 8.
+    pub fn width(self) -> u32
+        ensures { result ≡ store_width self }
+    {
+        match self {
+            Store::I32To8 | Store::I64To8 => 1,
+            Store::I32To16 | Store::I64To16 => 2,
+            Store::I32 | Store::I64To32 => 4,
+            Store::I64 => 8,
+        }
+    }
+
+    /// The type of the value that is taken.
+    pub fn val_type(self) -> ValType
+        ensures { result ≡ store_type self }
+    {
+        match self {
+            Store::I32 | Store::I32To8 | Store::I32To16 => ValType::I32,
+            Store::I64 | Store::I64To8 | Store::I64To16 | Store::I64To32 => ValType::I64,
+        }
+    }
 }
 
 /// Memory instructions (Core 1.0, 2.4.4).

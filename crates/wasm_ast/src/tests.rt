@@ -1,5 +1,10 @@
 //! Values from outside, worked on strings of bits by the text of Core 1.0, 4.3.
 
+mod copies;
+mod divisions;
+mod limits;
+mod widths;
+
 use crate::{
     Binary, Body, Comparison, Instr, Name, Sequence, Unary, ValType, Value, i32_add, i32_and,
     i32_clz, i32_ctz, i32_eq, i32_eqz, i32_ge_s, i32_ge_u, i32_gt_s, i32_gt_u, i32_le_s, i32_le_u,
@@ -21,7 +26,7 @@ const TOP_64: u64 = 1 << 63;
 fn expect<T: Copy + Debug, U: Copy + PartialEq + Debug>(
     rt: &impl Abort,
     name: &str,
-    operands: (T, T),
+    operands: T,
     given: U,
     wanted: U,
 ) {

@@ -1,7 +1,8 @@
 //! The numeric instructions of i32 (Core 1.0, 4.3.2), over the unsigned values.
 
-ghost use Rattle.std.specs.Prelude.{◌≡◌, ◌==◌, not, nat_lt, nat_le, int_lt, int_le, bit_and, bit_or, bit_xor};
-ghost use Rattle.wasm_ast.specs.Numeric.{signed, clz, ctz, popcnt, add, sub, mul, shl, shr_s, shr_u, rotl, rotr, truth, eqz_value};
+ghost use Rattle.std.specs.Prelude.{◌≡◌, ◌==◌, false, not, nat_lt, nat_le, int_lt, int_le, bit_and, bit_or, bit_xor};
+ghost use Rattle.wasm_ast.specs.Numeric.{signed, clz, ctz, popcnt, add, sub, mul, div_s, div_u, rem_s, rem_u, division_traps, shl, shr_s, shr_u, rotl, rotr, truth, eqz_value};
+ghost use Rattle.wasm_ast.specs.declared.numeric.Division.TheVariants.{DivS, DivU, RemS, RemU};
 
 /// `i32.clz`: how many zeros stand above the highest bit that is 1, and 32 for 0.
 pub fn i32_clz(x: u32) -> u32
@@ -43,6 +44,42 @@ pub fn i32_mul(x: u32, y: u32) -> u32
     ensures { result ≡ mul 32 x y }
 {
     x.wrapping_mul(y)
+}
+
+/// `i32.div_s`: the signed quotient, rounded towards 0. It asks that `y` is not 0, nor -1 where `x` is the least
+/// signed number.
+pub fn i32_div_s(x: u32, y: u32) -> u32
+    requires { division_traps 32 DivS x y ≡ false }
+    ensures { result ≡ div_s 32 x y }
+{
+    (x.cast_signed() / y.cast_signed()).cast_unsigned()
+}
+
+/// `i32.div_u`: the quotient, rounded down. It asks that `y` is not 0.
+pub fn i32_div_u(x: u32, y: u32) -> u32
+    requires { division_traps 32 DivU x y ≡ false }
+    ensures { result ≡ div_u 32 x y }
+{
+    x / y
+}
+
+/// `i32.rem_s`: the remainder of the signed quotient, with the sign of `x`; 0 for the least signed number by -1. It
+/// asks that `y` is not 0.
+pub fn i32_rem_s(x: u32, y: u32) -> u32
+    requires { division_traps 32 RemS x y ≡ false }
+    ensures { result ≡ rem_s 32 x y }
+{
+    x.cast_signed()
+        .wrapping_rem(y.cast_signed())
+        .cast_unsigned()
+}
+
+/// `i32.rem_u`: the remainder of the quotient. It asks that `y` is not 0.
+pub fn i32_rem_u(x: u32, y: u32) -> u32
+    requires { division_traps 32 RemU x y ≡ false }
+    ensures { result ≡ rem_u 32 x y }
+{
+    x % y
 }
 
 /// `i32.and`: the bits that are 1 in both.

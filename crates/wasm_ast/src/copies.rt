@@ -1,0 +1,198 @@
+//! Copies of syntax, which are equal to what they are copies of.
+
+ghost use Rattle.std.specs.Prelude.{◌≡◌, IfOk};
+
+use crate::body::{Body, Instr};
+use crate::module::{Data, Element, Export, Function, Global, Import, Module};
+use crate::plain::Branch;
+use crate::sequence::{Name, Sequence};
+use crate::types::{FuncType, Limits, ValType};
+use std::alloc::{AllocError, Global as Heap};
+
+/// Types whose values can be had once more.
+pub trait Duplicate: Drop {
+    ghost use Rattle.std.specs.Prelude.{◌≡◌, IfOk};
+
+    fn duplicate(&self, alloc: Heap) -> Result<Self, AllocError>
+        ensures { IfOk result (λ copy. copy ≡ self.now) };
+}
+
+fn duplicates<T: Duplicate>(items: &[T], alloc: Heap) -> Result<Vec<T>, AllocError>
+    ensures { IfOk result (λ copies. copies.items ≡ items.now) }
+{
+    let mut copies = Vec::with_capacity(alloc, items.len())?;
+    for item in items {
+        copies.push(item.duplicate(alloc)?)?;
+    }
+    Ok(copies)
+}
+
+impl<T: Duplicate> Duplicate for Sequence<T> {
+    fn duplicate(&self, alloc: Heap) -> Result<Sequence<T>, AllocError> {
+        Ok(Sequence::from(duplicates(self.as_slice(), alloc)?))
+    }
+}
+
+impl Duplicate for u8 {
+    fn duplicate(&self, _alloc: Heap) -> Result<u8, AllocError> {
+        Ok(*self)
+    }
+}
+
+impl Duplicate for u32 {
+    fn duplicate(&self, _alloc: Heap) -> Result<u32, AllocError> {
+        Ok(*self)
+    }
+}
+
+impl Duplicate for ValType {
+    fn duplicate(&self, _alloc: Heap) -> Result<ValType, AllocError> {
+        Ok(*self)
+    }
+}
+
+impl Duplicate for Limits {
+    fn duplicate(&self, _alloc: Heap) -> Result<Limits, AllocError> {
+        Ok(*self)
+    }
+}
+
+impl Duplicate for Name {
+    fn duplicate(&self, alloc: Heap) -> Result<Name, AllocError> {
+        Ok(Name::from(String::from_str(alloc, self.as_str())?))
+    }
+}
+
+impl Duplicate for FuncType {
+    fn duplicate(&self, alloc: Heap) -> Result<FuncType, AllocError> {
+        Ok(FuncType {
+            parameters: self.parameters.duplicate(alloc)?,
+            results: self.results.duplicate(alloc)?,
+        })
+    }
+}
+
+impl Duplicate for Branch {
+    fn duplicate(&self, alloc: Heap) -> Result<Branch, AllocError> {
+        match self {
+            Branch::Br(label) => Ok(Branch::Br(*label)),
+            Branch::BrIf(label) => Ok(Branch::BrIf(*label)),
+            Branch::BrTable(labels, default) => {
+                Ok(Branch::BrTable(labels.duplicate(alloc)?, *default))
+            }
+            Branch::Return => Ok(Branch::Return),
+        }
+    }
+}
+
+impl Duplicate for Import {
+    fn duplicate(&self, alloc: Heap) -> Result<Import, AllocError> {
+        Ok(Import {
+            module: self.module.duplicate(alloc)?,
+            name: self.name.duplicate(alloc)?,
+            description: self.description,
+        })
+    }
+}
+
+impl Duplicate for Function {
+    fn duplicate(&self, alloc: Heap) -> Result<Function, AllocError> {
+        Ok(Function {
+            type_number: self.type_number,
+            locals: self.locals.duplicate(alloc)?,
+            body: self.body.duplicate(alloc)?,
+        })
+    }
+}
+
+impl Duplicate for Global {
+    fn duplicate(&self, alloc: Heap) -> Result<Global, AllocError> {
+        Ok(Global {
+            global_type: self.global_type,
+            initial: self.initial.duplicate(alloc)?,
+        })
+    }
+}
+
+impl Duplicate for Export {
+    fn duplicate(&self, alloc: Heap) -> Result<Export, AllocError> {
+        Ok(Export {
+            name: self.name.duplicate(alloc)?,
+            description: self.description,
+        })
+    }
+}
+
+impl Duplicate for Element {
+    fn duplicate(&self, alloc: Heap) -> Result<Element, AllocError> {
+        Ok(Element {
+            table: self.table,
+            offset: self.offset.duplicate(alloc)?,
+            functions: self.functions.duplicate(alloc)?,
+        })
+    }
+}
+
+impl Duplicate for Data {
+    fn duplicate(&self, alloc: Heap) -> Result<Data, AllocError> {
+        Ok(Data {
+            memory: self.memory,
+            offset: self.offset.duplicate(alloc)?,
+            bytes: self.bytes.duplicate(alloc)?,
+        })
+    }
+}
+
+impl Duplicate for Module {
+    fn duplicate(&self, alloc: Heap) -> Result<Module, AllocError> {
+        let mut copy = Module::empty(alloc);
+        copy.types = self.types.duplicate(alloc)?;
+        copy.imports = self.imports.duplicate(alloc)?;
+        copy.functions = self.functions.duplicate(alloc)?;
+        copy.tables = self.tables.duplicate(alloc)?;
+        copy.memories = self.memories.duplicate(alloc)?;
+        copy.globals = self.globals.duplicate(alloc)?;
+        copy.exports = self.exports.duplicate(alloc)?;
+        copy.start = self.start;
+        copy.elements = self.elements.duplicate(alloc)?;
+        copy.data = self.data.duplicate(alloc)?;
+        Ok(copy)
+    }
+}
+
+impl Duplicate for Body {
+    fn duplicate(&self, alloc: Heap) -> Result<Body, AllocError> {
+        duplicate_body(self, alloc)
+    }
+}
+
+#[cycle(duplicate)]
+fn duplicate_body(body: &Body, alloc: Heap) -> Result<Body, AllocError>
+    ensures { IfOk result (λ copy. copy ≡ body.now) }
+{
+    let instrs = body.as_slice();
+    let mut copies = Vec::with_capacity(alloc, instrs.len())?;
+    for instr in instrs {
+        copies.push(duplicate_instr(instr, alloc)?)?;
+    }
+    Ok(Body::from(copies))
+}
+
+#[cycle(duplicate)]
+fn duplicate_instr(instr: &Instr, alloc: Heap) -> Result<Instr, AllocError>
+    ensures { IfOk result (λ copy. copy ≡ instr.now) }
+{
+    match instr {
+        Instr::Plain(plain) => Ok(Instr::Plain(*plain)),
+        Instr::Branch(branch) => Ok(Instr::Branch(branch.duplicate(alloc)?)),
+        Instr::Call(function) => Ok(Instr::Call(*function)),
+        Instr::CallIndirect(type_number) => Ok(Instr::CallIndirect(*type_number)),
+        Instr::Unreachable => Ok(Instr::Unreachable),
+        Instr::Block(gives, body) => Ok(Instr::Block(*gives, duplicate_body(body, alloc)?)),
+        Instr::Loop(gives, body) => Ok(Instr::Loop(*gives, duplicate_body(body, alloc)?)),
+        Instr::If(gives, body, or) => {
+            let body = duplicate_body(body, alloc)?;
+            Ok(Instr::If(*gives, body, duplicate_body(or, alloc)?))
+        }
+    }
+}

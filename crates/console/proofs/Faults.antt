@@ -1,6 +1,6 @@
 -- What a fault below says of a call.
 use Rattle.std.proofs.Common.{◌≡◌, ℕ, List, Some, Result, Ok, Err, ap, subst, refl}
-use Rattle.std.specs.Prelude.{IsErrAnd, OnOk}
+use Rattle.std.specs.Prelude.{IfErr, IsErrAnd, OnOk}
 use Rattle.wasm_ast.specs.declared.module.Module.{Module}
 use Rattle.wasm_decode.specs.declared.fault.DecodeFault.{DecodeFault}
 use Rattle.wasm_decode.specs.declared.fault.DecodeFault.TheVariants as decode
@@ -15,7 +15,7 @@ use Rattle.interp.specs.Typing.{IsTyped}
 use Rattle.console.specs.declared.fault.CallFault.{CallFault}
 use Rattle.console.specs.declared.fault.CallFault.TheVariants.{Decode, Shape, Typing, Input, Budget, OutOfMemory, Write}
 use Rattle.console.specs.Refusal.{of_decode_fault, of_straight_fault, of_run_fault}
-use Rattle.console.specs.Engine.{Loads, NeedsMemoryAndWriter, RefusesBytes, Refuses}
+use Rattle.console.specs.Engine.{Loads, NeedsMemoryAndWriter, RefusesBytes, RefusesText, Refuses}
 
 pub is_fault : {A E : Type 0} (r : Result A E) (fault : E) → IsErrAnd r (λ e. e ≡ fault) → r ≡ Err fault
 is_fault (Ok x) fault h = absurd h
@@ -62,3 +62,15 @@ pub straight_refuses : (bytes : List ℕ) (m : Module) (fault : StraightFault) �
 straight_refuses bytes m straight.Shape spelled shape typing = (m, spelled, shape refl)
 straight_refuses bytes m straight.Typing spelled shape typing = let both = typing refl in (m, spelled, both.0, both.1)
 straight_refuses bytes m straight.OutOfMemory spelled shape typing = tt
+
+-- what is said of a call of the module that the bytes spell is said of bytes and text
+pub refuses_text : {A : Type 0} (bytes text : List ℕ) (m : Module) (r : Result A CallFault) → Loads bytes m → IfErr r (RefusesText m text)
+    → IfErr r (Refuses bytes text)
+refuses_text bytes text m (Ok x) loads h = h
+refuses_text bytes text m (Err (Decode fault)) loads h = absurd h
+refuses_text bytes text m (Err Shape) loads h = absurd h
+refuses_text bytes text m (Err Typing) loads h = absurd h
+refuses_text bytes text m (Err (Input fault)) loads h = (m, loads, h)
+refuses_text bytes text m (Err Budget) loads h = (m, loads, h)
+refuses_text bytes text m (Err OutOfMemory) loads h = tt
+refuses_text bytes text m (Err Write) loads h = (m, loads, h)

@@ -5,12 +5,16 @@ use Rattle.std.proofs.lemmas.List.{append-nil, length-replicate}
 use Rattle.wasm_ast.specs.declared.types.ValType.{ValType}
 use Rattle.wasm_ast.specs.declared.types.FuncType.{FuncType}
 use Rattle.wasm_ast.specs.declared.module.Function.{Function}
+use Rattle.wasm_ast.specs.Limits.{max_locals, parameters_of, IsBodyWithin}
 use Rattle.wasm_decode.specs.Bytes.{Then, Items, Vector}
-use Rattle.wasm_decode.specs.Grammar.{limit, SpellsExpression, SpellsGroup, locals_of, SpellsLocals, parameters_of, type_numbers, SpellsTyped}
-use Rattle.wasm_decode.specs.Reading.{u32_at, val_type_at, groups_at, locals_at, function_in, function_at, bodies_at, code_at}
+use Rattle.wasm_decode.specs.Instructions.{SpellsExpression}
+use Rattle.wasm_decode.specs.Grammar.{SpellsGroup, locals_of, SpellsLocals, type_numbers}
+use Rattle.wasm_decode.specs.Reading.{u32_at, val_type_at}
+use Rattle.wasm_decode.specs.ReadingModule.{groups_at, locals_at, function_in, function_at, bodies_at, functions_at}
 use Rattle.wasm_decode.proofs.AgainCode.{expression_again}
 use Rattle.wasm_decode.proofs.AgainParts.{u32_again, val_type_again, part_again}
 use Rattle.wasm_decode.proofs.SectionParts.{length-type_numbers}
+use Rattle.wasm_decode.proofs.TakesFunctions.{FunctionWithin}
 use Rattle.wasm_decode.proofs.Tools.{IsRead, Then-assoc, Then_again}
 
 groups_again : (groups : List (ℕ × ValType)) (room : ℕ) → length (locals_of groups) ≤ room
@@ -35,31 +39,31 @@ locals_again locals room few front rest h =
     (rw (h.grouped) (groups_again h.groups room fits h.spelled.back rest h.spelled.is_second))
 
 -- locals and a body, and nothing behind them
-function_in_again : (parameters : ℕ) (f : Function) (inside : List ℕ) → parameters + length f.locals ≤ limit
+function_in_again : (parameters : ℕ) (f : Function) (inside : List ℕ) → parameters + length f.locals ≤ max_locals → IsBodyWithin f.body
     → Then (SpellsLocals f.locals) (SpellsExpression f.body) inside → function_in f.type_number parameters inside ≡ Some f
 unfolding function_in
-function_in_again parameters f inside few h =
-    let fits : length f.locals ≤ limit - parameters = omega arith in
-    let body = expression_again f.body (suc (length (h.back ++ []))) h.back [] h.is_second (omega (arith, length-append h.back [])) in
+function_in_again parameters f inside few within h =
+    let fits : length f.locals ≤ max_locals - parameters = omega arith in
+    let body = expression_again f.body h.back [] (h.is_second, within) in
     let all : inside ≡ inside ++ [] = sym (append-nil inside) in
     ap (function_in f.type_number parameters) all
-    ∙ Then_again (locals_at (limit - parameters)) _ [] f.locals (locals_again f.locals (limit - parameters) fits) h (rw body refl)
+    ∙ Then_again (locals_at (max_locals - parameters)) _ [] f.locals (locals_again f.locals (max_locals - parameters) fits) h (rw body refl)
 
-pub function_again : (types : List FuncType) (f : Function) → IsRead (function_at types f.type_number) f (SpellsTyped types f)
+function_again : (types : List FuncType) (f : Function) → IsRead (function_at types f.type_number) f (FunctionWithin types f)
 unfolding function_at
 function_again types f front rest h =
-    rw (part_again rest h.spelled, function_in_again (parameters_of types f) f h.spelled.inside h.few h.spelled.spelled) refl
+    rw (part_again rest h.0, function_in_again (parameters_of types f.type_number) f h.0.inside h.1.0 h.1.1 h.0.spelled) refl
 
 bodies_again : (types : List FuncType) (functions : List Function)
-    → IsRead (bodies_at types (type_numbers functions)) functions (Items (SpellsTyped types) functions)
+    → IsRead (bodies_at types (type_numbers functions)) functions (Items (FunctionWithin types) functions)
 unfolding bodies_at
 bodies_again types [] front rest h = rw h refl
 bodies_again types (f ∷ fs) front rest h =
     Then_again (function_at types f.type_number) _ rest f (function_again types f) h (rw (bodies_again types fs h.back rest h.is_second) refl)
 
-pub code_section_again : (types : List FuncType) (functions : List Function)
-    → IsRead (code_at types (type_numbers functions)) functions (Vector (SpellsTyped types) functions)
-unfolding code_at
-code_section_again types functions front rest h =
+pub functions_again : (types : List FuncType) (functions : List Function)
+    → IsRead (functions_at types (type_numbers functions)) functions (Vector (FunctionWithin types) functions)
+unfolding functions_at
+functions_again types functions front rest h =
     let counts = eq-eqb (length functions) (length (type_numbers functions)) (sym (length-type_numbers functions)) in
     Then_again u32_at _ rest (length functions) (u32_again (length functions)) h (rw counts (bodies_again types functions h.back rest h.is_second))

@@ -1,16 +1,16 @@
 -- What is spelled so is read: numbers, vectors, names and types.
-use Rattle.std.proofs.Common.{◌≡◌, ℕ, ◌≤◌, List, [], ◌∷◌, ◌++◌, length, Some, refl, ap, ◌∙◌, append_assoc, arith, length-append}
+use Rattle.std.proofs.Common.{◌≡◌, ℕ, ◌≤◌, List, [], ◌∷◌, ◌++◌, length, Option, Some, None, refl, ap, ◌∙◌, append_assoc, arith, length-append}
 use Rattle.std.proofs.Math.Seq.{take-append_seam, drop-append_seam}
 use Rattle.std.proofs.lemmas.Bool.{le-leb}
 use Rattle.std.proofs.lemmas.Str.{is_utf8-from_IsUtf8}
 use Rattle.leb.proofs.Unsigned.{unsigned_again, unsigned_below}
 use Rattle.wasm_ast.specs.declared.types.ValType.TheVariants as val_type
-use Rattle.wasm_ast.specs.declared.module.ImportDescription.TheVariants as import
-use Rattle.wasm_ast.specs.declared.module.ExportDescription.TheVariants as export
+use Rattle.wasm_ast.specs.declared.types.Mutability.TheVariants as mutability
+use Rattle.wasm_ast.specs.Limits.{max_parameters, max_results, IsTypeWithin}
 use Rattle.wasm_decode.specs.Bytes.{Byte, U32, Items, Vector, Name, Sized}
-use Rattle.wasm_decode.specs.Grammar.{SpellsValType, limit, SpellsFuncType, SpellsImportDescription, SpellsImport, SpellsExportDescription, SpellsExport}
-use Rattle.wasm_decode.specs.Reading.{Reads, of_leb, byte_at, u32_at, take_at, part_at, items_at, vector_at, name_at, val_type_at, func_type_at, import_description_at, import_at, export_description_at, export_at}
-use Rattle.wasm_decode.proofs.Tools.{Spelling, IsRead, IsComplete, Then_again}
+use Rattle.wasm_decode.specs.Types.{SpellsValType, SpellsBlockType, SpellsFuncType, SpellsRange, SpellsLimits, SpellsTableType, mutability_byte, SpellsGlobalType}
+use Rattle.wasm_decode.specs.Reading.{Reads, of_leb, byte_at, u32_at, take_at, part_at, items_at, vector_at, name_at, val_type_at, block_type_at, func_type_at, at_least_at, between_at, range_at, limits_at, table_type_at, mutability_at, global_type_at}
+use Rattle.wasm_decode.proofs.Tools.{Spelling, Within, IsRead, IsComplete, Then_again}
 
 pub byte_again : IsComplete byte_at Byte
 unfolding byte_at
@@ -53,17 +53,21 @@ Items-Byte : (name bytes : List ℕ) → Items Byte name bytes → bytes ≡ nam
 Items-Byte [] bytes h = h
 Items-Byte (b ∷ name) bytes h = h.parts ∙ rw (h.is_first, Items-Byte name h.back h.is_second) refl
 
+-- a vector of bytes is a part
+pub bytes_again : IsComplete part_at (Vector Byte)
+bytes_again content front rest h =
+    let sized : Sized (λ inside. inside ≡ content) front = record {
+      size = h.front;
+      inside = content;
+      counted = h.is_first;
+      spelled = refl;
+      parts = rw (← Items-Byte content h.back h.is_second) h.parts;
+    } in
+    part_again rest sized
+
 pub name_again : IsComplete name_at Name
 unfolding name_at
-name_again name front rest h =
-    let sized : Sized (λ inside. inside ≡ name) front = record {
-      size = h.spelled.front;
-      inside = name;
-      counted = h.spelled.is_first;
-      spelled = refl;
-      parts = rw (← Items-Byte name h.spelled.back h.spelled.is_second) h.spelled.parts;
-    } in
-    rw (part_again rest sized, is_utf8-from_IsUtf8 name h.utf8) refl
+name_again name front rest h = rw (bytes_again name front rest h.spelled, is_utf8-from_IsUtf8 name h.utf8) refl
 
 -- ---- types
 
@@ -72,45 +76,42 @@ unfolding val_type_at
 val_type_again val_type.I32 front rest h = rw h refl
 val_type_again val_type.I64 front rest h = rw h refl
 
-pub func_type_again : IsComplete func_type_at SpellsFuncType
+pub block_type_again : IsComplete block_type_at SpellsBlockType
+unfolding block_type_at
+block_type_again None front rest h = rw h refl
+block_type_again (Some val_type.I32) front rest h = rw h refl
+block_type_again (Some val_type.I64) front rest h = rw h refl
+
+pub func_type_again : IsComplete func_type_at (Within SpellsFuncType IsTypeWithin)
 unfolding func_type_at
 func_type_again t front rest h =
-    let types = vector_again val_type_at SpellsValType val_type_again limit in
-    let lists = h.is_second in
-    Then_again byte_at _ rest 0x60 (byte_again 0x60) h
-    (Then_again (vector_at val_type_at limit) _ rest t.parameters (λ f r s. types t.parameters s.few f r s.spelled) lists
-    (rw (types t.results lists.is_second.few lists.back rest lists.is_second.spelled) refl))
+    let types = vector_again val_type_at SpellsValType val_type_again in
+    let lists = h.0.is_second in
+    Then_again byte_at _ rest 0x60 (byte_again 0x60) h.0
+    (Then_again (vector_at val_type_at max_parameters) _ rest t.parameters (types max_parameters t.parameters h.1.0) lists
+    (rw (types max_results t.results h.1.1 lists.back rest lists.is_second) refl))
 
--- ---- imports and exports
+range_again : (minimum : ℕ) (maximum : Option ℕ) → IsRead limits_at (record { minimum = minimum; maximum = maximum }) (SpellsRange minimum maximum)
+unfolding limits_at range_at at_least_at between_at
+range_again n None front rest h =
+    Then_again byte_at _ rest 0x00 (byte_again 0x00) h (rw (u32_again n h.back rest h.is_second) refl)
+range_again n (Some m) front rest h =
+    Then_again byte_at _ rest 0x01 (byte_again 0x01) h
+    (Then_again u32_at _ rest n (u32_again n) h.is_second (rw (u32_again m h.is_second.back rest h.is_second.is_second) refl))
 
-import_description_again : IsComplete import_description_at SpellsImportDescription
-unfolding import_description_at
-import_description_again (import.Function t) front rest h =
-    Then_again byte_at _ rest 0x00 (byte_again 0x00) h (rw (u32_again t h.back rest h.is_second) refl)
-import_description_again (import.Table l) front rest h = absurd h
-import_description_again (import.Memory l) front rest h = absurd h
-import_description_again (import.Global t) front rest h = absurd h
+pub limits_again : IsComplete limits_at SpellsLimits
+limits_again l front rest h = range_again l.minimum l.maximum front rest h
 
-pub import_again : IsComplete import_at SpellsImport
-unfolding import_at
-import_again i front rest h =
-    Then_again name_at _ rest i.module (name_again i.module) h
-    (Then_again name_at _ rest i.name (name_again i.name) h.is_second
-    (rw (import_description_again i.description h.is_second.back rest h.is_second.is_second) refl))
+pub table_type_again : IsComplete table_type_at SpellsTableType
+unfolding table_type_at
+table_type_again l front rest h = Then_again byte_at _ rest 0x70 (byte_again 0x70) h (limits_again l h.back rest h.is_second)
 
-export_description_again : IsComplete export_description_at SpellsExportDescription
-unfolding export_description_at
-export_description_again (export.Function x) front rest h =
-    Then_again byte_at _ rest 0x00 (byte_again 0x00) h (rw (u32_again x h.back rest h.is_second) refl)
-export_description_again (export.Table x) front rest h =
-    Then_again byte_at _ rest 0x01 (byte_again 0x01) h (rw (u32_again x h.back rest h.is_second) refl)
-export_description_again (export.Memory x) front rest h =
-    Then_again byte_at _ rest 0x02 (byte_again 0x02) h (rw (u32_again x h.back rest h.is_second) refl)
-export_description_again (export.Global x) front rest h =
-    Then_again byte_at _ rest 0x03 (byte_again 0x03) h (rw (u32_again x h.back rest h.is_second) refl)
+mutability_again : IsComplete mutability_at (λ m front. Byte (mutability_byte m) front)
+unfolding mutability_at
+mutability_again mutability.Constant front rest h = rw h refl
+mutability_again mutability.Variable front rest h = rw h refl
 
-pub export_again : IsComplete export_at SpellsExport
-unfolding export_at
-export_again e front rest h =
-    Then_again name_at _ rest e.name (name_again e.name) h
-    (rw (export_description_again e.description h.back rest h.is_second) refl)
+pub global_type_again : IsComplete global_type_at SpellsGlobalType
+unfolding global_type_at
+global_type_again g front rest h =
+    Then_again val_type_at _ rest g.value (val_type_again g.value) h (rw (mutability_again g.mutability h.back rest h.is_second) refl)

@@ -1,10 +1,11 @@
 -- What is spelled so is read: sections, of which some are absent, and the custom ones between them.
-use Rattle.std.proofs.Common.{◌≡◌, ℕ, zero, suc, ◌<◌, inl, inr, Bool, true, false, eqb, List, [], ◌∷◌, ◌++◌, length, Option, Some, None, refl, sym, ap, ◌∙◌, arith, length-append}
-use Rattle.std.proofs.lemmas.Bool.{eq-eqb, eqb-true, false_from_ne_true, or_right, or_left}
+use Rattle.std.proofs.Common.{◌≡◌, ℕ, zero, suc, ◌≤◌, ◌<◌, ◌&&◌, nat_le, inl, inr, Bool, true, List, [], ◌∷◌, ◌++◌, length, Option, Some, None, refl, sym, ap, ◌∙◌, arith, length-append}
+use Rattle.std.proofs.lemmas.Bool.{eq-eqb, ne_eqb, le-leb, leb-true, lt-ltb, and_from, and_parts}
 use Rattle.std.proofs.lemmas.List.{append-nil}
 use Rattle.wasm_decode.specs.Bytes.{Then, Items}
 use Rattle.wasm_decode.specs.Grammar.{SpellsCustom, Customs, Section}
-use Rattle.wasm_decode.specs.Reading.{Reads, customs_at, skip_customs, later_sections, is_among, section_at, section_with}
+use Rattle.wasm_decode.specs.Reading.{Reads}
+use Rattle.wasm_decode.specs.ReadingModule.{customs_at, skip_customs, is_later, section_at, section_with}
 use Rattle.wasm_decode.proofs.AgainParts.{part_again, name_again}
 use Rattle.wasm_decode.proofs.SectionParts.{MaySpell}
 use Rattle.wasm_decode.proofs.Tools.{IsRead, Then-append, Then-Byte}
@@ -33,71 +34,74 @@ items_before (content ∷ contents) front after rest h skips (suc n) lt =
 pub customs_before : (front after rest : List ℕ) → Customs front → Skips after rest → Skips (front ++ after) rest
 customs_before front after rest customs skips = items_before customs.contents front after rest customs.spelled skips
 
--- nothing stands there, or one of these sections
-abbrev pub begins : List ℕ → List ℕ → Bool
-begins numbers [] = true
-begins numbers (b ∷ bytes) = is_among b numbers
+-- nothing stands there, or a section with this number or a later one
+abbrev pub begins : (number : ℕ) → List ℕ → Bool
+begins number [] = true
+begins number (b ∷ bytes) = nat_le number b && nat_le b 11
 
 -- what is left of the bytes without the custom sections in front of them
-pub record Leads (numbers bytes rest : List ℕ) : Type 0 where
+pub record Leads (number : ℕ) (bytes rest : List ℕ) : Type 0 where
   pub skips : Skips bytes rest
-  pub is_section : begins numbers rest ≡ true
+  pub is_section : begins number rest ≡ true
 
-begins_more : (number : ℕ) (numbers bytes : List ℕ) → begins numbers bytes ≡ true → begins (number ∷ numbers) bytes ≡ true
-begins_more number numbers [] h = refl
-begins_more number numbers (b ∷ bytes) h = or_right (eqb b number) (is_among b numbers) h
+begins_more : (number : ℕ) (bytes : List ℕ) → begins (suc number) bytes ≡ true → begins number bytes ≡ true
+begins_more number [] h = refl
+begins_more number (b ∷ bytes) h =
+    let parts = and_parts (nat_le (suc number) b) (nat_le b 11) h in
+    let low : number ≤ b = omega (arith, leb-true (suc number) b parts.0) in
+    and_from (nat_le number b) (nat_le b 11) (le-leb number b low) parts.1
 
 -- reading from a section on, where custom ones may stand before it, reads it and skips the custom sections behind it
 pub record IsSectionRead {A : Type 0} (content : Reads A) (absent : Option A) (number : ℕ) (x : A) (bytes rest : List ℕ) : Type 0 where
   pub start : List ℕ
-  pub leads : Leads (number ∷ later_sections number) bytes start
+  pub leads : Leads number bytes start
   pub is_read : section_with content absent number start ≡ Some (x, rest)
 
-Skips-section : (number : ℕ) (bytes : List ℕ) → eqb number 0 ≡ false → Skips (number ∷ bytes) (number ∷ bytes)
+Skips-section : (number : ℕ) (bytes : List ℕ) → 1 ≤ number → Skips (number ∷ bytes) (number ∷ bytes)
 unfolding customs_at
 Skips-section number bytes some zero lt = absurd (omega arith)
-Skips-section number bytes some (suc n) lt = rw some refl
+Skips-section number bytes some (suc n) lt = rw (ne_eqb number 0 (λ e. absurd (omega arith))) refl
 
-section_at-missing : (number : ℕ) (bytes : List ℕ) → is_among number (later_sections number) ≡ false
-    → begins (later_sections number) bytes ≡ true → section_at number bytes ≡ Some (None, bytes)
+section_at-missing : (number : ℕ) (bytes : List ℕ) → begins (suc number) bytes ≡ true → section_at number bytes ≡ Some (None, bytes)
 unfolding section_at
-section_at-missing number [] once h = refl
-section_at-missing number (b ∷ bytes) once h =
-    let another = false_from_ne_true (eqb b number) (λ e. absurd (let again = rw (eqb-true b number e) at h in cc)) in
-    rw (another, h) refl
+section_at-missing number [] h = refl
+section_at-missing number (b ∷ bytes) h =
+    let parts = and_parts (nat_le (suc number) b) (nat_le b 11) h in
+    let low : suc number ≤ b = leb-true (suc number) b parts.0 in
+    let another = ne_eqb b number (λ e. absurd (omega arith)) in
+    rw (another, lt-ltb number b low, parts.1) refl
 
-module _ {A : Type 0} (content : Reads A) (absent : Option A) (number : ℕ) {x : A} {P : List ℕ → Type 0} (again : IsRead content x P) where
-  present : (front behind rest : List ℕ) → eqb number 0 ≡ false → Section number P front → Skips behind rest
-      → IsSectionRead content absent number x (front ++ behind) rest
+module _ {A : Type 0} (content : Reads A) (absent : Option A) (number : ℕ) {x : A} {P : List ℕ → Type 0} (some : 1 ≤ number) (last : number ≤ 11)
+    (again : IsRead content x P) where
+  present : (front behind rest : List ℕ) → Section number P front → Skips behind rest → IsSectionRead content absent number x (front ++ behind) rest
   unfolding section_with section_at skip_customs
-  present front behind rest some h skips =
+  present front behind rest h skips =
       let inside = h.is_second.inside in
       let read : content inside ≡ Some (x, []) = ap content (sym (append-nil inside)) ∙ again inside [] h.is_second.spelled in
       let same = eq-eqb number number refl in
       let starts : front ++ behind ≡ number ∷ (h.back ++ behind) = ap (λ (f : List ℕ). f ++ behind) (Then-Byte h) in
+      let is_section = and_from (nat_le number number) (nat_le number 11) (le-leb number number (omega arith)) (le-leb number 11 last) in
       record {
         start = number ∷ (h.back ++ behind);
-        leads = record { skips = rw starts (Skips-section number (h.back ++ behind) some); is_section = or_left _ _ same };
+        leads = record { skips = rw starts (Skips-section number (h.back ++ behind) some); is_section = is_section };
         is_read = rw (same, part_again behind h.is_second, read, skips (suc (length behind)) (omega arith)) refl;
       }
 
-  missing : (behind rest : List ℕ) → is_among number (later_sections number) ≡ false → absent ≡ Some x
-      → Leads (later_sections number) behind rest → IsSectionRead content absent number x behind rest
+  missing : (behind rest : List ℕ) → absent ≡ Some x → Leads (suc number) behind rest → IsSectionRead content absent number x behind rest
   unfolding section_with
-  missing behind rest once none leads = record {
+  missing behind rest none leads = record {
     start = rest;
-    leads = record { skips = leads.skips; is_section = begins_more number (later_sections number) rest leads.is_section };
-    is_read = rw (section_at-missing number rest once leads.is_section, none) refl;
+    leads = record { skips = leads.skips; is_section = begins_more number rest leads.is_section };
+    is_read = rw (section_at-missing number rest leads.is_section, none) refl;
   }
 
   -- the section, if it is there, and custom ones stand before what follows
-  pub section_again : {V Q : List ℕ → Type 0} (bytes rest : List ℕ) → eqb number 0 ≡ false → is_among number (later_sections number) ≡ false
-      → (h : Then V (Then Customs Q) bytes) → MaySpell number absent x P h.front → Leads (later_sections number) h.is_second.back rest
-      → IsSectionRead content absent number x bytes rest
-  section_again bytes rest some once h spelled leads =
+  pub section_again : {V Q : List ℕ → Type 0} (bytes rest : List ℕ) → (h : Then V (Then Customs Q) bytes) → MaySpell number absent x P h.front
+      → Leads (suc number) h.is_second.back rest → IsSectionRead content absent number x bytes rest
+  section_again bytes rest h spelled leads =
       let after = h.is_second in
       let skips = customs_before after.front after.back rest after.is_first leads.skips in
       rw (h.parts, after.parts) (elim spelled [
-        | inl here ↦ present h.front (after.front ++ after.back) rest some here skips
-        | inr gone ↦ rw gone.1 (missing (after.front ++ after.back) rest once gone.0 (record { skips = skips; is_section = leads.is_section }))
+        | inl here ↦ present h.front (after.front ++ after.back) rest here skips
+        | inr gone ↦ rw gone.1 (missing (after.front ++ after.back) rest gone.0 (record { skips = skips; is_section = leads.is_section }))
       ])

@@ -1,5 +1,5 @@
 -- What is read is spelled so: numbers, vectors, names and types.
-use Rattle.std.proofs.Common.{◌≡◌, ℕ, zero, suc, ◌≤◌, List, [], ◌∷◌, ◌++◌, length, take, drop, Some, Result, Ok, Err, refl, sym, ap, ◌∙◌}
+use Rattle.std.proofs.Common.{◌≡◌, ℕ, zero, suc, ◌≤◌, List, [], ◌∷◌, ◌++◌, length, take, drop, Some, None, Result, Ok, Err, refl, sym, ap, ◌∙◌}
 use Rattle.std.proofs.lemmas.Bool.{leb-true, eqb-true}
 use Rattle.std.proofs.lemmas.List.{append-nil, take-append-drop, length-take-le}
 use Rattle.std.proofs.lemmas.Str.{IsUtf8-from_is_utf8}
@@ -12,12 +12,14 @@ use Rattle.leb.specs.Spelling.{IsSigned}
 use Rattle.leb.proofs.Unsigned.{unsigned_takes}
 use Rattle.leb.proofs.Signed.{signed_takes}
 use Rattle.wasm_ast.specs.declared.types.ValType.TheVariants.{I32, I64}
-use Rattle.wasm_ast.specs.declared.module.ExportDescription.{ExportDescription}
-use Rattle.wasm_ast.specs.declared.module.ExportDescription.TheVariants as export
+use Rattle.wasm_ast.specs.declared.types.Limits.{Limits}
+use Rattle.wasm_ast.specs.declared.types.Mutability.TheVariants.{Constant, Variable}
+use Rattle.wasm_ast.specs.declared.types.GlobalType.{GlobalType}
+use Rattle.wasm_ast.specs.Limits.{max_parameters, max_results, IsTypeWithin}
 use Rattle.wasm_decode.specs.Bytes.{Byte, U32, Items, Vector, Name, Sized}
-use Rattle.wasm_decode.specs.Grammar.{SpellsValType, limit, SpellsResultType, SpellsFuncType, SpellsImportDescription, SpellsImport, SpellsExportDescription, SpellsExport}
-use Rattle.wasm_decode.specs.Reading.{Reads, guarded, of_leb, byte_at, u32_at, signed_number_at, take_at, part_at, items_at, vector_at, name_at, val_type_at, func_type_at, import_description_at, import_at, export_of, export_description_at, export_at}
-use Rattle.wasm_decode.proofs.Tools.{Spelling, bind_some, guarded_some, some_is, never, by_byte, IsBytes-front, IsSound, Takes-map, Then_takes, made_takes, Then-joined}
+use Rattle.wasm_decode.specs.Types.{SpellsValType, SpellsBlockType, SpellsFuncType, SpellsLimits, SpellsTableType, mutability_byte, SpellsGlobalType}
+use Rattle.wasm_decode.specs.Reading.{Reads, guarded, of_leb, byte_at, u32_at, signed_number_at, take_at, part_at, items_at, vector_at, name_at, val_type_at, block_type_at, func_type_at, at_least_at, between_at, range_at, limits_at, table_type_at, mutability_at, global_type_at}
+use Rattle.wasm_decode.proofs.Tools.{Spelling, bind_some, guarded_some, some_is, never, by_byte, IsBytes-front, IsSound, Within, Takes-map, Then_takes, made_takes, Then-joined}
 
 of_leb_some : {A : Type 0} (r : Result A LebFault) (y : A) → of_leb r ≡ Some y → r ≡ Ok y
 of_leb_some (Ok x) y e = let same : x ≡ y = some_is x y e in rw same refl
@@ -115,23 +117,26 @@ Items-Byte : (name : List ℕ) → Items Byte name name
 Items-Byte [] = refl
 Items-Byte (b ∷ name) = Then-joined (b ∷ []) name refl (Items-Byte name)
 
+-- a part is a vector of bytes
+pub bytes_take : IsSound part_at (Vector Byte)
+bytes_take bytes x fits e =
+    Takes-map (part_takes bytes x fits e) λ f part.
+    let sized = part.is_sized in
+    record {
+      front = sized.size;
+      back = sized.inside;
+      is_first = rw (← sized.spelled) sized.counted;
+      is_second = rw sized.spelled (Items-Byte x.0);
+      parts = sized.parts;
+    }
+
 pub name_takes : IsSound name_at Name
 unfolding name_at
 name_takes bytes x fits e =
     let a = bind_some (part_at bytes) (λ name. guarded (is_utf8 name.0) (Some name)) x e in
     let g = guarded_some (is_utf8 a.0.0) (Some a.0) x a.2 in
-    let t = part_takes bytes a.0 fits a.1 in
-    let sized = t.is_spelled.is_sized in
-    let named : Name a.0.0 t.front = record {
-      utf8 = IsUtf8-from_is_utf8 a.0.0 g.0;
-      spelled = record {
-        front = sized.size;
-        back = sized.inside;
-        is_first = rw (← sized.spelled) sized.counted;
-        is_second = rw sized.spelled (Items-Byte a.0.0);
-        parts = sized.parts;
-      };
-    } in
+    let t = bytes_take bytes a.0 fits a.1 in
+    let named : Name a.0.0 t.front = record { utf8 = IsUtf8-from_is_utf8 a.0.0 g.0; spelled = t.is_spelled } in
     rw (← some_is a.0 x g.1) (record { front = t.front; is_spelled = named; parts = t.parts })
 
 -- ---- types
@@ -144,60 +149,66 @@ val_type_takes (b ∷ bytes) x fits e =
     by_byte b 0x7E _ _ _ e1 (λ is h. rw (is, ← some_is (I64, bytes) x h) (record { front = 0x7E ∷ []; is_spelled = refl; parts = refl })) λ e2.
     never x e2
 
-result_type_takes : IsSound (vector_at val_type_at limit) SpellsResultType
-result_type_takes bytes x fits e =
-    Takes-map (vector_takes SpellsValType val_type_takes limit bytes x fits e) λ f s. record { few = s.few; spelled = s.is_vector }
+pub block_type_takes : IsSound block_type_at SpellsBlockType
+unfolding block_type_at
+block_type_takes [] x fits e = never x e
+block_type_takes (b ∷ bytes) x fits e =
+    by_byte b 0x40 _ _ _ e (λ is h. rw (is, ← some_is (None, bytes) x h) (record { front = 0x40 ∷ []; is_spelled = refl; parts = refl })) λ e1.
+    by_byte b 0x7F _ _ _ e1 (λ is h. rw (is, ← some_is (Some I32, bytes) x h) (record { front = 0x7F ∷ []; is_spelled = refl; parts = refl })) λ e2.
+    by_byte b 0x7E _ _ _ e2 (λ is h. rw (is, ← some_is (Some I64, bytes) x h) (record { front = 0x7E ∷ []; is_spelled = refl; parts = refl })) λ e3.
+    never x e3
 
-pub func_type_takes : IsSound func_type_at SpellsFuncType
+pub func_type_takes : IsSound func_type_at (Within SpellsFuncType IsTypeWithin)
 unfolding func_type_at
 func_type_takes bytes x fits e =
     Then_takes _ byte_takes fits e λ form f b s fits1 e1.
     let g = guarded_some (form == 0x60) _ x e1 in
     let is_form : Byte 0x60 f = rw (← eqb-true form 0x60 g.0) s in
-    Then_takes _ result_type_takes fits1 g.1 λ parameters f1 b1 s1 fits2 e2.
-    made_takes (λ t f2. SpellsFuncType t (f ++ (f1 ++ f2))) result_type_takes fits2 e2 λ results f2 s2.
-    Then-joined f (f1 ++ f2) is_form (Then-joined f1 f2 s1 s2)
+    Then_takes _ (vector_takes SpellsValType val_type_takes max_parameters) fits1 g.1 λ parameters f1 b1 s1 fits2 e2.
+    made_takes (λ t f2. Within SpellsFuncType IsTypeWithin t (f ++ (f1 ++ f2))) (vector_takes SpellsValType val_type_takes max_results) fits2 e2 λ results f2 s2.
+    (Then-joined f (f1 ++ f2) is_form (Then-joined f1 f2 s1.is_vector s2.is_vector), (s1.few, s2.few))
 
--- ---- imports and exports
+at_least_takes : IsSound at_least_at (λ l f. SpellsLimits l (0x00 ∷ f))
+unfolding at_least_at
+at_least_takes bytes x fits e =
+    made_takes (λ (l : Limits) f. SpellsLimits l (0x00 ∷ f)) u32_takes fits e λ n f s. Then-joined (0x00 ∷ []) f refl s
 
-import_description_takes : IsSound import_description_at SpellsImportDescription
-unfolding import_description_at
-import_description_takes bytes x fits e =
+between_takes : IsSound between_at (λ l f. SpellsLimits l (0x01 ∷ f))
+unfolding between_at
+between_takes bytes x fits e =
+    Then_takes _ u32_takes fits e λ n f b s fits1 e1.
+    made_takes (λ (l : Limits) f1. SpellsLimits l (0x01 ∷ (f ++ f1))) u32_takes fits1 e1 λ m f1 s1.
+    Then-joined (0x01 ∷ []) (f ++ f1) refl (Then-joined f f1 s s1)
+
+range_takes : (flag : ℕ) → IsSound (range_at flag) (λ l f. SpellsLimits l (flag ∷ f))
+unfolding range_at
+range_takes flag bytes x fits e =
+    by_byte flag 0x00 _ _ _ e (λ is h. rw is (at_least_takes bytes x fits h)) λ e1.
+    by_byte flag 0x01 _ _ _ e1 (λ is h. rw is (between_takes bytes x fits h)) λ e2.
+    never x e2
+
+pub limits_takes : IsSound limits_at SpellsLimits
+unfolding limits_at
+limits_takes bytes x fits e =
+    Then_takes _ byte_takes fits e λ flag f b s fits1 e1. rw s (range_takes flag b x fits1 e1)
+
+pub table_type_takes : IsSound table_type_at SpellsTableType
+unfolding table_type_at
+table_type_takes bytes x fits e =
     Then_takes _ byte_takes fits e λ kind f b s fits1 e1.
-    let g = guarded_some (kind == 0x00) _ x e1 in
-    let is_kind : Byte 0x00 f = rw (← eqb-true kind 0x00 g.0) s in
-    made_takes (λ d f1. SpellsImportDescription d (f ++ f1)) u32_takes fits1 g.1 λ t f1 s1.
-    Then-joined f f1 is_kind s1
+    let g = guarded_some (kind == 0x70) _ x e1 in
+    Takes-map (limits_takes b x fits1 g.1) λ f1 s1. Then-joined f f1 (rw (← eqb-true kind 0x70 g.0) s) s1
 
-pub import_takes : IsSound import_at SpellsImport
-unfolding import_at
-import_takes bytes x fits e =
-    Then_takes _ name_takes fits e λ from f b s fits1 e1.
-    Then_takes _ name_takes fits1 e1 λ name f1 b1 s1 fits2 e2.
-    made_takes (λ i f2. SpellsImport i (f ++ (f1 ++ f2))) import_description_takes fits2 e2 λ d f2 s2.
-    Then-joined f (f1 ++ f2) s (Then-joined f1 f2 s1 s2)
+mutability_takes : IsSound mutability_at (λ m f. Byte (mutability_byte m) f)
+unfolding mutability_at
+mutability_takes [] x fits e = never x e
+mutability_takes (b ∷ bytes) x fits e =
+    by_byte b 0x00 _ _ _ e (λ is h. rw (is, ← some_is (Constant, bytes) x h) (record { front = 0x00 ∷ []; is_spelled = refl; parts = refl })) λ e1.
+    by_byte b 0x01 _ _ _ e1 (λ is h. rw (is, ← some_is (Variable, bytes) x h) (record { front = 0x01 ∷ []; is_spelled = refl; parts = refl })) λ e2.
+    never x e2
 
-export_of_spells : (kind x : ℕ) (d : ExportDescription) (f f1 : List ℕ) → export_of kind x ≡ Some d → Byte kind f → U32 x f1
-    → SpellsExportDescription d (f ++ f1)
-export_of_spells kind x d f f1 e s s1 =
-    by_byte kind 0x00 _ _ _ e (λ is h. rw (← some_is (export.Function x) d h) (Then-joined f f1 (rw (← is) s) s1)) λ e1.
-    by_byte kind 0x01 _ _ _ e1 (λ is h. rw (← some_is (export.Table x) d h) (Then-joined f f1 (rw (← is) s) s1)) λ e2.
-    by_byte kind 0x02 _ _ _ e2 (λ is h. rw (← some_is (export.Memory x) d h) (Then-joined f f1 (rw (← is) s) s1)) λ e3.
-    by_byte kind 0x03 _ _ _ e3 (λ is h. rw (← some_is (export.Global x) d h) (Then-joined f f1 (rw (← is) s) s1)) λ e4.
-    never d e4
-
-export_description_takes : IsSound export_description_at SpellsExportDescription
-unfolding export_description_at
-export_description_takes bytes x fits e =
-    Then_takes _ byte_takes fits e λ kind f b s fits1 e1.
-    let g = guarded_some (nat_le kind 0x03) _ x e1 in
-    Then_takes _ u32_takes fits1 g.1 λ n f1 b1 s1 fits2 e2.
-    let d = bind_some (export_of kind n) (λ d. Some (d, b1)) x e2 in
-    rw (← some_is (d.0, b1) x d.2) (record { front = []; is_spelled = rw append-nil (export_of_spells kind n d.0 f f1 d.1 s s1); parts = refl })
-
-pub export_takes : IsSound export_at SpellsExport
-unfolding export_at
-export_takes bytes x fits e =
-    Then_takes _ name_takes fits e λ name f b s fits1 e1.
-    made_takes (λ x f1. SpellsExport x (f ++ f1)) export_description_takes fits1 e1 λ d f1 s1.
-    Then-joined f f1 s s1
+pub global_type_takes : IsSound global_type_at SpellsGlobalType
+unfolding global_type_at
+global_type_takes bytes x fits e =
+    Then_takes _ val_type_takes fits e λ t f b s fits1 e1.
+    made_takes (λ (g : GlobalType) f1. SpellsGlobalType g (f ++ f1)) mutability_takes fits1 e1 λ m f1 s1. Then-joined f f1 s s1

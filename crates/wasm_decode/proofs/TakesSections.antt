@@ -3,7 +3,8 @@ use Rattle.std.proofs.Common.{◌≡◌, ℕ, zero, suc, ◌≤◌, inl, inr, Li
 use Rattle.leb.specs.Bytes.{IsBytes}
 use Rattle.wasm_decode.specs.Bytes.{Then, Byte}
 use Rattle.wasm_decode.specs.Grammar.{Section, IsCustom, Customs, VectorSection}
-use Rattle.wasm_decode.specs.Reading.{Reads, is_empty, name_at, vector_at, customs_at, skip_customs, later_sections, is_among, section_at, present_or, section_with}
+use Rattle.wasm_decode.specs.Reading.{Reads, is_empty, name_at, vector_at}
+use Rattle.wasm_decode.specs.ReadingModule.{customs_at, skip_customs, is_later, section_at, present_or, section_with}
 use Rattle.wasm_decode.proofs.SectionParts.{MaySpell, Section-map, Customs-nil}
 use Rattle.wasm_decode.proofs.TakesParts.{IsPart, part_takes, Sized-part, name_takes, Limited, vector_takes}
 use Rattle.wasm_decode.proofs.Tools.{Spelling, bind_some, guarded_some, some_is, never, by_byte, Takes, IsSound, Takes-cons, Takes-all, Takes-map, Then_takes, made_takes, Then-joined}
@@ -50,7 +51,7 @@ section_at_takes number (b ∷ bytes) x fits e =
     made_takes (λ inside f. Holds number inside (number ∷ f)) part_takes tail h λ inside f s.
     Then-joined (number ∷ []) f refl s)))
     λ e1.
-    let g = guarded_some (is_among b (later_sections number)) _ x e1 in
+    let g = guarded_some (is_later number b) _ x e1 in
     rw (← some_is (None, b ∷ bytes) x g.1) (record { front = []; is_spelled = refl; parts = refl })
 
 module _ {A : Type 0} {content : Reads A} (absent : Option A) (number : ℕ) (P : Spelling A) (sound : IsSound content P) where

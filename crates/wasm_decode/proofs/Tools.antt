@@ -1,6 +1,6 @@
 -- What readers and the parts of a spelling keep, whatever they read.
-use Rattle.std.proofs.Common.{◌≡◌, ℕ, zero, suc, ◌⊎◌, inl, inr, Bool, true, false, List, [], ◌∷◌, ◌++◌, Option, Some, None, refl, sym, ap, ◌∙◌, append_assoc, arith}
-use Rattle.std.proofs.lemmas.Bool.{eqb-true}
+use Rattle.std.proofs.Common.{◌≡◌, ℕ, zero, suc, Bool, true, false, List, [], ◌∷◌, ◌++◌, Option, Some, None, refl, sym, ap, ◌∙◌, append_assoc, arith}
+use Rattle.std.proofs.lemmas.Bool.{eqb-true, eqb-false}
 use Rattle.std.proofs.lemmas.List.{append-nil}
 use Rattle.std.specs.Prelude.{◌==◌, if◌then◌else◌}
 use Rattle.leb.specs.Bytes.{IsBytes}
@@ -29,13 +29,18 @@ some_is x y e = cc
 pub never : {A P : Type 0} (y : A) → None ≡ found y → P
 never y e = absurd cc
 
+-- the branch of a test
+pub by_test : {A P : Type 0} (t : Bool) (x y z : A) → (if t then x else y) ≡ z → (t ≡ true → x ≡ z → P) → (t ≡ false → y ≡ z → P) → P
+by_test true x y z e here elsewhere = here refl e
+by_test false x y z e here elsewhere = elsewhere refl e
+
 -- the branch of a test for one byte
 pub by_byte : {A P : Type 0} (b c : ℕ) (x y z : A) → (if b == c then x else y) ≡ z → (b ≡ c → x ≡ z → P) → (y ≡ z → P) → P
-by_byte b c x y z e here elsewhere = elim (chosen (b == c) x y z e) [ inl h ↦ here (eqb-true b c h.0) h.1 | inr h ↦ elsewhere h.1 ]
-  where
-    chosen : {A : Type 0} (t : Bool) (x y z : A) → (if t then x else y) ≡ z → ((t ≡ true) × (x ≡ z)) ⊎ ((t ≡ false) × (y ≡ z))
-    chosen true x y z e = inl (refl, e)
-    chosen false x y z e = inr (refl, e)
+by_byte b c x y z e here elsewhere = by_test (b == c) x y z e (λ is h. here (eqb-true b c is) h) (λ other h. elsewhere h)
+
+-- the same where the other branch needs that it is another byte
+pub by_byte_or : {A P : Type 0} (b c : ℕ) (x y z : A) → (if b == c then x else y) ≡ z → (b ≡ c → x ≡ z → P) → ((b ≡ c → ⊥) → y ≡ z → P) → P
+by_byte_or b c x y z e here elsewhere = by_test (b == c) x y z e (λ is h. here (eqb-true b c is) h) (λ other h. elsewhere (eqb-false b c other) h)
 
 -- ---- bytes
 
@@ -66,6 +71,19 @@ Then-assoc h = record {
   parts = h.parts ∙ Then-append h.front h.back h.is_first;
 }
 
+Then-second : {P Q R : List ℕ → Type 0} {bytes : List ℕ} → ((b : List ℕ) → Q b → R b) → Then P Q bytes → Then P R bytes
+Then-second change h = record { front = h.front; back = h.back; is_first = h.is_first; is_second = change h.back h.is_second; parts = h.parts }
+
+-- two pairs, or three, and what follows them, one after another
+pub Then-two : {A B C D R : List ℕ → Type 0} (front back : List ℕ) → Then (Then A B) (Then C D) front → R back
+    → Then A (Then B (Then C (Then D R))) (front ++ back)
+Then-two front back h rest = Then-assoc (Then-second (λ b. Then-assoc) (Then-assoc (Then-joined front back h rest)))
+
+pub Then-three : {A B C D E F R : List ℕ → Type 0} (front back : List ℕ) → Then (Then A B) (Then (Then C D) (Then E F)) front → R back
+    → Then A (Then B (Then C (Then D (Then E (Then F R))))) (front ++ back)
+Then-three front back h rest =
+    Then-assoc (Then-second (λ b k. Then-assoc (Then-second (λ b. Then-assoc) (Then-assoc k))) (Then-assoc (Then-joined front back h rest)))
+
 -- bytes that begin with a byte
 pub Then-Byte : {b : ℕ} {Q : List ℕ → Type 0} {bytes : List ℕ} (h : Then (Byte b) Q bytes) → bytes ≡ b ∷ h.back
 Then-Byte h = h.parts ∙ ap (λ (f : List ℕ). f ++ h.back) h.is_first
@@ -77,6 +95,10 @@ pub record Takes (spelled : List ℕ → Type 0) (bytes rest : List ℕ) : Type 
   pub front : List ℕ
   pub is_spelled : spelled front
   pub parts : bytes ≡ front ++ rest
+
+-- spelled so, and within limits
+abbrev pub Within : {A : Type 0} → Spelling A → (A → Type 0) → Spelling A
+Within spelled limits x bytes = spelled x bytes × limits x
 
 -- what is read is spelled by the bytes that it took
 abbrev pub IsSound : {A : Type 0} → Reads A → Spelling A → Type 0

@@ -1,3 +1,9 @@
 pub mod Bytes
+pub mod Types
+pub mod Instructions
 pub mod Grammar
+pub mod Canonical
+pub mod Representable
 pub mod Reading
+pub mod ReadingCode
+pub mod ReadingModule

@@ -1,26 +1,26 @@
 //! Locals and bodies of functions (Core 1.0, 5.5.13).
 
-ghost use Rattle.std.specs.Prelude.{◌≡◌, ◌++◌, replicate, slice_get, OnOk};
-ghost use Rattle.wasm_decode.specs.Grammar.{count_of};
-ghost use Rattle.wasm_decode.specs.Reading.{Gives, groups_at, locals_at, function_in, function_at, bodies_at, code_at};
+ghost use Rattle.std.specs.Prelude.{◌≡◌, ◌++◌, replicate, OnOk};
+ghost use Rattle.wasm_ast.specs.Limits.{parameters_of};
+ghost use Rattle.wasm_decode.specs.Reading.{Gives};
+ghost use Rattle.wasm_decode.specs.ReadingModule.{groups_at, locals_at, function_in, function_at, bodies_at, functions_at};
 
+use crate::body::expression;
 use crate::fault::DecodeFault;
-use crate::instructions::expression;
-use crate::item::Item;
 use crate::reader::Reader;
-use crate::types::LIMIT;
+use crate::types::val_type;
 use std::alloc::{AllocError, Global};
-use wasm_ast::{FuncType, Function, Sequence, ValType};
+use wasm_ast::{FuncType, Function, MAX_LOCALS, Sequence, ValType};
 
 /// What the code section holds: a body for each of the functions, whose type numbers are given.
-#[tactic(auto, unfolding(crate::specs::Reading::code_at))]
+#[tactic(auto, unfolding(crate::specs::ReadingModule::functions_at))]
 pub fn code(
     alloc: Global,
     reader: &mut Reader,
     types: &[FuncType],
     type_numbers: &[u32],
 ) -> Result<Sequence<Function>, DecodeFault>
-    ensures { Gives (λ functions. (functions, reader.new)) result (code_at types.now type_numbers.now reader.old) }
+    ensures { Gives (λ functions. (functions, reader.new)) result (functions_at types.now type_numbers.now reader.old) }
 {
     let place = reader.place();
     let count = reader.u32()? as usize;
@@ -49,7 +49,7 @@ fn bodies(
 
 // How many parameters a type has: none where its number names nothing.
 fn parameter_count(types: &[FuncType], type_number: u32) -> usize
-    ensures { result ≡ count_of (slice_get types.now type_number) }
+    ensures { result ≡ parameters_of types.now type_number }
 {
     match types.get(type_number as usize) {
         Some(function_type) => function_type.parameters.as_slice().len(),
@@ -58,7 +58,7 @@ fn parameter_count(types: &[FuncType], type_number: u32) -> usize
 }
 
 // A size, and the locals and the body of a function of just so many bytes.
-#[tactic(auto, unfolding(crate::specs::Reading::function_at))]
+#[tactic(auto, unfolding(crate::specs::ReadingModule::function_at))]
 fn function(
     alloc: Global,
     reader: &mut Reader,
@@ -73,7 +73,7 @@ fn function(
 }
 
 // All of the bytes are the locals and the body of a function with so many parameters.
-#[tactic(auto, unfolding(crate::specs::Reading::function_in))]
+#[tactic(auto, unfolding(crate::specs::ReadingModule::function_in))]
 fn function_inside(
     alloc: Global,
     mut inside: Reader,
@@ -82,7 +82,7 @@ fn function_inside(
 ) -> Result<Function, DecodeFault>
     ensures { Gives (λ f. f) result (function_in type_number parameters inside.entry) }
 {
-    let room = (LIMIT as usize).saturating_sub(parameters) as u32;
+    let room = (MAX_LOCALS as usize).saturating_sub(parameters) as u32;
     let locals = locals(alloc, &mut inside, room)?;
     let body = expression(alloc, &mut inside)?;
     inside.finish()?;
@@ -94,7 +94,7 @@ fn function_inside(
 }
 
 // Locals in groups of one type, at most so many in all.
-#[tactic(auto, unfolding(crate::specs::Reading::locals_at))]
+#[tactic(auto, unfolding(crate::specs::ReadingModule::locals_at))]
 fn locals(alloc: Global, reader: &mut Reader, room: u32) -> Result<Sequence<ValType>, DecodeFault>
     ensures { Gives (λ locals. (locals, reader.new)) result (locals_at room reader.old) }
 {
@@ -118,7 +118,7 @@ fn groups(
         if len > room {
             return Err(DecodeFault::OverLimit(place));
         }
-        let local = ValType::read(alloc, reader)?;
+        let local = val_type(reader)?;
         push_copies(&mut locals, len, local)?;
         room -= len;
     }

@@ -1,6 +1,7 @@
 //! Exports (Core 1.0, 5.5.10).
 
-ghost use Rattle.wasm_decode.specs.Reading.{Gives, export_at, export_description_at};
+ghost use Rattle.wasm_decode.specs.Reading.{Gives};
+ghost use Rattle.wasm_decode.specs.ReadingModule.{export_at, export_description_at};
 
 use crate::fault::DecodeFault;
 use crate::item::Item;
@@ -10,9 +11,11 @@ use std::alloc::Global;
 use wasm_ast::{Export, ExportDescription};
 
 impl Item for Export {
+    type Read = Export;
+
     ghost item_at = { export_at };
 
-    #[tactic(auto, unfolding(crate::specs::Reading::export_at))]
+    #[tactic(auto, unfolding(crate::specs::ReadingModule::export_at))]
     fn read(alloc: Global, reader: &mut Reader) -> Result<Export, DecodeFault> {
         let name = name(alloc, reader)?;
         let description = export_description(reader)?;
@@ -20,7 +23,7 @@ impl Item for Export {
     }
 }
 
-#[tactic(auto, unfolding(crate::specs::Reading::export_description_at))]
+#[tactic(auto, unfolding(crate::specs::ReadingModule::export_description_at))]
 fn export_description(reader: &mut Reader) -> Result<ExportDescription, DecodeFault>
     ensures { Gives (λ description. (description, reader.new)) result (export_description_at reader.old) }
 {

@@ -1,18 +1,47 @@
 //! Imports (Core 1.0, 5.5.5).
 
-ghost use Rattle.wasm_decode.specs.Reading.{Gives, import_at, import_description_at};
+ghost use Rattle.std.specs.Prelude.{◌≡◌};
+ghost use Rattle.wasm_ast.specs.Limits.{imported_functions as functions_of};
+ghost use Rattle.wasm_decode.specs.Reading.{Gives};
+ghost use Rattle.wasm_decode.specs.ReadingModule.{import_of, import_at, imports_at, import_description_at};
 
 use crate::fault::DecodeFault;
-use crate::item::Item;
+use crate::item::{Item, vector};
 use crate::names::name;
 use crate::reader::Reader;
+use crate::types::{global_type, limits, table_type};
 use std::alloc::Global;
-use wasm_ast::{Import, ImportDescription};
+use wasm_ast::{Import, ImportDescription, MAX_FUNCTIONS, Sequence};
+
+/// What the import section holds; its functions are at most as many as a module may have.
+#[tactic(auto, unfolding(crate::specs::ReadingModule::imports_at))]
+pub fn imports(alloc: Global, reader: &mut Reader) -> Result<Sequence<Import>, DecodeFault>
+    ensures { Gives (λ imports. (imports, reader.new)) result (imports_at reader.old) }
+{
+    let place = reader.place();
+    let imports = vector::<Import>(alloc, reader, u32::MAX)?;
+    if imported_functions(imports.as_slice()) > MAX_FUNCTIONS as usize {
+        return Err(DecodeFault::OverLimit(place));
+    }
+    Ok(imports)
+}
+
+/// How many of the imports are functions.
+pub fn imported_functions(imports: &[Import]) -> usize
+    ensures { result ≡ functions_of imports.now }
+{
+    imports
+        .iter()
+        .filter(|i| matches!(i.description, ImportDescription::Function(_)))
+        .count()
+}
 
 impl Item for Import {
+    type Read = Import;
+
     ghost item_at = { import_at };
 
-    #[tactic(auto, unfolding(crate::specs::Reading::import_at))]
+    #[tactic(auto, unfolding(crate::specs::ReadingModule::import_at))]
     fn read(alloc: Global, reader: &mut Reader) -> Result<Import, DecodeFault> {
         let module = name(alloc, reader)?;
         let name = name(alloc, reader)?;
@@ -25,18 +54,37 @@ impl Item for Import {
     }
 }
 
-#[tactic(auto, unfolding(crate::specs::Reading::import_description_at))]
+#[tactic(auto, unfolding(crate::specs::ReadingModule::import_description_at))]
 fn import_description(reader: &mut Reader) -> Result<ImportDescription, DecodeFault>
     ensures { Gives (λ description. (description, reader.new)) result (import_description_at reader.old) }
 {
     let place = reader.place();
-    match reader.byte()? {
+    let kind = reader.byte()?;
+    import_of(reader, kind, place)
+}
+
+// What follows the byte of a kind, which stands at `place`.
+#[tactic(auto, unfolding(crate::specs::ReadingModule::import_of))]
+fn import_of(reader: &mut Reader, kind: u8, place: usize) -> Result<ImportDescription, DecodeFault>
+    ensures { Gives (λ description. (description, reader.new)) result (import_of kind reader.old) }
+{
+    match kind {
         0x00 => {
             let type_number = reader.u32()?;
             Ok(ImportDescription::Function(type_number))
         }
-        // tables, memories and globals
-        0x01..=0x03 => Err(DecodeFault::Unsupported(place)),
+        0x01 => {
+            let table = table_type(reader)?;
+            Ok(ImportDescription::Table(table))
+        }
+        0x02 => {
+            let memory = limits(reader)?;
+            Ok(ImportDescription::Memory(memory))
+        }
+        0x03 => {
+            let global = global_type(reader)?;
+            Ok(ImportDescription::Global(global))
+        }
         _ => Err(DecodeFault::BadByte(place)),
     }
 }

@@ -1,48 +1,73 @@
-//! Instructions (Core 1.0, 5.4).
+//! Instructions that hold no others (Core 1.0, 5.4).
 
-ghost use Rattle.std.specs.Prelude.{◌<◌, ℕ, length};
-ghost use Rattle.wasm_decode.specs.Reading.{Gives, IsRefusal, instr_at, plain_at, expression_at};
+ghost use Rattle.std.specs.Prelude.{◌≡◌};
+ghost use Rattle.wasm_decode.specs.Reading.{Gives, IsRefusal};
+ghost use Rattle.wasm_decode.specs.ReadingCode.{plain_at, variable_of, variable_at, branch_at, flat_at};
 
 use crate::fault::DecodeFault;
+use crate::item::vector;
+use crate::memory::{after_zero, memory};
 use crate::numeric::numeric;
 use crate::reader::Reader;
 use std::alloc::Global;
-use wasm_ast::{Body, Instr, Plain, Value, Variable};
+use wasm_ast::{Branch, Instr, MAX_LABELS, Plain, Value, Variable};
 
-const END: u8 = 0x0B;
-
-/// Instructions up to the `end` that closes them (Core 1.0, 5.4.6).
-pub fn expression(alloc: Global, reader: &mut Reader) -> Result<Body, DecodeFault>
-    ensures { (n : ℕ) → length reader.old < n → Gives (λ body. (body, reader.new)) result (expression_at n reader.old) }
+/// What follows the opcode of an instruction that holds no others; the opcode stands at `place`.
+#[tactic(auto, unfolding(crate::specs::ReadingCode::flat_at, crate::specs::ReadingCode::call_at, crate::specs::ReadingCode::call_indirect_at))]
+pub fn flat(
+    alloc: Global,
+    reader: &mut Reader,
+    opcode: u8,
+    place: usize,
+) -> Result<Instr, DecodeFault>
+    ensures { Gives (λ instr. (instr, reader.new)) result (flat_at opcode reader.old) }
 {
-    let mut instrs = Vec::new(alloc);
-    'each: loop {
-        let place = reader.place();
-        let opcode = reader.byte()?;
-        if opcode == END {
-            return Ok(Body::from(instrs));
+    match opcode {
+        0x00 => Ok(Instr::Unreachable),
+        0x0C..=0x0F => {
+            let branch = branch(alloc, reader, opcode)?;
+            Ok(Instr::Branch(branch))
         }
-        let instr = instruction(reader, opcode, place)?;
-        instrs.push(instr)?;
+        0x10 => {
+            let function = reader.u32()?;
+            Ok(Instr::Call(function))
+        }
+        0x11 => {
+            let type_number = reader.u32()?;
+            after_zero(reader, Instr::CallIndirect(type_number))
+        }
+        _ => {
+            let plain = plain(reader, opcode, place)?;
+            Ok(Instr::Plain(plain))
+        }
     }
 }
 
-// What follows the opcode of an instruction, which stands at `place`.
-#[tactic(auto, unfolding(crate::specs::Reading::instr_at, crate::specs::Reading::call_at))]
-fn instruction(reader: &mut Reader, opcode: u8, place: usize) -> Result<Instr, DecodeFault>
-    ensures { Gives (λ instr. (instr, reader.new)) result (instr_at opcode reader.old) }
+// What follows an opcode from 0C to 0F.
+#[tactic(auto, unfolding(crate::specs::ReadingCode::branch_at, crate::specs::ReadingCode::br_at, crate::specs::ReadingCode::br_if_at, crate::specs::ReadingCode::br_table_at))]
+fn branch(alloc: Global, reader: &mut Reader, opcode: u8) -> Result<Branch, DecodeFault>
+    ensures { Gives (λ branch. (branch, reader.new)) result (branch_at opcode reader.old) }
 {
-    if opcode == 0x10 {
-        let function = reader.u32()?;
-        Ok(Instr::Call(function))
-    } else {
-        let plain = plain(reader, opcode, place)?;
-        Ok(Instr::Plain(plain))
+    match opcode {
+        0x0C => {
+            let label = reader.u32()?;
+            Ok(Branch::Br(label))
+        }
+        0x0D => {
+            let label = reader.u32()?;
+            Ok(Branch::BrIf(label))
+        }
+        0x0E => {
+            let labels = vector::<u32>(alloc, reader, MAX_LABELS)?;
+            let default = reader.u32()?;
+            Ok(Branch::BrTable(labels, default))
+        }
+        _ => Ok(Branch::Return),
     }
 }
 
 // What follows the opcode of an instruction that neither branches nor calls.
-#[tactic(auto, unfolding(crate::specs::Reading::plain_at, crate::specs::Reading::local_get_at, crate::specs::Reading::local_set_at, crate::specs::Reading::local_tee_at, crate::specs::Reading::i32_at, crate::specs::Reading::i64_at, crate::specs::Reading::numeric_at))]
+#[tactic(auto, unfolding(crate::specs::ReadingCode::plain_at, crate::specs::ReadingCode::i32_at, crate::specs::ReadingCode::i64_at, crate::specs::ReadingCode::numeric_at))]
 fn plain(reader: &mut Reader, opcode: u8, place: usize) -> Result<Plain, DecodeFault>
     ensures { Gives (λ plain. (plain, reader.new)) result (plain_at opcode reader.old) }
 {
@@ -50,17 +75,10 @@ fn plain(reader: &mut Reader, opcode: u8, place: usize) -> Result<Plain, DecodeF
         0x01 => Ok(Plain::Nop),
         0x1A => Ok(Plain::Drop),
         0x1B => Ok(Plain::Select),
-        0x20 => {
-            let local = reader.u32()?;
-            Ok(Plain::Variable(Variable::LocalGet(local)))
-        }
-        0x21 => {
-            let local = reader.u32()?;
-            Ok(Plain::Variable(Variable::LocalSet(local)))
-        }
-        0x22 => {
-            let local = reader.u32()?;
-            Ok(Plain::Variable(Variable::LocalTee(local)))
+        0x20..=0x24 => variable(reader, opcode),
+        0x28..=0x40 => {
+            let operation = memory(reader, opcode, place)?;
+            Ok(Plain::Memory(operation))
         }
         0x41 => {
             let number = reader.s32()?;
@@ -77,14 +95,33 @@ fn plain(reader: &mut Reader, opcode: u8, place: usize) -> Result<Plain, DecodeF
     }
 }
 
-// An opcode that is not read is one of the format, of control, memory, globals, divisions or floats, or it is none.
+// What follows an opcode from 20 to 24.
+#[tactic(auto, unfolding(crate::specs::ReadingCode::variable_at))]
+fn variable(reader: &mut Reader, opcode: u8) -> Result<Plain, DecodeFault>
+    ensures { Gives (λ plain. (plain, reader.new)) result (variable_at opcode reader.old) }
+{
+    let number = reader.u32()?;
+    Ok(Plain::Variable(accessed(opcode, number)))
+}
+
+fn accessed(opcode: u8, number: u32) -> Variable
+    ensures { result ≡ variable_of opcode number }
+{
+    match opcode {
+        0x20 => Variable::LocalGet(number),
+        0x21 => Variable::LocalSet(number),
+        0x22 => Variable::LocalTee(number),
+        0x23 => Variable::GlobalGet(number),
+        _ => Variable::GlobalSet(number),
+    }
+}
+
+// An opcode that is not read is one of floats, or it is none.
 fn no_instruction(opcode: u8, place: usize) -> DecodeFault
     ensures { IsRefusal result }
 {
     match opcode {
-        0x00 | 0x02..=0x04 | 0x0C..=0x0F | 0x11 | 0x23 | 0x24 | 0x28..=0x40 =>
-            DecodeFault::Unsupported(place),
-        0x43 | 0x44 | 0x5B..=0x66 | 0x6D..=0x70 | 0x7F..=0x82 => DecodeFault::Unsupported(place),
+        0x43 | 0x44 | 0x5B..=0x66 => DecodeFault::Unsupported(place),
         0x8B..=0xA6 | 0xA8..=0xAB | 0xAE..=0xBF => DecodeFault::Unsupported(place),
         _ => DecodeFault::BadByte(place),
     }

@@ -8,15 +8,20 @@ use crate::reader::Reader;
 use std::alloc::Global;
 use wasm_ast::Sequence;
 
-/// What can be read from the front of the bytes.
-pub trait Item: Sized {
-    ghost item_at: { List ℕ → Option (Self × List ℕ) };
+/// A form of bytes that can be read from their front.
+pub trait Item {
+    /// What they are read as.
+    type Read;
 
-    fn read(alloc: Global, reader: &mut Reader) -> Result<Self, DecodeFault>
+    ghost item_at: { List ℕ → Option (Self.Read × List ℕ) };
+
+    fn read(alloc: Global, reader: &mut Reader) -> Result<Self::Read, DecodeFault>
         ensures { Gives (λ x. (x, reader.new)) result (item_at reader.old) };
 }
 
 impl Item for u32 {
+    type Read = u32;
+
     ghost item_at = { u32_at };
 
     fn read(_alloc: Global, reader: &mut Reader) -> Result<u32, DecodeFault> {
@@ -26,11 +31,13 @@ impl Item for u32 {
 
 /// A count that is at most so many, and so many items (Core 1.0, 5.1.3).
 #[tactic(auto, unfolding(crate::specs::Reading::vector_at))]
-pub fn vector<T: Item + Drop>(
+pub fn vector<T: Item>(
     alloc: Global,
     reader: &mut Reader,
     most: u32,
-) -> Result<Sequence<T>, DecodeFault>
+) -> Result<Sequence<T::Read>, DecodeFault>
+where
+    T::Read: Drop,
     ensures { Gives (λ xs. (xs, reader.new)) result (vector_at T.item_at most reader.old) }
 {
     let place = reader.place();
@@ -38,15 +45,17 @@ pub fn vector<T: Item + Drop>(
     if count > most {
         return Err(DecodeFault::OverLimit(place));
     }
-    let all = items(alloc, reader, count)?;
+    let all = items::<T>(alloc, reader, count)?;
     Ok(Sequence::from(all))
 }
 
-fn items<T: Item + Drop>(
+fn items<T: Item>(
     alloc: Global,
     reader: &mut Reader,
     count: u32,
-) -> Result<Vec<T>, DecodeFault>
+) -> Result<Vec<T::Read>, DecodeFault>
+where
+    T::Read: Drop,
     ensures { Gives (λ xs. (xs.items, reader.new)) result (items_at T.item_at count reader.old) }
 {
     let mut all = Vec::new(alloc);

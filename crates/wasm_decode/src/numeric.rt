@@ -1,13 +1,12 @@
 //! Numeric instructions (Core 1.0, 5.4.5).
 
 ghost use Rattle.std.specs.Prelude.{◌≡◌};
-ghost use Rattle.wasm_decode.specs.Reading.{numeric_of, test_of, arithmetic_of};
+ghost use Rattle.wasm_decode.specs.ReadingCode.{numeric_of, test_of, arithmetic_of};
 
-use wasm_ast::{Binary, Comparison, Conversion, Numeric, Unary, ValType};
+use wasm_ast::{Binary, Comparison, Conversion, Division, Numeric, Unary, ValType};
 
-/// The instruction with this opcode, or `None` where it is no numeric one, or one that is not read: a constant, a
-/// division, or one on floats.
-#[tactic(auto, unfolding(crate::specs::Reading::numeric_of))]
+/// The instruction with this opcode, or `None` where it is no numeric one, a constant, or one on floats.
+#[tactic(auto, unfolding(crate::specs::ReadingCode::numeric_of))]
 pub fn numeric(opcode: u8) -> Option<Numeric>
     ensures { result ≡ numeric_of opcode }
 {
@@ -44,26 +43,29 @@ fn test(operand: ValType, place: u8) -> Option<Numeric>
     Some(Numeric::Comparison(operand, comparison))
 }
 
-// The arithmetic at a place among that of its type. The divisions, which stand from 6 to 9, are not read.
+// The arithmetic at a place among that of its type.
 fn arithmetic(operand: ValType, place: u8) -> Option<Numeric>
     ensures { result ≡ arithmetic_of operand place }
 {
-    let binary = match place {
-        0 => return Some(Numeric::Unary(operand, Unary::Clz)),
-        1 => return Some(Numeric::Unary(operand, Unary::Ctz)),
-        2 => return Some(Numeric::Unary(operand, Unary::Popcnt)),
-        3 => Binary::Add,
-        4 => Binary::Sub,
-        5 => Binary::Mul,
-        10 => Binary::And,
-        11 => Binary::Or,
-        12 => Binary::Xor,
-        13 => Binary::Shl,
-        14 => Binary::ShrS,
-        15 => Binary::ShrU,
-        16 => Binary::Rotl,
-        17 => Binary::Rotr,
+    Some(match place {
+        0 => Numeric::Unary(operand, Unary::Clz),
+        1 => Numeric::Unary(operand, Unary::Ctz),
+        2 => Numeric::Unary(operand, Unary::Popcnt),
+        3 => Numeric::Binary(operand, Binary::Add),
+        4 => Numeric::Binary(operand, Binary::Sub),
+        5 => Numeric::Binary(operand, Binary::Mul),
+        6 => Numeric::Division(operand, Division::DivS),
+        7 => Numeric::Division(operand, Division::DivU),
+        8 => Numeric::Division(operand, Division::RemS),
+        9 => Numeric::Division(operand, Division::RemU),
+        10 => Numeric::Binary(operand, Binary::And),
+        11 => Numeric::Binary(operand, Binary::Or),
+        12 => Numeric::Binary(operand, Binary::Xor),
+        13 => Numeric::Binary(operand, Binary::Shl),
+        14 => Numeric::Binary(operand, Binary::ShrS),
+        15 => Numeric::Binary(operand, Binary::ShrU),
+        16 => Numeric::Binary(operand, Binary::Rotl),
+        17 => Numeric::Binary(operand, Binary::Rotr),
         _ => return None,
-    };
-    Some(Numeric::Binary(operand, binary))
+    })
 }

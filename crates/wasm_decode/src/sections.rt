@@ -1,17 +1,19 @@
 //! Sections (Core 1.0, 5.5.2), and the custom ones between them.
 
-ghost use Rattle.std.specs.Prelude.{◌≡◌, Some, [], true, false, OnOk, IfErr};
-ghost use Rattle.wasm_decode.specs.Reading.{Gives, IsRefusal, guarded, skip_customs as customs_skipped, custom_at, section_at, section_with, vector_at, code_at, no_bodies, is_among, later_sections, is_empty};
+ghost use Rattle.std.specs.Prelude.{◌≡◌, Some, None, [], true, false, OnOk, IfErr};
+ghost use Rattle.wasm_decode.specs.Reading.{Gives, IsRefusal, guarded, vector_at, is_empty};
+ghost use Rattle.wasm_decode.specs.ReadingModule.{skip_customs as customs_skipped, custom_at, section_at, section_with, imports_at, start_at, functions_at, no_bodies, is_later as may_follow};
 
 use crate::code::code;
 use crate::fault::DecodeFault;
+use crate::imports::imports;
 use crate::item::{Item, vector};
 use crate::names::text;
 use crate::reader::Reader;
 use std::alloc::Global;
-use wasm_ast::{FuncType, Function, Sequence};
+use wasm_ast::{Data, FuncType, Function, Import, Sequence};
 
-// The numbers of the sections that are read (Core 1.0, 5.5.2).
+// The numbers of the sections (Core 1.0, 5.5.2).
 const CUSTOM: u8 = 0;
 
 pub const TYPE: u8 = 1;
@@ -20,12 +22,24 @@ pub const IMPORT: u8 = 2;
 
 pub const FUNCTION: u8 = 3;
 
+pub const TABLE: u8 = 4;
+
+pub const MEMORY: u8 = 5;
+
+pub const GLOBAL: u8 = 6;
+
 pub const EXPORT: u8 = 7;
 
-const CODE: u8 = 10;
+pub const START: u8 = 8;
+
+pub const ELEMENT: u8 = 9;
+
+pub const CODE: u8 = 10;
+
+pub const DATA: u8 = 11;
 
 /// Skips the custom sections that come next (Core 1.0, 5.5.3).
-#[tactic(auto, unfolding(crate::specs::Reading::skip_customs))]
+#[tactic(auto, unfolding(crate::specs::ReadingModule::skip_customs))]
 pub fn skip_customs(reader: &mut Reader) -> Result<(), DecodeFault>
     ensures { Gives (λ _. reader.new) result (customs_skipped reader.old) }
 {
@@ -37,7 +51,7 @@ pub fn skip_customs(reader: &mut Reader) -> Result<(), DecodeFault>
 }
 
 // Skips what follows the number of a custom section; its name is looked at.
-#[tactic(auto, unfolding(crate::specs::Reading::custom_at))]
+#[tactic(auto, unfolding(crate::specs::ReadingModule::custom_at))]
 fn skip_custom(reader: &mut Reader) -> Result<(), DecodeFault>
     ensures { Gives (λ _. reader.new) result (custom_at reader.old) }
 {
@@ -47,42 +61,82 @@ fn skip_custom(reader: &mut Reader) -> Result<(), DecodeFault>
 }
 
 /// The section of a vector with this number, or nothing where it is absent, and the custom sections behind it.
-#[tactic(auto, unfolding(crate::specs::Reading::section_with))]
-pub fn vector_section<T: Item + Drop>(
+#[tactic(auto, unfolding(crate::specs::ReadingModule::section_with))]
+pub fn vector_section<T: Item>(
     alloc: Global,
     reader: &mut Reader,
     number: u8,
     most: u32,
-) -> Result<Sequence<T>, DecodeFault>
+) -> Result<Sequence<T::Read>, DecodeFault>
+where
+    T::Read: Drop,
     ensures { Gives (λ items. (items, reader.new)) result (section_with (vector_at T.item_at most) (Some []) number reader.old) }
 {
     let Some(mut inside) = section(reader, number)? else {
         return Ok(Sequence::empty(alloc));
     };
-    let items = vector(alloc, &mut inside, most)?;
+    let items = vector::<T>(alloc, &mut inside, most)?;
     close(inside, reader)?;
     Ok(items)
 }
 
+/// The import section (Core 1.0, 5.5.5), or nothing where it is absent, and the custom sections behind it.
+#[tactic(auto, unfolding(crate::specs::ReadingModule::section_with))]
+pub fn import_section(alloc: Global, reader: &mut Reader) -> Result<Sequence<Import>, DecodeFault>
+    ensures { Gives (λ items. (items, reader.new)) result (section_with imports_at (Some []) 2 reader.old) }
+{
+    let Some(mut inside) = section(reader, IMPORT)? else {
+        return Ok(Sequence::empty(alloc));
+    };
+    let items = imports(alloc, &mut inside)?;
+    close(inside, reader)?;
+    Ok(items)
+}
+
+/// The start section (Core 1.0, 5.5.11), or nothing where it is absent, and the custom sections behind it.
+#[tactic(auto, unfolding(crate::specs::ReadingModule::section_with, crate::specs::ReadingModule::start_at))]
+pub fn start_section(reader: &mut Reader) -> Result<Option<u32>, DecodeFault>
+    ensures { Gives (λ start. (start, reader.new)) result (section_with start_at (Some None) 8 reader.old) }
+{
+    let Some(mut inside) = section(reader, START)? else {
+        return Ok(None);
+    };
+    let function = inside.u32()?;
+    close(inside, reader)?;
+    Ok(Some(function))
+}
+
 /// The code section (Core 1.0, 5.5.13), and the custom sections behind it. It may be absent where there are no functions.
-#[tactic(auto, unfolding(crate::specs::Reading::section_with))]
+#[tactic(auto, unfolding(crate::specs::ReadingModule::section_with))]
 pub fn code_section(
     alloc: Global,
     reader: &mut Reader,
     types: &[FuncType],
     type_numbers: &[u32],
 ) -> Result<Sequence<Function>, DecodeFault>
-    ensures { Gives (λ functions. (functions, reader.new)) result (section_with (code_at types.now type_numbers.now) (no_bodies type_numbers.now) 10 reader.old) }
+    ensures { Gives (λ functions. (functions, reader.new)) result (section_with (functions_at types.now type_numbers.now) (no_bodies type_numbers.now) 10 reader.old) }
 {
     let Some(mut inside) = section(reader, CODE)? else {
         if type_numbers.is_empty() {
             return Ok(Sequence::empty(alloc));
         }
-        return Err(DecodeFault::CountMismatch(reader.place()));
+        return Err(without_bodies(alloc, reader));
     };
     let functions = code(alloc, &mut inside, types, type_numbers)?;
     close(inside, reader)?;
     Ok(functions)
+}
+
+// The fault of a module whose functions have no bodies: it is met at the end of the file, behind the section of data.
+fn without_bodies(alloc: Global, reader: &mut Reader) -> DecodeFault {
+    let data = vector_section::<Data>(alloc, reader, DATA, u32::MAX);
+    if let Err(fault) = data {
+        return fault;
+    }
+    match end_of_sections(reader) {
+        Ok(()) => DecodeFault::CountMismatch(reader.place()),
+        Err(fault) => fault,
+    }
 }
 
 /// Ends the module: a section that still comes is refused.
@@ -105,7 +159,7 @@ fn close(inside: Reader, reader: &mut Reader) -> Result<(), DecodeFault>
 }
 
 // The content of the section with this number, or `None` where it is absent: a later one comes, or nothing.
-#[tactic(auto, unfolding(crate::specs::Reading::section_at))]
+#[tactic(auto, unfolding(crate::specs::ReadingModule::section_at))]
 fn section<'a>(reader: &mut Reader<'a>, number: u8) -> Result<Option<Reader<'a>>, DecodeFault>
     ensures { Gives (λ section. (section, reader.new)) result (section_at number reader.old) }
 {
@@ -125,18 +179,18 @@ fn section<'a>(reader: &mut Reader<'a>, number: u8) -> Result<Option<Reader<'a>>
 
 // Whether the section may come behind the one with this number.
 fn is_later(id: u8, number: u8) -> bool
-    ensures { result ≡ is_among id (later_sections number) }
+    ensures { result ≡ may_follow number id }
 {
-    id > number && matches!(id, IMPORT | FUNCTION | EXPORT | CODE)
+    number < id && id <= DATA
 }
 
-// A section that cannot come now is out of order, or of the format and not read, or none.
+// A section that cannot come now is out of order, or one that came after 1.0, or none.
 fn no_section(id: u8, place: usize) -> DecodeFault
     ensures { IsRefusal result }
 {
     match id {
-        TYPE | IMPORT | FUNCTION | EXPORT | CODE => DecodeFault::SectionOrder(place),
-        4..=12 => DecodeFault::Unsupported(place),
+        0..=11 => DecodeFault::SectionOrder(place),
+        12 => DecodeFault::Unsupported(place),
         _ => DecodeFault::BadByte(place),
     }
 }

@@ -1,35 +1,61 @@
 //! Types.
 
-ghost use Rattle.wasm_decode.specs.Reading.{val_type_at, func_type_at};
+ghost use Rattle.wasm_decode.specs.Reading.{Gives, val_type_at, block_type_at, func_type_at, at_least_at, between_at, range_at, limits_at, table_type_at, mutability_at, global_type_at};
 
 use crate::fault::DecodeFault;
 use crate::item::{Item, vector};
 use crate::reader::Reader;
 use std::alloc::Global;
-use wasm_ast::{FuncType, ValType};
-
-/// How many parameters, how many results, and how many parameters and locals together a function may have.
-pub const LIMIT: u32 = 1024;
+use wasm_ast::{
+    BlockType, FuncType, GlobalType, Limits, MAX_PARAMETERS, MAX_RESULTS, Mutability, ValType,
+};
 
 /// The type of a number (Core 1.0, 5.3.1).
 impl Item for ValType {
+    type Read = ValType;
+
     ghost item_at = { val_type_at };
 
-    #[tactic(auto, unfolding(crate::specs::Reading::val_type_at, crate::specs::Reading::byte_at))]
     fn read(_alloc: Global, reader: &mut Reader) -> Result<ValType, DecodeFault> {
-        let place = reader.place();
-        match reader.byte()? {
-            0x7F => Ok(ValType::I32),
-            0x7E => Ok(ValType::I64),
-            // the types of floats
-            0x7C | 0x7D => Err(DecodeFault::Unsupported(place)),
-            _ => Err(DecodeFault::BadByte(place)),
-        }
+        val_type(reader)
+    }
+}
+
+/// The type of a number (Core 1.0, 5.3.1).
+#[tactic(auto, unfolding(crate::specs::Reading::val_type_at, crate::specs::Reading::byte_at))]
+pub fn val_type(reader: &mut Reader) -> Result<ValType, DecodeFault>
+    ensures { Gives (λ t. (t, reader.new)) result (val_type_at reader.old) }
+{
+    let place = reader.place();
+    match reader.byte()? {
+        0x7F => Ok(ValType::I32),
+        0x7E => Ok(ValType::I64),
+        // the types of floats
+        0x7C | 0x7D => Err(DecodeFault::Unsupported(place)),
+        _ => Err(DecodeFault::BadByte(place)),
+    }
+}
+
+/// What a block, loop or `if` gives (Core 1.0, 5.3.2).
+#[tactic(auto, unfolding(crate::specs::Reading::block_type_at, crate::specs::Reading::byte_at))]
+pub fn block_type(reader: &mut Reader) -> Result<BlockType, DecodeFault>
+    ensures { Gives (λ t. (t, reader.new)) result (block_type_at reader.old) }
+{
+    let place = reader.place();
+    match reader.byte()? {
+        0x40 => Ok(None),
+        0x7F => Ok(Some(ValType::I32)),
+        0x7E => Ok(Some(ValType::I64)),
+        // the types of floats
+        0x7C | 0x7D => Err(DecodeFault::Unsupported(place)),
+        _ => Err(DecodeFault::BadByte(place)),
     }
 }
 
 /// The type of a function (Core 1.0, 5.3.3).
 impl Item for FuncType {
+    type Read = FuncType;
+
     ghost item_at = { func_type_at };
 
     #[tactic(auto, unfolding(crate::specs::Reading::func_type_at))]
@@ -38,11 +64,95 @@ impl Item for FuncType {
         if reader.byte()? != 0x60 {
             return Err(DecodeFault::BadByte(place));
         }
-        let parameters = vector(alloc, reader, LIMIT)?;
-        let results = vector(alloc, reader, LIMIT)?;
+        let parameters = vector::<ValType>(alloc, reader, MAX_PARAMETERS)?;
+        let results = vector::<ValType>(alloc, reader, MAX_RESULTS)?;
         Ok(FuncType {
             parameters,
             results,
         })
     }
+}
+
+/// The limits of a table or a memory (Core 1.0, 5.3.4), which are a memory's type (5.3.5).
+impl Item for Limits {
+    type Read = Limits;
+
+    ghost item_at = { limits_at };
+
+    fn read(_alloc: Global, reader: &mut Reader) -> Result<Limits, DecodeFault> {
+        limits(reader)
+    }
+}
+
+/// The limits of a table or a memory (Core 1.0, 5.3.4).
+#[tactic(auto, unfolding(crate::specs::Reading::limits_at, crate::specs::Reading::range_at, crate::specs::Reading::at_least_at, crate::specs::Reading::between_at))]
+pub fn limits(reader: &mut Reader) -> Result<Limits, DecodeFault>
+    ensures { Gives (λ l. (l, reader.new)) result (limits_at reader.old) }
+{
+    let place = reader.place();
+    match reader.byte()? {
+        0x00 => {
+            let minimum = reader.u32()?;
+            Ok(Limits {
+                minimum,
+                maximum: None,
+            })
+        }
+        0x01 => {
+            let minimum = reader.u32()?;
+            let maximum = reader.u32()?;
+            Ok(Limits {
+                minimum,
+                maximum: Some(maximum),
+            })
+        }
+        _ => Err(DecodeFault::BadByte(place)),
+    }
+}
+
+/// The type of a table of functions (Core 1.0, 5.3.6), which is read as its limits.
+pub struct TableType;
+
+impl Item for TableType {
+    type Read = Limits;
+
+    ghost item_at = { table_type_at };
+
+    fn read(_alloc: Global, reader: &mut Reader) -> Result<Limits, DecodeFault> {
+        table_type(reader)
+    }
+}
+
+/// The limits of a table of functions (Core 1.0, 5.3.6).
+#[tactic(auto, unfolding(crate::specs::Reading::table_type_at))]
+pub fn table_type(reader: &mut Reader) -> Result<Limits, DecodeFault>
+    ensures { Gives (λ l. (l, reader.new)) result (table_type_at reader.old) }
+{
+    let place = reader.place();
+    if reader.byte()? != 0x70 {
+        return Err(DecodeFault::BadByte(place));
+    }
+    limits(reader)
+}
+
+#[tactic(auto, unfolding(crate::specs::Reading::mutability_at, crate::specs::Reading::byte_at))]
+fn mutability(reader: &mut Reader) -> Result<Mutability, DecodeFault>
+    ensures { Gives (λ m. (m, reader.new)) result (mutability_at reader.old) }
+{
+    let place = reader.place();
+    match reader.byte()? {
+        0x00 => Ok(Mutability::Constant),
+        0x01 => Ok(Mutability::Variable),
+        _ => Err(DecodeFault::BadByte(place)),
+    }
+}
+
+/// The type of a global (Core 1.0, 5.3.7).
+#[tactic(auto, unfolding(crate::specs::Reading::global_type_at))]
+pub fn global_type(reader: &mut Reader) -> Result<GlobalType, DecodeFault>
+    ensures { Gives (λ t. (t, reader.new)) result (global_type_at reader.old) }
+{
+    let value = val_type(reader)?;
+    let mutability = mutability(reader)?;
+    Ok(GlobalType { mutability, value })
 }

@@ -1,7 +1,7 @@
 use Rattle.std.proofs.Common.{◌≡◌, subst, sym}
 use Rattle.wasm_ast.specs.declared.module.Module.{Module}
 use Rattle.console.specs.Engine.{Answers}
-use Rattle.console.proofs.Faults.{OnOk-along}
+use Rattle.console.proofs.Faults.{OnOk-along, refuses_text}
 use Rattle.console.proofs.engine.call.Goals as goal
 
 pub returns-clause-answer : goal.returns-clause-answer
@@ -14,3 +14,7 @@ pub returns-clause-answered : goal.returns-clause-answered
 returns-clause-answered g c = λ lines is.
     let same : c.in_ok-straight.straight ≡ is.m = c.in_ok-straight.ensures.only is.m is.loads in
     c.answer.ensures.answered lines (subst (λ (m : Module). Answers m c.args.input.now lines) (sym same) is.answers)
+
+pub returns-clause-refused : goal.returns-clause-refused
+returns-clause-refused g c =
+    refuses_text c.args.module.now c.args.input.now c.in_ok-straight.straight c.answer.result c.in_ok-straight.ensures.loaded c.answer.ensures.refused

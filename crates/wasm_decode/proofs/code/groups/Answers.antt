@@ -1,5 +1,5 @@
 use Rattle.std.proofs.lemmas.Result.{err_from_is_err_and}
-use Rattle.wasm_decode.specs.Reading.{groups_at}
+use Rattle.wasm_decode.specs.ReadingModule.{groups_at}
 use Rattle.wasm_decode.proofs.Loops.{groups_go_on, groups_fail_at_len, groups_too_many, groups_fail_at_type, groups_done}
 use Rattle.wasm_decode.proofs.code.groups.Goals as goal
 
@@ -19,7 +19,7 @@ returns-in_err-local c =
 
 pub loop-preserved : goal.loop-preserved
 loop-preserved c =
-    rw c.in_ok-push_copies.ensures (groups_go_on c.loop.locals.items c.args.count c.loop.counter c.loop.room c.in_ok-len.len c.loop.reader c.u32.new.self c.read.new.reader c.in_ok-local.local (groups_at c.args.count c.args.room c.args.reader.now) c.loop-test.true c.in_ok-len.ensures c.if-len-room.false c.in_ok-local.ensures c.loop.invariant)
+    rw c.in_ok-push_copies.ensures (groups_go_on c.loop.locals.items c.args.count c.loop.counter c.loop.room c.in_ok-len.len c.loop.reader c.u32.new.self c.val_type.new.reader c.in_ok-local.local (groups_at c.args.count c.args.room c.args.reader.now) c.loop-test.true c.in_ok-len.ensures c.if-len-room.false c.in_ok-local.ensures c.loop.invariant)
 
 pub returns : goal.returns
 returns c =

@@ -3,7 +3,8 @@ use Rattle.leb.specs.Bytes.{IsBytes}
 use Rattle.wasm_ast.specs.declared.module.Module.{Module}
 use Rattle.wasm_decode.specs.declared.fault.DecodeFault.{DecodeFault}
 use Rattle.wasm_decode.specs.Grammar.{Spells}
-use Rattle.wasm_decode.specs.Reading.{Gives, module_at}
+use Rattle.wasm_decode.specs.Reading.{Gives}
+use Rattle.wasm_decode.specs.ReadingModule.{module_at}
 use Rattle.wasm_decode.proofs.Takes.{module_takes}
 use Rattle.wasm_decode.proofs.Again.{module_again}
 use Rattle.wasm_decode.proofs.modules.decode.Goals as goal

@@ -1,0 +1,146 @@
+-- That no spelling is shorter than the one that is written: what the sections hold.
+use Rattle.std.proofs.Common.{◌≡◌, ℕ, ◌+◌, ◌<◌, ◌≤◌, List, [], ◌∷◌, ◌++◌, length, refl, sym, ap, ◌∙◌, arith, length-append}
+use Rattle.std.specs.Bool.{⊤}
+use Rattle.std.specs.List.{AllByRecursion, flat_map}
+use Rattle.leb.specs.Spelling.{u32_spelling}
+use Rattle.wasm_ast.specs.declared.types.ValType.{ValType}
+use Rattle.wasm_ast.specs.declared.module.ImportDescription.{ImportDescription}
+use Rattle.wasm_ast.specs.declared.module.ImportDescription.TheVariants as import
+use Rattle.wasm_ast.specs.declared.module.Import.{Import}
+use Rattle.wasm_ast.specs.declared.module.Function.{Function}
+use Rattle.wasm_ast.specs.declared.module.Global.{Global}
+use Rattle.wasm_ast.specs.declared.module.ExportDescription.{ExportDescription}
+use Rattle.wasm_ast.specs.declared.module.ExportDescription.TheVariants as export
+use Rattle.wasm_ast.specs.declared.module.Export.{Export}
+use Rattle.wasm_ast.specs.declared.module.Element.{Element}
+use Rattle.wasm_ast.specs.declared.module.Data.{Data}
+use Rattle.wasm_decode.specs.Bytes.{U32}
+use Rattle.wasm_decode.specs.Types.{val_type_byte}
+use Rattle.wasm_decode.specs.Grammar.{SpellsImportDescription, SpellsImport, SpellsGlobal, SpellsExportDescription, SpellsExport, SpellsElement, SpellsData, SpellsGroup, SpellsLocals, SpellsFunction, locals_of}
+use Rattle.wasm_decode.specs.Canonical.{sized, vector, global_type_bytes, expression_bytes, import_description_bytes, import_bytes, global_bytes, export_description_bytes, export_bytes, element_bytes, data_bytes, groups_of, group_bytes, locals_bytes, function_bytes}
+use Rattle.wasm_decode.specs.Representable.{IsU32, IsImportDescriptionHeld, IsImportHeld, IsGlobalHeld, IsExportDescriptionHeld, IsExportHeld, IsElementHeld, IsDataHeld, IsCodeHeld}
+use Rattle.wasm_decode.proofs.ShortestParts.{IsShortest, u32_is_shortest, u32_grows, Then_length, sized_shortest, bytes_shortest, name_is_shortest, items_are_shortest, vector_is_shortest}
+use Rattle.wasm_decode.proofs.ShortestInstructions.{behind_byte, limits_are_shortest, table_is_shortest, global_type_shortest, numbered_shortest, expression_is_shortest}
+use Rattle.wasm_decode.proofs.ShortestGroups.{bytes_of, groups_are_shortest}
+
+import_description_is_shortest : IsShortest IsImportDescriptionHeld SpellsImportDescription import_description_bytes
+import_description_is_shortest (import.Function t) bytes h = numbered_shortest 0x00 t bytes h
+import_description_is_shortest (import.Table l) bytes h =
+    let r = table_is_shortest l h.back h.is_second in
+    (r.0, omega (arith, r.1, behind_byte 0x01 _ bytes h))
+import_description_is_shortest (import.Memory l) bytes h =
+    let r = limits_are_shortest l h.back h.is_second in
+    (r.0, omega (arith, r.1, behind_byte 0x02 _ bytes h))
+import_description_is_shortest (import.Global t) bytes h =
+    (tt, omega (arith, global_type_shortest t h.back h.is_second, behind_byte 0x03 _ bytes h))
+
+pub import_is_shortest : IsShortest IsImportHeld SpellsImport import_bytes
+unfolding import_bytes
+import_is_shortest i bytes h =
+    let both = h.is_second in
+    let from = name_is_shortest i.module h.front h.is_first in
+    let name = name_is_shortest i.name both.front both.is_first in
+    let what = import_description_is_shortest i.description both.back both.is_second in (
+      (from.0, name.0, what.0),
+      omega (
+        arith,
+        from.1,
+        name.1,
+        what.1,
+        Then_length bytes h,
+        Then_length h.back both,
+        length-append (sized i.module) (sized i.name ++ import_description_bytes i.description),
+        length-append (sized i.name) (import_description_bytes i.description),
+      ),
+    )
+
+pub global_is_shortest : IsShortest IsGlobalHeld SpellsGlobal global_bytes
+unfolding global_bytes
+global_is_shortest g bytes h =
+    let initial = expression_is_shortest g.initial h.back h.is_second in
+    (initial.0, omega (arith, initial.1, global_type_shortest g.global_type h.front h.is_first, Then_length bytes h, length-append (global_type_bytes g.global_type) (expression_bytes g.initial)))
+
+export_description_is_shortest : IsShortest IsExportDescriptionHeld SpellsExportDescription export_description_bytes
+export_description_is_shortest (export.Function x) bytes h = numbered_shortest 0x00 x bytes h
+export_description_is_shortest (export.Table x) bytes h = numbered_shortest 0x01 x bytes h
+export_description_is_shortest (export.Memory x) bytes h = numbered_shortest 0x02 x bytes h
+export_description_is_shortest (export.Global x) bytes h = numbered_shortest 0x03 x bytes h
+
+pub export_is_shortest : IsShortest IsExportHeld SpellsExport export_bytes
+unfolding export_bytes
+export_is_shortest e bytes h =
+    let name = name_is_shortest e.name h.front h.is_first in
+    let what = export_description_is_shortest e.description h.back h.is_second in
+    ((name.0, what.0), omega (arith, name.1, what.1, Then_length bytes h, length-append (sized e.name) (export_description_bytes e.description)))
+
+pub element_is_shortest : IsShortest IsElementHeld SpellsElement element_bytes
+unfolding element_bytes
+element_is_shortest e bytes h =
+    let both = h.is_second in
+    let table = u32_is_shortest e.table h.front h.is_first in
+    let offset = expression_is_shortest e.offset both.front both.is_first in
+    let functions = vector_is_shortest IsU32 U32 u32_spelling u32_is_shortest e.functions both.back both.is_second in (
+      (table.0, offset.0, functions.0),
+      omega (
+        arith,
+        table.1,
+        offset.1,
+        functions.1,
+        Then_length bytes h,
+        Then_length h.back both,
+        length-append (u32_spelling e.table) (expression_bytes e.offset ++ vector u32_spelling e.functions),
+        length-append (expression_bytes e.offset) (vector u32_spelling e.functions),
+      ),
+    )
+
+pub data_is_shortest : IsShortest IsDataHeld SpellsData data_bytes
+unfolding data_bytes
+data_is_shortest d bytes h =
+    let both = h.is_second in
+    let memory = u32_is_shortest d.memory h.front h.is_first in
+    let offset = expression_is_shortest d.offset both.front both.is_first in (
+      (memory.0, offset.0),
+      omega (
+        arith,
+        memory.1,
+        offset.1,
+        bytes_shortest d.bytes both.back both.is_second,
+        Then_length bytes h,
+        Then_length h.back both,
+        length-append (u32_spelling d.memory) (expression_bytes d.offset ++ sized d.bytes),
+        length-append (expression_bytes d.offset) (sized d.bytes),
+      ),
+    )
+
+-- ---- functions
+
+group_is_shortest : IsShortest (λ g. ⊤) SpellsGroup group_bytes
+group_is_shortest g bytes h =
+    (tt, omega (arith, (u32_is_shortest g.0 h.front h.is_first).1, ap length h.is_second, Then_length bytes h, length-append (u32_spelling g.0) (val_type_byte g.1 ∷ [])))
+
+locals_shortest : (ts : List ValType) (bytes : List ℕ) → SpellsLocals ts bytes → length (locals_bytes ts) ≤ length bytes
+unfolding locals_bytes vector
+locals_shortest ts bytes h =
+    let groups = h.groups in
+    let given = h.spelled in
+    let count = (u32_is_shortest (length groups) given.front given.is_first).1 in
+    let items = (items_are_shortest (λ g. ⊤) SpellsGroup group_bytes group_is_shortest groups given.back given.is_second).1 in
+    let less = groups_are_shortest groups in
+    let grows = u32_grows (length (groups_of (locals_of groups))) (length groups) less.count in
+    let whole = length-append (u32_spelling (length (groups_of (locals_of groups)))) (flat_map group_bytes (groups_of (locals_of groups))) in
+    rw h.grouped (omega (arith, count, items, less.bytes, grows, whole, Then_length bytes given))
+
+-- the number of its type stands elsewhere
+abbrev pub IsBodyHeld : Function → Type 0
+IsBodyHeld f = IsCodeHeld f.body
+
+pub function_is_shortest : IsShortest IsBodyHeld SpellsFunction function_bytes
+unfolding function_bytes
+function_is_shortest f bytes h =
+    let inside = h.spelled in
+    let body = expression_is_shortest f.body inside.back inside.is_second in
+    let locals = locals_shortest f.locals inside.front inside.is_first in
+    let written = locals_bytes f.locals ++ expression_bytes f.body in
+    let le : length written ≤ length h.inside =
+    omega (arith, body.1, locals, Then_length h.inside inside, length-append (locals_bytes f.locals) (expression_bytes f.body)) in
+    (body.0, sized_shortest _ written bytes h le)

@@ -1,0 +1,159 @@
+//! Instructions one after another, and those that hold others (Core 1.0, 5.4.1 and 5.4.6).
+
+ghost use Rattle.std.specs.Prelude.{◌≡◌, ◌<◌, ◌≤◌, ℕ, length, slice_get};
+ghost use Rattle.wasm_decode.specs.Reading.{Gives};
+ghost use Rattle.wasm_decode.specs.ReadingCode.{closed_at, typed_with, ended_with, arm_with, else_with, if_with, opcode_with, instr_with, stops, code_at, expression_at};
+
+use crate::fault::DecodeFault;
+use crate::instructions::flat;
+use crate::reader::Reader;
+use crate::types::block_type;
+use std::alloc::Global;
+use wasm_ast::{BlockType, Body, Instr, MAX_NESTING};
+
+const ELSE: u8 = 0x05;
+
+const END: u8 = 0x0B;
+
+/// Instructions up to the `end` that closes them (Core 1.0, 5.4.6).
+#[tactic(auto, unfolding(crate::specs::ReadingCode::expression_at))]
+pub fn expression(alloc: Global, reader: &mut Reader) -> Result<Body, DecodeFault>
+    ensures { Gives (λ body. (body, reader.new)) result (expression_at reader.old) }
+{
+    ended(alloc, reader, MAX_NESTING)
+}
+
+// Whether a byte follows that ends a sequence.
+fn is_closing(reader: &Reader) -> bool
+    ensures { result ≡ stops (slice_get reader.now 0) }
+{
+    match reader.peek() {
+        Some(byte) => byte == END || byte == ELSE,
+        None => false,
+    }
+}
+
+// Reads the byte that ends a sequence.
+#[tactic(auto, unfolding(crate::specs::ReadingCode::closed_at))]
+fn close(reader: &mut Reader) -> Result<(), DecodeFault>
+    ensures { Gives (λ _. reader.new) result (closed_at reader.old) }
+{
+    let place = reader.place();
+    if reader.byte()? != END {
+        return Err(DecodeFault::BadByte(place));
+    }
+    Ok(())
+}
+
+// Instructions and the `end` that closes them.
+#[cycle(decoder)]
+#[tactic(auto, unfolding(crate::specs::ReadingCode::ended_with))]
+fn ended(alloc: Global, reader: &mut Reader, levels: u32) -> Result<Body, DecodeFault>
+    ensures { (n : ℕ) → length reader.old < n → Gives (λ body. (body, reader.new)) result (ended_with (code_at n) levels reader.old) }
+{
+    let body = sequence(alloc, reader, levels)?;
+    close(reader)?;
+    Ok(body)
+}
+
+// Instructions up to a byte that ends them, in at most so many blocks, loops and ifs inside each other.
+#[cycle(decoder)]
+fn sequence(alloc: Global, reader: &mut Reader, levels: u32) -> Result<Body, DecodeFault>
+    ensures { (n : ℕ) → length reader.old < n → Gives (λ body. (body, reader.new)) result (code_at n levels reader.old) }
+{
+    let mut instrs = Vec::new(alloc);
+    'each: while !is_closing(reader) {
+        let instr = instruction(alloc, reader, levels)?;
+        instrs.push(instr)?;
+    }
+    Ok(Body::from(instrs))
+}
+
+// One instruction.
+#[cycle(decoder)]
+#[tactic(auto, unfolding(crate::specs::ReadingCode::instr_with))]
+fn instruction(alloc: Global, reader: &mut Reader, levels: u32) -> Result<Instr, DecodeFault>
+    ensures { (n : ℕ) → length reader.old ≤ n → Gives (λ instr. (instr, reader.new)) result (instr_with (code_at n) levels reader.old) }
+{
+    let place = reader.place();
+    let opcode = reader.byte()?;
+    after_opcode(alloc, reader, levels, opcode, place)
+}
+
+// What follows an opcode, which stands at `place`.
+#[cycle(decoder)]
+#[tactic(auto, unfolding(crate::specs::ReadingCode::opcode_with, crate::specs::ReadingCode::block_with, crate::specs::ReadingCode::loop_with))]
+fn after_opcode(
+    alloc: Global,
+    reader: &mut Reader,
+    levels: u32,
+    opcode: u8,
+    place: usize,
+) -> Result<Instr, DecodeFault>
+    ensures { (n : ℕ) → length reader.old < n → Gives (λ instr. (instr, reader.new)) result (opcode_with (code_at n) levels opcode reader.old) }
+{
+    match opcode {
+        0x02 => {
+            let (result_type, body) = typed_body(alloc, reader, levels, place)?;
+            close(reader)?;
+            Ok(Instr::Block(result_type, body))
+        }
+        0x03 => {
+            let (result_type, body) = typed_body(alloc, reader, levels, place)?;
+            close(reader)?;
+            Ok(Instr::Loop(result_type, body))
+        }
+        0x04 => choice(alloc, reader, levels, place),
+        _ => flat(alloc, reader, opcode, place),
+    }
+}
+
+// A block's type and its body, whose end is not read. The opcode stands at `place`.
+#[cycle(decoder)]
+#[tactic(auto, unfolding(crate::specs::ReadingCode::typed_with))]
+fn typed_body(
+    alloc: Global,
+    reader: &mut Reader,
+    levels: u32,
+    place: usize,
+) -> Result<(BlockType, Body), DecodeFault>
+    ensures { (n : ℕ) → length reader.old < n → Gives (λ x. (x, reader.new)) result (typed_with (code_at n) levels reader.old) }
+{
+    if levels == 0 {
+        return Err(DecodeFault::OverLimit(place));
+    }
+    let result_type = block_type(reader)?;
+    let body = sequence(alloc, reader, levels - 1)?;
+    Ok((result_type, body))
+}
+
+// What follows the opcode of an `if`, which stands at `place`.
+#[cycle(decoder)]
+#[tactic(auto, unfolding(crate::specs::ReadingCode::if_with))]
+fn choice(
+    alloc: Global,
+    reader: &mut Reader,
+    levels: u32,
+    place: usize,
+) -> Result<Instr, DecodeFault>
+    ensures { (n : ℕ) → length reader.old < n → Gives (λ instr. (instr, reader.new)) result (if_with (code_at n) levels reader.old) }
+{
+    let (result_type, body) = typed_body(alloc, reader, levels, place)?;
+    let other = else_body(alloc, reader, levels)?;
+    Ok(Instr::If(result_type, body, other))
+}
+
+// The other arm of an `if`, which is empty where there is no `else`, and the end.
+#[cycle(decoder)]
+#[tactic(auto, unfolding(crate::specs::ReadingCode::else_with, crate::specs::ReadingCode::arm_with))]
+fn else_body(alloc: Global, reader: &mut Reader, levels: u32) -> Result<Body, DecodeFault>
+    requires { 0 < levels }
+    ensures { (n : ℕ) → length reader.old < n → Gives (λ body. (body, reader.new)) result (else_with (code_at n) levels reader.old) }
+{
+    let place = reader.place();
+    match reader.byte()? {
+        ELSE => ended(alloc, reader, levels - 1),
+        END => Ok(Body::empty(alloc)),
+        _ => Err(DecodeFault::BadByte(place)),
+    }
+}

@@ -1,0 +1,17 @@
+//! Modules to the binary format (Core 1.0, section 5), in the fewest bytes.
+
+mod fault;
+mod functions;
+mod instructions;
+mod items;
+mod laws;
+mod modules;
+mod opcodes;
+mod parts;
+#[cfg(test)]
+mod tests;
+mod types;
+
+pub use fault::EncodeFault;
+pub use laws::{canonical_is_shortest, canonical_spells_its_module};
+pub use modules::encode;

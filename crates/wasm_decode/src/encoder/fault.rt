@@ -1,0 +1,26 @@
+//! Why a module is not encoded.
+
+ghost use Rattle.std.specs.Prelude.{◌≡◌};
+ghost use Rattle.wasm_decode.specs.declared.encoder.fault.EncodeFault.TheVariants.{OutOfMemory};
+
+use std::alloc::AllocError;
+use thiserror::Error;
+
+/// Why a module is not encoded.
+#[derive(Clone, Copy, Debug, PartialEq, Eq, Error)]
+pub enum EncodeFault {
+    /// The shortest spelling takes more than 1,048,576 bytes.
+    #[error("the module takes more than 1,048,576 bytes")]
+    OverLimit,
+    /// Memory ran out.
+    #[error("out of memory")]
+    OutOfMemory,
+}
+
+impl From<AllocError> for EncodeFault {
+    ghost from_gives = { λ _ fault. fault ≡ OutOfMemory };
+
+    fn from(_: AllocError) -> EncodeFault {
+        EncodeFault::OutOfMemory
+    }
+}

@@ -1,0 +1,106 @@
+//! Modules (Core 1.0, 5.5.15).
+
+ghost use Rattle.std.specs.Prelude.{◌≡◌, ◌++◌, ◌<◌, ◌≤◌, length, OnOk, IfOk, IsOkUnless};
+ghost use Rattle.wasm_ast.specs.Limits.{max_module_bytes, IsWithinLimits};
+ghost use Rattle.wasm_decode.specs.Canonical.{canonical, sections_bytes, vector_section, table_bytes, vector, start_section};
+
+use super::fault::EncodeFault;
+use super::functions::{write_code_section, write_function_section};
+use super::parts::{write_count, write_section, write_vector_section};
+use super::types::write_table_type;
+use crate::modules::{MAGIC, VERSION};
+use crate::sections::{DATA, ELEMENT, EXPORT, GLOBAL, IMPORT, MEMORY, START, TABLE, TYPE};
+use leb::write_u32;
+use std::alloc::{AllocError, Global};
+use wasm_ast::{Limits, MAX_MODULE_BYTES, Module};
+
+/// The module's canonical spelling (Core 1.0, section 5): of all its spellings the shortest, with no custom section, no
+/// section whose vector is empty, one group for neighbouring locals of one type, and no `else` for an arm that is empty.
+///
+/// `OverLimit` comes where that spelling is longer than 1,048,576 bytes, and `OutOfMemory` where memory runs out. The
+/// work is linear in the module.
+pub fn encode(alloc: Global, module: &Module) -> Result<Vec<u8>, EncodeFault>
+    requires { IsWithinLimits «module».now }
+    ensures ok { IfOk result (λ bytes. bytes.items ≡ canonical «module».now) }
+    ensures small { IfOk result (λ bytes. length bytes.items ≤ max_module_bytes) }
+    ensures over { result ≡ Err EncodeFault.OverLimit → max_module_bytes < length (canonical «module».now) }
+{
+    let bytes = spelling(alloc, module)?;
+    if bytes.len() > MAX_MODULE_BYTES {
+        return Err(EncodeFault::OverLimit);
+    }
+    Ok(bytes)
+}
+
+// All of the bytes, however many.
+#[tactic(auto, unfolding(crate::specs::Canonical::canonical))]
+fn spelling(alloc: Global, module: &Module) -> Result<Vec<u8>, AllocError>
+    ensures { IfOk result (λ bytes. bytes.items ≡ canonical «module».now) }
+{
+    let mut out = Vec::new(alloc);
+    out.extend_from_slice(&MAGIC)?;
+    out.extend_from_slice(&VERSION)?;
+    write_sections(alloc, &mut out, module)?;
+    Ok(out)
+}
+
+#[tactic(auto, unfolding(crate::specs::Canonical::sections_bytes))]
+fn write_sections(alloc: Global, out: &mut Vec<u8>, module: &Module) -> Result<(), AllocError>
+    ensures { OnOk result (out.new.items ≡ out.old.items ++ sections_bytes «module».now) }
+{
+    let mut content = Vec::new(alloc);
+    let mut body = Vec::new(alloc);
+    let functions = module.functions.as_slice();
+    write_vector_section(out, &mut content, TYPE, module.types.as_slice())?;
+    write_vector_section(out, &mut content, IMPORT, module.imports.as_slice())?;
+    write_function_section(out, &mut content, functions)?;
+    write_table_section(out, &mut content, module.tables.as_slice())?;
+    write_vector_section(out, &mut content, MEMORY, module.memories.as_slice())?;
+    write_vector_section(out, &mut content, GLOBAL, module.globals.as_slice())?;
+    write_vector_section(out, &mut content, EXPORT, module.exports.as_slice())?;
+    write_start_section(out, &mut content, module.start)?;
+    write_vector_section(out, &mut content, ELEMENT, module.elements.as_slice())?;
+    write_code_section(out, &mut content, &mut body, functions)?;
+    write_vector_section(out, &mut content, DATA, module.data.as_slice())
+}
+
+fn write_table_section(
+    out: &mut Vec<u8>,
+    content: &mut Vec<u8>,
+    tables: &[Limits],
+) -> Result<(), AllocError>
+    ensures { OnOk result (out.new.items ≡ out.old.items ++ vector_section 4 table_bytes tables.now) }
+{
+    if tables.is_empty() {
+        return Ok(());
+    }
+    content.clear();
+    write_tables(content, tables)?;
+    write_section(out, TABLE, content)
+}
+
+#[tactic(auto, unfolding(crate::specs::Canonical::vector))]
+fn write_tables(out: &mut Vec<u8>, tables: &[Limits]) -> Result<(), AllocError>
+    ensures { OnOk result (out.new.items ≡ out.old.items ++ vector table_bytes tables.now) }
+{
+    write_count(out, tables.len())?;
+    for limits in tables {
+        write_table_type(out, *limits)?;
+    }
+    Ok(())
+}
+
+fn write_start_section(
+    out: &mut Vec<u8>,
+    content: &mut Vec<u8>,
+    start: Option<u32>,
+) -> Result<(), AllocError>
+    ensures { OnOk result (out.new.items ≡ out.old.items ++ start_section start) }
+{
+    let Some(function) = start else {
+        return Ok(());
+    };
+    content.clear();
+    write_u32(content, function)?;
+    write_section(out, START, content)
+}

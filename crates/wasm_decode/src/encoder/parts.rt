@@ -1,0 +1,91 @@
+//! What every part of the binary format is made of (Core 1.0, 5.1 and 5.2), written in the fewest bytes.
+
+ghost use Rattle.std.specs.Prelude.{◌≡◌, ◌++◌, ℕ, List, [], OnOk};
+ghost use Rattle.leb.specs.Spelling.{u32_spelling};
+ghost use Rattle.wasm_decode.specs.Canonical.{sized, vector, section, vector_section};
+
+use std::alloc::AllocError;
+
+/// What has a canonical spelling of its own.
+pub trait Part {
+    ghost spelling: { Self → List ℕ };
+
+    /// Appends the canonical spelling. An `Err` is want of memory.
+    fn write(&self, out: &mut Vec<u8>) -> Result<(), AllocError>
+        ensures { OnOk result (out.new.items ≡ out.old.items ++ spelling self.now) };
+}
+
+/// A number (Core 1.0, 5.2.2).
+impl Part for u32 {
+    ghost spelling = { u32_spelling };
+
+    fn write(&self, out: &mut Vec<u8>) -> Result<(), AllocError> {
+        leb::write_u32(out, *self)
+    }
+}
+
+/// Appends a count or a size. One that is no number of 32 bits stands in no spelling that is short enough to be given
+/// out, so it does not matter that five bytes cannot hold it.
+pub fn write_count(out: &mut Vec<u8>, count: usize) -> Result<(), AllocError>
+    ensures { OnOk result (out.new.items ≡ out.old.items ++ u32_spelling count) }
+{
+    let mut rest = count;
+    for _ in 0..5u32 {
+        if rest < 128 {
+            out.push(rest as u8)?;
+            return Ok(());
+        }
+        out.push((rest % 128) as u8 + 128)?;
+        rest /= 128;
+    }
+    Ok(())
+}
+
+/// Appends the number of the bytes, and the bytes.
+#[tactic(auto, unfolding(crate::specs::Canonical::sized))]
+pub fn write_sized(out: &mut Vec<u8>, bytes: &[u8]) -> Result<(), AllocError>
+    ensures { OnOk result (out.new.items ≡ out.old.items ++ sized bytes.now) }
+{
+    write_count(out, bytes.len())?;
+    out.extend_from_slice(bytes)?;
+    Ok(())
+}
+
+/// Appends a count and the items (Core 1.0, 5.1.3).
+#[tactic(auto, unfolding(crate::specs::Canonical::vector))]
+pub fn write_vector<T: Part>(out: &mut Vec<u8>, items: &[T]) -> Result<(), AllocError>
+    ensures { OnOk result (out.new.items ≡ out.old.items ++ vector T.spelling items.now) }
+{
+    write_count(out, items.len())?;
+    for item in items {
+        item.write(out)?;
+    }
+    Ok(())
+}
+
+/// Appends a section with this number and content (Core 1.0, 5.5.2).
+#[tactic(auto, unfolding(crate::specs::Canonical::section))]
+pub fn write_section(out: &mut Vec<u8>, number: u8, content: &[u8]) -> Result<(), AllocError>
+    ensures { OnOk result (out.new.items ≡ out.old.items ++ section number content.now) }
+{
+    out.push(number)?;
+    write_sized(out, content)
+}
+
+/// Appends the section of a vector, or nothing where the vector is empty. The content is put together in `content`,
+/// whatever it held.
+pub fn write_vector_section<T: Part>(
+    out: &mut Vec<u8>,
+    content: &mut Vec<u8>,
+    number: u8,
+    items: &[T],
+) -> Result<(), AllocError>
+    ensures { OnOk result (out.new.items ≡ out.old.items ++ vector_section number T.spelling items.now) }
+{
+    if items.is_empty() {
+        return Ok(());
+    }
+    content.clear();
+    write_vector(content, items)?;
+    write_section(out, number, content)
+}

@@ -1,0 +1,337 @@
+//! Sections, and what they hold.
+
+use super::{after_header, fault_of};
+use crate::{DecodeFault, decode};
+use std::test::Fail;
+use wasm_ast::ExportDescription;
+
+#[test]
+fn sections_and_what_they_hold(rt: HostRuntime) -> Result<(), Fail> {
+    let rows: [(&[u8], Option<DecodeFault>); 65] = [
+        // numbers
+        (
+            &[0x01, 0x80, 0x80, 0x80, 0x80, 0x70],
+            Some(DecodeFault::Leb(9)),
+        ),
+        (
+            &[0x01, 0x80, 0x80, 0x80, 0x80, 0x80, 0x00],
+            Some(DecodeFault::Leb(9)),
+        ),
+        (&[0x01, 0x80], Some(DecodeFault::Truncated(10))),
+        (
+            &[0x01, 0x01, 0x80, 0x00],
+            Some(DecodeFault::SectionSize(11)),
+        ),
+        // sizes
+        (&[0x01], Some(DecodeFault::Truncated(9))),
+        (
+            &[0x01, 0x05, 0x01, 0x60, 0x00, 0x00],
+            Some(DecodeFault::Truncated(14)),
+        ),
+        (
+            &[0x01, 0x03, 0x01, 0x60, 0x00, 0x00],
+            Some(DecodeFault::SectionSize(13)),
+        ),
+        (&[0x01, 0x04, 0x01, 0x60, 0x00, 0x00], None),
+        (&[0x01, 0x84, 0x80, 0x00, 0x01, 0x60, 0x00, 0x00], None),
+        (
+            &[0x01, 0x05, 0x01, 0x60, 0x00, 0x00, 0x00],
+            Some(DecodeFault::SectionSize(14)),
+        ),
+        (&[0x01, 0x00], Some(DecodeFault::SectionSize(10))),
+        // a count with nothing behind it
+        (
+            &[0x01, 0x05, 0xFF, 0xFF, 0xFF, 0xFF, 0x0F],
+            Some(DecodeFault::SectionSize(15)),
+        ),
+        // the order of sections
+        (
+            &[0x01, 0x01, 0x00, 0x01, 0x01, 0x00],
+            Some(DecodeFault::SectionOrder(11)),
+        ),
+        (
+            &[0x02, 0x01, 0x00, 0x01, 0x01, 0x00],
+            Some(DecodeFault::SectionOrder(11)),
+        ),
+        (
+            &[0x07, 0x01, 0x00, 0x03, 0x01, 0x00],
+            Some(DecodeFault::SectionOrder(11)),
+        ),
+        (
+            &[0x0A, 0x01, 0x00, 0x0A, 0x01, 0x00],
+            Some(DecodeFault::SectionOrder(11)),
+        ),
+        (
+            &[0x0A, 0x01, 0x00, 0x07, 0x01, 0x00],
+            Some(DecodeFault::SectionOrder(11)),
+        ),
+        (
+            &[
+                0x01, 0x01, 0x00, 0x02, 0x01, 0x00, 0x03, 0x01, 0x00, 0x04, 0x01, 0x00, 0x05, 0x01,
+                0x00, 0x06, 0x01, 0x00, 0x07, 0x01, 0x00, 0x08, 0x01, 0x00, 0x09, 0x01, 0x00, 0x0A,
+                0x01, 0x00, 0x0B, 0x01, 0x00,
+            ],
+            None,
+        ),
+        // sections of numbers that are none, or came after 1.0
+        (&[0x0C, 0x01, 0x00], Some(DecodeFault::Unsupported(8))),
+        (&[0x0D, 0x01, 0x00], Some(DecodeFault::BadByte(8))),
+        (&[0xFF], Some(DecodeFault::BadByte(8))),
+        (
+            &[0x0A, 0x01, 0x00, 0x0C, 0x01, 0x00],
+            Some(DecodeFault::Unsupported(11)),
+        ),
+        (
+            &[0x0B, 0x01, 0x00, 0x0D, 0x01, 0x00],
+            Some(DecodeFault::BadByte(11)),
+        ),
+        (
+            &[0x0B, 0x01, 0x00, 0x0B, 0x01, 0x00],
+            Some(DecodeFault::SectionOrder(11)),
+        ),
+        // types
+        (
+            &[0x01, 0x04, 0x01, 0x61, 0x00, 0x00],
+            Some(DecodeFault::BadByte(11)),
+        ),
+        (&[0x01, 0x06, 0x01, 0x60, 0x01, 0x7F, 0x01, 0x7E], None),
+        (
+            &[0x01, 0x07, 0x01, 0x60, 0x01, 0x7F, 0x01, 0x7E, 0x00],
+            Some(DecodeFault::SectionSize(16)),
+        ),
+        (
+            &[0x01, 0x05, 0x01, 0x60, 0x01, 0x7D, 0x00],
+            Some(DecodeFault::Unsupported(13)),
+        ),
+        (
+            &[0x01, 0x05, 0x01, 0x60, 0x01, 0x7C, 0x00],
+            Some(DecodeFault::Unsupported(13)),
+        ),
+        (
+            &[0x01, 0x05, 0x01, 0x60, 0x01, 0x7B, 0x00],
+            Some(DecodeFault::BadByte(13)),
+        ),
+        (
+            &[0x01, 0x05, 0x01, 0x60, 0x00, 0x01, 0x40],
+            Some(DecodeFault::BadByte(14)),
+        ),
+        // imports
+        (
+            &[0x02, 0x07, 0x01, 0x01, 0x61, 0x01, 0x62, 0x00, 0x00],
+            None,
+        ),
+        (
+            &[
+                0x02, 0x09, 0x01, 0x01, 0x61, 0x01, 0x62, 0x01, 0x70, 0x00, 0x01,
+            ],
+            None,
+        ),
+        (
+            &[0x02, 0x07, 0x01, 0x01, 0x61, 0x01, 0x62, 0x01, 0x6F],
+            Some(DecodeFault::BadByte(16)),
+        ),
+        (
+            &[
+                0x02, 0x09, 0x01, 0x01, 0x61, 0x01, 0x62, 0x02, 0x01, 0x01, 0x02,
+            ],
+            None,
+        ),
+        (
+            &[0x02, 0x07, 0x01, 0x01, 0x61, 0x01, 0x62, 0x02, 0x02],
+            Some(DecodeFault::BadByte(16)),
+        ),
+        (
+            &[0x02, 0x08, 0x01, 0x01, 0x61, 0x01, 0x62, 0x03, 0x7E, 0x01],
+            None,
+        ),
+        (
+            &[0x02, 0x08, 0x01, 0x01, 0x61, 0x01, 0x62, 0x03, 0x7E, 0x02],
+            Some(DecodeFault::BadByte(17)),
+        ),
+        (
+            &[0x02, 0x07, 0x01, 0x01, 0x61, 0x01, 0x62, 0x04, 0x00],
+            Some(DecodeFault::BadByte(15)),
+        ),
+        (
+            &[0x02, 0x07, 0x01, 0x01, 0xFF, 0x01, 0x62, 0x00, 0x00],
+            Some(DecodeFault::Utf8(12)),
+        ),
+        (
+            &[0x02, 0x07, 0x01, 0x01, 0x61, 0x01, 0xC3, 0x00, 0x00],
+            Some(DecodeFault::Utf8(14)),
+        ),
+        (
+            &[0x02, 0x02, 0x01, 0x05, 0x61, 0x61],
+            Some(DecodeFault::SectionSize(12)),
+        ),
+        // exports
+        (&[0x07, 0x05, 0x01, 0x01, 0x61, 0x00, 0x00], None),
+        (
+            &[0x07, 0x05, 0x01, 0x01, 0x61, 0x04, 0x00],
+            Some(DecodeFault::BadByte(13)),
+        ),
+        (
+            &[0x07, 0x05, 0x01, 0x01, 0xFF, 0x00, 0x00],
+            Some(DecodeFault::Utf8(12)),
+        ),
+        // functions without bodies, and bodies without functions
+        (
+            &[0x03, 0x02, 0x01, 0x00],
+            Some(DecodeFault::CountMismatch(12)),
+        ),
+        (
+            &[0x03, 0x02, 0x01, 0x00, 0x0A, 0x01, 0x00],
+            Some(DecodeFault::CountMismatch(14)),
+        ),
+        (
+            &[0x0A, 0x04, 0x01, 0x02, 0x00, 0x0B],
+            Some(DecodeFault::CountMismatch(10)),
+        ),
+        // a body that passes its section
+        (
+            &[0x03, 0x02, 0x01, 0x00, 0x0A, 0x04, 0x01, 0x05, 0x00, 0x0B],
+            Some(DecodeFault::SectionSize(18)),
+        ),
+        // limits, with nothing behind the number
+        (
+            &[0x01, 0x04, 0x01, 0x60, 0x81, 0x08],
+            Some(DecodeFault::OverLimit(12)),
+        ),
+        // bodies that are missing before data, which is read first
+        (
+            &[0x03, 0x02, 0x01, 0x00, 0x0B, 0x01, 0x00],
+            Some(DecodeFault::CountMismatch(15)),
+        ),
+        (
+            &[0x03, 0x02, 0x01, 0x00, 0x0B, 0x01, 0x01],
+            Some(DecodeFault::SectionSize(15)),
+        ),
+        // tables, memories and globals
+        (&[0x04, 0x04, 0x01, 0x70, 0x00, 0x01], None),
+        (
+            &[0x04, 0x04, 0x01, 0x6F, 0x00, 0x01],
+            Some(DecodeFault::BadByte(11)),
+        ),
+        (&[0x05, 0x03, 0x01, 0x00, 0x01], None),
+        (
+            &[0x05, 0x03, 0x01, 0x03, 0x01],
+            Some(DecodeFault::BadByte(11)),
+        ),
+        (&[0x06, 0x06, 0x01, 0x7F, 0x00, 0x41, 0x00, 0x0B], None),
+        (
+            &[0x06, 0x06, 0x01, 0x7D, 0x00, 0x41, 0x00, 0x0B],
+            Some(DecodeFault::Unsupported(11)),
+        ),
+        (
+            &[0x06, 0x06, 0x01, 0x7F, 0x02, 0x41, 0x00, 0x0B],
+            Some(DecodeFault::BadByte(12)),
+        ),
+        (
+            &[0x06, 0x06, 0x01, 0x7F, 0x00, 0x41, 0x00, 0x05],
+            Some(DecodeFault::BadByte(15)),
+        ),
+        // the start, elements and data
+        (
+            &[0x08, 0x02, 0x05, 0x00],
+            Some(DecodeFault::SectionSize(11)),
+        ),
+        (
+            &[0x09, 0x07, 0x01, 0x00, 0x41, 0x00, 0x0B, 0x01, 0x05],
+            None,
+        ),
+        (
+            &[0x09, 0x06, 0x01, 0x00, 0x41, 0x00, 0x0B, 0x01],
+            Some(DecodeFault::SectionSize(16)),
+        ),
+        (
+            &[0x0B, 0x08, 0x01, 0x00, 0x41, 0x00, 0x0B, 0x02, 0xFF, 0x62],
+            None,
+        ),
+        (
+            &[0x0B, 0x08, 0x01, 0x00, 0x41, 0x00, 0x0B, 0x03, 0xFF, 0x62],
+            Some(DecodeFault::SectionSize(18)),
+        ),
+    ];
+    for (sections, fault) in rows {
+        let bytes = after_header(rt.alloc(), sections)?;
+        assert_eq!(rt;
+            fault_of(rt.alloc(), bytes.as_slice()),
+            fault,
+            "{sections:?}"
+        );
+    }
+    Ok(())
+}
+
+#[test]
+fn kinds_of_exports(rt: HostRuntime) -> Result<(), Fail> {
+    let rows = [
+        (0x00, ExportDescription::Function(5)),
+        (0x01, ExportDescription::Table(5)),
+        (0x02, ExportDescription::Memory(5)),
+        (0x03, ExportDescription::Global(5)),
+    ];
+    for (kind, description) in rows {
+        let bytes = after_header(rt.alloc(), &[0x07, 0x05, 0x01, 0x01, 0x61, kind, 0x05])?;
+        let module = decode(rt.alloc(), bytes.as_slice())?;
+        let [export] = module.exports.as_slice() else {
+            panic!(rt; "one export");
+        };
+        assert_eq!(rt; export.description, description);
+    }
+    Ok(())
+}
+
+#[test]
+fn custom_sections(rt: HostRuntime) -> Result<(), Fail> {
+    let rows: [(&[u8], Option<DecodeFault>); 5] = [
+        // anywhere, and several at a place
+        (
+            &[
+                0x00, 0x02, 0x01, 0x61, 0x00, 0x01, 0x00, 0x01, 0x01, 0x00, 0x00, 0x03, 0x01, 0x62,
+                0x09, 0x02, 0x01, 0x00, 0x00, 0x01, 0x00, 0x03, 0x01, 0x00, 0x00, 0x01, 0x00, 0x07,
+                0x01, 0x00, 0x00, 0x01, 0x00, 0x0A, 0x01, 0x00, 0x00, 0x01, 0x00, 0x00, 0x02, 0x01,
+                0x63,
+            ],
+            None,
+        ),
+        (&[0x00, 0x02, 0x01, 0xFF], Some(DecodeFault::Utf8(11))),
+        (
+            &[0x01, 0x01, 0x00, 0x00, 0x02, 0x01, 0xFF],
+            Some(DecodeFault::Utf8(14)),
+        ),
+        (&[0x00, 0x00], Some(DecodeFault::SectionSize(10))),
+        (&[0x00, 0x03, 0x01, 0x61], Some(DecodeFault::Truncated(12))),
+    ];
+    for (sections, fault) in rows {
+        let bytes = after_header(rt.alloc(), sections)?;
+        assert_eq!(rt;
+            fault_of(rt.alloc(), bytes.as_slice()),
+            fault,
+            "{sections:?}"
+        );
+    }
+    Ok(())
+}
+
+// A module with each section.
+const WHOLE: &[u8] = &[
+    0x01, 0x04, 0x01, 0x60, 0x00, 0x00, 0x02, 0x07, 0x01, 0x01, 0x61, 0x01, 0x62, 0x00, 0x00, 0x03,
+    0x02, 0x01, 0x00, 0x04, 0x05, 0x01, 0x70, 0x01, 0x01, 0x02, 0x05, 0x03, 0x01, 0x00, 0x03, 0x06,
+    0x06, 0x01, 0x7E, 0x01, 0x42, 0x7F, 0x0B, 0x07, 0x05, 0x01, 0x01, 0x63, 0x02, 0x00, 0x08, 0x01,
+    0x01, 0x09, 0x08, 0x01, 0x00, 0x41, 0x04, 0x0B, 0x02, 0x00, 0x01, 0x0A, 0x04, 0x01, 0x02, 0x00,
+    0x0B, 0x0B, 0x08, 0x01, 0x00, 0x41, 0x05, 0x0B, 0x02, 0xFF, 0x61,
+];
+
+// What it is.
+const WHOLE_TEXT: &str =
+    "Module { types: Sequence { items: [FuncType { parameters: Sequence { items: [] }, results: Sequence { items: [] } }] }, imports: Sequence { items: [Import { module: Name { text: \"a\" }, name: Name { text: \"b\" }, description: Function(0) }] }, functions: Sequence { items: [Function { type_number: 0, locals: Sequence { items: [] }, body: Body { instrs: [] } }] }, tables: Sequence { items: [Limits { minimum: 1, maximum: Some(2) }] }, memories: Sequence { items: [Limits { minimum: 3, maximum: None }] }, globals: Sequence { items: [Global { global_type: GlobalType { mutability: Variable, value: I64 }, initial: Body { instrs: [Plain(Const(I64(18446744073709551615)))] } }] }, exports: Sequence { items: [Export { name: Name { text: \"c\" }, description: Memory(0) }] }, start: Some(1), elements: Sequence { items: [Element { table: 0, offset: Body { instrs: [Plain(Const(I32(4)))] }, functions: Sequence { items: [0, 1] } }] }, data: Sequence { items: [Data { memory: 0, offset: Body { instrs: [Plain(Const(I32(5)))] }, bytes: Sequence { items: [255, 97] } }] } }";
+
+#[test]
+fn a_module_with_each_section(rt: HostRuntime) -> Result<(), Fail> {
+    let bytes = after_header(rt.alloc(), WHOLE)?;
+    let module = decode(rt.alloc(), bytes.as_slice())?;
+    let text = format!(in rt.alloc(); "{module:?}")?;
+    assert_eq!(rt; text.as_str(), WHOLE_TEXT);
+    Ok(())
+}

@@ -3,3 +3,4 @@ pub mod Faults
 pub mod Inputs
 pub mod Numbers
 pub mod Turns
+pub mod Told

@@ -3,3 +3,4 @@ pub mod Input
 pub mod Lines
 pub mod Refusal
 pub mod Engine
+pub mod Program

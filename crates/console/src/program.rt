@@ -1,6 +1,12 @@
 //! The program behind `main`.
 
-ghost use Rattle.std.specs.Prelude.{◌≡◌, ◌⊎◌, IfOk};
+ghost use Rattle.std.specs.Prelude.{◌≡◌, ◌≢◌, List, ℕ, Some, IfOk, IfErr, OnOk, MatchResult};
+ghost use Rattle.std.specs.Io.KnownBytes.{Appends, Keeps};
+ghost use Rattle.std.specs.String.{string_vec};
+ghost use Rattle.console.specs.declared.program.CommandFault.TheVariants.{Call};
+ghost use Rattle.console.specs.Lines.{line};
+ghost use Rattle.console.specs.Refusal.{refusal_text};
+ghost use Rattle.console.specs.Program.{Stays, Told, Tells, missing_line, TellsAnswer, IsCause, IsUnread, IsNoTextAt};
 
 use crate::engine::{call, load};
 use crate::fault::CallFault;
@@ -28,6 +34,8 @@ enum CommandFault<'a> {
 }
 
 impl From<CallFault> for CommandFault<'_> {
+    ghost from_gives = { λ cause fault. fault ≡ Call cause };
+
     fn from(fault: CallFault) -> Self {
         CommandFault::Call(fault)
     }
@@ -37,29 +45,62 @@ impl From<CallFault> for CommandFault<'_> {
 ///
 /// It answers the status for the process: 0 where there is an answer, 1 where the module, the input or the call was
 /// refused, and 4 where a file cannot be read, which `no file PATH` tells. The module is looked at before the input's
-/// file.
+/// file. An answer is that of the engine's call; a refusal is told as one line, and is one of the module's and the
+/// input's own, or want of memory.
 pub fn command<F: Files, W: Write>(
     alloc: Global,
     options: Options<'_>,
     files: &mut F,
     out: &mut W,
 ) -> Result<u8, ServeFault>
-    ensures status { IfOk result (λ status. (status ≡ 0) ⊎ ((status ≡ 1) ⊎ (status ≡ 4))) }
+    ensures told { IfOk result (λ status. (told : List ℕ) × Told (F.holds files.old) options.entry status told
+        × Appends (W.contents out.old) (W.contents out.new) told) }
 {
-    let done = match options {
-        Options::Call { module, input } => call_files(alloc, module, input, files, out),
-    };
-    match done {
+    match options {
+        Options::Call { module, input } => answer_call(alloc, module, input, files, out),
+    }
+}
+
+// Calls the module in one file with the input in another, and tells how it went.
+fn answer_call<F: Files, W: Write>(
+    alloc: Global,
+    module: &str,
+    input: &str,
+    files: &mut F,
+    out: &mut W,
+) -> Result<u8, ServeFault>
+    ensures told { IfOk result (λ status. (told : List ℕ)
+        × Tells (F.holds files.old) «module».now input.now status told
+        × Appends (W.contents out.old) (W.contents out.new) told) }
+{
+    match call_files(alloc, module, input, files, out) {
         Ok(()) => Ok(0),
-        Err(CommandFault::Call(CallFault::Write)) => Err(ServeFault::Write),
-        Err(CommandFault::Call(fault)) => {
-            refuse(&fault, out).map_err(|_| ServeFault::Write)?;
-            Ok(1)
-        }
-        Err(CommandFault::File(path)) => {
-            writeln!(out, "no file {path}").map_err(|_| ServeFault::Write)?;
-            Ok(4)
-        }
+        Err(CommandFault::Call(fault)) => tell_refusal(&fault, out),
+        Err(CommandFault::File(path)) => tell_missing(path, out),
+    }
+}
+
+// A writer that failed is told nothing more.
+fn tell_refusal<W: Write>(fault: &CallFault, out: &mut W) -> Result<u8, ServeFault>
+    ensures { IfOk result (λ status. (status ≡ 1) × (fault.now ≢ CallFault.Write)
+        × Appends (W.contents out.old) (W.contents out.new) (line (refusal_text fault.now))) }
+{
+    if let CallFault::Write = fault {
+        return Err(ServeFault::Write);
+    }
+    match refuse(fault, out) {
+        Ok(()) => Ok(1),
+        Err(_) => Err(ServeFault::Write),
+    }
+}
+
+fn tell_missing<W: Write>(path: &str, out: &mut W) -> Result<u8, ServeFault>
+    ensures { IfOk result (λ status. (status ≡ 4)
+        × Appends (W.contents out.old) (W.contents out.new) (missing_line path.now)) }
+{
+    match writeln!(out, "no file {path}") {
+        Ok(()) => Ok(4),
+        Err(_) => Err(ServeFault::Write),
     }
 }
 
@@ -70,7 +111,13 @@ fn call_files<'a, F: Files, W: Write>(
     input: &'a str,
     files: &mut F,
     out: &mut W,
-) -> Result<(), CommandFault<'a>> {
+) -> Result<(), CommandFault<'a>>
+    ensures answer { OnOk result ((told : List ℕ) × TellsAnswer (F.holds files.old) «module».now input.now told
+        × Appends (W.contents out.old) (W.contents out.new) told) }
+    ensures refused { IfErr result (IsCause (F.holds files.old) «module».now input.now) }
+    ensures unwritten { IfErr result (λ fault. fault ≢ CommandFault.Call CallFault.Write
+        → Keeps (W.contents out.old) (W.contents out.new)) }
+{
     let bytes = read(alloc, module, files)?;
     match read_text(alloc, input, files) {
         Ok(text) => call(alloc, bytes.as_slice(), text.as_str(), out)?,
@@ -87,16 +134,27 @@ fn read_text<'a, F: Files>(
     alloc: Global,
     path: &'a str,
     files: &mut F,
-) -> Result<String, CommandFault<'a>> {
+) -> Result<String, CommandFault<'a>>
+    ensures found { MatchResult result (λ text. F.holds files.old path.now (Some (string_vec text).items))
+        (IsNoTextAt (F.holds files.old) path.now) }
+    ensures kept { Stays (F.holds files.old) (F.holds files.new) }
+{
     let bytes = read(alloc, path, files)?;
-    String::from_utf8(bytes).map_err(|_| CommandFault::File(path))
+    match String::from_utf8(bytes) {
+        Ok(text) => Ok(text),
+        Err(_) => Err(CommandFault::File(path)),
+    }
 }
 
 fn read<'a, F: Files>(
     alloc: Global,
     path: &'a str,
     files: &mut F,
-) -> Result<Vec<u8>, CommandFault<'a>> {
+) -> Result<Vec<u8>, CommandFault<'a>>
+    ensures found { MatchResult result (λ bytes. F.holds files.old path.now (Some bytes.items))
+        (IsUnread (F.holds files.old) path.now) }
+    ensures kept { Stays (F.holds files.old) (F.holds files.new) }
+{
     files.read(alloc, path).map_err(|fault| match fault {
         FileFault::Device => CommandFault::File(path),
         FileFault::OutOfMemory => CommandFault::Call(CallFault::OutOfMemory),

@@ -1,5 +1,7 @@
 //! Rows of texts, of command lines, and of files.
 
+ghost use Rattle.std.specs.Prelude.{⊤};
+
 use crate::{CallFault, FileFault, Files, Options, ServeFault, call, command, options, read_input};
 use clap::error::ErrorKind;
 use std::alloc::{AllocError, Global};
@@ -150,6 +152,8 @@ static UNTYPED: [u8; 38] = [
 struct Samples;
 
 impl Files for Samples {
+    ghost holds = { λ _ _ _. ⊤ };
+
     fn read(&mut self, alloc: Global, path: &str) -> Result<Vec<u8>, FileFault> {
         let bytes: &[u8] = match path {
             "seven.wasm" => &SEVEN,

@@ -1,0 +1,5 @@
+pub mod Keywords
+pub mod Quoted
+pub mod Pieces
+pub mod Instructions
+pub mod Layout

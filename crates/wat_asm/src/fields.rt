@@ -1,0 +1,348 @@
+//! The lines of a module's fields.
+
+ghost use Rattle.std.specs.Prelude.{◌≡◌, ◌∷◌, ℕ, List, OnOk, string_bytes};
+ghost use Rattle.std.specs.List.{AllByRecursion};
+ghost use Rattle.wasm_ast.specs.declared.module.Function.{Function as AnyFunction};
+ghost use Rattle.wasm_ast.specs.declared.module.Global.{Global as AnyGlobal};
+ghost use Rattle.wasm_ast.specs.declared.module.Element.{Element as AnyElement};
+ghost use Rattle.wasm_ast.specs.declared.module.Data.{Data as AnyData};
+ghost use Rattle.wasm_ast.specs.Limits.{IsBodyWithin};
+ghost use Rattle.wat_asm.specs.Pieces.{Adds, each};
+ghost use Rattle.wat_asm.specs.Instructions.{code, type_word};
+ghost use Rattle.wat_asm.specs.Layout.{begins, data_field, element_field, export_description, export_field, function_field, global_field, global_type, import_description, import_field, limits, maximum_part, memory_field, number_part, numbered, offset, start_field, table_field, type_field, type_group};
+
+use crate::instructions::{write_code, write_numbers, write_type_use};
+use crate::keyword::Keyword;
+use crate::pieces::{
+    Gap, write_closing, write_closing_line, write_count, write_keyword, write_opening, write_string,
+};
+use std::alloc::AllocError;
+use wasm_ast::{
+    Body, Data, Element, Export, ExportDescription, FuncType, Function, Global, GlobalType, Import,
+    ImportDescription, Limits, MAX_NESTING, Mutability, ValType,
+};
+
+// ---- parts of fields
+
+fn write_val_types(text: &mut String, types: &[ValType]) -> Result<(), AllocError>
+    ensures { OnOk result (Adds (string_bytes text.old) (string_bytes text.new) (each type_word types.now)) }
+{
+    for t in types {
+        write_keyword(text, Gap::Space, Keyword::Type(*t))?;
+    }
+    Ok(())
+}
+
+// A keyword and types in parentheses, as `(param i32 i64)`, and nothing where there are no types.
+fn write_type_group(
+    text: &mut String,
+    keyword: Keyword,
+    types: &[ValType],
+) -> Result<(), AllocError>
+    ensures { OnOk result (Adds (string_bytes text.old) (string_bytes text.new) (type_group keyword types.now)) }
+{
+    if types.is_empty() {
+        return Ok(());
+    }
+    write_opening(text, Gap::Space, keyword)?;
+    write_val_types(text, types)?;
+    write_closing(text)
+}
+
+fn write_limits(text: &mut String, given: Limits) -> Result<(), AllocError>
+    ensures { OnOk result (Adds (string_bytes text.old) (string_bytes text.new) (limits given)) }
+{
+    write_count(text, given.minimum)?;
+    match given.maximum {
+        None => Ok(()),
+        Some(maximum) => write_count(text, maximum),
+    }
+}
+
+fn write_global_type(text: &mut String, global: GlobalType) -> Result<(), AllocError>
+    ensures { OnOk result (Adds (string_bytes text.old) (string_bytes text.new) (global_type global)) }
+{
+    match global.mutability {
+        Mutability::Constant => write_keyword(text, Gap::Space, Keyword::Type(global.value)),
+        Mutability::Variable => {
+            write_opening(text, Gap::Space, Keyword::Mut)?;
+            write_keyword(text, Gap::Space, Keyword::Type(global.value))?;
+            write_closing(text)
+        }
+    }
+}
+
+// The table or memory of a segment, where it is not the first.
+fn write_number_part(text: &mut String, n: u32) -> Result<(), AllocError>
+    ensures { OnOk result (Adds (string_bytes text.old) (string_bytes text.new) (number_part n)) }
+{
+    if n == 0 { Ok(()) } else { write_count(text, n) }
+}
+
+fn write_offset(text: &mut String, body: &Body) -> Result<(), AllocError>
+    requires { IsBodyWithin body.now }
+    ensures { OnOk result (Adds (string_bytes text.old) (string_bytes text.new) (offset body.now)) }
+{
+    write_opening(text, Gap::Space, Keyword::Offset)?;
+    write_code(text, Gap::Space, MAX_NESTING, body)?;
+    write_closing(text)
+}
+
+// ---- fields
+
+// A field's beginning, on a line of its own.
+fn write_beginning(text: &mut String, keyword: Keyword) -> Result<(), AllocError>
+    ensures { OnOk result (Adds (string_bytes text.old) (string_bytes text.new) (begins keyword)) }
+{
+    write_opening(text, Gap::Line(1), keyword)
+}
+
+fn write_type(text: &mut String, field: &FuncType) -> Result<(), AllocError>
+    ensures { OnOk result (Adds (string_bytes text.old) (string_bytes text.new) (type_field field.now)) }
+{
+    write_beginning(text, Keyword::FuncType)?;
+    write_opening(text, Gap::Space, Keyword::Func)?;
+    write_type_group(text, Keyword::Param, field.parameters.as_slice())?;
+    write_type_group(text, Keyword::Result, field.results.as_slice())?;
+    write_closing(text)?;
+    write_closing(text)
+}
+
+fn write_import_description(
+    text: &mut String,
+    description: ImportDescription,
+) -> Result<(), AllocError>
+    ensures { OnOk result (Adds (string_bytes text.old) (string_bytes text.new) (import_description description)) }
+{
+    match description {
+        ImportDescription::Function(type_number) => {
+            write_opening(text, Gap::Space, Keyword::Func)?;
+            write_type_use(text, type_number)?;
+        }
+        ImportDescription::Table(limits) => {
+            write_opening(text, Gap::Space, Keyword::Table)?;
+            write_limits(text, limits)?;
+            write_keyword(text, Gap::Space, Keyword::Funcref)?;
+        }
+        ImportDescription::Memory(limits) => {
+            write_opening(text, Gap::Space, Keyword::Memory)?;
+            write_limits(text, limits)?;
+        }
+        ImportDescription::Global(global) => {
+            write_opening(text, Gap::Space, Keyword::Global)?;
+            write_global_type(text, global)?;
+        }
+    }
+    write_closing(text)
+}
+
+fn write_import(text: &mut String, field: &Import) -> Result<(), AllocError>
+    ensures { OnOk result (Adds (string_bytes text.old) (string_bytes text.new) (import_field field.now)) }
+{
+    write_beginning(text, Keyword::Import)?;
+    write_string(text, field.module.as_str().as_bytes())?;
+    write_string(text, field.name.as_str().as_bytes())?;
+    write_import_description(text, field.description)?;
+    write_closing(text)
+}
+
+fn write_function(text: &mut String, field: &Function) -> Result<(), AllocError>
+    requires { IsBodyWithin field.now.body }
+    ensures { OnOk result (Adds (string_bytes text.old) (string_bytes text.new) (function_field field.now)) }
+{
+    write_beginning(text, Keyword::Func)?;
+    write_type_use(text, field.type_number)?;
+    write_type_group(text, Keyword::Local, field.locals.as_slice())?;
+    write_code(text, Gap::Line(2), MAX_NESTING, &field.body)?;
+    write_closing_line(text, 1)
+}
+
+fn write_table(text: &mut String, field: Limits) -> Result<(), AllocError>
+    ensures { OnOk result (Adds (string_bytes text.old) (string_bytes text.new) (table_field field)) }
+{
+    write_beginning(text, Keyword::Table)?;
+    write_limits(text, field)?;
+    write_keyword(text, Gap::Space, Keyword::Funcref)?;
+    write_closing(text)
+}
+
+fn write_memory(text: &mut String, field: Limits) -> Result<(), AllocError>
+    ensures { OnOk result (Adds (string_bytes text.old) (string_bytes text.new) (memory_field field)) }
+{
+    write_beginning(text, Keyword::Memory)?;
+    write_limits(text, field)?;
+    write_closing(text)
+}
+
+fn write_global(text: &mut String, field: &Global) -> Result<(), AllocError>
+    requires { IsBodyWithin field.now.initial }
+    ensures { OnOk result (Adds (string_bytes text.old) (string_bytes text.new) (global_field field.now)) }
+{
+    write_beginning(text, Keyword::Global)?;
+    write_global_type(text, field.global_type)?;
+    write_code(text, Gap::Space, MAX_NESTING, &field.initial)?;
+    write_closing(text)
+}
+
+// The word and the number of what is exported.
+fn write_numbered(text: &mut String, keyword: Keyword, n: u32) -> Result<(), AllocError>
+    ensures { OnOk result (Adds (string_bytes text.old) (string_bytes text.new) (numbered keyword n)) }
+{
+    write_opening(text, Gap::Space, keyword)?;
+    write_count(text, n)?;
+    write_closing(text)
+}
+
+fn write_export_description(
+    text: &mut String,
+    description: ExportDescription,
+) -> Result<(), AllocError>
+    ensures { OnOk result (Adds (string_bytes text.old) (string_bytes text.new) (export_description description)) }
+{
+    match description {
+        ExportDescription::Function(n) => write_numbered(text, Keyword::Func, n),
+        ExportDescription::Table(n) => write_numbered(text, Keyword::Table, n),
+        ExportDescription::Memory(n) => write_numbered(text, Keyword::Memory, n),
+        ExportDescription::Global(n) => write_numbered(text, Keyword::Global, n),
+    }
+}
+
+fn write_export(text: &mut String, field: &Export) -> Result<(), AllocError>
+    ensures { OnOk result (Adds (string_bytes text.old) (string_bytes text.new) (export_field field.now)) }
+{
+    write_beginning(text, Keyword::Export)?;
+    write_string(text, field.name.as_str().as_bytes())?;
+    write_export_description(text, field.description)?;
+    write_closing(text)
+}
+
+pub fn write_start(text: &mut String, start: Option<u32>) -> Result<(), AllocError>
+    ensures { OnOk result (Adds (string_bytes text.old) (string_bytes text.new) (start_field start)) }
+{
+    match start {
+        None => Ok(()),
+        Some(n) => {
+            write_beginning(text, Keyword::Start)?;
+            write_count(text, n)?;
+            write_closing(text)
+        }
+    }
+}
+
+fn write_element(text: &mut String, field: &Element) -> Result<(), AllocError>
+    requires { IsBodyWithin field.now.offset }
+    ensures { OnOk result (Adds (string_bytes text.old) (string_bytes text.new) (element_field field.now)) }
+{
+    write_beginning(text, Keyword::Elem)?;
+    write_number_part(text, field.table)?;
+    write_offset(text, &field.offset)?;
+    write_numbers(text, field.functions.as_slice())?;
+    write_closing(text)
+}
+
+fn write_data(text: &mut String, field: &Data) -> Result<(), AllocError>
+    requires { IsBodyWithin field.now.offset }
+    ensures { OnOk result (Adds (string_bytes text.old) (string_bytes text.new) (data_field field.now)) }
+{
+    write_beginning(text, Keyword::Data)?;
+    write_number_part(text, field.memory)?;
+    write_offset(text, &field.offset)?;
+    write_string(text, field.bytes.as_slice())?;
+    write_closing(text)
+}
+
+// ---- all fields of a kind
+
+/// Each on a line of its own.
+pub fn write_types(text: &mut String, fields: &[FuncType]) -> Result<(), AllocError>
+    ensures { OnOk result (Adds (string_bytes text.old) (string_bytes text.new) (each type_field fields.now)) }
+{
+    for field in fields {
+        write_type(text, field)?;
+    }
+    Ok(())
+}
+
+/// Each on a line of its own.
+pub fn write_imports(text: &mut String, fields: &[Import]) -> Result<(), AllocError>
+    ensures { OnOk result (Adds (string_bytes text.old) (string_bytes text.new) (each import_field fields.now)) }
+{
+    for field in fields {
+        write_import(text, field)?;
+    }
+    Ok(())
+}
+
+/// Each on a line of its own.
+pub fn write_functions(text: &mut String, fields: &[Function]) -> Result<(), AllocError>
+    requires { AllByRecursion (λ (f : AnyFunction). IsBodyWithin f.body) fields.now }
+    ensures { OnOk result (Adds (string_bytes text.old) (string_bytes text.new) (each function_field fields.now)) }
+{
+    for field in fields {
+        write_function(text, field)?;
+    }
+    Ok(())
+}
+
+/// Each on a line of its own.
+pub fn write_tables(text: &mut String, fields: &[Limits]) -> Result<(), AllocError>
+    ensures { OnOk result (Adds (string_bytes text.old) (string_bytes text.new) (each table_field fields.now)) }
+{
+    for field in fields {
+        write_table(text, *field)?;
+    }
+    Ok(())
+}
+
+/// Each on a line of its own.
+pub fn write_memories(text: &mut String, fields: &[Limits]) -> Result<(), AllocError>
+    ensures { OnOk result (Adds (string_bytes text.old) (string_bytes text.new) (each memory_field fields.now)) }
+{
+    for field in fields {
+        write_memory(text, *field)?;
+    }
+    Ok(())
+}
+
+/// Each on a line of its own.
+pub fn write_globals(text: &mut String, fields: &[Global]) -> Result<(), AllocError>
+    requires { AllByRecursion (λ (g : AnyGlobal). IsBodyWithin g.initial) fields.now }
+    ensures { OnOk result (Adds (string_bytes text.old) (string_bytes text.new) (each global_field fields.now)) }
+{
+    for field in fields {
+        write_global(text, field)?;
+    }
+    Ok(())
+}
+
+/// Each on a line of its own.
+pub fn write_exports(text: &mut String, fields: &[Export]) -> Result<(), AllocError>
+    ensures { OnOk result (Adds (string_bytes text.old) (string_bytes text.new) (each export_field fields.now)) }
+{
+    for field in fields {
+        write_export(text, field)?;
+    }
+    Ok(())
+}
+
+/// Each on a line of its own.
+pub fn write_elements(text: &mut String, fields: &[Element]) -> Result<(), AllocError>
+    requires { AllByRecursion (λ (e : AnyElement). IsBodyWithin e.offset) fields.now }
+    ensures { OnOk result (Adds (string_bytes text.old) (string_bytes text.new) (each element_field fields.now)) }
+{
+    for field in fields {
+        write_element(text, field)?;
+    }
+    Ok(())
+}
+
+/// Each on a line of its own.
+pub fn write_segments(text: &mut String, fields: &[Data]) -> Result<(), AllocError>
+    requires { AllByRecursion (λ (d : AnyData). IsBodyWithin d.offset) fields.now }
+    ensures { OnOk result (Adds (string_bytes text.old) (string_bytes text.new) (each data_field fields.now)) }
+{
+    for field in fields {
+        write_data(text, field)?;
+    }
+    Ok(())
+}

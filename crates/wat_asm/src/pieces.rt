@@ -1,0 +1,157 @@
+//! The pieces of a printed text: tokens, each with the blanks before it.
+
+ghost use Rattle.std.specs.Prelude.{◌≡◌, ◌∷◌, ◌++◌, OnOk, string_bytes};
+ghost use Rattle.wat_asm.specs.Quoted.{escape, escaped, quoted, stands_as_itself};
+ghost use Rattle.wat_asm.specs.Pieces.{Adds, align_is, closes, closes_line, counts, gap_text, indent, offset_is, opens, quotes, says, signs};
+
+use crate::keyword::Keyword;
+use std::alloc::AllocError;
+
+/// What stands before a token.
+#[derive(Clone, Copy, Debug)]
+pub enum Gap {
+    Nothing,
+    Space,
+    /// A new line, and two blanks for each level.
+    Line(u32),
+}
+
+fn write_indent(text: &mut String, level: u32) -> Result<(), AllocError>
+    ensures { OnOk result (string_bytes text.new ≡ string_bytes text.old ++ indent level) }
+{
+    for _ in 0..level {
+        text.push_str("  ")?;
+    }
+    Ok(())
+}
+
+fn write_gap(text: &mut String, gap: Gap) -> Result<(), AllocError>
+    ensures { OnOk result (string_bytes text.new ≡ string_bytes text.old ++ gap_text gap) }
+{
+    match gap {
+        Gap::Nothing => Ok(()),
+        Gap::Space => text.push_str(" "),
+        Gap::Line(level) => {
+            text.push_str("\n")?;
+            write_indent(text, level)
+        }
+    }
+}
+
+/// A parenthesis and a keyword.
+#[tactic(auto, unfolding(crate::specs::Pieces::text))]
+pub fn write_opening(text: &mut String, gap: Gap, keyword: Keyword) -> Result<(), AllocError>
+    ensures { OnOk result (Adds (string_bytes text.old) (string_bytes text.new) (λ more. opens gap keyword ∷ more)) }
+{
+    write_gap(text, gap)?;
+    text.push_str("(")?;
+    text.push_str(keyword.text())
+}
+
+#[tactic(auto, unfolding(crate::specs::Pieces::text))]
+pub fn write_keyword(text: &mut String, gap: Gap, keyword: Keyword) -> Result<(), AllocError>
+    ensures { OnOk result (Adds (string_bytes text.old) (string_bytes text.new) (λ more. says gap keyword ∷ more)) }
+{
+    write_gap(text, gap)?;
+    text.push_str(keyword.text())
+}
+
+/// A number without a sign, in decimal.
+#[tactic(auto, unfolding(crate::specs::Pieces::text))]
+pub fn write_count(text: &mut String, n: u32) -> Result<(), AllocError>
+    ensures { OnOk result (Adds (string_bytes text.old) (string_bytes text.new) (λ more. counts n ∷ more)) }
+{
+    write!(text, " {n}")
+}
+
+/// A number with a sign where it is below 0, in decimal.
+#[tactic(auto, unfolding(crate::specs::Pieces::text))]
+pub fn write_i32(text: &mut String, z: i32) -> Result<(), AllocError>
+    ensures { OnOk result (Adds (string_bytes text.old) (string_bytes text.new) (λ more. signs z ∷ more)) }
+{
+    write!(text, " {z}")
+}
+
+/// A number with a sign where it is below 0, in decimal.
+#[tactic(auto, unfolding(crate::specs::Pieces::text))]
+pub fn write_i64(text: &mut String, z: i64) -> Result<(), AllocError>
+    ensures { OnOk result (Adds (string_bytes text.old) (string_bytes text.new) (λ more. signs z ∷ more)) }
+{
+    write!(text, " {z}")
+}
+
+#[tactic(auto, unfolding(crate::specs::Pieces::text))]
+pub fn write_offset(text: &mut String, n: u32) -> Result<(), AllocError>
+    ensures { OnOk result (Adds (string_bytes text.old) (string_bytes text.new) (λ more. offset_is n ∷ more)) }
+{
+    write!(text, " offset={n}")
+}
+
+/// An alignment in bytes.
+#[tactic(auto, unfolding(crate::specs::Pieces::text))]
+pub fn write_alignment(text: &mut String, n: u32) -> Result<(), AllocError>
+    ensures { OnOk result (Adds (string_bytes text.old) (string_bytes text.new) (λ more. align_is n ∷ more)) }
+{
+    write!(text, " align={n}")
+}
+
+fn stands_as_itself(b: u8) -> bool
+    ensures { result ≡ stands_as_itself b }
+{
+    b >= b' ' && b <= b'~' && b != b'"' && b != b'\\'
+}
+
+// A backslash and two hexadecimal digits in small letters.
+#[tactic(auto, using(std::proofs::lemmas::Fmt::hex_byte))]
+fn write_escape(text: &mut String, b: u8) -> Result<(), AllocError>
+    ensures { OnOk result (string_bytes text.new ≡ string_bytes text.old ++ escape b) }
+{
+    write!(text, "\\{b:02x}")
+}
+
+fn write_escaped(text: &mut String, b: u8) -> Result<(), AllocError>
+    ensures { OnOk result (string_bytes text.new ≡ string_bytes text.old ++ escaped b) }
+{
+    if stands_as_itself(b) {
+        text.push(char::from(b))
+    } else {
+        write_escape(text, b)
+    }
+}
+
+/// A string of these bytes.
+#[tactic(auto, unfolding(crate::specs::Pieces::text))]
+pub fn write_string(text: &mut String, bytes: &[u8]) -> Result<(), AllocError>
+    ensures { OnOk result (Adds (string_bytes text.old) (string_bytes text.new) (λ more. quotes bytes.now ∷ more)) }
+{
+    text.push_str(" \"")?;
+    write_all_escaped(text, bytes)?;
+    text.push_str("\"")
+}
+
+fn write_all_escaped(text: &mut String, bytes: &[u8]) -> Result<(), AllocError>
+    ensures { OnOk result (string_bytes text.new ≡ string_bytes text.old ++ quoted bytes.now) }
+{
+    for b in bytes {
+        write_escaped(text, *b)?;
+    }
+    Ok(())
+}
+
+/// A closing parenthesis.
+#[tactic(auto, unfolding(crate::specs::Pieces::text))]
+pub fn write_closing(text: &mut String) -> Result<(), AllocError>
+    ensures { OnOk result (Adds (string_bytes text.old) (string_bytes text.new) (λ more. closes ∷ more)) }
+{
+    text.push_str(")")
+}
+
+/// A closing parenthesis on a line of its own.
+#[tactic(auto, unfolding(crate::specs::Pieces::text))]
+pub fn write_closing_line(text: &mut String, level: u32) -> Result<(), AllocError>
+    ensures { OnOk result (Adds (string_bytes text.old) (string_bytes text.new) (λ more. closes_line level ∷ more)) }
+{
+    text.push_str("\n")?;
+    write_indent(text, level)?;
+    text.push_str(")")
+}

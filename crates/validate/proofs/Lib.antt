@@ -1,0 +1,8 @@
+pub mod Alignments
+pub mod ConstantCode
+pub mod Distinct
+pub mod Exact
+pub mod Piles
+pub mod Refusals
+pub mod Verdict
+pub mod Whole

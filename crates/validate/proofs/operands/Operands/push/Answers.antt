@@ -1,0 +1,6 @@
+use Rattle.validate.specs.Answers.{base_of}
+use Rattle.validate.proofs.Piles.{popped}
+use Rattle.validate.proofs.operands.Operands.push.Goals as goal
+
+pub returns : goal.returns
+returns c = popped (base_of c.args.self.now.is_dead) _ _ _ c.in_ok-push.ensures.items

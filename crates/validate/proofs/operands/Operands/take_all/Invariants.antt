@@ -1,0 +1,8 @@
+use Rattle.std.proofs.Common.{◌≡◌, drop}
+use Rattle.validate.specs.Stack.{take_all}
+use Rattle.validate.specs.Answers.{stack_of}
+use Rattle.validate.proofs.operands.Operands.take_all.Given as goal
+
+abbrev pub invariant-loop-expected : goal.invariant-loop-expected
+invariant-loop-expected l =
+    take_all l.taken (stack_of l.initial.self) ≡ take_all (drop l.expected-index l.taken) (stack_of l.self)

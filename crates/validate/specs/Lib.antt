@@ -1,0 +1,9 @@
+pub mod Spaces
+pub mod Instructions
+pub mod Stack
+pub mod Steps
+pub mod Answers
+pub mod Faults
+pub mod Constants
+pub mod Modules
+pub mod Checks

@@ -1,0 +1,85 @@
+//! Exports and the start function (Core 1.0, 3.4.7, 3.4.8 and 3.4.10).
+
+ghost use Rattle.std.specs.Prelude.{◌≡◌, ◌↔◌, map, IsTrue, IfOk};
+ghost use Rattle.std.specs.List.{AllByRecursion};
+ghost use Rattle.wasm_ast.specs.declared.module.Export.{Export as AnyExport};
+ghost use Rattle.validate.specs.Modules.{ExportTyped, AreDistinct, StartTyped, name_of_export};
+ghost use Rattle.validate.specs.Faults.{Settles};
+
+use crate::fault::{Place, Rule, ValidFault};
+use crate::spaces::IndexSpaces;
+use std::alloc::{AllocError, Global};
+use std::collections::BTreeSet;
+use wasm_ast::{Export, ExportDescription};
+
+/// Core 1.0, 3.4.8: each exports something that is there.
+pub fn check_exports(exports: &[Export], spaces: &IndexSpaces) -> Result<(), ValidFault>
+    ensures { Settles (AllByRecursion (λ (e : AnyExport). ExportTyped spaces.now e.description) exports.now) result }
+{
+    for export in exports {
+        check_export(export.description, spaces)?;
+    }
+    Ok(())
+}
+
+fn check_export(description: ExportDescription, spaces: &IndexSpaces) -> Result<(), ValidFault>
+    ensures { Settles (ExportTyped spaces.now description) result }
+{
+    let (number, count, rule) = match description {
+        ExportDescription::Function(number) => (number, spaces.functions.len(), Rule::Function),
+        ExportDescription::Table(number) => (number, spaces.tables.len(), Rule::Table),
+        ExportDescription::Memory(number) => (number, spaces.memories.len(), Rule::Memory),
+        ExportDescription::Global(number) => (number, spaces.globals.len(), Rule::Global),
+    };
+    if (number as usize) < count {
+        Ok(())
+    } else {
+        Err(ValidFault::from(rule))
+    }
+}
+
+/// Core 1.0, 3.4.10: no two exports have one name.
+pub fn check_names(alloc: Global, exports: &[Export]) -> Result<(), ValidFault>
+    ensures { Settles (AreDistinct (map name_of_export exports.now)) result }
+{
+    if have_distinct_names(alloc, exports)? {
+        Ok(())
+    } else {
+        Err(ValidFault::from(Rule::DuplicateExport))
+    }
+}
+
+fn have_distinct_names(alloc: Global, exports: &[Export]) -> Result<bool, AllocError>
+    ensures { IfOk result (λ distinct. IsTrue distinct ↔ AreDistinct (map name_of_export exports.now)) }
+{
+    let mut seen = BTreeSet::new(alloc);
+    for export in exports {
+        if !seen.insert(export.name.as_str())? {
+            return Ok(false);
+        }
+    }
+    Ok(true)
+}
+
+/// Core 1.0, 3.4.7: a start function takes nothing and gives nothing.
+pub fn check_start(start: Option<u32>, spaces: &IndexSpaces) -> Result<(), ValidFault>
+    ensures { Settles (StartTyped spaces.now start) result }
+{
+    let Some(function) = start else {
+        return Ok(());
+    };
+    let Some(started) = spaces.function_type(function) else {
+        return Err(ValidFault::from(Rule::Function));
+    };
+    if started.parameters.as_slice().is_empty() && started.results.as_slice().is_empty() {
+        Ok(())
+    } else {
+        Err(ValidFault::Breaks(
+            Rule::StartType,
+            Place {
+                function: Some(function),
+                instruction: None,
+            },
+        ))
+    }
+}

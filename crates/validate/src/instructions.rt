@@ -1,0 +1,190 @@
+//! Instructions that hold no others (Core 1.0, 3.3), each by its rule.
+
+ghost use Rattle.std.specs.Prelude.{◌≡◌};
+ghost use Rattle.validate.specs.Steps.{is_aligned, variable_step, memory_step, plain_step, branch_step, call_step, call_indirect_step};
+ghost use Rattle.validate.specs.Answers.{stack_of, context_of};
+ghost use Rattle.validate.specs.Faults.{Finds};
+
+use crate::fault::{Rule, ValidFault};
+use crate::frame::Frame;
+use crate::nesting::Nesting;
+use crate::operands::Operands;
+use wasm_ast::{Branch, Memory, Mutability, Plain, ValType, Value, Variable};
+
+/// Core 1.0, 3.3.1, 3.3.2 and `nop` of 3.3.5.
+pub fn check_plain(
+    plain: Plain,
+    frame: &Frame,
+    nesting: &Nesting,
+    operands: &mut Operands,
+) -> Result<(), ValidFault>
+    ensures { Finds (plain_step (context_of frame.now nesting.now.labels.items) plain (stack_of operands.old)) result (stack_of operands.new) }
+{
+    match plain {
+        Plain::Nop => Ok(()),
+        Plain::Drop => {
+            let _slot = operands.take_any()?;
+            Ok(())
+        }
+        Plain::Select => operands.select(),
+        Plain::Const(Value::I32(_)) => operands.change(&[], Some(ValType::I32)),
+        Plain::Const(Value::I64(_)) => operands.change(&[], Some(ValType::I64)),
+        Plain::Numeric(op) => operands.apply(op),
+        Plain::Variable(op) => check_variable(op, frame, nesting, operands),
+        Plain::Memory(op) => check_memory(op, frame, nesting, operands),
+    }
+}
+
+// Core 1.0, 3.3.3.
+fn check_variable(
+    op: Variable,
+    frame: &Frame,
+    nesting: &Nesting,
+    operands: &mut Operands,
+) -> Result<(), ValidFault>
+    ensures { Finds (variable_step (context_of frame.now nesting.now.labels.items) op (stack_of operands.old)) result (stack_of operands.new) }
+{
+    match op {
+        Variable::LocalGet(number) => {
+            let Some(local) = frame.local_at(number) else {
+                return Err(ValidFault::from(Rule::Local));
+            };
+            operands.change(&[], Some(local))
+        }
+        Variable::LocalSet(number) => {
+            let Some(local) = frame.local_at(number) else {
+                return Err(ValidFault::from(Rule::Local));
+            };
+            operands.change(&[local], None)
+        }
+        Variable::LocalTee(number) => {
+            let Some(local) = frame.local_at(number) else {
+                return Err(ValidFault::from(Rule::Local));
+            };
+            operands.change(&[local], Some(local))
+        }
+        Variable::GlobalGet(number) => {
+            let Some(global) = frame.spaces.global_at(number) else {
+                return Err(ValidFault::from(Rule::Global));
+            };
+            operands.change(&[], Some(global.value))
+        }
+        Variable::GlobalSet(number) => {
+            let Some(global) = frame.spaces.global_at(number) else {
+                return Err(ValidFault::from(Rule::Global));
+            };
+            match global.mutability {
+                Mutability::Constant => Err(ValidFault::from(Rule::Immutable)),
+                Mutability::Variable => operands.change(&[global.value], None),
+            }
+        }
+    }
+}
+
+// Core 1.0, 3.3.4.
+fn check_memory(
+    op: Memory,
+    frame: &Frame,
+    nesting: &Nesting,
+    operands: &mut Operands,
+) -> Result<(), ValidFault>
+    ensures { Finds (memory_step (context_of frame.now nesting.now.labels.items) op (stack_of operands.old)) result (stack_of operands.new) }
+{
+    if !frame.spaces.has_memory() {
+        return Err(ValidFault::from(Rule::Memory));
+    }
+    match op {
+        Memory::Load(load, argument) => {
+            if !is_aligned(argument.align, load.width()) {
+                return Err(ValidFault::from(Rule::Alignment));
+            }
+            operands.change(&[ValType::I32], Some(load.val_type()))
+        }
+        Memory::Store(store, argument) => {
+            if !is_aligned(argument.align, store.width()) {
+                return Err(ValidFault::from(Rule::Alignment));
+            }
+            operands.change(&[store.val_type(), ValType::I32], None)
+        }
+        Memory::Size => operands.change(&[], Some(ValType::I32)),
+        Memory::Grow => operands.change(&[ValType::I32], Some(ValType::I32)),
+    }
+}
+
+// Whether the alignment, which is 2 to this power, is no more than the width in bytes.
+fn is_aligned(align: u32, width: u32) -> bool
+    ensures { result ≡ is_aligned align width }
+{
+    align < 32 && 1u32 << align <= width
+}
+
+/// Core 1.0, 3.3.5: `br`, `br_if`, `br_table` and `return`.
+pub fn check_branch(
+    branch: &Branch,
+    frame: &Frame,
+    nesting: &Nesting,
+    operands: &mut Operands,
+) -> Result<(), ValidFault>
+    ensures { Finds (branch_step (context_of frame.now nesting.now.labels.items) branch.now (stack_of operands.old)) result (stack_of operands.new) }
+{
+    match branch {
+        Branch::Br(label) => {
+            let Some(taken) = nesting.label_at(*label) else {
+                return Err(ValidFault::from(Rule::Label));
+            };
+            operands.leave(taken)
+        }
+        Branch::BrIf(label) => {
+            let Some(taken) = nesting.label_at(*label) else {
+                return Err(ValidFault::from(Rule::Label));
+            };
+            operands.take(ValType::I32)?;
+            operands.take_result(taken)?;
+            operands.give(taken)?;
+            Ok(())
+        }
+        Branch::BrTable(targets, label) => {
+            let Some(taken) = nesting.label_at(*label) else {
+                return Err(ValidFault::from(Rule::Label));
+            };
+            nesting.check_targets(taken, targets.as_slice())?;
+            operands.take(ValType::I32)?;
+            operands.leave(taken)
+        }
+        Branch::Return => operands.leave(frame.outcome),
+    }
+}
+
+/// Core 1.0, 3.3.5: `call`.
+pub fn check_call(
+    function: u32,
+    frame: &Frame,
+    nesting: &Nesting,
+    operands: &mut Operands,
+) -> Result<(), ValidFault>
+    ensures { Finds (call_step (context_of frame.now nesting.now.labels.items) function (stack_of operands.old)) result (stack_of operands.new) }
+{
+    let Some(called) = frame.spaces.function_type(function) else {
+        return Err(ValidFault::from(Rule::Function));
+    };
+    operands.call(called)
+}
+
+/// Core 1.0, 3.3.5: `call_indirect`.
+pub fn check_call_indirect(
+    type_number: u32,
+    frame: &Frame,
+    nesting: &Nesting,
+    operands: &mut Operands,
+) -> Result<(), ValidFault>
+    ensures { Finds (call_indirect_step (context_of frame.now nesting.now.labels.items) type_number (stack_of operands.old)) result (stack_of operands.new) }
+{
+    if !frame.spaces.has_table() {
+        return Err(ValidFault::from(Rule::Table));
+    }
+    let Some(called) = frame.spaces.type_at(type_number) else {
+        return Err(ValidFault::from(Rule::TypeNumber));
+    };
+    operands.take(ValType::I32)?;
+    operands.call(called)
+}

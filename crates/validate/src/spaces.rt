@@ -1,0 +1,184 @@
+//! What each number of a module names (Core 1.0, 2.5.1).
+
+ghost use Rattle.std.specs.Prelude.{◌≡◌, ◌++◌, map, slice_get, IfOk, OnOk};
+ghost use Rattle.std.specs.Option.{option_copied};
+ghost use Rattle.validate.specs.Spaces.{function_type, function_import, table_import, memory_import, global_import, imported, outer_spaces_of, with_globals};
+ghost use Rattle.validate.specs.Steps.{has_memory, has_table};
+ghost use Rattle.wasm_ast.specs.declared.module.Function.{Function as AnyFunction};
+ghost use Rattle.wasm_ast.specs.declared.module.Global.{Global as AnyGlobal};
+
+use std::alloc::{AllocError, Global as Heap};
+use std::marker::Model;
+use wasm_ast::{FuncType, Function, Global, GlobalType, Import, ImportDescription, Limits, Module};
+
+/// What each number names, the imports first.
+#[derive(Drop)]
+pub struct IndexSpaces<'a> {
+    pub types: &'a [FuncType],
+    // the type number of each function
+    pub functions: Vec<u32>,
+    pub tables: Vec<Limits>,
+    pub memories: Vec<Limits>,
+    pub globals: Vec<GlobalType>,
+}
+
+impl<'a> Model for IndexSpaces<'a> {
+    ghost use Rattle.validate.specs.Spaces.{Spaces};
+
+    ghost Value = { Spaces };
+
+    ghost view = { λ a. record { types = a.types.now; functions = a.functions.items; tables = a.tables.items; memories = a.memories.items; globals = a.globals.items } };
+}
+
+impl<'a> IndexSpaces<'a> {
+    /// The spaces of a module, with no globals but those that are imported.
+    pub fn outer(alloc: Heap, module: &'a Module) -> Result<IndexSpaces<'a>, AllocError>
+        ensures { IfOk result (λ spaces. spaces ≡ outer_spaces_of «module».now) }
+    {
+        let imports = module.imports.as_slice();
+        Ok(IndexSpaces {
+            types: module.types.as_slice(),
+            functions: function_types(alloc, imports, module.functions.as_slice())?,
+            tables: tables(alloc, imports, module.tables.as_slice())?,
+            memories: memories(alloc, imports, module.memories.as_slice())?,
+            globals: global_types(alloc, imports)?,
+        })
+    }
+
+    /// These globals too.
+    pub fn define_globals(&mut self, alloc: Heap, globals: &[Global]) -> Result<(), AllocError>
+        ensures { OnOk result (self.new ≡ with_globals globals.now self.old) }
+    {
+        self.globals = with_types_of(alloc, self.globals.as_slice(), globals)?;
+        Ok(())
+    }
+
+    pub fn type_at(&self, number: u32) -> Option<&FuncType>
+        ensures { option_copied result ≡ slice_get self.now.types number }
+    {
+        self.types.get(number as usize)
+    }
+
+    /// The type of the function with this number.
+    pub fn function_type(&self, number: u32) -> Option<&FuncType>
+        ensures { option_copied result ≡ function_type self.now number }
+    {
+        match self.functions.get(number as usize) {
+            Some(type_number) => self.type_at(*type_number),
+            None => None,
+        }
+    }
+
+    pub fn global_at(&self, number: u32) -> Option<GlobalType>
+        ensures { result ≡ slice_get self.now.globals number }
+    {
+        self.globals.get(number as usize).copied()
+    }
+
+    pub fn has_memory(&self) -> bool
+        ensures { result ≡ has_memory self.now }
+    {
+        !self.memories.is_empty()
+    }
+
+    pub fn has_table(&self) -> bool
+        ensures { result ≡ has_table self.now }
+    {
+        !self.tables.is_empty()
+    }
+}
+
+// The type number of each function.
+fn function_types(
+    alloc: Heap,
+    imports: &[Import],
+    functions: &[Function],
+) -> Result<Vec<u32>, AllocError>
+    ensures { IfOk result (λ v. v.items ≡ imported function_import imports.now ++ map (λ (f : AnyFunction). f.type_number) functions.now) }
+{
+    imports
+        .iter()
+        .filter_map(|import| imported_function(import.description))
+        .chain(functions.iter().map(|function| function.type_number))
+        .collect(alloc)
+}
+
+fn tables(alloc: Heap, imports: &[Import], defined: &[Limits]) -> Result<Vec<Limits>, AllocError>
+    ensures { IfOk result (λ v. v.items ≡ imported table_import imports.now ++ defined.now) }
+{
+    imports
+        .iter()
+        .filter_map(|import| imported_table(import.description))
+        .chain(defined.iter().copied())
+        .collect(alloc)
+}
+
+fn memories(alloc: Heap, imports: &[Import], defined: &[Limits]) -> Result<Vec<Limits>, AllocError>
+    ensures { IfOk result (λ v. v.items ≡ imported memory_import imports.now ++ defined.now) }
+{
+    imports
+        .iter()
+        .filter_map(|import| imported_memory(import.description))
+        .chain(defined.iter().copied())
+        .collect(alloc)
+}
+
+fn global_types(alloc: Heap, imports: &[Import]) -> Result<Vec<GlobalType>, AllocError>
+    ensures { IfOk result (λ v. v.items ≡ imported global_import imports.now) }
+{
+    imports
+        .iter()
+        .filter_map(|import| imported_global(import.description))
+        .collect(alloc)
+}
+
+// These types, and then those of the globals.
+fn with_types_of(
+    alloc: Heap,
+    types: &[GlobalType],
+    globals: &[Global],
+) -> Result<Vec<GlobalType>, AllocError>
+    ensures { IfOk result (λ v. v.items ≡ types.now ++ map (λ (g : AnyGlobal). g.global_type) globals.now) }
+{
+    types
+        .iter()
+        .copied()
+        .chain(globals.iter().map(|global| global.global_type))
+        .collect(alloc)
+}
+
+fn imported_function(description: ImportDescription) -> Option<u32>
+    ensures { result ≡ function_import description }
+{
+    match description {
+        ImportDescription::Function(type_number) => Some(type_number),
+        _ => None,
+    }
+}
+
+fn imported_table(description: ImportDescription) -> Option<Limits>
+    ensures { result ≡ table_import description }
+{
+    match description {
+        ImportDescription::Table(limits) => Some(limits),
+        _ => None,
+    }
+}
+
+fn imported_memory(description: ImportDescription) -> Option<Limits>
+    ensures { result ≡ memory_import description }
+{
+    match description {
+        ImportDescription::Memory(limits) => Some(limits),
+        _ => None,
+    }
+}
+
+fn imported_global(description: ImportDescription) -> Option<GlobalType>
+    ensures { result ≡ global_import description }
+{
+    match description {
+        ImportDescription::Global(global) => Some(global),
+        _ => None,
+    }
+}

@@ -1,0 +1,69 @@
+//! Types, tables and memories (Core 1.0, 3.2, 3.4.2 and 3.4.3).
+
+ghost use Rattle.std.specs.Prelude.{◌≡◌, ◌↔◌, ◌≤◌, length, IsTrue};
+ghost use Rattle.std.specs.List.{AllByRecursion};
+ghost use Rattle.validate.specs.Modules.{TypeHolds, MaximumHolds, TableHolds, MemoryHolds, IsWithinPages};
+ghost use Rattle.validate.specs.Faults.{Settles};
+
+use crate::fault::{Rule, ValidFault};
+use wasm_ast::{FuncType, Limits};
+
+/// How many pages a memory has at most (Core 1.0, 3.2.5).
+const MAX_PAGES: u32 = 65_536;
+
+/// Core 1.0, 3.2.3: each type has at most one result.
+pub fn check_types(types: &[FuncType]) -> Result<(), ValidFault>
+    ensures { Settles (AllByRecursion TypeHolds types.now) result }
+{
+    if types.iter().all(|t| t.results.as_slice().len() <= 1) {
+        Ok(())
+    } else {
+        Err(ValidFault::from(Rule::Limits))
+    }
+}
+
+/// Core 1.0, 3.2.4 and 3.4.10: at most one table, with a maximum of at least its minimum.
+pub fn check_tables(tables: &[Limits]) -> Result<(), ValidFault>
+    ensures { Settles ((length tables.now ≤ 1) × AllByRecursion TableHolds tables.now) result }
+{
+    if tables.len() <= 1 && tables.iter().all(|t| is_ordered(*t)) {
+        Ok(())
+    } else {
+        Err(ValidFault::from(Rule::Limits))
+    }
+}
+
+/// Core 1.0, 3.2.5 and 3.4.10: at most one memory, of so many pages at most, and with a maximum of at least its minimum.
+pub fn check_memories(memories: &[Limits]) -> Result<(), ValidFault>
+    ensures { Settles ((length memories.now ≤ 1) × AllByRecursion MemoryHolds memories.now) result }
+{
+    if memories.len() <= 1 && memories.iter().all(|t| is_memory(*t)) {
+        Ok(())
+    } else {
+        Err(ValidFault::from(Rule::Limits))
+    }
+}
+
+fn is_memory(limits: Limits) -> bool
+    ensures { IsTrue result ↔ MemoryHolds limits }
+{
+    limits.minimum <= MAX_PAGES && is_within_pages(limits.maximum) && is_ordered(limits)
+}
+
+fn is_within_pages(maximum: Option<u32>) -> bool
+    ensures { IsTrue result ↔ IsWithinPages maximum }
+{
+    match maximum {
+        Some(pages) => pages <= MAX_PAGES,
+        None => true,
+    }
+}
+
+fn is_ordered(limits: Limits) -> bool
+    ensures { IsTrue result ↔ MaximumHolds limits.minimum limits.maximum }
+{
+    match limits.maximum {
+        Some(maximum) => limits.minimum <= maximum,
+        None => true,
+    }
+}

@@ -1,0 +1,101 @@
+//! Valid modules (Core 1.0, 3.4.10).
+
+ghost use Rattle.std.specs.Prelude.{◌≡◌, IfOk, OnOk, IsOkUnless};
+ghost use Rattle.wasm_ast.specs.Limits.{IsWithinLimits};
+ghost use Rattle.validate.specs.Modules.{IsTyped};
+ghost use Rattle.validate.specs.Checks.{OuterTyped, InnerTyped};
+ghost use Rattle.validate.specs.Faults.{Settles};
+
+use crate::exports::{check_exports, check_names, check_start};
+use crate::fault::{Rule, ValidFault};
+use crate::functions::{check_bodies, check_function_types};
+use crate::segments::{check_data, check_elements, check_globals};
+use crate::spaces::IndexSpaces;
+use crate::types::{check_memories, check_tables, check_types};
+use std::alloc::Global;
+use std::marker::Model;
+use wasm_ast::{Module, within_limits};
+
+/// A module that is typed (Core 1.0, 3.4.10). Only `validate` makes one.
+#[derive(Debug, Drop)]
+pub struct Valid {
+    module: Module,
+}
+
+impl Model for Valid {
+    ghost use Rattle.wasm_ast.specs.declared.module.Module.{Module as AnyModule};
+    ghost use Rattle.wasm_ast.specs.Limits.{IsWithinLimits};
+    ghost use Rattle.validate.specs.Modules.{IsTyped};
+    ghost use Rattle.wasm_ast.specs.contracts.module.Module as module_type;
+
+    ghost Value = { AnyModule };
+
+    ghost coded = { module_type.the_row.coded };
+
+    ghost view = { λ valid. valid.«module» };
+
+    ghost invariant = { λ valid. IsTyped valid.«module» × IsWithinLimits valid.«module» };
+}
+
+impl Valid {
+    /// The module; it takes no memory.
+    pub fn module(&self) -> &Module
+        ensures value { result.now ≡ self.now }
+        ensures typed { IsTyped self.now }
+        ensures within { IsWithinLimits self.now }
+    {
+        &self.module
+    }
+}
+
+/// The module as it is, exactly where it is typed (Core 1.0, 3.4.10) and `within_limits`; any other is refused, with a
+/// rule that it breaks and the place. The limits are looked at first, then types, types of functions, tables and
+/// memories, globals, exports, the start function, elements, data and bodies.
+///
+/// It takes time by the length of the module, but for the names of exports, which are sorted, and memory by the
+/// number of functions, globals and exports and by the operands and labels at a place of a body.
+pub fn validate(alloc: Global, module: Module) -> Result<Valid, ValidFault>
+    ensures kept { IfOk result (λ valid. valid ≡ «module») }
+    ensures accepted { OnOk result (IsTyped «module» × IsWithinLimits «module») }
+    ensures refused { IsTyped «module» → IsWithinLimits «module» → IsOkUnless result ValidFault.OutOfMemory }
+{
+    check_module(alloc, &module)?;
+    Ok(Valid { module })
+}
+
+fn check_module(alloc: Global, module: &Module) -> Result<(), ValidFault>
+    ensures { Settles (IsTyped «module».now × IsWithinLimits «module».now) result }
+{
+    if !within_limits(module) {
+        return Err(ValidFault::from(Rule::Limits));
+    }
+    check_types(module.types.as_slice())?;
+    let mut spaces = IndexSpaces::outer(alloc, module)?;
+    check_outer(module, &spaces)?;
+    spaces.define_globals(alloc, module.globals.as_slice())?;
+    check_inner(alloc, module, &spaces)
+}
+
+// What is looked at with no globals but those that are imported.
+fn check_outer(module: &Module, spaces: &IndexSpaces) -> Result<(), ValidFault>
+    ensures { Settles (OuterTyped «module».now spaces.now) result }
+{
+    check_function_types(spaces)?;
+    check_tables(spaces.tables.as_slice())?;
+    check_memories(spaces.memories.as_slice())?;
+    let globals = module.globals.as_slice();
+    let count = spaces.globals.len().saturating_add(globals.len());
+    check_globals(globals, spaces, count)
+}
+
+// What is looked at with all globals.
+fn check_inner(alloc: Global, module: &Module, spaces: &IndexSpaces) -> Result<(), ValidFault>
+    ensures { Settles (InnerTyped «module».now spaces.now) result }
+{
+    check_exports(module.exports.as_slice(), spaces)?;
+    check_names(alloc, module.exports.as_slice())?;
+    check_start(module.start, spaces)?;
+    check_elements(module.elements.as_slice(), spaces)?;
+    check_data(module.data.as_slice(), spaces)?;
+    check_bodies(alloc, module.functions.as_slice(), spaces)
+}

@@ -1,0 +1,4 @@
+pub mod Effects
+pub mod Host
+pub mod Imports
+pub mod Operands

@@ -1,0 +1,22 @@
+ghost use Rattle.std.specs.Prelude.{◌≡◌, ◌++◌, ℕ, List, Some, map, reverse};
+ghost use Rattle.host_calls.specs.declared.imports.HostCall.{HostCall as AnyCall};
+ghost use Rattle.wasm_ast.specs.declared.types.Value.{Value as AnyValue};
+ghost use Rattle.wasm_ast.specs.Values.{type_of};
+ghost use Rattle.host_calls.specs.Effects.{Answers, host_effect};
+ghost use Rattle.host_calls.specs.Host.{Host};
+ghost use Rattle.host_calls.specs.Imports.{module_name, name_of, type_of_call, call_named};
+
+/// Each function of the host is brought in under its name, and no other name brings it in.
+pub fn each_import_is_one_call()
+    ensures named { (call : AnyCall) → call_named module_name (name_of call) ≡ Some call }
+    ensures only { («module» name : List ℕ) (call : AnyCall) → call_named «module» name ≡ Some call
+        → («module» ≡ module_name) × (name ≡ name_of call) }
+{}
+
+/// A call whose arguments have the types of its parameters leaves results of its types on the operands
+/// beneath, and traps only where it takes a slot (Core 1.0, 4.4.7).
+pub fn calls_fit_their_types()
+    ensures { (call : AnyCall) (arguments others : List AnyValue) (host : Host)
+        → map type_of arguments ≡ reverse (type_of_call call).parameters
+        → Answers call others (host_effect call (arguments ++ others) host) }
+{}

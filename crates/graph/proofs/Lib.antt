@@ -1,0 +1,10 @@
+pub mod Collecting
+pub mod Cut
+pub mod Numbers
+pub mod Placing
+pub mod Ranges
+pub mod Same
+pub mod Splitting
+pub mod Texts
+pub mod Vertices
+pub mod Writing

@@ -1,0 +1,10 @@
+pub mod Collected
+pub mod Entry
+pub mod Fields
+pub mod Graph
+pub mod Line
+pub mod Number
+pub mod Parts
+pub mod Placed
+pub mod Print
+pub mod Said

@@ -1,0 +1,28 @@
+//! Graph files: directed graphs with a value at each vertex and each edge, as text; their parts; and
+//! the values of vertices, printed.
+#![tactic(auto)]
+
+mod collect;
+mod fault;
+mod fault_lines;
+mod fields;
+mod graph;
+mod laws;
+mod line;
+mod number;
+mod parts;
+mod place;
+mod print;
+mod rising;
+#[cfg(test)]
+mod tests;
+mod vertex;
+
+pub use fault::{GraphFault, PrintFault};
+pub use fields::Fields;
+pub use graph::Graph;
+pub use laws::means_one_graph;
+pub use number::{id_of, number_of};
+pub use parts::{Part, join, part_of, split};
+pub use print::print_values;
+pub use vertex::{Edge, MAX_EDGES, MAX_VERTICES, Vertex};

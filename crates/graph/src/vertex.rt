@@ -1,0 +1,29 @@
+//! What a graph is made of.
+
+/// How many vertices a graph may have.
+pub const MAX_VERTICES: usize = 1_000_000;
+
+/// How many edges a graph may have.
+pub const MAX_EDGES: usize = 10_000_000;
+
+/// A vertex with its value and the edges from it.
+#[derive(Debug, Drop)]
+pub struct Vertex {
+    /// From 0 to 9,223,372,036,854,775,807.
+    pub id: u64,
+    /// The vertex's value.
+    pub value: i64,
+    /// The edges from it, each with its target and its value, in the order of their lines.
+    pub edges: Vec<(u64, i64)>,
+}
+
+/// An edge as a line says it.
+#[derive(Clone, Copy, Debug, PartialEq, Eq)]
+pub struct Edge {
+    /// The vertex that it leaves.
+    pub from: u64,
+    /// The vertex that it leads to.
+    pub target: u64,
+    /// The edge's value.
+    pub value: i64,
+}

@@ -1,0 +1,4 @@
+pub mod Concatenation
+pub mod Delivery
+pub mod OneOrder
+pub mod Order

@@ -1,0 +1,32 @@
+-- How letters become inboxes: by source, and those of one source in the order of sending.
+use Rattle.std.specs.Prelude.{ℕ, ℤ, pos, List, Bool, not, ◌&&◌, ◌==◌, map, filter, count_by}
+use Rattle.std.specs.List.{list_any}
+use Rattle.std.specs.Ordering.{int_eq, nat_cmp, ordering_then}
+use Rattle.std.specs.declared.cmp.Ordering.{Ordering}
+use Rattle.std.specs.List.Sorted.{IsPermutation, IsStrictlySortedBy}
+use Rattle.inbox.specs.declared.letters.Letter.{Letter}
+
+-- whether two letters are of one source and have one number there
+abbrev pub are_one : Letter → Letter → Bool
+are_one a b = (a.from == b.from) && (a.seq == b.seq)
+
+-- which of two letters comes first: that of the lesser source, and of one source the one that was sent earlier
+abbrev pub source_cmp : Letter → Letter → Ordering
+source_cmp a b = ordering_then (nat_cmp a.from b.from) (nat_cmp a.seq b.seq)
+
+-- The letters as they follow one another: the same ones, and each before those that come later.
+pub record IsBySource (letters ordered : List Letter) : Type 0 where
+  pub same : IsPermutation letters ordered
+  pub rising : IsStrictlySortedBy source_cmp ordered
+
+-- whether a letter goes to this id
+abbrev pub goes_to : Letter → ℕ → Bool
+goes_to letter id = int_eq letter.to (pos id)
+
+-- what stands in the inbox of this id: the values of the letters to it, in their order
+abbrev pub inbox_of : List Letter → ℕ → List ℤ
+inbox_of ordered id = map (λ letter. letter.value) (filter (λ letter. goes_to letter id) ordered)
+
+-- how many letters go to none of these ids
+abbrev pub dropped_of : List Letter → List ℕ → ℕ
+dropped_of letters ids = count_by (λ letter. not (list_any (goes_to letter) ids)) letters

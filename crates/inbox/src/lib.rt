@@ -1,0 +1,18 @@
+//! What the vertices of a superstep find in their inboxes: the messages that were sent to each of them
+//! in the superstep before (Pregel 2010, 2).
+//!
+//! The order of messages, which Pregel leaves open, is settled here: those of the source with the
+//! lesser id come first, and those of one source in the order in which it sent them.
+#![tactic(auto)]
+
+mod inboxes;
+mod laws;
+mod letters;
+mod merging;
+#[cfg(test)]
+mod tests;
+
+pub use inboxes::Inbox;
+pub use laws::{inboxes_are_concatenated_by_source, letters_have_one_order};
+pub use letters::Letter;
+pub use merging::merge;

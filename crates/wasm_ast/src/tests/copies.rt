@@ -35,17 +35,37 @@ fn code(alloc: Heap, last: u32) -> Result<Body, AllocError> {
 // A module with one of each.
 fn whole(alloc: Heap, last: u32) -> Result<Module, AllocError> {
     let mut module = Module::empty(alloc);
+    fill(alloc, &mut module, last)?;
+    Ok(module)
+}
+
+fn fill(alloc: Heap, module: &mut Module, last: u32) -> Result<(), AllocError> {
+    add_types(alloc, module)?;
+    add_code(alloc, module, last)?;
+    add_segments(alloc, module)?;
+    Ok(())
+}
+
+fn add_types(alloc: Heap, module: &mut Module) -> Result<(), AllocError> {
     module.types = one(alloc, func_type(alloc)?)?;
     module.imports = one(alloc, import(alloc)?)?;
-    module.functions = one(alloc, function(alloc, last)?)?;
     module.tables = one(alloc, LIMITS)?;
     module.memories = one(alloc, LIMITS)?;
+    Ok(())
+}
+
+fn add_code(alloc: Heap, module: &mut Module, last: u32) -> Result<(), AllocError> {
+    module.functions = one(alloc, function(alloc, last)?)?;
     module.globals = one(alloc, global(alloc)?)?;
     module.exports = one(alloc, export(alloc)?)?;
     module.start = Some(0);
+    Ok(())
+}
+
+fn add_segments(alloc: Heap, module: &mut Module) -> Result<(), AllocError> {
     module.elements = one(alloc, element(alloc)?)?;
     module.data = one(alloc, segment(alloc)?)?;
-    Ok(module)
+    Ok(())
 }
 
 const LIMITS: Limits = Limits {
@@ -109,8 +129,8 @@ fn segment(alloc: Heap) -> Result<Data, AllocError> {
     })
 }
 
-// The module with the field of this number emptied.
-fn without(alloc: Heap, mut module: Module, field: u32) -> Module {
+// Empties the field of this number.
+fn empty_field(alloc: Heap, module: &mut Module, field: u32) {
     match field {
         0 => module.types = Sequence::empty(alloc),
         1 => module.imports = Sequence::empty(alloc),
@@ -123,32 +143,69 @@ fn without(alloc: Heap, mut module: Module, field: u32) -> Module {
         8 => module.elements = Sequence::empty(alloc),
         _ => module.data = Sequence::empty(alloc),
     }
-    module
 }
 
-fn expect(rt: &impl Abort, left: &Module, right: Module, same: bool) {
-    assert!(rt; (*left == right) == same);
-    assert!(rt; (right != *left) != same);
+fn expect(rt: &impl Abort, left: &Module, right: &Module, same: bool) {
+    assert!(rt; (left == right) == same);
+    assert!(rt; (right != left) != same);
+}
+
+// Compares with what `whole` makes of this number.
+fn expect_whole(
+    rt: &impl Abort,
+    alloc: Heap,
+    module: &Module,
+    last: u32,
+    same: bool,
+) -> Result<(), AllocError> {
+    let other = whole(alloc, last)?;
+    expect(rt, module, &other, same);
+    Ok(())
+}
+
+fn expect_copy(rt: &impl Abort, alloc: Heap, module: &Module) -> Result<(), AllocError> {
+    let copy = module.copy(alloc)?;
+    expect(rt, module, &copy, true);
+    Ok(())
+}
+
+fn expect_copies(rt: &impl Abort, alloc: Heap, module: &Module) -> Result<(), AllocError> {
+    expect_copy(rt, alloc, module)?;
+    expect_whole(rt, alloc, module, 5, true)?;
+    // a constant in the else arm of the function's body
+    expect_whole(rt, alloc, module, 6, false)
+}
+
+// Compares with a copy whose field of this number is emptied.
+fn expect_field(
+    rt: &impl Abort,
+    alloc: Heap,
+    module: &Module,
+    field: u32,
+) -> Result<(), AllocError> {
+    let mut copy = module.copy(alloc)?;
+    empty_field(alloc, &mut copy, field);
+    expect(rt, module, &copy, false);
+    Ok(())
+}
+
+fn expect_fields(rt: &impl Abort, alloc: Heap, module: &Module) -> Result<(), AllocError> {
+    for field in 0..10 {
+        expect_field(rt, alloc, module, field)?;
+    }
+    Ok(())
 }
 
 #[test]
 fn copies_are_equal(rt: HostRuntime) -> Result<(), AllocError> {
     let module = whole(rt.alloc(), 5)?;
-    expect(&rt, &module, module.copy(rt.alloc())?, true);
-    expect(&rt, &module, whole(rt.alloc(), 5)?, true);
-    // a constant in the else arm of the function's body
-    expect(&rt, &module, whole(rt.alloc(), 6)?, false);
-    Ok(())
+    expect_copies(&rt, rt.alloc(), &module)
 }
 
 #[test]
 fn each_field_is_looked_at(rt: HostRuntime) -> Result<(), AllocError> {
     let module = whole(rt.alloc(), 5)?;
-    for field in 0..10 {
-        let copy = module.copy(rt.alloc())?;
-        expect(&rt, &module, without(rt.alloc(), copy, field), false);
-    }
-    Ok(())
+    expect_fields(&rt, rt.alloc(), &module)
 }
 
 #[test]

@@ -55,10 +55,33 @@ fn function(alloc: Heap, locals: usize, body: Body) -> Result<Function, AllocErr
     })
 }
 
+fn set_body(alloc: Heap, module: &mut Module, body: Body) -> Result<(), AllocError> {
+    module.functions = one(alloc, function(alloc, 0, body)?)?;
+    Ok(())
+}
+
 fn with_body(alloc: Heap, body: Body) -> Result<Module, AllocError> {
     let mut module = Module::empty(alloc);
-    module.functions = one(alloc, function(alloc, 0, body)?)?;
+    set_body(alloc, &mut module, body)?;
     Ok(module)
+}
+
+fn func_type(alloc: Heap, parameters: usize, results: usize) -> Result<FuncType, AllocError> {
+    Ok(FuncType {
+        parameters: types(alloc, parameters)?,
+        results: types(alloc, results)?,
+    })
+}
+
+fn set_type(
+    alloc: Heap,
+    module: &mut Module,
+    func_type: FuncType,
+    locals: usize,
+) -> Result<(), AllocError> {
+    module.types = one(alloc, func_type)?;
+    module.functions = one(alloc, function(alloc, locals, Body::empty(alloc))?)?;
+    Ok(())
 }
 
 // A module of a type with so many parameters and results, and a function of the type with so many locals.
@@ -68,13 +91,9 @@ fn with_type(
     results: usize,
     locals: usize,
 ) -> Result<Module, AllocError> {
-    let mut module = with_body(alloc, Body::empty(alloc))?;
-    let func_type = FuncType {
-        parameters: types(alloc, parameters)?,
-        results: types(alloc, results)?,
-    };
-    module.types = one(alloc, func_type)?;
-    module.functions = one(alloc, function(alloc, locals, Body::empty(alloc))?)?;
+    let func_type = func_type(alloc, parameters, results)?;
+    let mut module = Module::empty(alloc);
+    set_type(alloc, &mut module, func_type, locals)?;
     Ok(module)
 }
 
@@ -90,20 +109,34 @@ fn name(alloc: Heap) -> Result<Name, AllocError> {
     Ok(Name::from(String::from_str(alloc, "pregel")?))
 }
 
+fn import(alloc: Heap, description: ImportDescription) -> Result<Import, AllocError> {
+    Ok(Import {
+        module: name(alloc)?,
+        name: name(alloc)?,
+        description,
+    })
+}
+
+fn set_functions(
+    alloc: Heap,
+    module: &mut Module,
+    import: Import,
+    count: usize,
+) -> Result<(), AllocError> {
+    module.imports = one(alloc, import)?;
+    module.functions = functions(alloc, count)?;
+    Ok(())
+}
+
 // A module of one import, and so many functions.
 fn with_functions(
     alloc: Heap,
     description: ImportDescription,
     count: usize,
 ) -> Result<Module, AllocError> {
+    let import = import(alloc, description)?;
     let mut module = Module::empty(alloc);
-    let import = Import {
-        module: name(alloc)?,
-        name: name(alloc)?,
-        description,
-    };
-    module.imports = one(alloc, import)?;
-    module.functions = functions(alloc, count)?;
+    set_functions(alloc, &mut module, import, count)?;
     Ok(module)
 }
 

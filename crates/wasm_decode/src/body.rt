@@ -66,6 +66,7 @@ fn sequence(alloc: Global, reader: &mut Reader, levels: u32) -> Result<Body, Dec
         let instr = instruction(alloc, reader, levels)?;
         instrs.push(instr)?;
     }
+    instrs.shrink_to_fit();
     Ok(Body::from(instrs))
 }
 

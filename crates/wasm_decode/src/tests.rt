@@ -1,4 +1,5 @@
 mod code;
+mod damaged;
 mod limits;
 mod sections;
 

@@ -28,7 +28,7 @@ sequence-each-preserved t c = λ n lt.
 pub sequence-returns : goal.sequence-returns
 sequence-returns t c = λ n lt.
     let off : stops (slice_get c.each.reader 0) ≡ true = cc in
-    rw c.from.ensures (ends c.each.instrs.items c.args.levels c.each.reader (code_at n c.args.levels c.args.reader.now) off (c.each.invariant n lt))
+    rw (c.from.ensures, c.shrink_to_fit.ensures.items) (ends c.each.instrs.items c.args.levels c.each.reader (code_at n c.args.levels c.args.reader.now) off (c.each.invariant n lt))
 
 pub instruction-returns : goal.instruction-returns
 instruction-returns t c = λ n le.

@@ -1,0 +1,10 @@
+-- What the answers say.
+use Rattle.std.specs.Prelude.{ℕ, List}
+use Rattle.cost.specs.declared.fault.CostFault.{CostFault}
+use Rattle.cost.specs.declared.fault.CostFault.TheVariants as fault
+use Rattle.cost.specs.Cycles.{IsCycle, LeastFirst}
+
+-- a fault other than want of memory shows a cycle that begins with its least number
+abbrev pub Explains : (ℕ → List ℕ) → CostFault → Type 0
+Explains calls (fault.Cycle xs) = IsCycle calls xs.items × LeastFirst xs.items
+Explains calls fault.OutOfMemory = Unit {0}

@@ -1,0 +1,10 @@
+pub mod Calls
+pub mod Cycles
+pub mod Sizes
+pub mod Heights
+pub mod Ranks
+pub mod Faults
+pub mod Outline
+pub mod Outlines
+pub mod Marks
+pub mod Stops

@@ -1,0 +1,17 @@
+-- Ranks and sizes of the functions of a module.
+use Rattle.std.specs.Prelude.{◌≡◌, ℕ, ◌+◌, ◌<◌, min, List}
+use Rattle.wasm_ast.specs.declared.module.Module.{Module}
+use Rattle.cost.specs.declared.table.Mark.{Mark}
+use Rattle.cost.specs.Calls.{Calls, callees, body_of}
+use Rattle.cost.specs.Sizes.{AreSizes, max_size}
+use Rattle.cost.specs.Heights.{height}
+use Rattle.cost.specs.Marks.{rank_at, size_at}
+
+-- the ranks, and the sizes that are told with them, are those of the module's functions
+pub record IsRanking (m : Module) (ranks : List Mark) : Type 0 where
+  -- a rank falls at each call
+  pub falls : (f g : ℕ) → Calls (callees m) f g → rank_at ranks g < rank_at ranks f
+  -- by no more than it must: it is the number of functions in the longest chain of calls from f
+  pub least : (f : ℕ) → rank_at ranks f ≡ height (rank_at ranks) (body_of m f)
+  pub sized : (sizes : ℕ → ℕ) → AreSizes m sizes →
+      (f : ℕ) → size_at ranks f ≡ min (max_size + 1) (sizes f)

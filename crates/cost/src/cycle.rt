@@ -1,0 +1,85 @@
+//! Where a walk stops: it has come back to a function on its path.
+
+ghost use Rattle.std.specs.Prelude.{◌≡◌, ◌<◌, ◌≤◌, ◌++◌, ℕ, List, length, slice_index, take, drop};
+ghost use Rattle.cost.specs.Calls.{Calls};
+ghost use Rattle.cost.specs.Cycles.{LeastFirst};
+ghost use Rattle.cost.specs.Faults.{Explains};
+ghost use Rattle.cost.specs.Stops.{Leaves, Targets};
+
+use crate::fault::CostFault;
+
+/// Why a walk stops.
+#[derive(Debug, Drop)]
+pub enum Stop {
+    /// It has come back to this function by the others, the last first.
+    Back(u32, Vec<u32>),
+    /// These call each other in a cycle, the last first.
+    Cycle(Vec<u32>),
+    OutOfMemory,
+}
+
+/// The stop as the caller sees it.
+pub fn extend(stop: Stop, caller: u32) -> Stop
+    ensures leaves { (calls : ℕ → List ℕ) (g : ℕ) →
+        Calls calls caller g → Leaves calls g stop → Leaves calls caller result }
+    ensures targets { (t : ℕ) → Targets result t → Targets stop t × (t ≡ caller → ⊥) }
+{
+    match stop {
+        Stop::Back(target, mut trail) => {
+            if trail.push(caller).is_err() {
+                return Stop::OutOfMemory;
+            }
+            if target == caller {
+                Stop::Cycle(trail)
+            } else {
+                Stop::Back(target, trail)
+            }
+        }
+        Stop::Cycle(trail) => Stop::Cycle(trail),
+        Stop::OutOfMemory => Stop::OutOfMemory,
+    }
+}
+
+/// The stop of a walk that began with no function on its path.
+pub fn explain(stop: Stop) -> CostFault
+    requires { (t : ℕ) → Targets stop t → ⊥ }
+    ensures { (calls : ℕ → List ℕ) (f : ℕ) → Leaves calls f stop → Explains calls result }
+{
+    match stop {
+        Stop::Back(_, _) => unreachable!(),
+        Stop::Cycle(trail) => {
+            let mut cycle = trail;
+            let items = cycle.as_mut_slice();
+            items.reverse();
+            turn(items);
+            CostFault::Cycle(cycle)
+        }
+        Stop::OutOfMemory => CostFault::OutOfMemory,
+    }
+}
+
+// Turns the cycle until it begins with its least number.
+fn turn(cycle: &mut [u32])
+    ensures least { LeastFirst cycle.new }
+    ensures turned { (k : ℕ) × (k ≤ length cycle.old)
+        × (cycle.new ≡ drop k cycle.old ++ take k cycle.old) }
+{
+    let place = least_place(cycle);
+    cycle.rotate_left(place);
+}
+
+// Where the least number stands.
+fn least_place(items: &[u32]) -> usize
+    ensures within { result ≤ length items.now }
+    ensures inside { 0 < length items.now → result < length items.now }
+    ensures least { (k : ℕ) → k < length items.now →
+        slice_index items.now result ≤ slice_index items.now k }
+{
+    let mut place = 0;
+    for index in 0..items.len() {
+        if items[index] < items[place] {
+            place = index;
+        }
+    }
+    place
+}

@@ -1,0 +1,48 @@
+//! The order of calls.
+
+ghost use Rattle.std.specs.Prelude.{◌<◌, ◌^◌, IfOk, IfErr, OnOk, IsOkUnless};
+ghost use Rattle.cost.specs.Calls.{callees};
+ghost use Rattle.cost.specs.Cycles.{Acyclic};
+ghost use Rattle.cost.specs.Faults.{Explains};
+ghost use Rattle.cost.specs.Ranks.{IsRanking};
+ghost use Rattle.cost.specs.Marks.{Finished};
+ghost use Rattle.cost.specs.Outlines.{called, count_of};
+
+use crate::cycle::explain;
+use crate::fault::CostFault;
+use crate::outline::Outlines;
+use crate::table::Ranks;
+use crate::walk::visit;
+use std::alloc::Global;
+use validate::Valid;
+
+/// The rank and the size of each function of the module. There are ranks exactly where no function calls itself by way
+/// of others or at once; where one does, the fault shows a cycle of calls. Calls through a table are not looked at
+/// (Core 1.0, 2.4.5).
+///
+/// It takes time by the length of the module's code, and memory by the number of its functions and calls. The stack
+/// goes as deep as the longest chain of calls, of at most `wasm_ast::MAX_FUNCTIONS`.
+pub fn ranks(alloc: Global, valid: &Valid) -> Result<Ranks, CostFault>
+    ensures ranked { IfOk result (IsRanking valid.now) }
+    ensures acyclic { OnOk result (Acyclic (callees valid.now)) }
+    ensures cycle { IfErr result (Explains (callees valid.now)) }
+    ensures accepted { Acyclic (callees valid.now) → IsOkUnless result CostFault.OutOfMemory }
+{
+    let outlines = Outlines::of(alloc, valid)?;
+    rank_all(alloc, &outlines)
+}
+
+fn rank_all(alloc: Global, outlines: &Outlines) -> Result<Ranks, CostFault>
+    requires small { count_of outlines.now < 2 ^ 32 }
+    ensures finished { IfOk result (Finished outlines.now) }
+    ensures cycle { IfErr result (Explains (called outlines.now)) }
+{
+    let count = outlines.imported + outlines.defined.len();
+    let mut ranks = Ranks::unseen(alloc, count)?;
+    for function in 0..count as u32 {
+        if let Err(stop) = visit(alloc, outlines, function, &mut ranks) {
+            return Err(explain(stop));
+        }
+    }
+    Ok(ranks)
+}

@@ -1,0 +1,172 @@
+//! Functions in outline: how much their own instructions count, and what they call.
+
+ghost use Rattle.std.specs.Prelude.{◌≡◌, map, IfOk, OnOk};
+ghost use Rattle.std.specs.Option.{option_copied};
+ghost use Rattle.wasm_ast.specs.Code.{end};
+ghost use Rattle.wasm_ast.specs.Limits.{imported_functions};
+ghost use Rattle.wasm_ast.specs.View.{then_code};
+ghost use Rattle.wasm_ast.specs.declared.module.Function.{Function as AnyFunction};
+ghost use Rattle.cost.specs.Outline.{nothing, with_units, with_call, with_code};
+ghost use Rattle.cost.specs.Outlines.{AreOutlines, outline_at, own_at, called};
+
+use crate::size::MAX_SIZE;
+use std::alloc::{AllocError, Global};
+use std::marker::Model;
+use validate::Valid;
+use wasm_ast::{Body, Function, Import, ImportDescription, Instr};
+
+/// One more than the largest size that is told, at which counts stop.
+pub const CAP: u64 = MAX_SIZE as u64 + 1;
+
+/// A function in outline.
+#[derive(Debug, Drop)]
+pub struct Outline {
+    // how much its own instructions count, at most `CAP`
+    own: u32,
+    // the functions that it calls, one for each call
+    calls: Vec<u32>,
+}
+
+impl Model for Outline {
+    ghost use Rattle.cost.specs.Outline.{Summary};
+
+    ghost Value = { Summary };
+
+    ghost view = { λ a. record { own = a.own; calls = a.calls.items } };
+}
+
+impl Outline {
+    fn empty(alloc: Global) -> Outline
+        ensures { result ≡ nothing }
+    {
+        Outline {
+            own: 0,
+            calls: Vec::new(alloc),
+        }
+    }
+
+    pub fn calls(&self) -> &[u32]
+        ensures { result.now ≡ self.now.calls }
+    {
+        &self.calls
+    }
+
+    fn add_units(&mut self, units: u32)
+        ensures { self.new ≡ with_units units self.old }
+    {
+        self.own = (u64::from(self.own) + u64::from(units)).min(CAP) as u32;
+    }
+
+    fn add_call(&mut self, function: u32) -> Result<(), AllocError>
+        ensures { OnOk result (self.new ≡ with_call function self.old) }
+    {
+        self.calls.push(function)?;
+        Ok(())
+    }
+
+    #[cycle(code)]
+    fn add_code(&mut self, body: &Body) -> Result<(), AllocError>
+        ensures { OnOk result (self.new ≡ with_code self.old body.now) }
+    {
+        for instr in body.as_slice() {
+            self.add_instr(instr)?;
+        }
+        Ok(())
+    }
+
+    #[cycle(code)]
+    fn add_instr(&mut self, instr: &Instr) -> Result<(), AllocError>
+        ensures { OnOk result (self.new ≡ with_code self.old (then_code instr.now end)) }
+    {
+        self.add_units(instr.units());
+        match instr {
+            Instr::Plain(_) | Instr::Branch(_) | Instr::CallIndirect(_) | Instr::Unreachable => {}
+            Instr::Call(function) => self.add_call(*function)?,
+            Instr::Block(_, body) | Instr::Loop(_, body) => self.add_code(body)?,
+            Instr::If(_, body, other) => {
+                self.add_code(body)?;
+                self.add_code(other)?;
+            }
+        }
+        Ok(())
+    }
+}
+
+fn outline_of(alloc: Global, body: &Body) -> Result<Outline, AllocError>
+    ensures { IfOk result (λ outline. outline ≡ with_code nothing body.now) }
+{
+    let mut outline = Outline::empty(alloc);
+    outline.add_code(body)?;
+    Ok(outline)
+}
+
+/// The functions of a module in outline. Imported functions have no body.
+#[derive(Drop)]
+pub struct Outlines {
+    pub imported: usize,
+    pub defined: Vec<Outline>,
+}
+
+impl Outlines {
+    /// The functions of the module.
+    pub fn of(alloc: Global, valid: &Valid) -> Result<Outlines, AllocError>
+        ensures { IfOk result (AreOutlines valid.now) }
+    {
+        let inner = valid.module();
+        Ok(Outlines {
+            imported: imported_count(inner.imports.as_slice()),
+            defined: outlines_of(alloc, inner.functions.as_slice())?,
+        })
+    }
+
+    /// The outline of the function with this number, where it has a body.
+    pub fn get(&self, function: u32) -> Option<&Outline>
+        ensures { option_copied result ≡ outline_at self.now function }
+    {
+        let number = function as usize;
+        if number < self.imported {
+            None
+        } else {
+            self.defined.get(number - self.imported)
+        }
+    }
+
+    /// How much the function's own instructions count, at most `CAP`.
+    pub fn own(&self, function: u32) -> u32
+        ensures { result ≡ own_at (outline_at self.now function) }
+    {
+        match self.get(function) {
+            Some(outline) => outline.own,
+            None => 0,
+        }
+    }
+
+    /// The functions that the function calls.
+    pub fn called(&self, function: u32) -> &[u32]
+        ensures { result.now ≡ called self.now function }
+    {
+        match self.get(function) {
+            Some(outline) => outline.calls(),
+            None => &[],
+        }
+    }
+}
+
+fn imported_count(imports: &[Import]) -> usize
+    ensures { result ≡ imported_functions imports.now }
+{
+    imports
+        .iter()
+        .filter(|import| matches!(import.description, ImportDescription::Function(_)))
+        .count()
+}
+
+fn outlines_of(alloc: Global, functions: &[Function]) -> Result<Vec<Outline>, AllocError>
+    ensures { IfOk result (λ os. os.items ≡ map (λ (f : AnyFunction). with_code nothing f.body) functions.now) }
+{
+    let mut outlines = Vec::new(alloc);
+    for function in functions {
+        outlines.push(outline_of(alloc, &function.body)?)?;
+    }
+    Ok(outlines)
+}

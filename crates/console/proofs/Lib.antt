@@ -1,6 +1,4 @@
-pub mod Cut
+pub mod InputLines
+pub mod Meanings
 pub mod Faults
-pub mod Inputs
-pub mod Numbers
-pub mod Turns
 pub mod Told

@@ -1,80 +1,78 @@
 -- What the text of an input means.
-use Rattle.std.specs.Prelude.{◌≡◌, ℕ, ◌+◌, ◌-◌, ◌^◌, nat_le, ℤ, pos, neg_ℤ, negsuc, ◌&&◌, ◌==◌, List, [], ◌∷◌, map, drop, slice_index, Option, Some, None, unwrap_or, Result, Ok, Err, codes, if◌then◌else◌}
-use Rattle.std.specs.Option.{option_map}
-use Rattle.std.specs.Str.{all_ascii_digits, bytes_eq}
-use Rattle.std.specs.Str.Parse.{digits_value, starts_with_minus}
-use Rattle.std.specs.Str.Lines.{lines}
-use Rattle.interp.specs.declared.call.CallInput.{CallInput}
-use Rattle.console.specs.Fields.{is_filled, fields}
-use Rattle.console.specs.declared.input.Line.{Line}
-use Rattle.console.specs.declared.input.Line.TheVariants.{Skipped, Value, Bad}
+use Rattle.std.specs.Prelude.{◌≡◌, ℕ, ℤ, pos, Bool, true, false, nat_lt, List, [], ◌∷◌, ◌++◌, Option, Some, None, unwrap_or, is_none}
+use Rattle.std.specs.Option.{option_to_list}
+use Rattle.std.specs.List.{All}
+use Rattle.host_calls.specs.declared.call.CallInput.{CallInput}
+use Rattle.console.specs.declared.input.Input.{Input}
+use Rattle.console.specs.declared.input_line.Line.{Line}
+use Rattle.console.specs.declared.input_line.Line.TheVariants.{Skipped, Id, Superstep, Count, Value, Message, Edge, Aggregate, Bad}
+use Rattle.console.specs.InputSays.{AreInput, lines_of, is_good, all_ids, all_supersteps, all_counts, all_values, all_messages, all_edges, all_slots, id_by, superstep_by, count_by, value_by, message_by, edge_by, slot_by, slot_starts, slots_after}
 
--- ---- numbers
+-- what was said, or else this
+abbrev pub said_or : {A : Type 0} → A → List A → A
+said_or other [] = other
+said_or other (said ∷ more) = said
 
--- decimal digits, one or more, of a number of at most so much
-abbrev pub numeral : ℕ → List ℕ → Option ℕ
-numeral most digits =
-    if is_filled digits && all_ascii_digits digits && nat_le (digits_value 10 digits) most
-    then Some (digits_value 10 digits) else None
-
--- the number of 64 bits that decimal digits write, with a minus before them or none
-abbrev pub number_of : List ℕ → Option ℤ
-number_of text =
-    if starts_with_minus text then option_map (λ n. neg_ℤ (pos n)) (numeral (2 ^ 63) (drop 1 text))
-    else option_map pos (numeral (2 ^ 63 - 1) text)
-
--- ---- lines
-
-abbrev pub line_of_number : Option ℤ → Line
-line_of_number None = Bad
-line_of_number (Some value) = Value value
-
--- what fields say: nothing where there are none, and the one thing that is known, `value V`
-abbrev pub line_of_fields : List (List ℕ) → Line
-line_of_fields [] = Skipped
-line_of_fields (name ∷ number ∷ []) = if bytes_eq name (codes "value") then line_of_number (number_of number) else Bad
-line_of_fields _ = Bad
-
--- a line that begins with `#` is a comment
-abbrev pub line_of : List ℕ → Line
-line_of line = if slice_index line 0 == 35 then Skipped else line_of_fields (fields line)
-
--- ---- texts
-
--- The value that lines say, 0 where they say none, or the number of the first bad line. The first of them has this
--- number, and the lines before it said this value; a second value is bad.
-abbrev pub value_in : ℕ → Option ℤ → List Line → Result ℤ ℕ
-value_in number value [] = Ok (unwrap_or value (pos 0))
-value_in number value (Skipped ∷ lines) = value_in (number + 1) value lines
-value_in number None (Value said ∷ lines) = value_in (number + 1) (Some said) lines
-value_in number (Some value) (Value said ∷ lines) = Err number
-value_in number value (Bad ∷ lines) = Err number
-
--- lines are counted from 1
-abbrev pub value_of : List ℕ → Result ℤ ℕ
-value_of text = value_in 1 None (map line_of (lines text))
-
-abbrev pub greatest : ℤ
-greatest = pos (2 ^ 63 - 1)
-
-abbrev pub least : ℤ
-least = negsuc (2 ^ 63 - 1)
-
--- what each slot's fold starts with: two sums, two least, two greatest, two unions of bits
-abbrev pub slot_starts : List ℤ
-slot_starts = pos 0 ∷ pos 0 ∷ greatest ∷ greatest ∷ least ∷ least ∷ pos 0 ∷ pos 0 ∷ []
-
--- The text means this input: the value that its lines say, and the rest as of the one vertex of a graph without edges,
--- in superstep 0.
+-- The text means this input: the one id, superstep, count and value that its lines say, or else 0, 0, 1 and 0; their
+-- messages and edges in the order of the lines; and what each slot is last said to be, or else the start of its fold.
 pub record Means (text : List ℕ) (input : CallInput) : Type 0 where
-  pub value : value_of text ≡ Ok input.value
-  pub id : input.id ≡ 0
-  pub superstep : input.superstep ≡ 0
-  pub count : input.count ≡ 1
-  pub messages : input.messages.now ≡ []
-  pub edges : input.edges.now ≡ []
-  pub aggregated : input.aggregated ≡ slot_starts
+  pub are_input : AreInput (lines_of text)
+  pub id : input.id ≡ said_or 0 (all_ids (lines_of text))
+  pub superstep : input.superstep ≡ said_or 0 (all_supersteps (lines_of text))
+  pub count : input.count ≡ said_or 1 (all_counts (lines_of text))
+  pub value : input.value ≡ said_or (pos 0) (all_values (lines_of text))
+  pub messages : input.messages.now ≡ all_messages (lines_of text)
+  pub edges : input.edges.now ≡ all_edges (lines_of text)
+  pub aggregated : input.aggregated ≡ slots_after slot_starts (all_slots (lines_of text))
 
--- the text means no input, and this is the number of its first bad line
-abbrev pub HasFirstBadLine : List ℕ → ℕ → Type 0
-HasFirstBadLine text line = value_of text ≡ Err line
+-- ---- an input as it is kept
+
+-- what is kept is what the lines say
+pub record Says (lines : List Line) (input : Input) : Type 0 where
+  pub good : All (λ line. is_good line ≡ true) lines
+  pub id : option_to_list input.id ≡ all_ids lines
+  pub superstep : option_to_list input.superstep ≡ all_supersteps lines
+  pub count : option_to_list input.count ≡ all_counts lines
+  pub value : option_to_list input.value ≡ all_values lines
+  pub messages : input.messages.items ≡ all_messages lines
+  pub edges : input.edges.items ≡ all_edges lines
+  pub aggregated : input.aggregated ≡ slots_after slot_starts (all_slots lines)
+
+-- a good line's saying was added to what is kept
+pub record Adds (line : Line) (old new : Input) : Type 0 where
+  pub good : is_good line ≡ true
+  pub id : option_to_list new.id ≡ option_to_list old.id ++ id_by line
+  pub superstep : option_to_list new.superstep ≡ option_to_list old.superstep ++ superstep_by line
+  pub count : option_to_list new.count ≡ option_to_list old.count ++ count_by line
+  pub value : option_to_list new.value ≡ option_to_list old.value ++ value_by line
+  pub messages : new.messages.items ≡ old.messages.items ++ message_by line
+  pub edges : new.edges.items ≡ old.edges.items ++ edge_by line
+  pub aggregated : new.aggregated ≡ slots_after old.aggregated (slot_by line)
+
+-- the line may be added: it is good, and what may be said once was not said
+abbrev pub fits : Line → Input → Bool
+fits (Id id) input = is_none input.id
+fits (Superstep superstep) input = is_none input.superstep
+fits (Count count) input = is_none input.count
+fits (Value value) input = is_none input.value
+fits line input = is_good line
+
+-- what is lent for a call is what is kept, and where that is nothing, 0, or a count of 1
+pub record Lends (kept : Input) (input : CallInput) : Type 0 where
+  pub id : input.id ≡ unwrap_or kept.id 0
+  pub superstep : input.superstep ≡ unwrap_or kept.superstep 0
+  pub count : input.count ≡ unwrap_or kept.count 1
+  pub value : input.value ≡ unwrap_or kept.value (pos 0)
+  pub messages : input.messages.now ≡ kept.messages.items
+  pub edges : input.edges.now ≡ kept.edges.items
+  pub aggregated : input.aggregated ≡ kept.aggregated
+
+-- the same values
+pub record SameInput (a b : CallInput) : Type 0 where
+  pub id : a.id ≡ b.id
+  pub superstep : a.superstep ≡ b.superstep
+  pub count : a.count ≡ b.count
+  pub value : a.value ≡ b.value
+  pub messages : a.messages.now ≡ b.messages.now
+  pub edges : a.edges.now ≡ b.edges.now
+  pub aggregated : a.aggregated ≡ b.aggregated

@@ -2,7 +2,7 @@
 use Rattle.std.specs.Prelude.{ℕ, ℤ, Bool, true, false, List, [], ◌∷◌, ◌++◌, codes}
 use Rattle.std.specs.List.{flat_map}
 use Rattle.std.specs.Fmt.{decimal, signed_decimal}
-use Rattle.interp.specs.declared.call.CallOutcome.{CallOutcome}
+use Rattle.host_calls.specs.declared.call.CallOutcome.{CallOutcome}
 
 abbrev pub line : List ℕ → List ℕ
 line text = text ++ 10 ∷ []

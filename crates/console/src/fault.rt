@@ -1,14 +1,15 @@
 //! Why a call has no answer.
 
 ghost use Rattle.std.specs.Prelude.{◌≡◌};
-ghost use Rattle.console.specs.Refusal.{of_decode_fault, of_run_fault, of_straight_fault};
-ghost use Rattle.console.specs.declared.fault.CallFault.TheVariants.{Input, OutOfMemory, Write};
+ghost use Rattle.console.specs.Refusal.{of_decode_fault, of_input_fault, of_run_fault, of_valid_fault};
+ghost use Rattle.console.specs.declared.fault.CallFault.TheVariants.{OutOfMemory, Write};
 
 use crate::input::InputFault;
-use interp::{RunFault, StraightFault};
+use interp::RunFault;
 use std::alloc::AllocError;
 use std::io;
 use thiserror::Error;
+use validate::{Place, Rule, ValidFault};
 use wasm_decode::DecodeFault;
 
 /// Why a call has no answer. Want of memory is one case, wherever it comes from.
@@ -17,15 +18,18 @@ pub enum CallFault {
     /// The bytes spell no module.
     #[error("{0}")]
     Decode(DecodeFault),
-    /// The module is not a straight one.
-    #[error("the module is not a straight one")]
-    Shape,
-    /// The module is a straight one, but not typed.
-    #[error("the module is not typed")]
-    Typing,
-    /// The text means no input.
-    #[error("{0}")]
-    Input(InputFault),
+    /// The module is not valid: it breaks the rule at this place.
+    #[error("{0} {1}")]
+    Invalid(Rule, Place),
+    /// The text means no input: this is the number of its first bad line, from 1.
+    #[error("line {0} is not one that an input may have")]
+    Input(usize),
+    /// The call comes to an instruction that traps.
+    #[error("the call trapped")]
+    Trap,
+    /// The module is not one that is called, or the call comes to an instruction for which there is no step.
+    #[error("the call has no step")]
+    Stuck,
     /// The call takes more units than it may.
     #[error("the budget is used up")]
     Budget,
@@ -48,23 +52,25 @@ impl From<DecodeFault> for CallFault {
     }
 }
 
-impl From<StraightFault> for CallFault {
-    ghost from_gives = { λ cause fault. fault ≡ of_straight_fault cause };
+impl From<ValidFault> for CallFault {
+    ghost from_gives = { λ cause fault. fault ≡ of_valid_fault cause };
 
-    fn from(cause: StraightFault) -> CallFault {
+    fn from(cause: ValidFault) -> CallFault {
         match cause {
-            StraightFault::Shape => CallFault::Shape,
-            StraightFault::Typing => CallFault::Typing,
-            StraightFault::OutOfMemory => CallFault::OutOfMemory,
+            ValidFault::Breaks(rule, place) => CallFault::Invalid(rule, place),
+            ValidFault::OutOfMemory => CallFault::OutOfMemory,
         }
     }
 }
 
 impl From<InputFault> for CallFault {
-    ghost from_gives = { λ cause fault. fault ≡ Input cause };
+    ghost from_gives = { λ cause fault. fault ≡ of_input_fault cause };
 
     fn from(cause: InputFault) -> CallFault {
-        CallFault::Input(cause)
+        match cause {
+            InputFault::Line(number) => CallFault::Input(number),
+            InputFault::OutOfMemory => CallFault::OutOfMemory,
+        }
     }
 }
 
@@ -73,8 +79,10 @@ impl From<RunFault> for CallFault {
 
     fn from(cause: RunFault) -> CallFault {
         match cause {
-            RunFault::Budget => CallFault::Budget,
             RunFault::OutOfMemory => CallFault::OutOfMemory,
+            RunFault::Budget => CallFault::Budget,
+            RunFault::Trap => CallFault::Trap,
+            RunFault::Stuck => CallFault::Stuck,
         }
     }
 }

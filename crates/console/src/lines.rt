@@ -4,7 +4,7 @@ ghost use Rattle.std.specs.Prelude.{◌≡◌, ◌++◌, IfOk, OnOk, string_byte
 ghost use Rattle.std.specs.List.{flat_map};
 ghost use Rattle.console.specs.Lines.{active_digit, give_line, outcome_lines, send_line};
 
-use interp::CallOutcome;
+use host_calls::CallOutcome;
 use std::alloc::{AllocError, Global};
 
 /// What is printed of a call's outcome.

@@ -2,8 +2,11 @@
 
 ghost use Rattle.std.specs.Prelude.{⊤};
 
-use crate::{CallFault, FileFault, Files, Options, ServeFault, call, command, options, read_input};
+use crate::{
+    CallFault, FileFault, Files, Input, InputFault, Options, ServeFault, call, command, options,
+};
 use clap::error::ErrorKind;
+use host_calls::CallInput;
 use std::alloc::{AllocError, Global};
 use std::test::Fail;
 
@@ -17,6 +20,41 @@ static SEVEN: [u8; 96] = [
     0x0A, 0x0E, 0x01, 0x0C, 0x00, 0x10, 0x00, 0x42, 0x0A, 0x7E, 0x42, 0x07, 0x7C, 0x10, 0x01, 0x0B,
 ];
 
+// All messages are taken at each edge.
+static CURSORS: [u8; 111] = [
+    0x00, 0x61, 0x73, 0x6D, 0x01, 0x00, 0x00, 0x00, 0x01, 0x08, 0x02, 0x60, 0x00, 0x01, 0x7F, 0x60,
+    0x00, 0x00, 0x02, 0x2A, 0x02, 0x06, 0x70, 0x72, 0x65, 0x67, 0x65, 0x6C, 0x09, 0x6E, 0x65, 0x78,
+    0x74, 0x5F, 0x65, 0x64, 0x67, 0x65, 0x00, 0x00, 0x06, 0x70, 0x72, 0x65, 0x67, 0x65, 0x6C, 0x0C,
+    0x6E, 0x65, 0x78, 0x74, 0x5F, 0x6D, 0x65, 0x73, 0x73, 0x61, 0x67, 0x65, 0x00, 0x00, 0x03, 0x02,
+    0x01, 0x01, 0x07, 0x0B, 0x01, 0x07, 0x63, 0x6F, 0x6D, 0x70, 0x75, 0x74, 0x65, 0x00, 0x02, 0x0A,
+    0x1E, 0x01, 0x1C, 0x00, 0x02, 0x40, 0x03, 0x40, 0x10, 0x00, 0x45, 0x0D, 0x01, 0x02, 0x40, 0x03,
+    0x40, 0x10, 0x01, 0x45, 0x0D, 0x01, 0x0C, 0x00, 0x0B, 0x0B, 0x0C, 0x00, 0x0B, 0x0B, 0x0B,
+];
+
+// The value is given to slot 0, and becomes what that slot was aggregated to.
+static SUM: [u8; 147] = [
+    0x00, 0x61, 0x73, 0x6D, 0x01, 0x00, 0x00, 0x00, 0x01, 0x16, 0x05, 0x60, 0x00, 0x01, 0x7E, 0x60,
+    0x02, 0x7F, 0x7E, 0x00, 0x60, 0x01, 0x7F, 0x01, 0x7E, 0x60, 0x01, 0x7E, 0x00, 0x60, 0x00, 0x00,
+    0x02, 0x4E, 0x04, 0x06, 0x70, 0x72, 0x65, 0x67, 0x65, 0x6C, 0x09, 0x67, 0x65, 0x74, 0x5F, 0x76,
+    0x61, 0x6C, 0x75, 0x65, 0x00, 0x00, 0x06, 0x70, 0x72, 0x65, 0x67, 0x65, 0x6C, 0x09, 0x61, 0x67,
+    0x67, 0x72, 0x65, 0x67, 0x61, 0x74, 0x65, 0x00, 0x01, 0x06, 0x70, 0x72, 0x65, 0x67, 0x65, 0x6C,
+    0x0A, 0x61, 0x67, 0x67, 0x72, 0x65, 0x67, 0x61, 0x74, 0x65, 0x64, 0x00, 0x02, 0x06, 0x70, 0x72,
+    0x65, 0x67, 0x65, 0x6C, 0x09, 0x73, 0x65, 0x74, 0x5F, 0x76, 0x61, 0x6C, 0x75, 0x65, 0x00, 0x03,
+    0x03, 0x02, 0x01, 0x04, 0x07, 0x0B, 0x01, 0x07, 0x63, 0x6F, 0x6D, 0x70, 0x75, 0x74, 0x65, 0x00,
+    0x04, 0x0A, 0x10, 0x01, 0x0E, 0x00, 0x41, 0x00, 0x10, 0x00, 0x10, 0x01, 0x41, 0x00, 0x10, 0x02,
+    0x10, 0x03, 0x0B,
+];
+
+// 1 is sent to vertex 99.
+static LOST: [u8; 90] = [
+    0x00, 0x61, 0x73, 0x6D, 0x01, 0x00, 0x00, 0x00, 0x01, 0x09, 0x02, 0x60, 0x02, 0x7E, 0x7E, 0x00,
+    0x60, 0x00, 0x00, 0x02, 0x25, 0x02, 0x06, 0x70, 0x72, 0x65, 0x67, 0x65, 0x6C, 0x04, 0x73, 0x65,
+    0x6E, 0x64, 0x00, 0x00, 0x06, 0x70, 0x72, 0x65, 0x67, 0x65, 0x6C, 0x0C, 0x76, 0x6F, 0x74, 0x65,
+    0x5F, 0x74, 0x6F, 0x5F, 0x68, 0x61, 0x6C, 0x74, 0x00, 0x01, 0x03, 0x02, 0x01, 0x01, 0x07, 0x0B,
+    0x01, 0x07, 0x63, 0x6F, 0x6D, 0x70, 0x75, 0x74, 0x65, 0x00, 0x02, 0x0A, 0x0D, 0x01, 0x0B, 0x00,
+    0x42, 0xE3, 0x00, 0x42, 0x01, 0x10, 0x00, 0x10, 0x01, 0x0B,
+];
+
 // The magic number and the version, and nothing more.
 static EMPTY: [u8; 8] = [0x00, 0x61, 0x73, 0x6D, 0x01, 0x00, 0x00, 0x00];
 
@@ -26,63 +64,143 @@ static COMPUTE: [u8; 32] = [
     0x01, 0x00, 0x07, 0x0B, 0x01, 0x07, 0x63, 0x6F, 0x6D, 0x70, 0x75, 0x74, 0x65, 0x00, 0x00, 0x0A,
 ];
 
-// Each with the value that it means, or the number of its first bad line.
-static TEXTS: [(&str, Result<i64, usize>); 36] = [
-    ("", Ok(0)),
-    ("value 34", Ok(34)),
-    ("value 34\n", Ok(34)),
-    ("value 34\r\n", Ok(34)),
-    ("value 34\r", Err(1)),
-    ("\r\n", Ok(0)),
-    ("\r", Err(1)),
-    ("\n\nvalue -7\n", Ok(-7)),
-    (" \tvalue \t 12\t", Ok(12)),
-    (" \t \n", Ok(0)),
-    ("\u{c}\n", Err(1)),
-    ("value\u{a0}1", Err(1)),
-    ("#", Ok(0)),
-    ("# value 1\nvalue 2", Ok(2)),
-    (" # value 1", Err(1)),
-    ("value 1 # one", Err(1)),
-    ("value 007", Ok(7)),
-    ("value -0", Ok(0)),
-    ("value 00000000000000000000000000000005", Ok(5)),
-    ("value 9223372036854775807", Ok(9223372036854775807)),
-    ("value 9223372036854775808", Err(1)),
-    ("value -9223372036854775808", Ok(-9223372036854775808)),
-    ("value -9223372036854775809", Err(1)),
-    ("value +1", Err(1)),
-    ("value -", Err(1)),
-    ("value --1", Err(1)),
-    ("value 0x1", Err(1)),
-    ("value 1.0", Err(1)),
-    ("value", Err(1)),
-    ("value 1 2", Err(1)),
-    ("Value 1", Err(1)),
-    ("values 1", Err(1)),
-    ("value1", Err(1)),
-    ("value 1\n\nvalue 1\n", Err(3)),
-    ("\nmessage 1\nvalue", Err(2)),
-    ("value 1\nvalue x\nvalue 1", Err(2)),
+// The numbers 1 and 2, of two types, are added.
+static UNTYPED: [u8; 43] = [
+    0x00, 0x61, 0x73, 0x6D, 0x01, 0x00, 0x00, 0x00, 0x01, 0x04, 0x01, 0x60, 0x00, 0x00, 0x03, 0x02,
+    0x01, 0x00, 0x07, 0x0B, 0x01, 0x07, 0x63, 0x6F, 0x6D, 0x70, 0x75, 0x74, 0x65, 0x00, 0x00, 0x0A,
+    0x0A, 0x01, 0x08, 0x00, 0x41, 0x01, 0x42, 0x02, 0x6A, 0x1A, 0x0B,
+];
+
+// `compute` is `unreachable`.
+static UNREACHABLE: [u8; 38] = [
+    0x00, 0x61, 0x73, 0x6D, 0x01, 0x00, 0x00, 0x00, 0x01, 0x04, 0x01, 0x60, 0x00, 0x00, 0x03, 0x02,
+    0x01, 0x00, 0x07, 0x0B, 0x01, 0x07, 0x63, 0x6F, 0x6D, 0x70, 0x75, 0x74, 0x65, 0x00, 0x00, 0x0A,
+    0x05, 0x01, 0x03, 0x00, 0x00, 0x0B,
+];
+
+// `compute` is a loop that begins again.
+static ENDLESS: [u8; 42] = [
+    0x00, 0x61, 0x73, 0x6D, 0x01, 0x00, 0x00, 0x00, 0x01, 0x04, 0x01, 0x60, 0x00, 0x00, 0x03, 0x02,
+    0x01, 0x00, 0x07, 0x0B, 0x01, 0x07, 0x63, 0x6F, 0x6D, 0x70, 0x75, 0x74, 0x65, 0x00, 0x00, 0x0A,
+    0x09, 0x01, 0x07, 0x00, 0x03, 0x40, 0x0C, 0x00, 0x0B, 0x0B,
+];
+
+// Each with what it means: id, superstep, count and value, then messages, then edges as `target:value`.
+const INPUTS: [(&str, &str); 16] = [
+    ("", "0 0 1 0"),
+    ("value 34", "0 0 1 34"),
+    ("value 34\r\n", "0 0 1 34"),
+    ("\n\nvalue -7\n", "0 0 1 -7"),
+    (" \tvalue \t 12\t", "0 0 1 12"),
+    (" \t \n\r\n#\n# value 1\n#value 2", "0 0 1 0"),
+    ("value -0\nid 007", "7 0 1 0"),
+    ("value 00000000000000000000000000000005", "0 0 1 5"),
+    (
+        "id 9223372036854775807\nvalue 9223372036854775807",
+        "9223372036854775807 0 1 9223372036854775807",
+    ),
+    ("value -9223372036854775808", "0 0 1 -9223372036854775808"),
+    (
+        "count 4294967295\nsuperstep 4294967295",
+        "0 4294967295 4294967295 0",
+    ),
+    ("count 0", "0 0 0 0"),
+    ("message 3\nvalue 1\nmessage -2", "0 0 1 1 3 -2"),
+    ("message 3\nmessage 3", "0 0 1 0 3 3"),
+    ("edge 5 -6\nmessage 1\nedge 5 8", "0 0 1 0 1 5:-6 5:8"),
+    (
+        "edge 9223372036854775807 0",
+        "0 0 1 0 9223372036854775807:0",
+    ),
+];
+
+// Each with the number of its first bad line.
+const BAD_LINES: [(&str, usize); 34] = [
+    ("value 34\r", 1),
+    ("\r", 1),
+    ("\u{c}\n", 1),
+    ("value\u{a0}1", 1),
+    (" # value 1", 1),
+    ("value 1 # one", 1),
+    ("value 9223372036854775808", 1),
+    ("value -9223372036854775809", 1),
+    ("value +1", 1),
+    ("value -", 1),
+    ("value 0x1", 1),
+    ("value", 1),
+    ("value 1 2", 1),
+    ("Value 1", 1),
+    ("values 1", 1),
+    ("value 1\n\nvalue 1\n", 3),
+    ("\nmessage 1\nvalue", 3),
+    ("value 1\nvalue x\nvalue 1", 2),
+    ("id -1", 1),
+    ("id 9223372036854775808", 1),
+    ("id 1\nid 1", 2),
+    ("superstep 4294967296", 1),
+    ("superstep -0", 1),
+    ("superstep 1\nsuperstep 1", 2),
+    ("count 4294967296", 1),
+    ("count 1\ncount 2", 2),
+    ("message", 1),
+    ("message 1 2", 1),
+    ("edge 1", 1),
+    ("edge 1 2 3", 1),
+    ("edge -1 2", 1),
+    ("edge 9223372036854775808 2", 1),
+    ("aggregate 8 1", 1),
+    ("aggregate -1 1", 1),
 ];
 
 #[test]
-fn texts_mean_values(rt: HostRuntime) {
-    for (text, meant) in &TEXTS {
-        let read = read_input(text);
-        match meant {
-            Ok(value) => assert_eq!(rt;
-                read.map_or(None, |input| Some(input.value)),
-                Some(*value),
-                "at {text:?}"
-            ),
-            Err(line) => assert_eq!(rt;
-                read.map_or_else(|fault| fault.line, |_| 0),
-                *line,
-                "at {text:?}"
-            ),
-        }
+fn texts_mean_inputs(rt: HostRuntime) -> Result<(), Fail> {
+    for (text, meant) in INPUTS {
+        let shown = read_and_shown(rt.alloc(), text)?;
+        assert_eq!(rt; shown.as_str(), meant, "{text:?}");
     }
+    Ok(())
+}
+
+fn read_and_shown(alloc: Global, text: &str) -> Result<String, Fail> {
+    let input = Input::read(alloc, text)?;
+    Ok(shown(alloc, &input.call_input())?)
+}
+
+fn shown(alloc: Global, input: &CallInput) -> Result<String, AllocError> {
+    let mut shown = String::new(alloc);
+    let (id, superstep) = (input.id, input.superstep);
+    let (count, value) = (input.count, input.value);
+    write!(shown, "{id} {superstep} {count} {value}")?;
+    for value in input.messages {
+        write!(shown, " {value}")?;
+    }
+    for (target, value) in input.edges {
+        write!(shown, " {target}:{value}")?;
+    }
+    Ok(shown)
+}
+
+#[test]
+fn the_first_bad_line_is_told(rt: HostRuntime) {
+    for (text, line) in BAD_LINES {
+        let fault = fault_of(rt.alloc(), text);
+        assert_eq!(rt; fault, Some(InputFault::Line(line)), "{text:?}");
+    }
+}
+
+fn fault_of(alloc: Global, text: &str) -> Option<InputFault> {
+    Input::read(alloc, text).err()
+}
+
+#[test]
+fn slots_have_their_last_line(rt: HostRuntime) -> Result<(), Fail> {
+    let text = "aggregate 1 5\naggregate 7 -1\naggregate 01 6\naggregate 2 0";
+    let input = Input::read(rt.alloc(), text)?;
+    assert_eq!(rt;
+        input.call_input().aggregated.as_slice(),
+        [0, 6, 0, i64::MAX, i64::MIN, i64::MIN, 0, -1].as_slice()
+    );
+    Ok(())
 }
 
 #[test]
@@ -140,13 +258,6 @@ fn a_million_units_are_the_limit(rt: HostRuntime) -> Result<(), Fail> {
     Ok(())
 }
 
-// `compute` is `drop`, and has no operand.
-static UNTYPED: [u8; 38] = [
-    0x00, 0x61, 0x73, 0x6D, 0x01, 0x00, 0x00, 0x00, 0x01, 0x04, 0x01, 0x60, 0x00, 0x00, 0x03, 0x02,
-    0x01, 0x00, 0x07, 0x0B, 0x01, 0x07, 0x63, 0x6F, 0x6D, 0x70, 0x75, 0x74, 0x65, 0x00, 0x00, 0x0A,
-    0x05, 0x01, 0x03, 0x00, 0x1A, 0x0B,
-];
-
 // Some modules and inputs by name.
 #[derive(Drop)]
 struct Samples;
@@ -157,10 +268,18 @@ impl Files for Samples {
     fn read(&mut self, alloc: Global, path: &str) -> Result<Vec<u8>, FileFault> {
         let bytes: &[u8] = match path {
             "seven.wasm" => &SEVEN,
+            "cursors.wasm" => &CURSORS,
+            "sum.wasm" => &SUM,
+            "lost.wasm" => &LOST,
             "nothing.wasm" => &[],
             "empty.wasm" => &EMPTY,
             "untyped.wasm" => &UNTYPED,
+            "unreachable.wasm" => &UNREACHABLE,
+            "endless.wasm" => &ENDLESS,
             "thirty-four.txt" => b"value 34\n",
+            "edges.txt" => b"message 1\nmessage 2\nmessage 3\nedge 5 6\nedge 7 8\n",
+            "messages.txt" => b"message 1\nmessage 2\nmessage 3\n",
+            "slots.txt" => b"value 34\naggregate 0 5\n",
             "bad.txt" => b"value 34\nvalue\n",
             "latin.txt" => b"value 34\n\xE9\n",
             "none.txt" => b"",
@@ -170,9 +289,9 @@ impl Files for Samples {
     }
 }
 
-// Each module and input, with the status and what is written. The command line comes before the module, the module
-// before the input, and the input before the call.
-static CALLS: [(&str, &str, u8, &str); 12] = [
+// Each module and input, with the status and what is written. The module comes before the input, and the input before
+// the call.
+static CALLS: [(&str, &str, u8, &str); 20] = [
     (
         "seven.wasm",
         "thirty-four.txt",
@@ -180,6 +299,30 @@ static CALLS: [(&str, &str, u8, &str); 12] = [
         "value 347\nactive 1\nunits 6\n",
     ),
     ("seven.wasm", "none.txt", 0, "value 7\nactive 1\nunits 6\n"),
+    (
+        "cursors.wasm",
+        "edges.txt",
+        0,
+        "value 0\nactive 1\nunits 40\n",
+    ),
+    (
+        "cursors.wasm",
+        "messages.txt",
+        0,
+        "value 0\nactive 1\nunits 5\n",
+    ),
+    (
+        "sum.wasm",
+        "slots.txt",
+        0,
+        "value 5\nactive 1\nunits 6\ngive 0 34\n",
+    ),
+    (
+        "lost.wasm",
+        "thirty-four.txt",
+        0,
+        "value 34\nactive 0\nunits 4\nsend 99 1\n",
+    ),
     ("seven.wasm", "bad.txt", 1, "no input 2\n"),
     ("seven.wasm", "latin.txt", 4, "no file latin.txt\n"),
     ("seven.wasm", "gone.txt", 4, "no file gone.txt\n"),
@@ -190,9 +333,13 @@ static CALLS: [(&str, &str, u8, &str); 12] = [
         "no decode Truncated 0\n",
     ),
     ("nothing.wasm", "gone.txt", 1, "no decode Truncated 0\n"),
-    ("empty.wasm", "bad.txt", 1, "no straight Shape\n"),
-    ("empty.wasm", "gone.txt", 1, "no straight Shape\n"),
-    ("untyped.wasm", "latin.txt", 1, "no straight Typing\n"),
+    ("empty.wasm", "bad.txt", 1, "no input 2\n"),
+    ("empty.wasm", "none.txt", 1, "no run Stuck\n"),
+    ("untyped.wasm", "bad.txt", 1, "no valid Mismatch 0 2\n"),
+    ("untyped.wasm", "gone.txt", 1, "no valid Mismatch 0 2\n"),
+    ("unreachable.wasm", "none.txt", 1, "no run Trap\n"),
+    ("endless.wasm", "none.txt", 1, "no run Budget\n"),
+    ("endless.wasm", "latin.txt", 4, "no file latin.txt\n"),
     ("gone.wasm", "thirty-four.txt", 4, "no file gone.wasm\n"),
     ("gone.wasm", "gone.txt", 4, "no file gone.wasm\n"),
 ];
@@ -211,7 +358,7 @@ fn calls_are_answered(rt: HostRuntime) -> Result<(), Fail> {
 
 #[test]
 fn a_writer_fails(rt: HostRuntime) {
-    for module in ["seven.wasm", "empty.wasm", "gone.wasm"] {
+    for module in ["seven.wasm", "untyped.wasm", "gone.wasm"] {
         let mut room = [0u8; 4];
         let mut out = room.as_mut_slice();
         let options = Options::Call {

@@ -1,18 +1,11 @@
 -- The machine (Core 1.0, 4.2 and 4.4): a configuration, one step of reduction, and so many steps.
--- It has a case for each instruction without control but the divisions, the globals and the memory, and for calls of
--- the host.
-use Rattle.std.specs.Prelude.{ℕ, zero, suc, ◌+◌, List, [], ◌∷◌, ◌++◌, map, slice_get, slice_set, length, nat_lt, Option, Some, None, if◌then◌else◌}
-use Rattle.std.specs.Int.{cast_unsigned, cast_signed, w64}
+use Rattle.std.specs.Prelude.{ℕ, zero, suc, List, [], ◌∷◌, ◌++◌, map, reverse, take, drop, length, slice_get, nat_le, Bool, true, false, Option, Some, None, if◌then◌else◌}
 use Rattle.wasm_ast.specs.declared.types.ValType.{ValType}
 use Rattle.wasm_ast.specs.declared.types.ValType.TheVariants as val_type
+use Rattle.wasm_ast.specs.declared.types.FuncType.{FuncType}
 use Rattle.wasm_ast.specs.declared.types.Value.{Value}
-use Rattle.wasm_ast.specs.declared.types.Value.TheVariants.{I32, I64}
-use Rattle.wasm_ast.specs.declared.numeric.Numeric.{Numeric}
-use Rattle.wasm_ast.specs.declared.numeric.Numeric.TheVariants as numeric
-use Rattle.wasm_ast.specs.declared.plain.Variable.{Variable}
-use Rattle.wasm_ast.specs.declared.plain.Variable.TheVariants as variable
-use Rattle.wasm_ast.specs.declared.plain.Plain.{Plain}
-use Rattle.wasm_ast.specs.declared.plain.Plain.TheVariants as plain
+use Rattle.wasm_ast.specs.declared.plain.Branch.{Branch}
+use Rattle.wasm_ast.specs.declared.plain.Branch.TheVariants as branch
 use Rattle.wasm_ast.specs.declared.body.Instr.TheVariants as instr
 use Rattle.wasm_ast.specs.declared.module.Import.{Import}
 use Rattle.wasm_ast.specs.declared.module.ImportDescription.{ImportDescription}
@@ -21,138 +14,44 @@ use Rattle.wasm_ast.specs.declared.module.Function.{Function}
 use Rattle.wasm_ast.specs.declared.module.Module.{Module}
 use Rattle.wasm_ast.specs.Code.{Code}
 use Rattle.wasm_ast.specs.Code as code
-use Rattle.wasm_ast.specs.Numeric.{bits_of, truth, eqz_value, comparison_holds, unary_value, binary_value, conversion_from, conversion_to, conversion_value}
 use Rattle.wasm_ast.specs.Units.{units_of}
-use Rattle.interp.specs.Host.{Host, HostCall, get_value, set_value, host_call}
+use Rattle.wasm_ast.specs.Values.{zero_of}
+use Rattle.host_calls.specs.declared.imports.HostCall.{HostCall}
+use Rattle.host_calls.specs.Imports.{call_named}
+use Rattle.host_calls.specs.Operands.{pop}
+use Rattle.interp.specs.Configuration.{State, with_locals, tick, Effect, Gives, Traps, Misses}
+use Rattle.interp.specs.Effects.{effect, call_effect}
 
--- ---- the configuration
-
--- the locals of the running function, the host, and the units that were taken
-pub record State : Type 0 where
-  pub locals : List Value
-  pub host : Host
-  pub count : ℕ
+-- ---- the configuration (4.2.12, 4.2.13)
 
 -- what lies round the running sequence: a label or a frame, and the operands and the code beyond it
 pub data Layer : Type 0 where
-  -- a branch to it carries so many operands and goes on behind it
-  Label : (arity : ℕ) (values : List Value) (code : Code) → Layer
-  -- a branch to it puts the loop back
-  Again : (body : Code) (values : List Value) (code : Code) → Layer
-  -- the caller's locals, and how many results
-  Frame : (arity : ℕ) (locals : List Value) (values : List Value) (code : Code) → Layer
+  -- a branch to it may keep the topmost operand and goes on at the target; its end goes on after it
+  Label : (keeps : Bool) (values : List Value) (target after : Code) → Layer
+  -- the caller's locals, and whether there is a result
+  Frame : (keeps : Bool) (locals : List Value) (values : List Value) (after : Code) → Layer
 
--- the operands and the code of the innermost layer stand in front, the topmost operand first
+-- The operands and the code of the innermost layer stand in front, the topmost operand first. The frame of the function
+-- that was called from outside lies round all layers.
 pub data Machine : Type 0 where
   Running : (values : List Value) (code : Code) (layers : List Layer) (state : State) → Machine
   Done : State → Machine
-  Trapped : Machine
-  Stuck : Machine
+  -- with the units that were taken
+  Trapped : (count : ℕ) → Machine
+  Stuck : (count : ℕ) → Machine
 
-abbrev pub with_locals : State → List Value → State
-with_locals st locals = record st { locals = locals }
+-- ---- functions by number, imports first (2.5.1)
 
-abbrev pub with_host : State → Host → State
-with_host st host = record st { host = host }
-
--- so many units more
-abbrev pub tick : ℕ → State → State
-tick units st = record st { count = st.count + units }
-
--- ---- instructions without control
-
--- what one does to the operands and the state
-pub data Effect : Type 0 where
-  Gives : (values : List Value) (state : State) → Effect
-  Traps : Effect
-  -- an operand is missing or of the wrong type, or a number names nothing
-  Misses : Effect
-
--- a number as an operand of a type, and back
-abbrev pub value : ValType → ℕ → Value
-value val_type.I32 n = I32 n
-value val_type.I64 n = I64 n
-
-abbrev pub number : ValType → Value → Option ℕ
-number val_type.I32 (I32 n) = Some n
-number val_type.I32 (I64 n) = None
-number val_type.I64 (I32 n) = None
-number val_type.I64 (I64 n) = Some n
-
-abbrev pub with_number : Option ℕ → (ℕ → Effect) → Effect
-with_number None go = Misses
-with_number (Some n) go = go n
-
--- takes a number of a type off the operands
-abbrev pub pop : ValType → List Value → (ℕ → List Value → Effect) → Effect
-pop t [] go = Misses
-pop t (v ∷ vs) go = with_number (number t v) (λ n. go n vs)
-
--- 4.4.1
-abbrev pub numeric_effect : Numeric → List Value → State → Effect
-numeric_effect (numeric.Eqz t) vs st = pop t vs (λ x us. Gives (I32 (eqz_value x) ∷ us) st)
-numeric_effect (numeric.Comparison t op) vs st =
-    pop t vs (λ y us. pop t us (λ x ws. Gives (I32 (truth (comparison_holds (bits_of t) op x y)) ∷ ws) st))
-numeric_effect (numeric.Unary t op) vs st = pop t vs (λ x us. Gives (value t (unary_value (bits_of t) op x) ∷ us) st)
-numeric_effect (numeric.Binary t op) vs st =
-    pop t vs (λ y us. pop t us (λ x ws. Gives (value t (binary_value (bits_of t) op x y) ∷ ws) st))
-numeric_effect (numeric.Division t op) vs st = Misses
-numeric_effect (numeric.Conversion op) vs st =
-    pop (conversion_from op) vs (λ x us. Gives (value (conversion_to op) (conversion_value op x) ∷ us) st)
-
--- 4.4.2
-abbrev pub discard : List Value → State → Effect
-discard [] st = Misses
-discard (v ∷ vs) st = Gives vs st
-
-abbrev pub pick : ℕ → Value → Value → Value
-pick zero first second = second
-pick (suc n) first second = first
-
--- two operands of one type
-abbrev pub select : ℕ → List Value → State → Effect
-select n (I32 b ∷ I32 a ∷ vs) st = Gives (pick n (I32 a) (I32 b) ∷ vs) st
-select n (I64 b ∷ I64 a ∷ vs) st = Gives (pick n (I64 a) (I64 b) ∷ vs) st
-select n _ st = Misses
-
--- 4.4.3
-abbrev pub pushed : Option Value → List Value → State → Effect
-pushed None vs st = Misses
-pushed (Some v) vs st = Gives (v ∷ vs) st
-
--- the value becomes the local's, if there is such a local
-abbrev pub local_set : ℕ → Value → List Value → State → Effect
-local_set x v vs st =
-    if nat_lt x (length st.locals) then Gives vs (with_locals st (slice_set st.locals x v)) else Misses
-
-abbrev pub variable_effect : Variable → List Value → State → Effect
-variable_effect (variable.LocalGet x) vs st = pushed (slice_get st.locals x) vs st
-variable_effect (variable.LocalSet x) [] st = Misses
-variable_effect (variable.LocalSet x) (v ∷ vs) st = local_set x v vs st
-variable_effect (variable.LocalTee x) [] st = Misses
-variable_effect (variable.LocalTee x) (v ∷ vs) st = local_set x v (v ∷ vs) st
-variable_effect (variable.GlobalGet x) vs st = Misses
-variable_effect (variable.GlobalSet x) vs st = Misses
-
-abbrev pub plain_effect : Plain → List Value → State → Effect
-plain_effect plain.Nop vs st = Gives vs st
-plain_effect plain.Drop vs st = discard vs st
-plain_effect plain.Select vs st = pop val_type.I32 vs (λ n us. select n us st)
-plain_effect (plain.Const v) vs st = Gives (v ∷ vs) st
-plain_effect (plain.Numeric op) vs st = numeric_effect op vs st
-plain_effect (plain.Variable op) vs st = variable_effect op vs st
-plain_effect (plain.Memory op) vs st = Misses
-
--- ---- calls
-
--- the functions of a module, imports first (2.5.1)
 pub data Callee : Type 0 where
-  imported : Import → (type_number : ℕ) → Callee
+  -- what an import brings in, if the host has it
+  host : Option HostCall → Callee
   defined : Function → Callee
 
 abbrev pub function_import : Import → ImportDescription → List Callee → List Callee
-function_import i (import.Function t) others = imported i t ∷ others
-function_import i _ others = others
+function_import i (import.Function t) others = host (call_named i.module i.name) ∷ others
+function_import i (import.Table t) others = others
+function_import i (import.Memory t) others = others
+function_import i (import.Global t) others = others
 
 abbrev pub imported_functions : List Import → List Callee
 imported_functions [] = []
@@ -161,53 +60,153 @@ imported_functions (i ∷ is) = function_import i i.description (imported_functi
 abbrev pub functions_of : Module → List Callee
 functions_of m = imported_functions m.imports ++ map defined m.functions
 
--- the number that a signed value is kept as, and back
-abbrev pub host_effect : HostCall → List Value → State → Effect
-host_effect get_value vs st = Gives (I64 (cast_unsigned w64 st.host.value) ∷ vs) st
-host_effect set_value vs st =
-    pop val_type.I64 vs (λ n us. Gives us (with_host st (record st.host { value = cast_signed w64 n })))
+-- ---- branches (4.4.5)
 
-abbrev pub called : Option HostCall → List Value → State → Effect
-called None vs st = Misses
-called (Some c) vs st = host_effect c vs st
+-- the topmost operand
+abbrev pub first : List Value → Option Value
+first [] = None
+first (v ∷ vs) = Some v
 
--- a call of the function with this number
-abbrev pub call_effect : Option Callee → List Value → State → Effect
-call_effect None vs st = Misses
-call_effect (Some (imported i t)) vs st = called (host_call i) vs st
-call_effect (Some (defined f)) vs st = Misses
+-- an operand on top of others, where it is wanted
+abbrev pub carry : Bool → Option Value → List Value → Option (List Value)
+carry false top below = Some below
+carry true None below = None
+carry true (Some v) below = Some (v ∷ below)
+
+-- goes on with these operands, if they are there
+abbrev pub landed : Option (List Value) → Code → List Layer → State → Machine
+landed None is ls st = Stuck st.count
+landed (Some vs) is ls st = Running vs is ls st
+
+-- to the innermost label or frame, with an operand; the outermost frame is the end
+abbrev pub arrive : Option Value → List Layer → State → Machine
+arrive top [] st = Done st
+arrive top (Label keeps below target after ∷ ls) st = landed (carry keeps top below) target ls st
+arrive top (Frame keeps locals below after ∷ ls) st = landed (carry keeps top below) after ls (with_locals st locals)
+
+-- a branch to a label: a frame is a label too, and there is no label beyond it
+abbrev pub jump : ℕ → Option Value → List Layer → State → Machine
+jump zero top ls st = arrive top ls st
+jump (suc l) top [] st = Stuck st.count
+jump (suc l) top (Label keeps below target after ∷ ls) st = jump l top ls st
+jump (suc l) top (Frame keeps locals below after ∷ ls) st = Stuck st.count
+
+-- out of the innermost frame
+abbrev pub back : Option Value → List Layer → State → Machine
+back top [] st = arrive top [] st
+back top (Label keeps below target after ∷ ls) st = back top ls st
+back top (Frame keeps locals below after ∷ ls) st = arrive top (Frame keeps locals below after ∷ ls) st
+
+-- the end of a sequence
+abbrev pub leave : List Value → List Layer → State → Machine
+leave vs [] st = Done st
+leave vs (Label keeps below target after ∷ ls) st = Running (vs ++ below) after ls st
+leave vs (Frame keeps locals below after ∷ ls) st = Running (vs ++ below) after ls (with_locals st locals)
+
+-- the label at a place of a table, or the one for all places past it
+abbrev pub label_of : List ℕ → ℕ → ℕ → ℕ
+label_of [] n other = other
+label_of (l ∷ ls) zero other = l
+label_of (l ∷ ls) (suc n) other = label_of ls n other
+
+-- with an i32 off the operands
+abbrev pub taking : List Value → ℕ → (ℕ → List Value → Machine) → Machine
+taking vs count go = pop (Stuck count) val_type.I32 vs go
+
+abbrev pub branch_unless_zero : ℕ → ℕ → List Value → Code → List Layer → State → Machine
+branch_unless_zero zero l vs is ls st = Running vs is ls st
+branch_unless_zero (suc n) l vs is ls st = jump l (first vs) ls st
+
+abbrev pub take_branch : Branch → List Value → Code → List Layer → State → Machine
+take_branch (branch.Br l) vs is ls st = jump l (first vs) ls st
+take_branch (branch.BrIf l) vs is ls st = taking vs st.count (λ n us. branch_unless_zero n l us is ls st)
+take_branch (branch.BrTable labels other) vs is ls st =
+    taking vs st.count (λ n us. jump (label_of labels n other) (first us) ls st)
+take_branch branch.Return vs is ls st = back (first vs) ls st
+
+-- ---- blocks (4.4.5)
+
+abbrev pub has_result : Option ValType → Bool
+has_result None = false
+has_result (Some t) = true
+
+-- the arm for a number other than 0, and that for 0
+abbrev pub arm : ℕ → Code → Code → Code
+arm zero then_body else_body = else_body
+arm (suc n) then_body else_body = then_body
+
+-- ---- calls (4.4.7)
+
+abbrev pub gives_one : List ValType → Bool
+gives_one [] = false
+gives_one (t ∷ ts) = true
+
+-- a function of this type in its frame: its arguments are the topmost operands, the lowest first, before its other locals
+abbrev pub enter : Function → Option FuncType → List Value → Code → List Layer → State → Machine
+enter f None vs is ls st = Stuck st.count
+enter f (Some t) vs is ls st =
+    if nat_le (length t.parameters) (length vs)
+    then Running [] f.body (Frame (gives_one t.results) st.locals (drop (length t.parameters) vs) is ∷ ls)
+    (with_locals st (reverse (take (length t.parameters) vs) ++ map zero_of f.locals))
+    else Stuck st.count
+
+abbrev pub after_effect : Effect → Code → List Layer → ℕ → Machine
+after_effect (Gives vs st) is ls count = Running vs is ls st
+after_effect Traps is ls count = Trapped count
+after_effect Misses is ls count = Stuck count
+
+abbrev pub host_effect : Option HostCall → List Value → State → Effect
+host_effect None vs st = Misses
+host_effect (Some call) vs st = call_effect call vs st
+
+abbrev pub take_call : Module → Option Callee → List Value → Code → List Layer → State → Machine
+take_call m None vs is ls st = Stuck st.count
+take_call m (Some (host call)) vs is ls st = after_effect (host_effect call vs st) is ls st.count
+take_call m (Some (defined f)) vs is ls st = enter f (slice_get m.types f.type_number) vs is ls st
 
 -- ---- steps
 
-abbrev pub after_effect : Effect → Code → List Layer → Machine
-after_effect (Gives vs st) is ls = Running vs is ls st
-after_effect Traps is ls = Trapped
-after_effect Misses is ls = Stuck
+-- what the next instruction counts
+abbrev pub next_units : Code → ℕ
+next_units code.end = 0
+next_units (code.plain p rest) = units_of (instr.Plain p)
+next_units (code.branch b rest) = units_of (instr.Branch b)
+next_units (code.call f rest) = units_of (instr.Call f)
+next_units (code.call_indirect t rest) = units_of (instr.CallIndirect t)
+next_units (code.unreachable rest) = units_of instr.Unreachable
+next_units (code.block t body rest) = units_of (instr.Block t body)
+next_units (code.loop t body rest) = units_of (instr.Loop t body)
+next_units (code.choice t body other rest) = units_of (instr.If t body other)
 
--- the end of a sequence (4.4.5, 4.4.7)
-abbrev pub leave : List Value → List Layer → State → Machine
-leave vs [] st = Done st
-leave vs (Label arity below is ∷ ls) st = Running (vs ++ below) is ls st
-leave vs (Again body below is ∷ ls) st = Running (vs ++ below) is ls st
-leave vs (Frame arity locals below is ∷ ls) st = Running (vs ++ below) is ls (with_locals st locals)
+-- the next instruction, counted already. There is no step for call_indirect.
+abbrev pub take_next : Module → List Value → Code → List Layer → State → Machine
+take_next m vs code.end ls st = leave vs ls st
+take_next m vs (code.plain p is) ls st = after_effect (effect p vs st) is ls st.count
+take_next m vs (code.branch b is) ls st = take_branch b vs is ls st
+take_next m vs (code.call f is) ls st = take_call m (slice_get (functions_of m) f) vs is ls st
+take_next m vs (code.call_indirect t is) ls st = Stuck st.count
+take_next m vs (code.unreachable is) ls st = Trapped st.count
+take_next m vs (code.block t body is) ls st = Running [] body (Label (has_result t) vs is is ∷ ls) st
+take_next m vs (code.loop t body is) ls st = Running [] body (Label false vs (code.loop t body is) is ∷ ls) st
+take_next m vs (code.choice t body other is) ls st =
+    taking vs st.count (λ n us. Running [] (arm n body other) (Label (has_result t) us is is ∷ ls) st)
 
 -- One step. Taking an instruction from its sequence counts its units, and leaving a label or a frame nothing.
 abbrev pub advance : Module → Machine → Machine
 advance m (Running vs code.end ls st) = leave vs ls st
-advance m (Running vs (code.plain p rest) ls st) = after_effect (plain_effect p vs (tick (units_of (instr.Plain p)) st)) rest ls
-advance m (Running vs (code.call f rest) ls st) =
-    after_effect (call_effect (slice_get (functions_of m) f) vs (tick (units_of (instr.Call f)) st)) rest ls
-advance m (Running vs (code.branch b rest) ls st) = Stuck
-advance m (Running vs (code.call_indirect t rest) ls st) = Stuck
-advance m (Running vs (code.unreachable rest) ls st) = Stuck
-advance m (Running vs (code.block t body rest) ls st) = Stuck
-advance m (Running vs (code.loop t body rest) ls st) = Stuck
-advance m (Running vs (code.choice t body other rest) ls st) = Stuck
+advance m (Running vs next ls st) = take_next m vs next ls (tick (next_units next) st)
 advance m (Done st) = Done st
-advance m Trapped = Trapped
-advance m Stuck = Stuck
+advance m (Trapped count) = Trapped count
+advance m (Stuck count) = Stuck count
 
 -- so many steps
 abbrev pub run : Module → ℕ → Machine → Machine
 run m zero x = x
 run m (suc n) x = run m n (advance m x)
+
+-- a run is over where the machine is done, or has trapped, or has no step
+abbrev pub IsOver : Machine → Type 0
+IsOver (Running vs is ls st) = ⊥
+IsOver (Done st) = Unit {0}
+IsOver (Trapped count) = Unit {0}
+IsOver (Stuck count) = Unit {0}

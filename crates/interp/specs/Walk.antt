@@ -1,57 +1,58 @@
--- Where the walk is, in the machine's terms, and what its end says of the machine's run.
-use Rattle.std.specs.Prelude.{◌≡◌, ◌≢◌, ℕ, ◌+◌, ◌<◌, ◌≤◌, List, [], Result, Ok, Err}
-use Rattle.wasm_ast.specs.declared.types.Value.{Value}
+-- What the answers of the walk say of the machine's run.
+use Rattle.std.specs.Prelude.{◌≡◌, ◌≢◌, ℕ, ◌+◌, ◌-◌, ◌*◌, ◌<◌, ◌≤◌, length, Result, Ok, Err}
 use Rattle.wasm_ast.specs.declared.module.Module.{Module}
-use Rattle.wasm_ast.specs.Code.{Code}
-use Rattle.interp.specs.declared.call.CallOutcome.{CallOutcome}
-use Rattle.interp.specs.declared.walk.Configuration.{Configuration}
-use Rattle.interp.specs.declared.walk_fault.WalkFault.{WalkFault}
-use Rattle.interp.specs.declared.walk_fault.WalkFault.TheVariants as fault
-use Rattle.interp.specs.Acts.{state}
-use Rattle.interp.specs.Call.{Tells, next_units}
-use Rattle.interp.specs.Machine.{Machine, Running, Done, Trapped, Stuck, Layer, State, run}
+use Rattle.interp.specs.declared.fault.RunFault.{RunFault}
+use Rattle.interp.specs.declared.fault.RunFault.TheVariants as fault
+use Rattle.interp.specs.declared.walk.Turn.{Turn}
+use Rattle.interp.specs.declared.walk.Turn.TheVariants as turn
+use Rattle.interp.specs.Configuration.{State}
+use Rattle.interp.specs.Machine.{Machine, Done, Trapped, Stuck, run, next_units}
+use Rattle.interp.specs.Place.{Place, running}
 
--- the machine in this configuration, with this code to come and no layers
-abbrev pub running : Configuration → Code → Machine
-running c code = Running c.operands code [] (state c.locals c.host c.count)
+-- the machine is this, and where it runs it is at that place
+abbrev pub Turned : Result Turn RunFault → Machine → Place → Type 0
+Turned (Ok turn.Next) x p = x ≡ running p
+Turned (Ok turn.Finished) x p = x ≡ Done p.state
+Turned (Err fault.Trap) x p = x ≡ Trapped p.state.count
+Turned (Err fault.Stuck) x p = x ≡ Stuck p.state.count
+Turned (Err fault.OutOfMemory) x p = Unit {0}
+Turned (Err fault.Budget) x p = ⊥
 
--- an instruction was taken: the machine after it is this, unless memory or the budget is used up
-abbrev pub Turned : {T : Type 0} → Result T WalkFault → Machine → Machine → Type 0
-Turned (Ok _) after x = after ≡ x
-Turned (Err fault.Trap) after x = after ≡ Trapped
-Turned (Err fault.Stuck) after x = after ≡ Stuck
-Turned (Err fault.OutOfMemory) after x = Unit {0}
-Turned (Err fault.Budget) after x = Unit {0}
+-- the same of a step that counts so many units, where the budget allows it
+abbrev pub Stepped : Result Turn RunFault → Machine → Place → ℕ → ℕ → Type 0
+Stepped (Err fault.Budget) x p total budget = budget < total
+Stepped (Ok turn.Next) x p total budget = (x ≡ running p) × (total ≤ budget)
+Stepped (Ok turn.Finished) x p total budget = (x ≡ Done p.state) × (total ≤ budget)
+Stepped (Err fault.Trap) x p total budget = (x ≡ Trapped p.state.count) × (total ≤ budget)
+Stepped (Err fault.Stuck) x p total budget = (x ≡ Stuck p.state.count) × (total ≤ budget)
+Stepped (Err fault.OutOfMemory) x p total budget = Unit {0}
+
+-- the run is done after so many steps and no fewer
+pub record Finishes (m : Module) (from : Machine) (final : State) : Type 0 where
+  pub steps : ℕ
+  pub done : run m steps from ≡ Done final
+  pub least : (n : ℕ) → n < steps → (st : State) → run m n from ≢ Done st
 
 -- the machine comes to this one
 pub record Comes (m : Module) (from to : Machine) : Type 0 where
   pub steps : ℕ
   pub there : run m steps from ≡ to
 
--- the machine ends after so many steps and no fewer, within the budget, and the outcome tells of its state
-pub record Finishes (m : Module) (from : Machine) (budget : ℕ) (outcome : CallOutcome) : Type 0 where
-  pub steps : ℕ
-  pub final : State
-  pub done : run m steps from ≡ Done final
-  pub least : (n : ℕ) → n < steps → (st : State) → run m n from ≢ Done st
-  pub tells : Tells outcome final
-  pub within : outcome.units ≤ budget
-
--- the machine comes to an instruction that would make its count greater than the budget
+-- the machine comes to a place where the next instruction would make the count greater than the budget
 pub record Passes (m : Module) (from : Machine) (budget : ℕ) : Type 0 where
-  pub steps : ℕ
-  pub values : List Value
-  pub next : Code
-  pub layers : List Layer
-  pub state : State
-  pub comes : run m steps from ≡ Running values next layers state
-  pub within : state.count ≤ budget
-  pub passes : budget < state.count + next_units next
+  pub place : Place
+  pub comes : Comes m from (running place)
+  pub within : place.state.count ≤ budget
+  pub passes : budget < place.state.count + next_units place.code
 
--- what the answer of a walk says of the machine's run, unless memory runs out
-abbrev pub Ends : Result CallOutcome WalkFault → Module → Machine → ℕ → Type 0
-Ends (Ok outcome) m from budget = Finishes m from budget outcome
-Ends (Err fault.Budget) m from budget = Passes m from budget
-Ends (Err fault.Trap) m from budget = Comes m from Trapped
-Ends (Err fault.Stuck) m from budget = Comes m from Stuck
-Ends (Err fault.OutOfMemory) m from budget = Unit {0}
+-- the run ends so, within the budget, where the walk is at that place
+abbrev pub Ends : {T : Type 0} → Result T RunFault → Module → Machine → ℕ → Place → Type 0
+Ends (Ok _) m from budget p = Finishes m from p.state × (p.state.count ≤ budget)
+Ends (Err fault.Trap) m from budget p = Comes m from (Trapped p.state.count) × (p.state.count ≤ budget)
+Ends (Err fault.Stuck) m from budget p = Comes m from (Stuck p.state.count) × (p.state.count ≤ budget)
+Ends (Err fault.Budget) m from budget p = Passes m from budget
+Ends (Err fault.OutOfMemory) m from budget p = Unit {0}
+
+-- how many steps may be left
+abbrev pub left_of : ℕ → Place → ℕ
+left_of budget p = 2 * (budget - p.state.count) + length p.layers

@@ -1,24 +1,9 @@
-//! Why there is no call.
+//! Why a call gave no outcome.
 
 ghost use Rattle.std.specs.Prelude.{◌≡◌};
 
 use std::alloc::AllocError;
 use thiserror::Error;
-
-/// Why a module is not one that `Straight` runs.
-#[derive(Clone, Copy, Debug, PartialEq, Eq, Error)]
-pub enum StraightFault {
-    /// There is no exported defined function `compute` of no parameters and no results, or there is a second defined
-    /// function, or an import other than `get_value` and `set_value` of `pregel` with its type.
-    #[error("the module is not a straight one")]
-    Shape,
-    /// The module has that shape, and is not typed.
-    #[error("the module is not typed")]
-    Typing,
-    /// Memory ran out.
-    #[error("out of memory")]
-    OutOfMemory,
-}
 
 /// Why a call gave no outcome.
 #[derive(Clone, Copy, Debug, PartialEq, Eq, Error)]
@@ -29,14 +14,21 @@ pub enum RunFault {
     /// The next instruction would pass the budget.
     #[error("the budget is used up")]
     Budget,
+    /// The instruction traps (Core 1.0, 4.4).
+    #[error("the call trapped")]
+    Trap,
+    /// There is no step: the module is not one that is called, an operand is missing or of the wrong type, a number names
+    /// nothing, or the instruction is `call_indirect` or `memory.grow`.
+    #[error("the call has no step")]
+    Stuck,
 }
 
-impl From<AllocError> for StraightFault {
-    ghost use Rattle.interp.specs.declared.fault.StraightFault.TheVariants.{OutOfMemory};
+impl From<AllocError> for RunFault {
+    ghost use Rattle.interp.specs.declared.fault.RunFault.TheVariants.{OutOfMemory};
 
     ghost from_gives = { λ _ fault. fault ≡ OutOfMemory };
 
-    fn from(_: AllocError) -> StraightFault {
-        StraightFault::OutOfMemory
+    fn from(_: AllocError) -> RunFault {
+        RunFault::OutOfMemory
     }
 }

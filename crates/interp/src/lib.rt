@@ -1,23 +1,28 @@
-//! Compute calls: the reduction of WebAssembly (Core 1.0, section 4), for modules without control.
+//! Compute calls: the reduction of WebAssembly (Core 1.0, section 4) over valid modules.
 #![tactic(auto)]
 
-mod call;
 mod fault;
+mod globals;
 mod host;
+mod laws;
+mod layers;
 mod locals;
+mod memory;
 mod numeric;
 mod operands;
 mod plain;
+mod program;
+mod rooms;
 mod runs;
-mod shape;
-mod straight;
+mod scratch;
+mod start;
+mod walk;
+
+pub use fault::RunFault;
+pub use host_calls::{CallInput, CallOutcome};
+pub use laws::{an_end_stays, one_outcome};
+pub use runs::run;
+pub use scratch::Scratch;
+
 #[cfg(test)]
 mod tests;
-mod typing;
-mod walk;
-mod walk_fault;
-
-pub use call::{CallInput, CallOutcome};
-pub use fault::{RunFault, StraightFault};
-pub use runs::run;
-pub use straight::Straight;

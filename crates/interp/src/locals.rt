@@ -1,60 +1,124 @@
-//! The locals of a running function.
+//! The locals of all frames in one list, of which the last belong to the innermost.
 
-ghost use Rattle.std.specs.Prelude.{◌≡◌, length, map, nat_lt, slice_get, slice_set, ok_or, true, false, IfOk, IfErr, OnOk};
+ghost use Rattle.std.specs.Prelude.{◌≡◌, ◌++◌, ◌≤◌, [], length, take, drop, map, nat_lt, ok_or, true, false, slice_get, slice_set, OnOk, OnErr, IfErr};
 ghost use Rattle.wasm_ast.specs.Values.{zero_of};
 
-use crate::walk_fault::WalkFault;
+use crate::fault::RunFault;
 use std::alloc::{AllocError, Global};
 use std::marker::Model;
 use wasm_ast::{ValType, Value};
 
-/// The locals, which contracts see as their list.
+/// Locals, which contracts see in two parts in order: those of the innermost frame, and those below.
 #[derive(Drop)]
 pub struct Locals {
     values: Vec<Value>,
+    base: usize,
 }
 
 impl Model for Locals {
-    ghost use Rattle.std.specs.Prelude.{List};
-    ghost use Rattle.wasm_ast.specs.declared.types.Value.{Value as AnyValue};
+    ghost use Rattle.std.specs.Prelude.{◌≤◌, take, drop, length};
+    ghost use Rattle.interp.specs.Split.{Split};
 
-    ghost Value = { List AnyValue };
+    ghost Value = { Split };
 
-    ghost view = { λ locals. locals.values.items };
+    ghost view = { λ a. record { here = drop a.base a.values.items; below = take a.base a.values.items } };
+
+    ghost invariant = { λ a. a.base ≤ length a.values.items };
 }
 
 impl Locals {
-    /// A local of each type, each 0 (Core 1.0, 4.4.7).
-    pub fn zeros(alloc: Global, types: &[ValType]) -> Result<Locals, AllocError>
-        ensures { IfOk result (λ locals. locals ≡ map zero_of types.now) }
+    /// None; it takes no memory.
+    pub fn new(alloc: Global) -> Locals
+        ensures here { result.here ≡ [] }
+        ensures below { result.below ≡ [] }
     {
-        Ok(Locals {
-            values: types.iter().map(|of| Value::zero(*of)).collect(alloc)?,
-        })
-    }
-
-    /// The local's value; `Stuck` where there is no local with this number.
-    pub fn get(&self, number: u32) -> Result<Value, WalkFault>
-        ensures { result ≡ ok_or (slice_get self.now number) WalkFault.Stuck }
-    {
-        self.values
-            .as_slice()
-            .get(number as usize)
-            .copied()
-            .ok_or(WalkFault::Stuck)
-    }
-
-    /// Sets the local; `Stuck` where there is no local with this number.
-    pub fn set(&mut self, number: u32, value: Value) -> Result<(), WalkFault>
-        ensures there { OnOk result ((nat_lt number (length self.old) ≡ true) × (self.new ≡ slice_set self.old number value)) }
-        ensures missing { IfErr result (λ fault. (fault ≡ WalkFault.Stuck) × (nat_lt number (length self.old) ≡ false)) }
-    {
-        match self.values.get_mut(number as usize) {
-            Some(local) => {
-                *local = value;
-                Ok(())
-            }
-            None => Err(WalkFault::Stuck),
+        Locals {
+            values: Vec::new(alloc),
+            base: 0,
         }
     }
+
+    /// Drops all and keeps the room for them.
+    pub fn clear(&mut self)
+        ensures { self.new ≡ record { here = []; below = [] } }
+    {
+        self.values.clear();
+        self.base = 0;
+    }
+
+    /// The local's value; `Stuck` where the frame has no local with this number.
+    #[inline]
+    pub fn get(&self, number: u32) -> Result<Value, RunFault>
+        ensures { result ≡ ok_or (slice_get self.now.here number) RunFault.Stuck }
+    {
+        let here = &self.values[self.base..];
+        here.get(number as usize).copied().ok_or(RunFault::Stuck)
+    }
+
+    /// Sets the local; `Stuck` where the frame has no local with this number.
+    #[inline]
+    pub fn set(&mut self, number: u32, value: Value) -> Result<(), RunFault>
+        ensures there { OnOk result (nat_lt number (length self.old.here) ≡ true) }
+        ensures here { OnOk result (self.new.here ≡ slice_set self.old.here number value) }
+        ensures missing { IfErr result (λ fault. (fault ≡ RunFault.Stuck) × (nat_lt number (length self.old.here) ≡ false)) }
+        ensures below { self.new.below ≡ self.old.below }
+    {
+        let number = number as usize;
+        if number < self.values.len() - self.base {
+            let at = self.base + number;
+            self.values[at] = value;
+            Ok(())
+        } else {
+            Err(RunFault::Stuck)
+        }
+    }
+
+    /// Where the innermost frame's begin.
+    #[inline]
+    pub fn base(&self) -> usize
+        ensures { result ≡ length self.now.below }
+    {
+        self.base
+    }
+
+    /// Begins a frame with these.
+    #[inline]
+    pub fn open(&mut self, arguments: &[Value]) -> Result<(), AllocError>
+        ensures ok { OnOk result (self.new ≡ record { here = arguments.now; below = self.old.below ++ self.old.here }) }
+        ensures err { OnErr result (self.new ≡ self.old) }
+    {
+        let base = self.values.len();
+        self.values.extend_from_slice(arguments)?;
+        self.base = base;
+        Ok(())
+    }
+
+    /// Adds a local of each type, each 0 (Core 1.0, 4.4.7).
+    pub fn add(&mut self, types: &[ValType]) -> Result<(), AllocError>
+        ensures here { OnOk result (self.new.here ≡ self.old.here ++ map zero_of types.now) }
+        ensures below { self.new.below ≡ self.old.below }
+    {
+        add_zeros(&mut self.values, types)
+    }
+
+    /// Ends a frame. The next one's begin at a base.
+    #[inline]
+    pub fn close(&mut self, base: usize)
+        requires { base ≤ length self.old.below }
+        ensures here { self.new.here ≡ drop base self.old.below }
+        ensures below { self.new.below ≡ take base self.old.below }
+    {
+        self.values.truncate(self.base);
+        self.base = base;
+    }
+}
+
+fn add_zeros(values: &mut Vec<Value>, types: &[ValType]) -> Result<(), AllocError>
+    ensures ok { OnOk result (values.new.items ≡ values.old.items ++ map zero_of types.now) }
+    ensures kept { take (length values.old.items) values.new.items ≡ values.old.items }
+{
+    for one in types {
+        values.push(Value::zero(*one))?;
+    }
+    Ok(())
 }

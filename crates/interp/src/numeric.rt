@@ -1,32 +1,38 @@
 //! Numeric instructions (Core 1.0, 4.4.1) on the operands.
 
-ghost use Rattle.interp.specs.Machine.{State, numeric_effect};
+ghost use Rattle.std.specs.Prelude.{◌≡◌};
+ghost use Rattle.interp.specs.Configuration.{State};
+ghost use Rattle.interp.specs.Effects.{numeric_effect};
 ghost use Rattle.interp.specs.Acts.{Acts};
 ghost use Rattle.wasm_ast.specs.declared.numeric.Numeric.TheVariants as numeric;
+ghost use Rattle.wasm_ast.specs.declared.types.ValType.TheVariants.{I32 as i32_type, I64 as i64_type};
 
+use crate::fault::RunFault;
 use crate::operands::Operands;
-use crate::walk_fault::WalkFault;
 use wasm_ast::{
-    Binary, Comparison, Conversion, Numeric, Unary, ValType, Value, i32_eqz, i32_wrap_i64, i64_eqz,
-    i64_extend_i32_s, i64_extend_i32_u,
+    Binary, Comparison, Conversion, Division, Numeric, Unary, ValType, Value, i32_eqz,
+    i32_wrap_i64, i64_eqz, i64_extend_i32_s, i64_extend_i32_u,
 };
 
-/// Takes the operands of a numeric instruction and gives its result; the divisions have none.
-pub fn act_numeric(op: Numeric, operands: &mut Operands) -> Result<(), WalkFault>
-    ensures { (st : State) → Acts result (numeric_effect op operands.old st) operands.new st }
+/// Takes the operands of a numeric instruction and gives its result. Divisions trap where there is none.
+#[inline]
+pub fn act_numeric(op: Numeric, operands: &mut Operands) -> Result<(), RunFault>
+    ensures acts { (st : State) → Acts result (numeric_effect op operands.old.here st) operands.new.here st }
+    ensures below { operands.new.below ≡ operands.old.below }
 {
     match op {
         Numeric::Eqz(of) => act_eqz(of, operands),
         Numeric::Comparison(of, comparison) => act_comparison(of, comparison, operands),
         Numeric::Unary(of, unary) => act_unary(of, unary, operands),
         Numeric::Binary(of, binary) => act_binary(of, binary, operands),
-        Numeric::Division(_, _) => Err(WalkFault::Stuck),
+        Numeric::Division(of, division) => act_division(of, division, operands),
         Numeric::Conversion(conversion) => act_conversion(conversion, operands),
     }
 }
 
-fn act_eqz(of: ValType, operands: &mut Operands) -> Result<(), WalkFault>
-    ensures { (st : State) → Acts result (numeric_effect (numeric.Eqz of) operands.old st) operands.new st }
+fn act_eqz(of: ValType, operands: &mut Operands) -> Result<(), RunFault>
+    ensures acts { (st : State) → Acts result (numeric_effect (numeric.Eqz of) operands.old.here st) operands.new.here st }
+    ensures below { operands.new.below ≡ operands.old.below }
 {
     let answer = match of {
         ValType::I32 => i32_eqz(operands.pop_i32()?),
@@ -40,8 +46,9 @@ fn act_comparison(
     of: ValType,
     comparison: Comparison,
     operands: &mut Operands,
-) -> Result<(), WalkFault>
-    ensures { (st : State) → Acts result (numeric_effect (numeric.Comparison of comparison) operands.old st) operands.new st }
+) -> Result<(), RunFault>
+    ensures acts { (st : State) → Acts result (numeric_effect (numeric.Comparison of comparison) operands.old.here st) operands.new.here st }
+    ensures below { operands.new.below ≡ operands.old.below }
 {
     let holds = match of {
         ValType::I32 => {
@@ -57,8 +64,9 @@ fn act_comparison(
     Ok(())
 }
 
-fn act_unary(of: ValType, unary: Unary, operands: &mut Operands) -> Result<(), WalkFault>
-    ensures { (st : State) → Acts result (numeric_effect (numeric.Unary of unary) operands.old st) operands.new st }
+fn act_unary(of: ValType, unary: Unary, operands: &mut Operands) -> Result<(), RunFault>
+    ensures acts { (st : State) → Acts result (numeric_effect (numeric.Unary of unary) operands.old.here st) operands.new.here st }
+    ensures below { operands.new.below ≡ operands.old.below }
 {
     let value = match of {
         ValType::I32 => Value::I32(unary.apply_i32(operands.pop_i32()?)),
@@ -68,8 +76,9 @@ fn act_unary(of: ValType, unary: Unary, operands: &mut Operands) -> Result<(), W
     Ok(())
 }
 
-fn act_binary(of: ValType, binary: Binary, operands: &mut Operands) -> Result<(), WalkFault>
-    ensures { (st : State) → Acts result (numeric_effect (numeric.Binary of binary) operands.old st) operands.new st }
+fn act_binary(of: ValType, binary: Binary, operands: &mut Operands) -> Result<(), RunFault>
+    ensures acts { (st : State) → Acts result (numeric_effect (numeric.Binary of binary) operands.old.here st) operands.new.here st }
+    ensures below { operands.new.below ≡ operands.old.below }
 {
     let value = match of {
         ValType::I32 => {
@@ -85,8 +94,45 @@ fn act_binary(of: ValType, binary: Binary, operands: &mut Operands) -> Result<()
     Ok(())
 }
 
-fn act_conversion(conversion: Conversion, operands: &mut Operands) -> Result<(), WalkFault>
-    ensures { (st : State) → Acts result (numeric_effect (numeric.Conversion conversion) operands.old st) operands.new st }
+fn act_division(of: ValType, division: Division, operands: &mut Operands) -> Result<(), RunFault>
+    ensures acts { (st : State) → Acts result (numeric_effect (numeric.Division of division) operands.old.here st) operands.new.here st }
+    ensures below { operands.new.below ≡ operands.old.below }
+{
+    match of {
+        ValType::I32 => divide_i32(division, operands),
+        ValType::I64 => divide_i64(division, operands),
+    }
+}
+
+fn divide_i32(division: Division, operands: &mut Operands) -> Result<(), RunFault>
+    ensures acts { (st : State) → Acts result (numeric_effect (numeric.Division i32_type division) operands.old.here st) operands.new.here st }
+    ensures below { operands.new.below ≡ operands.old.below }
+{
+    let second = operands.pop_i32()?;
+    let first = operands.pop_i32()?;
+    if division.traps_i32(first, second) {
+        return Err(RunFault::Trap);
+    }
+    operands.push(Value::I32(division.apply_i32(first, second)))?;
+    Ok(())
+}
+
+fn divide_i64(division: Division, operands: &mut Operands) -> Result<(), RunFault>
+    ensures acts { (st : State) → Acts result (numeric_effect (numeric.Division i64_type division) operands.old.here st) operands.new.here st }
+    ensures below { operands.new.below ≡ operands.old.below }
+{
+    let second = operands.pop_i64()?;
+    let first = operands.pop_i64()?;
+    if division.traps_i64(first, second) {
+        return Err(RunFault::Trap);
+    }
+    operands.push(Value::I64(division.apply_i64(first, second)))?;
+    Ok(())
+}
+
+fn act_conversion(conversion: Conversion, operands: &mut Operands) -> Result<(), RunFault>
+    ensures acts { (st : State) → Acts result (numeric_effect (numeric.Conversion conversion) operands.old.here st) operands.new.here st }
+    ensures below { operands.new.below ≡ operands.old.below }
 {
     let value = match conversion {
         Conversion::Wrap => Value::I32(i32_wrap_i64(operands.pop_i64()?)),

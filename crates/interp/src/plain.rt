@@ -1,25 +1,37 @@
 //! Instructions that neither branch nor call (Core 1.0, 4.4.1 to 4.4.4).
 
-ghost use Rattle.std.specs.Prelude.{ℕ, List};
+ghost use Rattle.std.specs.Prelude.{◌≡◌, ℕ, List};
 ghost use Rattle.wasm_ast.specs.declared.types.Value.{Value as AnyValue};
+ghost use Rattle.wasm_ast.specs.declared.plain.Memory.TheVariants as memory_variant;
 ghost use Rattle.wasm_ast.specs.declared.plain.Plain.TheVariants as plain;
-ghost use Rattle.interp.specs.Host.{Host as AnyHost};
-ghost use Rattle.interp.specs.Machine.{State, plain_effect, variable_effect};
+ghost use Rattle.host_calls.specs.Host.{Host as AnyHost};
 ghost use Rattle.interp.specs.Acts.{Acts, state};
+ghost use Rattle.interp.specs.Configuration.{State};
+ghost use Rattle.interp.specs.Effects.{effect, variable_effect, memory_effect};
 
+use crate::fault::RunFault;
+use crate::globals::Globals;
 use crate::locals::Locals;
+use crate::memory::Memory;
 use crate::numeric::act_numeric;
 use crate::operands::Operands;
-use crate::walk_fault::WalkFault;
-use wasm_ast::{Plain, Variable};
+use wasm_ast::{
+    Load, Memory as MemoryAccess, MemoryArgument, Plain, Store, ValType, Value, Variable,
+};
 
-/// Acts on the operands and the locals; there are no globals and no memory.
+/// Acts on the operands, the locals, the globals and the memory. `Trap` where the instruction traps, and `Stuck` where an
+/// operand is missing or of the wrong type, where a number names nothing, and at memory.grow.
+#[inline]
 pub fn act_plain(
     instruction: Plain,
     operands: &mut Operands,
     locals: &mut Locals,
-) -> Result<(), WalkFault>
-    ensures { (host : AnyHost) (count : ℕ) → Acts result (plain_effect instruction operands.old (state locals.old host count)) operands.new (state locals.new host count) }
+    globals: &mut Globals,
+    bytes: &mut Memory,
+) -> Result<(), RunFault>
+    ensures acts { (host : AnyHost) (count : ℕ) → Acts result (effect instruction operands.old.here (state locals.old.here globals.old bytes.old host count)) operands.new.here (state locals.new.here globals.new bytes.new host count) }
+    ensures below { operands.new.below ≡ operands.old.below }
+    ensures locals_below { locals.new.below ≡ locals.old.below }
 {
     match instruction {
         Plain::Nop => Ok(()),
@@ -33,32 +45,38 @@ pub fn act_plain(
             Ok(())
         }
         Plain::Numeric(op) => act_numeric(op, operands),
-        Plain::Variable(op) => act_variable(op, operands, locals),
-        Plain::Memory(_) => Err(WalkFault::Stuck),
+        Plain::Variable(op) => act_variable(op, operands, locals, globals),
+        Plain::Memory(op) => act_memory(op, operands, bytes),
     }
 }
 
 /// Gives the first of two operands of one type for a number other than 0, and the second for 0 (Core 1.0, 4.4.2).
-fn act_select(operands: &mut Operands) -> Result<(), WalkFault>
-    ensures { (st : State) → Acts result (plain_effect plain.Select operands.old st) operands.new st }
+#[inline]
+fn act_select(operands: &mut Operands) -> Result<(), RunFault>
+    ensures acts { (st : State) → Acts result (effect plain.Select operands.old.here st) operands.new.here st }
+    ensures below { operands.new.below ≡ operands.old.below }
 {
     let number = operands.pop_i32()?;
     let second = operands.pop()?;
     let first = operands.pop()?;
     if first.val_type() != second.val_type() {
-        return Err(WalkFault::Stuck);
+        return Err(RunFault::Stuck);
     }
     operands.push(if number == 0 { second } else { first })?;
     Ok(())
 }
 
-/// Reads and writes of locals (Core 1.0, 4.4.3); there are no globals.
+/// Reads and writes of locals and globals (Core 1.0, 4.4.3).
+#[inline]
 fn act_variable(
     instruction: Variable,
     operands: &mut Operands,
     locals: &mut Locals,
-) -> Result<(), WalkFault>
-    ensures { (host : AnyHost) (count : ℕ) → Acts result (variable_effect instruction operands.old (state locals.old host count)) operands.new (state locals.new host count) }
+    globals: &mut Globals,
+) -> Result<(), RunFault>
+    ensures acts { (bytes : List ℕ) (host : AnyHost) (count : ℕ) → Acts result (variable_effect instruction operands.old.here (state locals.old.here globals.old bytes host count)) operands.new.here (state locals.new.here globals.new bytes host count) }
+    ensures below { operands.new.below ≡ operands.old.below }
+    ensures locals_below { locals.new.below ≡ locals.old.below }
 {
     match instruction {
         Variable::LocalGet(number) => operands.push(locals.get(number)?)?,
@@ -68,7 +86,67 @@ fn act_variable(
             locals.set(number, value)?;
             operands.push(value)?;
         }
-        Variable::GlobalGet(_) | Variable::GlobalSet(_) => return Err(WalkFault::Stuck),
+        Variable::GlobalGet(number) => operands.push(globals.get(number)?)?,
+        Variable::GlobalSet(number) => globals.set(number, operands.pop()?)?,
     }
     Ok(())
+}
+
+/// Loads, stores and the size of the memory (Core 1.0, 4.4.4). There is no growing.
+#[inline]
+fn act_memory(
+    instruction: MemoryAccess,
+    operands: &mut Operands,
+    bytes: &mut Memory,
+) -> Result<(), RunFault>
+    ensures acts { (locals globals : List AnyValue) (host : AnyHost) (count : ℕ) → Acts result (memory_effect instruction operands.old.here (state locals globals bytes.old host count)) operands.new.here (state locals globals bytes.new host count) }
+    ensures below { operands.new.below ≡ operands.old.below }
+{
+    match instruction {
+        MemoryAccess::Load(op, argument) => act_load(op, argument, operands, bytes),
+        MemoryAccess::Store(op, argument) => act_store(op, argument, operands, bytes),
+        MemoryAccess::Size => {
+            operands.push(Value::I32(bytes.size()))?;
+            Ok(())
+        }
+        MemoryAccess::Grow => Err(RunFault::Stuck),
+    }
+}
+
+#[inline]
+fn act_load(
+    op: Load,
+    argument: MemoryArgument,
+    operands: &mut Operands,
+    bytes: &Memory,
+) -> Result<(), RunFault>
+    ensures acts { (locals globals : List AnyValue) (host : AnyHost) (count : ℕ) → Acts result (memory_effect (memory_variant.Load op argument) operands.old.here (state locals globals bytes.now host count)) operands.new.here (state locals globals bytes.now host count) }
+    ensures below { operands.new.below ≡ operands.old.below }
+{
+    let place = u64::from(operands.pop_i32()?) + u64::from(argument.offset);
+    let value = bytes.load(op, place).ok_or(RunFault::Trap)?;
+    operands.push(value)?;
+    Ok(())
+}
+
+#[inline]
+fn act_store(
+    op: Store,
+    argument: MemoryArgument,
+    operands: &mut Operands,
+    bytes: &mut Memory,
+) -> Result<(), RunFault>
+    ensures acts { (locals globals : List AnyValue) (host : AnyHost) (count : ℕ) → Acts result (memory_effect (memory_variant.Store op argument) operands.old.here (state locals globals bytes.old host count)) operands.new.here (state locals globals bytes.new host count) }
+    ensures below { operands.new.below ≡ operands.old.below }
+{
+    let number = match op.val_type() {
+        ValType::I32 => u64::from(operands.pop_i32()?),
+        ValType::I64 => operands.pop_i64()?,
+    };
+    let place = u64::from(operands.pop_i32()?) + u64::from(argument.offset);
+    if bytes.store(op, place, number) {
+        Ok(())
+    } else {
+        Err(RunFault::Trap)
+    }
 }

@@ -1,37 +1,241 @@
-//! Walks of bodies made by hand, each of a module that imports `get_value` (0) and `set_value` (1), and whose one
-//! function has a local of each type.
+//! Calls of modules made by hand, with values and counts worked out by Core 1.0, section 4.
+//!
+//! Each module imports all functions of the host, as numbers 0 to 13. Its function 14 is `compute`, with an i64, an i32
+//! and another i64 as locals; others that it defines begin with number 15.
 
-use crate::call::{CallInput, CallOutcome};
-use crate::fault::RunFault;
-use crate::runs::run;
-use crate::straight::Straight;
-use crate::walk::walk;
-use crate::walk_fault::WalkFault;
-use std::alloc::{AllocError, Global};
-use std::test::Fail;
+mod budgets;
+mod calls;
+mod control;
+mod host;
+mod memories;
+mod numbers;
+mod refused;
+
+use crate::{CallInput, RunFault, Scratch, run};
+use std::alloc::{AllocError, Global as Heap};
+use validate::{Valid, validate};
 use wasm_ast::{
-    Binary, BlockType, Body, Comparison, Conversion, Division, Export, ExportDescription, FuncType,
-    Function, Import, ImportDescription, Instr, Module, Name, Numeric, Plain, Sequence, Unary,
-    ValType, Value, Variable,
+    BlockType, Body, Branch, Data, Export, ExportDescription, FuncType, Function, Global,
+    GlobalType, Import, ImportDescription, Instr, Limits, Load, Memory, MemoryArgument, Module,
+    Mutability, Name, Numeric, Plain, Sequence, Store, ValType, Value, Variable,
 };
 
-/// More than any of these walks takes.
-const ENOUGH: u128 = 100;
+/// An instruction in short, or a part of one that holds others.
+#[derive(Clone, Copy)]
+enum Step {
+    I32(u32),
+    I64(u64),
+    Plain(Plain),
+    Numeric(Numeric),
+    Variable(Variable),
+    /// With an offset.
+    Load(Load, u32),
+    Store(Store, u32),
+    Br(u32),
+    BrIf(u32),
+    BrTable(&'static [u32], u32),
+    Return,
+    Call(u32),
+    CallIndirect(u32),
+    Unreachable,
+    Block(BlockType),
+    Loop(BlockType),
+    If(BlockType),
+    Else,
+    End,
+}
 
-fn name(alloc: Global, text: &str) -> Result<Name, AllocError> {
+const GET_VALUE: Step = Step::Call(3);
+
+const SET_VALUE: Step = Step::Call(4);
+
+const NEXT_MESSAGE: Step = Step::Call(5);
+
+const NEXT_EDGE: Step = Step::Call(7);
+
+/// What a call gave: the value and the count, or why it gave none; `None` where there is no such call.
+type End = Option<Result<(i64, u128), RunFault>>;
+
+/// What the modules of these tests differ in.
+#[derive(Clone, Copy)]
+struct Program<'a> {
+    compute: &'a [Step],
+    /// The type and the body of each function after `compute`.
+    others: &'a [(u32, &'a [Step])],
+    pages: u32,
+    /// The offset and the bytes of each segment.
+    data: &'a [(u32, &'a [u8])],
+}
+
+const EMPTY: Program = Program {
+    compute: &[],
+    others: &[],
+    pages: 1,
+    data: &[],
+};
+
+const VERTEX: CallInput = CallInput {
+    id: 3,
+    superstep: 2,
+    count: 9,
+    value: 34,
+    messages: &[7, 8, 9],
+    edges: &[(5, 50), (6, -60)],
+    aggregated: [10, 11, 12, 13, 14, 15, 16, 17],
+};
+
+/// More than most of these calls take.
+const ENOUGH: u128 = 1000;
+
+const TYPES: [(&[ValType], &[ValType]); 8] = [
+    (&[], &[]),
+    (&[], &[ValType::I64]),
+    (&[], &[ValType::I32]),
+    (&[ValType::I64], &[]),
+    (&[ValType::I64, ValType::I64], &[]),
+    (&[ValType::I32, ValType::I64], &[]),
+    (&[ValType::I32], &[ValType::I64]),
+    (&[ValType::I64, ValType::I64], &[ValType::I64]),
+];
+
+const IMPORTS: [(&str, u32); 14] = [
+    ("vertex_id", 1),
+    ("superstep", 1),
+    ("num_vertices", 1),
+    ("get_value", 1),
+    ("set_value", 3),
+    ("next_message", 2),
+    ("message_value", 1),
+    ("next_edge", 2),
+    ("edge_target", 1),
+    ("edge_value", 1),
+    ("send", 4),
+    ("aggregate", 5),
+    ("aggregated", 6),
+    ("vote_to_halt", 0),
+];
+
+const LOCALS: [ValType; 3] = [ValType::I64, ValType::I32, ValType::I64];
+
+/// The initial values of the globals, all of which are variable.
+const GLOBALS: [Value; 2] = [Value::I64(5), Value::I32(6)];
+
+/// Instructions of a sequence that is not closed yet, and the step that opened it.
+#[derive(Drop)]
+struct Level {
+    opened: Step,
+    instrs: Vec<Instr>,
+}
+
+fn open(alloc: Heap, levels: &mut Vec<Level>, opened: Step) -> Result<(), AllocError> {
+    levels.push(Level {
+        opened,
+        instrs: Vec::new(alloc),
+    })?;
+    Ok(())
+}
+
+fn put(levels: &mut Vec<Level>, instr: Instr) -> Result<(), AllocError> {
+    if let Some(level) = levels.last_mut() {
+        level.instrs.push(instr)?;
+    }
+    Ok(())
+}
+
+fn closed(alloc: Heap, levels: &mut Vec<Level>) -> Option<Instr> {
+    let level = levels.pop()?;
+    let body = Body::from(level.instrs);
+    match level.opened {
+        Step::Block(result) => Some(Instr::Block(result, body)),
+        Step::Loop(result) => Some(Instr::Loop(result, body)),
+        Step::If(result) => Some(Instr::If(result, body, Body::empty(alloc))),
+        _ => choice(levels, body),
+    }
+}
+
+fn choice(levels: &mut Vec<Level>, other: Body) -> Option<Instr> {
+    let level = levels.pop()?;
+    match level.opened {
+        Step::If(result) => Some(Instr::If(result, Body::from(level.instrs), other)),
+        _ => None,
+    }
+}
+
+fn memory_argument(offset: u32) -> MemoryArgument {
+    MemoryArgument { align: 0, offset }
+}
+
+fn plain_of(step: Step) -> Plain {
+    match step {
+        Step::I32(number) => Plain::Const(Value::I32(number)),
+        Step::I64(number) => Plain::Const(Value::I64(number)),
+        Step::Plain(plain) => plain,
+        Step::Numeric(op) => Plain::Numeric(op),
+        Step::Variable(variable) => Plain::Variable(variable),
+        Step::Load(load, offset) => Plain::Memory(Memory::Load(load, memory_argument(offset))),
+        Step::Store(store, offset) => Plain::Memory(Memory::Store(store, memory_argument(offset))),
+        _ => Plain::Nop,
+    }
+}
+
+fn instr_of(alloc: Heap, step: Step) -> Result<Instr, AllocError> {
+    match step {
+        Step::Br(label) => Ok(Instr::Branch(Branch::Br(label))),
+        Step::BrIf(label) => Ok(Instr::Branch(Branch::BrIf(label))),
+        Step::BrTable(labels, other) => {
+            let labels = Sequence::from(labels.to_vec(alloc)?);
+            Ok(Instr::Branch(Branch::BrTable(labels, other)))
+        }
+        Step::Return => Ok(Instr::Branch(Branch::Return)),
+        Step::Call(function) => Ok(Instr::Call(function)),
+        Step::CallIndirect(type_number) => Ok(Instr::CallIndirect(type_number)),
+        Step::Unreachable => Ok(Instr::Unreachable),
+        _ => Ok(Instr::Plain(plain_of(step))),
+    }
+}
+
+fn take_step(alloc: Heap, levels: &mut Vec<Level>, step: Step) -> Result<(), AllocError> {
+    match step {
+        Step::Block(_) => open(alloc, levels, step),
+        Step::Loop(_) => open(alloc, levels, step),
+        Step::If(_) => open(alloc, levels, step),
+        Step::Else => open(alloc, levels, step),
+        Step::End => match closed(alloc, levels) {
+            Some(instr) => put(levels, instr),
+            None => Ok(()),
+        },
+        _ => put(levels, instr_of(alloc, step)?),
+    }
+}
+
+fn code(alloc: Heap, steps: &[Step]) -> Result<Body, AllocError> {
+    let mut levels = Vec::new(alloc);
+    open(alloc, &mut levels, Step::End)?;
+    for step in steps {
+        take_step(alloc, &mut levels, *step)?;
+    }
+    match levels.pop() {
+        Some(level) => Ok(Body::from(level.instrs)),
+        None => Ok(Body::empty(alloc)),
+    }
+}
+
+fn constant(alloc: Heap, value: Value) -> Result<Body, AllocError> {
+    Ok(Body::from(vec![in alloc; Instr::Plain(Plain::Const(value))]?))
+}
+
+fn name(alloc: Heap, text: &str) -> Result<Name, AllocError> {
     Ok(Name::from(String::from_str(alloc, text)?))
 }
 
-fn import(alloc: Global, text: &str, type_number: u32) -> Result<Import, AllocError> {
-    Ok(Import {
-        module: name(alloc, "pregel")?,
-        name: name(alloc, text)?,
-        description: ImportDescription::Function(type_number),
-    })
+fn one<T: Drop>(alloc: Heap, item: T) -> Result<Sequence<T>, AllocError> {
+    let mut items = Vec::new(alloc);
+    items.push(item)?;
+    Ok(Sequence::from(items))
 }
 
-fn function_type(
-    alloc: Global,
+fn func_type(
+    alloc: Heap,
     parameters: &[ValType],
     results: &[ValType],
 ) -> Result<FuncType, AllocError> {
@@ -41,271 +245,145 @@ fn function_type(
     })
 }
 
-fn module_of(alloc: Global, body: Vec<Instr>) -> Result<Module, AllocError> {
-    let i64_type = [ValType::I64];
-    let function = Function {
-        type_number: 2,
-        locals: Sequence::from([ValType::I64, ValType::I32].to_vec(alloc)?),
-        body: Body::from(body),
-    };
-    let export = Export {
-        name: name(alloc, "compute")?,
-        description: ExportDescription::Function(2),
-    };
-    Ok(Module {
-        types: Sequence::from(vec![in alloc;
-            function_type(alloc, &[], &i64_type)?,
-            function_type(alloc, &i64_type, &[])?,
-            function_type(alloc, &[], &[])?,
-        ]?),
-        imports: Sequence::from(vec![in alloc;
-            import(alloc, "get_value", 0)?,
-            import(alloc, "set_value", 1)?,
-        ]?),
-        functions: Sequence::from(vec![in alloc; function]?),
-        tables: Sequence::empty(alloc),
-        memories: Sequence::empty(alloc),
-        globals: Sequence::empty(alloc),
-        exports: Sequence::from(vec![in alloc; export]?),
-        start: None,
-        elements: Sequence::empty(alloc),
-        data: Sequence::empty(alloc),
+fn types(alloc: Heap) -> Result<Sequence<FuncType>, AllocError> {
+    let mut types = Vec::new(alloc);
+    for (parameters, results) in TYPES {
+        types.push(func_type(alloc, parameters, results)?)?;
+    }
+    Ok(Sequence::from(types))
+}
+
+fn import(alloc: Heap, text: &str, description: ImportDescription) -> Result<Import, AllocError> {
+    Ok(Import {
+        module: name(alloc, "pregel")?,
+        name: name(alloc, text)?,
+        description,
     })
 }
 
-/// A vertex with the value 34.
-const VERTEX: CallInput = CallInput {
-    id: 0,
-    superstep: 0,
-    count: 1,
-    value: 34,
-    messages: &[],
-    edges: &[],
-    aggregated: [0; 8],
-};
+fn imports(alloc: Heap) -> Result<Vec<Import>, AllocError> {
+    let mut imports = Vec::new(alloc);
+    for (text, type_number) in IMPORTS {
+        imports.push(import(alloc, text, ImportDescription::Function(type_number))?)?;
+    }
+    Ok(imports)
+}
 
-/// A walk for that vertex.
-fn walked(alloc: Global, body: Vec<Instr>, budget: u128) -> Result<CallOutcome, WalkFault> {
-    let module = module_of(alloc, body)?;
-    match module.functions.as_slice() {
-        [function] => walk(alloc, &module, function, &VERTEX, budget),
-        _ => Err(WalkFault::Stuck),
+fn function(alloc: Heap, type_number: u32, steps: &[Step]) -> Result<Function, AllocError> {
+    Ok(Function {
+        type_number,
+        locals: Sequence::from(LOCALS.to_vec(alloc)?),
+        body: code(alloc, steps)?,
+    })
+}
+
+fn functions(alloc: Heap, program: &Program) -> Result<Sequence<Function>, AllocError> {
+    let mut functions = Vec::new(alloc);
+    functions.push(function(alloc, 0, program.compute)?)?;
+    for (type_number, steps) in program.others {
+        functions.push(function(alloc, *type_number, steps)?)?;
+    }
+    Ok(Sequence::from(functions))
+}
+
+fn global(alloc: Heap, initial: Value) -> Result<Global, AllocError> {
+    Ok(Global {
+        global_type: GlobalType {
+            mutability: Mutability::Variable,
+            value: initial.val_type(),
+        },
+        initial: constant(alloc, initial)?,
+    })
+}
+
+fn globals(alloc: Heap) -> Result<Sequence<Global>, AllocError> {
+    let mut globals = Vec::new(alloc);
+    for initial in GLOBALS {
+        globals.push(global(alloc, initial)?)?;
+    }
+    Ok(Sequence::from(globals))
+}
+
+fn export(alloc: Heap, text: &str, description: ExportDescription) -> Result<Export, AllocError> {
+    Ok(Export {
+        name: name(alloc, text)?,
+        description,
+    })
+}
+
+fn segment(alloc: Heap, offset: u32, bytes: &[u8]) -> Result<Data, AllocError> {
+    Ok(Data {
+        memory: 0,
+        offset: constant(alloc, Value::I32(offset))?,
+        bytes: Sequence::from(bytes.to_vec(alloc)?),
+    })
+}
+
+fn segments(alloc: Heap, program: &Program) -> Result<Sequence<Data>, AllocError> {
+    let mut segments = Vec::new(alloc);
+    for (offset, bytes) in program.data {
+        segments.push(segment(alloc, *offset, bytes)?)?;
+    }
+    Ok(Sequence::from(segments))
+}
+
+fn fill_functions(alloc: Heap, module: &mut Module, program: &Program) -> Result<(), AllocError> {
+    module.types = types(alloc)?;
+    module.imports = Sequence::from(imports(alloc)?);
+    module.functions = functions(alloc, program)?;
+    let compute = export(alloc, "compute", ExportDescription::Function(14))?;
+    module.exports = one(alloc, compute)?;
+    Ok(())
+}
+
+fn fill(alloc: Heap, module: &mut Module, program: &Program) -> Result<(), AllocError> {
+    fill_functions(alloc, module, program)?;
+    let limits = Limits {
+        minimum: program.pages,
+        maximum: None,
+    };
+    module.memories = one(alloc, limits)?;
+    module.globals = globals(alloc)?;
+    module.data = segments(alloc, program)?;
+    Ok(())
+}
+
+fn valid(alloc: Heap, program: &Program) -> Option<Valid> {
+    let mut module = Module::empty(alloc);
+    match fill(alloc, &mut module, program) {
+        Ok(()) => validate(alloc, module).ok(),
+        Err(_) => None,
     }
 }
 
-/// The value that a body leaves.
-fn left_by(alloc: Global, body: Vec<Instr>) -> Result<i64, WalkFault> {
-    Ok(walked(alloc, body, ENOUGH)?.value)
-}
-
-fn i32_const(number: u32) -> Instr {
-    Instr::Plain(Plain::Const(Value::I32(number)))
-}
-
-fn i64_const(number: u64) -> Instr {
-    Instr::Plain(Plain::Const(Value::I64(number)))
-}
-
-fn numeric(op: Numeric) -> Instr {
-    Instr::Plain(Plain::Numeric(op))
-}
-
-fn i64_binary(op: Binary) -> Instr {
-    numeric(Numeric::Binary(ValType::I64, op))
-}
-
-fn variable(op: Variable) -> Instr {
-    Instr::Plain(Plain::Variable(op))
-}
-
-/// `i64.const 10`, `i64.mul`, `i64.const 7` and `i64.add` on the vertex's value.
-fn ten_times_and_seven(alloc: Global) -> Result<Vec<Instr>, AllocError> {
-    Ok(vec![in alloc;
-        Instr::Call(0),
-        i64_const(10),
-        i64_binary(Binary::Mul),
-        i64_const(7),
-        i64_binary(Binary::Add),
-        Instr::Call(1),
-    ]?)
-}
-
-#[test]
-fn counts_each_instruction(rt: HostRuntime) -> Result<(), Fail> {
-    let alloc = rt.alloc();
-    let outcome = walked(alloc, ten_times_and_seven(alloc)?, ENOUGH)?;
-    assert_eq!(rt; outcome.value, 347);
-    assert_eq!(rt; outcome.units, 6);
-    assert!(rt; !outcome.halted);
-    assert!(rt; outcome.sends.is_empty());
-    assert!(rt; outcome.contributions.is_empty());
-    Ok(())
-}
-
-#[test]
-fn keeps_to_the_budget(rt: HostRuntime) -> Result<(), Fail> {
-    let alloc = rt.alloc();
-    for (budget, wanted) in [
-        (0, Err(WalkFault::Budget)),
-        (5, Err(WalkFault::Budget)),
-        (6, Ok(347)),
-        (u128::MAX, Ok(347)),
-    ] {
-        let given = match walked(alloc, ten_times_and_seven(alloc)?, budget) {
-            Ok(outcome) => Ok(outcome.value),
-            Err(fault) => Err(fault),
-        };
-        assert_eq!(rt; given, wanted, "at {budget}");
+fn run_once(alloc: Heap, valid: &Valid, input: &CallInput, steps: u128) -> End {
+    match Scratch::new(alloc, valid) {
+        Ok(mut scratch) => match run(alloc, valid, input, &mut scratch, steps) {
+            Ok(outcome) => Some(Ok((outcome.value, outcome.units))),
+            Err(fault) => Some(Err(fault)),
+        },
+        Err(_) => None,
     }
-    let empty = walked(alloc, vec![in alloc]?, 0)?;
-    assert_eq!(rt; empty.value, 34);
-    assert_eq!(rt; empty.units, 0);
-    Ok(())
 }
 
-#[test]
-fn a_straight_module_is_called(rt: HostRuntime) -> Result<(), Fail> {
-    let alloc = rt.alloc();
-    let module = module_of(alloc, ten_times_and_seven(alloc)?)?;
-    let straight = Straight::new(alloc, module)?;
-    let outcome = run(alloc, &straight, &VERTEX, 6)?;
-    assert_eq!(rt;
-        (outcome.value, outcome.halted, outcome.units),
-        (347, false, 6)
-    );
-    assert!(rt; outcome.sends.is_empty() && outcome.contributions.is_empty());
-    assert!(rt; matches!(run(alloc, &straight, &VERTEX, 5), Err(RunFault::Budget)));
-    Ok(())
-}
-
-#[test]
-fn picks_operands(rt: HostRuntime) -> Result<(), Fail> {
-    let alloc = rt.alloc();
-    let dropped = vec![in alloc;
-        i64_const(1),
-        i64_const(2),
-        Instr::Plain(Plain::Drop),
-        Instr::Plain(Plain::Nop),
-        Instr::Call(1),
-    ]?;
-    assert_eq!(rt; left_by(alloc, dropped)?, 1);
-    for (number, wanted) in [(0, 2), (1, 1), (u32::MAX, 1)] {
-        let body = vec![in alloc;
-            i64_const(1),
-            i64_const(2),
-            i32_const(number),
-            Instr::Plain(Plain::Select),
-            Instr::Call(1),
-        ]?;
-        assert_eq!(rt; left_by(alloc, body)?, wanted, "select on {number}");
+fn end_of(alloc: Heap, program: &Program, input: &CallInput, steps: u128) -> End {
+    match valid(alloc, program) {
+        Some(valid) => run_once(alloc, &valid, input, steps),
+        None => None,
     }
-    Ok(())
 }
 
-#[test]
-fn keeps_locals(rt: HostRuntime) -> Result<(), Fail> {
-    let alloc = rt.alloc();
-    let zero = vec![in alloc; variable(Variable::LocalGet(0)), Instr::Call(1)]?;
-    assert_eq!(rt; left_by(alloc, zero)?, 0);
-    let set = vec![in alloc;
-        i64_const(5),
-        variable(Variable::LocalSet(0)),
-        variable(Variable::LocalGet(0)),
-        Instr::Call(1),
-    ]?;
-    assert_eq!(rt; left_by(alloc, set)?, 5);
-    let tee = vec![in alloc;
-        i64_const(5),
-        variable(Variable::LocalTee(0)),
-        variable(Variable::LocalGet(0)),
-        i64_binary(Binary::Add),
-        Instr::Call(1),
-    ]?;
-    assert_eq!(rt; left_by(alloc, tee)?, 10);
-    Ok(())
+/// What a call of this body comes to for that vertex.
+fn end_of_body(alloc: Heap, compute: &[Step]) -> End {
+    let program = Program { compute, ..EMPTY };
+    end_of(alloc, &program, &VERTEX, ENOUGH)
 }
 
-#[test]
-fn reckons(rt: HostRuntime) -> Result<(), Fail> {
-    let alloc = rt.alloc();
-    let difference = vec![in alloc;
-        i64_const(3),
-        i64_const(5),
-        i64_binary(Binary::Sub),
-        Instr::Call(1),
-    ]?;
-    assert_eq!(rt; left_by(alloc, difference)?, -2);
-    let wrapped = vec![in alloc;
-        i64_const(0x1_ffff_ffff),
-        numeric(Numeric::Conversion(Conversion::Wrap)),
-        numeric(Numeric::Conversion(Conversion::ExtendS)),
-        Instr::Call(1),
-    ]?;
-    assert_eq!(rt; left_by(alloc, wrapped)?, -1);
-    let zeros = vec![in alloc;
-        i32_const(1),
-        numeric(Numeric::Unary(ValType::I32, Unary::Clz)),
-        numeric(Numeric::Conversion(Conversion::ExtendU)),
-        Instr::Call(1),
-    ]?;
-    assert_eq!(rt; left_by(alloc, zeros)?, 31);
-    for (comparison, wanted) in [
-        (Comparison::LtS, 1),
-        (Comparison::LtU, 0),
-        (Comparison::Eq, 0),
-    ] {
-        let body = vec![in alloc;
-            i64_const(u64::MAX),
-            i64_const(1),
-            numeric(Numeric::Comparison(ValType::I64, comparison)),
-            numeric(Numeric::Conversion(Conversion::ExtendU)),
-            Instr::Call(1),
-        ]?;
-        assert_eq!(rt; left_by(alloc, body)?, wanted, "{comparison:?} of -1 and 1");
+/// The value that such a call leaves.
+fn value_of_body(alloc: Heap, compute: &[Step]) -> Option<Result<i64, RunFault>> {
+    match end_of_body(alloc, compute) {
+        Some(Ok((value, _))) => Some(Ok(value)),
+        Some(Err(fault)) => Some(Err(fault)),
+        None => None,
     }
-    let is_zero = vec![in alloc;
-        Instr::Call(0),
-        numeric(Numeric::Eqz(ValType::I64)),
-        numeric(Numeric::Conversion(Conversion::ExtendU)),
-        Instr::Call(1),
-    ]?;
-    assert_eq!(rt; left_by(alloc, is_zero)?, 0);
-    Ok(())
-}
-
-#[test]
-fn is_stuck_where_the_machine_is(rt: HostRuntime) -> Result<(), Fail> {
-    let alloc = rt.alloc();
-    let no_block: BlockType = None;
-    let bodies = [
-        ("no operand", vec![in alloc; Instr::Plain(Plain::Drop)]?),
-        (
-            "another type",
-            vec![in alloc; i32_const(1), Instr::Call(1)]?,
-        ),
-        ("no local", vec![in alloc; variable(Variable::LocalGet(2))]?),
-        ("no function", vec![in alloc; Instr::Call(3)]?),
-        ("itself", vec![in alloc; Instr::Call(2)]?),
-        (
-            "a global",
-            vec![in alloc; variable(Variable::GlobalGet(0))]?,
-        ),
-        (
-            "a division",
-            vec![in alloc;
-                i64_const(1),
-                i64_const(1),
-                numeric(Numeric::Division(ValType::I64, Division::DivU)),
-            ]?,
-        ),
-        (
-            "a block",
-            vec![in alloc; Instr::Block(no_block, Body::empty(alloc))]?,
-        ),
-        ("unreachable", vec![in alloc; Instr::Unreachable]?),
-    ];
-    for (what, body) in bodies {
-        assert_eq!(rt; left_by(alloc, body), Err(WalkFault::Stuck), "{what}");
-    }
-    Ok(())
 }

@@ -1,108 +1,153 @@
-//! The walk over a function's body, which is the machine's run of it (Core 1.0, section 4.4).
+//! The walk over nested code, which is the machine's run (Core 1.0, 4.4).
 
-ghost use Rattle.std.specs.Prelude.{◌≡◌, ◌+◌, ◌<◌, ◌≤◌, ◌↔◌, ℕ, List, MatchResult, OnOk, IsErrOf};
-ghost use Rattle.wasm_ast.specs.declared.types.Value.{Value as AnyValue};
-ghost use Rattle.wasm_ast.specs.declared.module.Module.{Module as AnyModule};
-ghost use Rattle.wasm_ast.specs.Code.{Code};
+ghost use Rattle.std.specs.Prelude.{◌≡◌, ◌≤◌, ◌+◌, MatchResult, ◌<◌};
 ghost use Rattle.wasm_ast.specs.Units.{units_of};
-ghost use Rattle.wasm_ast.specs.View.{then_code};
-ghost use Rattle.interp.specs.Acts.{Acts, state};
-ghost use Rattle.interp.specs.Call.{start};
-ghost use Rattle.interp.specs.HostCalls.{meanings_of, host_calls_of, call_at};
-ghost use Rattle.interp.specs.Machine.{advance, called};
-ghost use Rattle.interp.specs.Walk.{running, Turned, Ends};
+ghost use Rattle.wasm_ast.specs.View.{code_of, then_code};
+ghost use Rattle.interp.specs.Effects.{effect, call_effect};
+ghost use Rattle.interp.specs.Machine.{advance, after_effect, next_units, take_next};
+ghost use Rattle.interp.specs.Meaning.{AreImports};
+ghost use Rattle.interp.specs.Place.{running};
+ghost use Rattle.interp.specs.Walk.{Turned, Stepped, Ends};
 
-use crate::call::{CallInput, CallOutcome};
-use crate::host::{Host, HostCall, host_calls};
+mod branches;
+mod calls;
+mod labels;
+
+use crate::fault::RunFault;
+use crate::globals::Globals;
+use crate::host::call_host;
+use crate::layers::Layer;
 use crate::locals::Locals;
+use crate::memory::Memory;
 use crate::operands::Operands;
 use crate::plain::act_plain;
-use crate::walk_fault::WalkFault;
-use std::alloc::Global;
-use wasm_ast::{Function, Instr, Module};
+use crate::program::Program;
+use host_calls::{CallState, HostCall};
+use std::marker::Model;
+use wasm_ast::{Instr, Plain};
 
-/// What a running function works on, and the units that it took.
+/// Whether the run goes on.
+#[derive(Clone, Copy)]
+pub enum Turn {
+    Next,
+    Finished,
+}
+
+/// Where a run is.
 #[derive(Drop)]
-struct Configuration {
-    operands: Operands,
-    locals: Locals,
-    host: Host,
-    count: u128,
+pub struct Walk<'a, 'b> {
+    pub code: &'a [Instr],
+    pub layers: Vec<Layer<'a>>,
+    pub operands: Operands,
+    pub locals: Locals,
+    pub globals: Globals,
+    pub memory: Memory,
+    pub host: CallState<'b>,
+    pub count: u128,
 }
 
-/// Walks a function's body, for at most as many units as the budget: its answer is what the machine comes to from the
-/// start of the function, of any module. `Budget` comes where the next instruction would make the count greater.
-pub fn walk(
-    alloc: Global,
-    module: &Module,
-    function: &Function,
-    input: &CallInput,
-    budget: u128,
-) -> Result<CallOutcome, WalkFault>
-    ensures { Ends result «module».now (start function.now input.now) budget }
-{
-    let calls = host_calls(alloc, module.imports.as_slice())?;
-    let mut configuration = Configuration {
-        operands: Operands::new(alloc),
-        locals: Locals::zeros(alloc, function.locals.as_slice())?,
-        host: Host::new(alloc, input),
-        count: 0,
-    };
-    let body = function.body.as_slice();
-    for instr in body {
-        configuration.step(instr, calls.as_slice(), budget)?;
-    }
-    let Configuration {
-        operands: _,
-        locals: _,
-        host,
-        count,
-    } = configuration;
-    Ok(host.into_outcome(count))
+impl<'a, 'b> Model for Walk<'a, 'b> {
+    ghost use Rattle.interp.specs.Place.{Place, place_code};
+    ghost use Rattle.interp.specs.Meaning.{place_of, IsOrdered};
+
+    ghost Value = { Place };
+
+    ghost coded = { place_code };
+
+    ghost view = { place_of };
+
+    ghost invariant = { IsOrdered };
 }
 
-impl Configuration {
-    /// Takes one instruction, if the budget allows it. There is no step for branches, blocks and indirect calls.
-    fn step(
-        &mut self,
-        instr: &Instr,
-        calls: &[Option<HostCall>],
-        budget: u128,
-    ) -> Result<(), WalkFault>
-        ensures turned { (m : AnyModule) (rest : Code) → meanings_of calls.now ≡ host_calls_of m.imports → Turned result (advance m (running self.old (then_code instr.now rest))) (running self.new rest) }
-        ensures budget { IsErrOf result WalkFault.Budget ↔ (budget < self.old.count + units_of instr.now) }
-        ensures within { OnOk result (self.new.count ≤ budget) }
+impl<'a, 'b> Walk<'a, 'b> {
+    /// Runs until it is over or the next instruction would make the count greater than the budget.
+    pub fn finish(&mut self, program: Program<'a>, budget: u128) -> Result<(), RunFault>
+        requires calls { AreImports program.calls.now program.«module».now }
+        requires within { self.old.state.count ≤ budget }
+        ensures { Ends result program.entry.«module».now (running self.old) budget self.new }
     {
-        self.count = charged(self.count, instr.units(), budget)?;
-        match instr {
-            Instr::Plain(plain) => act_plain(*plain, &mut self.operands, &mut self.locals),
-            Instr::Call(number) => act_call(*number, calls, &mut self.operands, &mut self.host),
-            _ => Err(WalkFault::Stuck),
+        'turns: loop {
+            match self.turn(program, budget) {
+                Ok(Turn::Next) => {}
+                Ok(Turn::Finished) => return Ok(()),
+                Err(fault) => return Err(fault),
+            }
         }
+    }
+
+    /// One step, if the budget allows it.
+    #[inline]
+    fn turn(&mut self, program: Program<'a>, budget: u128) -> Result<Turn, RunFault>
+        requires calls { AreImports program.calls.now program.«module».now }
+        requires within { self.old.state.count ≤ budget }
+        ensures stepped { Stepped result (advance program.entry.«module».now (running self.old)) self.new (self.old.state.count + next_units self.old.code) budget }
+    {
+        let code = self.code;
+        match code.split_first() {
+            None => self.leave(),
+            Some((first, rest)) => {
+                self.count = charged(self.count, first.units(), budget)?;
+                self.code = rest;
+                self.take(program, code, first)
+            }
+        }
+    }
+
+    /// An instruction that is counted already; `whole` begins with it.
+    #[inline]
+    fn take(
+        &mut self,
+        program: Program<'a>,
+        whole: &'a [Instr],
+        first: &'a Instr,
+    ) -> Result<Turn, RunFault>
+        requires calls { AreImports program.calls.now program.«module».now }
+        requires whole { code_of whole.now ≡ then_code first.now self.old.code }
+        ensures { Turned result (take_next program.entry.«module».now self.old.values (code_of whole.now) self.old.layers self.old.state) self.new }
+    {
+        match first {
+            Instr::Plain(plain) => self.act(*plain),
+            Instr::Branch(branch) => self.branch(branch),
+            Instr::Call(number) => self.call(program, *number),
+            Instr::CallIndirect(_) => Err(RunFault::Stuck),
+            Instr::Unreachable => Err(RunFault::Trap),
+            Instr::Block(block_type, body) => self.open(block_type.is_some(), self.code, body),
+            Instr::Loop(_, body) => self.open(false, whole, body),
+            Instr::If(block_type, then_body, else_body) => {
+                self.choose(block_type.is_some(), then_body, else_body)
+            }
+        }
+    }
+
+    #[inline]
+    fn act(&mut self, plain: Plain) -> Result<Turn, RunFault>
+        ensures { Turned result (after_effect (effect plain self.old.values self.old.state) self.old.code self.old.layers self.old.state.count) self.new }
+    {
+        act_plain(
+            plain,
+            &mut self.operands,
+            &mut self.locals,
+            &mut self.globals,
+            &mut self.memory,
+        )?;
+        Ok(Turn::Next)
+    }
+
+    fn act_host(&mut self, call: HostCall) -> Result<Turn, RunFault>
+        ensures { Turned result (after_effect (call_effect call self.old.values self.old.state) self.old.code self.old.layers self.old.state.count) self.new }
+    {
+        call_host(call, &mut self.operands, &mut self.host)?;
+        Ok(Turn::Next)
     }
 }
 
 /// The count with so many units more; `Budget` where that is greater than the budget.
-fn charged(count: u128, units: u32, budget: u128) -> Result<u128, WalkFault>
-    ensures { MatchResult result (λ total. (total ≡ count + units) × (total ≤ budget)) (λ fault. (fault ≡ WalkFault.Budget) × (budget < count + units)) }
+#[inline]
+fn charged(count: u128, units: u32, budget: u128) -> Result<u128, RunFault>
+    ensures { MatchResult result (λ total. (total ≡ count + units) × (total ≤ budget)) (λ fault. (fault ≡ RunFault.Budget) × (budget < count + units)) }
 {
     match count.checked_add(u128::from(units)) {
         Some(total) if total <= budget => Ok(total),
-        _ => Err(WalkFault::Budget),
-    }
-}
-
-/// Calls the function with this number.
-fn act_call(
-    number: u32,
-    calls: &[Option<HostCall>],
-    operands: &mut Operands,
-    host: &mut Host,
-) -> Result<(), WalkFault>
-    ensures { (locals : List AnyValue) (count : ℕ) → Acts result (called (call_at (meanings_of calls.now) number) operands.old (state locals host.old count)) operands.new (state locals host.new count) }
-{
-    match calls.get(number as usize) {
-        Some(Some(call)) => call.act(operands, host),
-        _ => Err(WalkFault::Stuck),
+        _ => Err(RunFault::Budget),
     }
 }

@@ -1,14 +1,25 @@
-use Rattle.interp.proofs.Outcome.{no_outcome_within, not_stuck, not_trapped}
+use Rattle.std.proofs.Common.{subst}
+use Rattle.wasm_ast.specs.declared.module.Module.{Module}
+use Rattle.interp.specs.Begun.{Answered}
+use Rattle.interp.proofs.Answering.{told_stuck, only_outcome, only_trap, only_stuck, only_budget}
 use Rattle.interp.proofs.runs.run.Goals as goal
 
-pub unreachable-requires : goal.unreachable-requires
-unreachable-requires c =
-    not_trapped c.args.straight.now c.args.input.now c.args.steps c.module.ensures.straight c.compute.result.now c.compute.ensures c.module.ensures.typed (rw (c.module.ensures.value, c.in-Err-Trap.field-0-is) at c.in-Err-Trap.ensures)
+pub returns-clause-stuck : goal.returns-clause-stuck
+returns-clause-stuck c =
+    told_stuck c.answer.result c.args.valid.now c.args.input.now c.args.steps (subst (λ (m : Module). Answered c.answer.result m c.args.input.now c.args.steps) c.module.ensures.value c.answer.ensures.answered)
 
-pub unreachable-requires-in-Err-Stuck : goal.unreachable-requires-in-Err-Stuck
-unreachable-requires-in-Err-Stuck c =
-    not_stuck c.args.straight.now c.args.input.now c.args.steps c.module.ensures.straight c.compute.result.now c.compute.ensures c.module.ensures.typed (rw (c.module.ensures.value, c.in-Err-Stuck.field-0-is) at c.in-Err-Stuck.ensures)
+pub returns-clause-gives : goal.returns-clause-gives
+returns-clause-gives c =
+    only_outcome c.answer.result c.args.valid.now c.args.input.now c.args.steps (subst (λ (m : Module). Answered c.answer.result m c.args.input.now c.args.steps) c.module.ensures.value c.answer.ensures.answered)
 
-pub returns-in-Err-Budget-clause-within : goal.returns-in-Err-Budget-clause-within
-returns-in-Err-Budget-clause-within c = λ outcome o within.
-    absurd (no_outcome_within c.args.straight.now c.args.input.now c.args.steps c.module.ensures.straight c.compute.result.now c.compute.ensures (rw (c.module.ensures.value, c.in-Err-Budget.field-0-is) at c.in-Err-Budget.ensures) outcome o within)
+pub returns-clause-traps : goal.returns-clause-traps
+returns-clause-traps c =
+    only_trap c.answer.result c.args.valid.now c.args.input.now c.args.steps (subst (λ (m : Module). Answered c.answer.result m c.args.input.now c.args.steps) c.module.ensures.value c.answer.ensures.answered)
+
+pub returns-clause-sticks : goal.returns-clause-sticks
+returns-clause-sticks c =
+    only_stuck c.answer.result c.args.valid.now c.args.input.now c.args.steps (subst (λ (m : Module). Answered c.answer.result m c.args.input.now c.args.steps) c.module.ensures.value c.answer.ensures.answered)
+
+pub returns-clause-passes : goal.returns-clause-passes
+returns-clause-passes c =
+    only_budget c.answer.result c.args.valid.now c.args.input.now c.args.steps (subst (λ (m : Module). Answered c.answer.result m c.args.input.now c.args.steps) c.module.ensures.value c.answer.ensures.answered)

@@ -1,0 +1,305 @@
+-- A step counts its instruction's units and no more, and comes nearer to the end of the budget.
+use Rattle.std.proofs.Common.{◌≡◌, ℕ, zero, suc, ◌+◌, ◌-◌, ◌*◌, ◌<◌, ◌≤◌, List, [], ◌∷◌, ◌++◌, Bool, true, false, Option, Some, None, length, nat_lt, nat_le, slice_get, slice_set, map, reverse, take, drop, if◌then◌else◌, refl, ◌∙◌, subst, arith}
+use Rattle.wasm_ast.specs.declared.types.ValType.{ValType}
+use Rattle.wasm_ast.specs.declared.types.ValType.TheVariants as val_type
+use Rattle.wasm_ast.specs.declared.types.Value.{Value}
+use Rattle.wasm_ast.specs.declared.types.Value.TheVariants.{I32, I64}
+use Rattle.wasm_ast.specs.declared.types.FuncType.{FuncType}
+use Rattle.wasm_ast.specs.declared.numeric.Numeric.{Numeric}
+use Rattle.wasm_ast.specs.declared.numeric.Numeric.TheVariants as numeric
+use Rattle.wasm_ast.specs.declared.plain.Load.{Load}
+use Rattle.wasm_ast.specs.declared.plain.Memory.{Memory}
+use Rattle.wasm_ast.specs.declared.plain.Memory.TheVariants as memory
+use Rattle.wasm_ast.specs.declared.plain.Variable.{Variable}
+use Rattle.wasm_ast.specs.declared.plain.Variable.TheVariants as variable
+use Rattle.wasm_ast.specs.declared.plain.Plain.{Plain}
+use Rattle.wasm_ast.specs.declared.plain.Plain.TheVariants as plain
+use Rattle.wasm_ast.specs.declared.plain.Branch.{Branch}
+use Rattle.wasm_ast.specs.declared.plain.Branch.TheVariants as branch
+use Rattle.wasm_ast.specs.declared.module.Function.{Function}
+use Rattle.wasm_ast.specs.declared.module.Module.{Module}
+use Rattle.wasm_ast.specs.Code.{Code}
+use Rattle.wasm_ast.specs.Code as code
+use Rattle.wasm_ast.specs.Numeric.{bits_of, conversion_from, division_traps, division_value}
+use Rattle.wasm_ast.specs.Values.{zero_of}
+use Rattle.wasm_ast.specs.Widths.{store_type}
+use Rattle.host_calls.specs.declared.imports.HostCall.{HostCall}
+use Rattle.host_calls.specs.Effects.{HostEffect, host_effect}
+use Rattle.host_calls.specs.Effects as host
+use Rattle.host_calls.specs.Operands.{number, with_number}
+use Rattle.interp.specs.Configuration.{State, with_locals, with_globals, tick, Effect, Gives, Traps, Misses}
+use Rattle.interp.specs.Effects.{value, popped, numeric_effect, discard, select, pushed, variable_effect, load_effect, store_effect, memory_effect, effect, lifted}
+use Rattle.interp.specs.Machine as machine
+use Rattle.interp.specs.Machine.{Machine, Running, Done, Trapped, Stuck, Layer, Label, Frame, Callee, defined, functions_of, landed, arrive, jump, back, leave, label_of, taking, branch_unless_zero, take_branch, gives_one, after_effect, take_call, next_units, take_next, first, carry, advance, run}
+use Rattle.interp.specs.Place.{Place, running}
+use Rattle.interp.specs.Walk.{left_of}
+
+-- ---- effects leave the count as it is
+
+abbrev Keeps : ℕ → Effect → Type 0
+Keeps k (Gives vs st) = st.count ≡ k
+Keeps k Traps = Unit {0}
+Keeps k Misses = Unit {0}
+
+keeps_with : (k : ℕ) (o : Option ℕ) (go : ℕ → Effect) → ((n : ℕ) → Keeps k (go n)) → Keeps k (with_number Misses o go)
+keeps_with k None go h = tt
+keeps_with k (Some n) go h = h n
+
+keeps_popped : (k : ℕ) (t : ValType) (vs : List Value) (go : ℕ → List Value → Effect) → ((n : ℕ) (us : List Value) → Keeps k (go n us)) → Keeps k (popped t vs go)
+keeps_popped k t [] go h = tt
+keeps_popped k t (v ∷ vs) go h = keeps_with k (number t v) (λ n. go n vs) (λ n. h n vs)
+
+module _ (st : State) where
+  keeps_trap_if : (b : Bool) (vs : List Value) → Keeps st.count (if b then Traps else Gives vs st)
+  keeps_trap_if true vs = tt
+  keeps_trap_if false vs = refl
+
+  keeps_if : (b : Bool) (vs : List Value) (s : State) → s.count ≡ st.count → Keeps st.count (if b then Gives vs s else Misses)
+  keeps_if true vs s e = e
+  keeps_if false vs s e = tt
+
+  keeps_numeric : (op : Numeric) (vs : List Value) → Keeps st.count (numeric_effect op vs st)
+  keeps_numeric (numeric.Eqz t) vs = keeps_popped st.count t vs _ (λ x us. refl)
+  keeps_numeric (numeric.Comparison t op) vs = keeps_popped st.count t vs _ (λ y us. keeps_popped st.count t us _ (λ x ws. refl))
+  keeps_numeric (numeric.Unary t op) vs = keeps_popped st.count t vs _ (λ x us. refl)
+  keeps_numeric (numeric.Binary t op) vs = keeps_popped st.count t vs _ (λ y us. keeps_popped st.count t us _ (λ x ws. refl))
+  keeps_numeric (numeric.Division t op) vs = keeps_popped st.count t vs _ (λ y us. keeps_popped st.count t us _ (λ x ws. keeps_trap_if (division_traps (bits_of t) op x y) (value t (division_value (bits_of t) op x y) ∷ ws)))
+  keeps_numeric (numeric.Conversion op) vs = keeps_popped st.count (conversion_from op) vs _ (λ x us. refl)
+
+  keeps_discard : (vs : List Value) → Keeps st.count (discard vs st)
+  keeps_discard [] = tt
+  keeps_discard (v ∷ vs) = refl
+
+  keeps_select : (n : ℕ) (vs : List Value) → Keeps st.count (select n vs st)
+  keeps_select n [] = tt
+  keeps_select n (I32 b ∷ []) = tt
+  keeps_select n (I64 b ∷ []) = tt
+  keeps_select n (I32 b ∷ I32 a ∷ vs) = refl
+  keeps_select n (I64 b ∷ I64 a ∷ vs) = refl
+  keeps_select n (I32 b ∷ I64 a ∷ vs) = tt
+  keeps_select n (I64 b ∷ I32 a ∷ vs) = tt
+
+  keeps_pushed : (o : Option Value) (vs : List Value) → Keeps st.count (pushed o vs st)
+  keeps_pushed None vs = tt
+  keeps_pushed (Some v) vs = refl
+
+  keeps_variable : (op : Variable) (vs : List Value) → Keeps st.count (variable_effect op vs st)
+  keeps_variable (variable.LocalGet x) vs = keeps_pushed (slice_get st.locals x) vs
+  keeps_variable (variable.LocalSet x) [] = tt
+  keeps_variable (variable.LocalSet x) (v ∷ vs) = keeps_if (nat_lt x (length st.locals)) vs (with_locals st (slice_set st.locals x v)) refl
+  keeps_variable (variable.LocalTee x) [] = tt
+  keeps_variable (variable.LocalTee x) (v ∷ vs) = keeps_if (nat_lt x (length st.locals)) (v ∷ vs) (with_locals st (slice_set st.locals x v)) refl
+  keeps_variable (variable.GlobalGet x) vs = keeps_pushed (slice_get st.globals x) vs
+  keeps_variable (variable.GlobalSet x) [] = tt
+  keeps_variable (variable.GlobalSet x) (v ∷ vs) = keeps_if (nat_lt x (length st.globals)) vs (with_globals st (slice_set st.globals x v)) refl
+
+  keeps_load : (op : Load) (o : Option ℕ) (vs : List Value) → Keeps st.count (load_effect op o vs st)
+  keeps_load op None vs = tt
+  keeps_load op (Some n) vs = refl
+
+  keeps_store : (o : Option (List ℕ)) (vs : List Value) → Keeps st.count (store_effect o vs st)
+  keeps_store None vs = tt
+  keeps_store (Some bytes) vs = refl
+
+  keeps_memory : (op : Memory) (vs : List Value) → Keeps st.count (memory_effect op vs st)
+  keeps_memory (memory.Load op a) vs = keeps_popped st.count val_type.I32 vs _ (λ i us. keeps_load op _ us)
+  keeps_memory (memory.Store op a) vs = keeps_popped st.count (store_type op) vs _ (λ n us. keeps_popped st.count val_type.I32 us _ (λ i ws. keeps_store _ ws))
+  keeps_memory memory.Size vs = refl
+  keeps_memory memory.Grow vs = tt
+
+  keeps_plain : (p : Plain) (vs : List Value) → Keeps st.count (effect p vs st)
+  keeps_plain plain.Nop vs = refl
+  keeps_plain plain.Drop vs = keeps_discard vs
+  keeps_plain plain.Select vs = keeps_popped st.count val_type.I32 vs _ (λ n us. keeps_select n us)
+  keeps_plain (plain.Const v) vs = refl
+  keeps_plain (plain.Numeric op) vs = keeps_numeric op vs
+  keeps_plain (plain.Variable op) vs = keeps_variable op vs
+  keeps_plain (plain.Memory op) vs = keeps_memory op vs
+
+  keeps_lifted : (e : HostEffect) → Keeps st.count (lifted st e)
+  keeps_lifted (host.Gives vs h) = refl
+  keeps_lifted host.Traps = tt
+  keeps_lifted host.Misses = tt
+
+  keeps_call : (c : Option HostCall) (vs : List Value) → Keeps st.count (machine.host_effect c vs st)
+  keeps_call None vs = tt
+  keeps_call (Some c) vs = keeps_lifted (host_effect c vs st.host)
+
+-- ---- one step
+
+-- so many units were counted, and so many layers stand at most
+abbrev pub Within : ℕ → ℕ → Machine → Type 0
+Within k n (Running vs is ls st) = (st.count ≡ k) × (length ls ≤ n)
+Within k n (Done st) = st.count ≡ k
+Within k n (Trapped c) = c ≡ k
+Within k n (Stuck c) = c ≡ k
+
+module _ (k n : ℕ) where
+  within_landed : (o : Option (List Value)) (is : Code) (ls : List Layer) (st : State) → st.count ≡ k → length ls ≤ n → Within k n (landed o is ls st)
+  within_landed None is ls st e h = e
+  within_landed (Some vs) is ls st e h = (e, h)
+
+  within_arrive : (top : Option Value) (ls : List Layer) (st : State) → st.count ≡ k → length ls ≤ n → Within k n (arrive top ls st)
+  within_arrive top [] st e h = e
+  within_arrive top (Label keeps vs t a ∷ ls) st e h = within_landed (carry keeps top vs) t ls st e (omega (arith, h))
+  within_arrive top (Frame keeps xs vs a ∷ ls) st e h = within_landed (carry keeps top vs) a ls (with_locals st xs) e (omega (arith, h))
+
+  within_jump : (l : ℕ) (top : Option Value) (ls : List Layer) (st : State) → st.count ≡ k → length ls ≤ n → Within k n (jump l top ls st)
+  within_jump zero top ls st e h = within_arrive top ls st e h
+  within_jump (suc l) top [] st e h = e
+  within_jump (suc l) top (Label keeps vs t a ∷ ls) st e h = within_jump l top ls st e (omega (arith, h))
+  within_jump (suc l) top (Frame keeps xs vs a ∷ ls) st e h = e
+
+  within_back : (top : Option Value) (ls : List Layer) (st : State) → st.count ≡ k → length ls ≤ n → Within k n (back top ls st)
+  within_back top [] st e h = e
+  within_back top (Label keeps vs t a ∷ ls) st e h = within_back top ls st e (omega (arith, h))
+  within_back top (Frame keeps xs vs a ∷ ls) st e h = within_arrive top (Frame keeps xs vs a ∷ ls) st e h
+
+  within_leave : (vs : List Value) (ls : List Layer) (st : State) → st.count ≡ k → length ls ≤ n → Within k n (leave vs ls st)
+  within_leave vs [] st e h = e
+  within_leave vs (Label keeps us t a ∷ ls) st e h = (e, omega (arith, h))
+  within_leave vs (Frame keeps xs us a ∷ ls) st e h = (e, omega (arith, h))
+
+  within_effect : (f : Effect) (is : Code) (ls : List Layer) (c : ℕ) → Keeps c f → c ≡ k → length ls ≤ n → Within k n (after_effect f is ls c)
+  within_effect (Gives vs st) is ls c g e h = (g ∙ e, h)
+  within_effect Traps is ls c g e h = e
+  within_effect Misses is ls c g e h = e
+
+  within_with : (c : ℕ) (o : Option ℕ) (go : ℕ → Machine) → c ≡ k → ((m : ℕ) → Within k n (go m)) → Within k n (with_number (Stuck c) o go)
+  within_with c None go e h = e
+  within_with c (Some m) go e h = h m
+
+  within_taking : (vs : List Value) (c : ℕ) (go : ℕ → List Value → Machine) → c ≡ k → ((m : ℕ) (us : List Value) → Within k n (go m us)) → Within k n (taking vs c go)
+  within_taking [] c go e h = e
+  within_taking (v ∷ vs) c go e h = within_with c (number val_type.I32 v) (λ m. go m vs) e (λ m. h m vs)
+
+  within_unless : (m l : ℕ) (vs : List Value) (is : Code) (ls : List Layer) (st : State) → st.count ≡ k → length ls ≤ n → Within k n (branch_unless_zero m l vs is ls st)
+  within_unless zero l vs is ls st e h = (e, h)
+  within_unless (suc m) l vs is ls st e h = within_jump l (first vs) ls st e h
+
+  within_branch : (b : Branch) (vs : List Value) (is : Code) (ls : List Layer) (st : State) → st.count ≡ k → length ls ≤ n → Within k n (take_branch b vs is ls st)
+  within_branch (branch.Br l) vs is ls st e h = within_jump l (first vs) ls st e h
+  within_branch (branch.BrIf l) vs is ls st e h = within_taking vs st.count _ e (λ m us. within_unless m l us is ls st e h)
+  within_branch (branch.BrTable labels other) vs is ls st e h =
+      within_taking vs st.count _ e (λ m us. within_jump (label_of labels m other) (first us) ls st e h)
+  within_branch branch.Return vs is ls st e h = within_back (first vs) ls st e h
+
+  within_framed : (b : Bool) (is after : Code) (keeps : Bool) (xs us : List Value) (ls : List Layer) (st : State) (c : ℕ) → st.count ≡ k → c ≡ k → suc (length ls) ≤ n → Within k n (if b then Running [] is (Frame keeps xs us after ∷ ls) st else Stuck c)
+  within_framed true is after keeps xs us ls st c e g h = (e, h)
+  within_framed false is after keeps xs us ls st c e g h = g
+
+  within_enter : (f : Function) (o : Option FuncType) (vs : List Value) (is : Code) (ls : List Layer) (st : State) → st.count ≡ k → suc (length ls) ≤ n → Within k n (machine.enter f o vs is ls st)
+  within_enter f None vs is ls st e h = e
+  within_enter f (Some t) vs is ls st e h =
+      within_framed (nat_le (length t.parameters) (length vs)) f.body is (gives_one t.results) st.locals (drop (length t.parameters) vs) ls (with_locals st (reverse (take (length t.parameters) vs) ++ map zero_of f.locals)) st.count e e h
+
+  within_call : (m : Module) (o : Option Callee) (vs : List Value) (is : Code) (ls : List Layer) (st : State) → st.count ≡ k → suc (length ls) ≤ n → Within k n (take_call m o vs is ls st)
+  within_call m None vs is ls st e h = e
+  within_call m (Some (machine.host c)) vs is ls st e h = within_effect _ is ls st.count (keeps_call st c vs) e (omega (arith, h))
+  within_call m (Some (defined f)) vs is ls st e h = within_enter f (slice_get m.types f.type_number) vs is ls st e h
+
+  within_next : (m : Module) (vs : List Value) (is : Code) (ls : List Layer) (st : State) → st.count ≡ k → suc (length ls) ≤ n → Within k n (take_next m vs is ls st)
+  within_next m vs code.end ls st e h = within_leave vs ls st e (omega (arith, h))
+  within_next m vs (code.plain p is) ls st e h = within_effect _ is ls st.count (keeps_plain st p vs) e (omega (arith, h))
+  within_next m vs (code.branch b is) ls st e h = within_branch b vs is ls st e (omega (arith, h))
+  within_next m vs (code.call f is) ls st e h = within_call m (slice_get (functions_of m) f) vs is ls st e h
+  within_next m vs (code.call_indirect t is) ls st e h = e
+  within_next m vs (code.unreachable is) ls st e h = e
+  within_next m vs (code.block t body is) ls st e h = (e, h)
+  within_next m vs (code.loop t body is) ls st e h = (e, h)
+  within_next m vs (code.choice t body other is) ls st e h = within_taking vs st.count _ e (λ i us. (e, h))
+
+ticked : (m : Module) (vs : List Value) (next : Code) (ls : List Layer) (st : State) → Within (st.count + next_units next) (suc (length ls)) (take_next m vs next ls (tick (next_units next) st))
+ticked m vs next ls st = within_next (st.count + next_units next) (suc (length ls)) m vs next ls (tick (next_units next) st) refl (omega arith)
+
+pub within : (m : Module) (vs : List Value) (next : Code) (ls : List Layer) (st : State) → Within (st.count + next_units next) (suc (length ls)) (advance m (Running vs next ls st))
+within m vs code.end ls st = within_leave (st.count + 0) (suc (length ls)) vs ls st (omega arith) (omega arith)
+within m vs (code.plain p is) ls st = ticked m vs (code.plain p is) ls st
+within m vs (code.branch b is) ls st = ticked m vs (code.branch b is) ls st
+within m vs (code.call f is) ls st = ticked m vs (code.call f is) ls st
+within m vs (code.call_indirect t is) ls st = ticked m vs (code.call_indirect t is) ls st
+within m vs (code.unreachable is) ls st = ticked m vs (code.unreachable is) ls st
+within m vs (code.block t body is) ls st = ticked m vs (code.block t body is) ls st
+within m vs (code.loop t body is) ls st = ticked m vs (code.loop t body is) ls st
+within m vs (code.choice t body other is) ls st = ticked m vs (code.choice t body other is) ls st
+
+-- ---- a run
+
+-- at least so many units were counted
+abbrev pub Counted : ℕ → Machine → Type 0
+Counted k (Running vs is ls st) = k ≤ st.count
+Counted k (Done st) = k ≤ st.count
+Counted k (Trapped c) = k ≤ c
+Counted k (Stuck c) = k ≤ c
+
+counted_within : (k n : ℕ) (x : Machine) → Within k n x → Counted k x
+counted_within k n (Running vs is ls st) w = omega (arith, w.0)
+counted_within k n (Done st) w = omega (arith, w)
+counted_within k n (Trapped c) w = omega (arith, w)
+counted_within k n (Stuck c) w = omega (arith, w)
+
+pub counted_more : (j k : ℕ) (x : Machine) → j ≤ k → Counted k x → Counted j x
+counted_more j k (Running vs is ls st) h c = omega (arith, h, c)
+counted_more j k (Done st) h c = omega (arith, h, c)
+counted_more j k (Trapped c) h g = omega (arith, h, g)
+counted_more j k (Stuck c) h g = omega (arith, h, g)
+
+counted_step : (m : Module) (k : ℕ) (x : Machine) → Counted k x → Counted k (advance m x)
+counted_step m k (Running vs is ls st) c =
+    counted_more k (st.count + next_units is) (advance m (Running vs is ls st)) (omega (arith, c)) (counted_within (st.count + next_units is) (suc (length ls)) _ (within m vs is ls st))
+counted_step m k (Done st) c = c
+counted_step m k (Trapped n) c = c
+counted_step m k (Stuck n) c = c
+
+counted_run : (m : Module) (n k : ℕ) (x : Machine) → Counted k x → Counted k (run m n x)
+counted_run m zero k x c = c
+counted_run m (suc n) k x c = counted_run m n k (advance m x) (counted_step m k x c)
+
+-- after an instruction its units are counted
+pub counted_after : (m : Module) (n : ℕ) (vs : List Value) (next : Code) (ls : List Layer) (st : State) → Counted (st.count + next_units next) (run m (suc n) (Running vs next ls st))
+counted_after m n vs next ls st =
+    counted_run m n (st.count + next_units next) (advance m (Running vs next ls st)) (counted_within (st.count + next_units next) (suc (length ls)) _ (within m vs next ls st))
+
+-- ---- nearer to the end
+
+abbrev Nearer : ℕ → ℕ → Machine → Type 0
+Nearer b n (Running vs is ls st) = 2 * (b - st.count) + length ls < n
+Nearer b n (Done st) = Unit {0}
+Nearer b n (Trapped c) = Unit {0}
+Nearer b n (Stuck c) = Unit {0}
+
+nearer_within : (b c n : ℕ) (x : Machine) → c + 1 ≤ b → Within (c + 1) (suc n) x → Nearer b (2 * (b - c) + n) x
+nearer_within b c n (Running vs is ls st) h w = omega (arith, w.0, w.1, h)
+nearer_within b c n (Done st) h w = tt
+nearer_within b c n (Trapped k) h w = tt
+nearer_within b c n (Stuck k) h w = tt
+
+nearer_leave : (b : ℕ) (vs : List Value) (ls : List Layer) (st : State) → Nearer b (2 * (b - st.count) + length ls) (leave vs ls st)
+nearer_leave b vs [] st = tt
+nearer_leave b vs (Label keeps us t a ∷ ls) st = omega arith
+nearer_leave b vs (Frame keeps xs us a ∷ ls) st = omega arith
+
+nearer_counted : (m : Module) (b : ℕ) (vs : List Value) (next : Code) (ls : List Layer) (st : State) → next_units next ≡ 1 → st.count + 1 ≤ b → Nearer b (2 * (b - st.count) + length ls) (advance m (Running vs next ls st))
+nearer_counted m b vs next ls st e h =
+    nearer_within b st.count (length ls) (advance m (Running vs next ls st)) h (subst (λ (u : ℕ). Within (st.count + u) (suc (length ls)) (advance m (Running vs next ls st))) e (within m vs next ls st))
+
+nearer : (m : Module) (b : ℕ) (vs : List Value) (next : Code) (ls : List Layer) (st : State) → st.count + next_units next ≤ b → Nearer b (2 * (b - st.count) + length ls) (advance m (Running vs next ls st))
+nearer m b vs code.end ls st h = nearer_leave b vs ls st
+nearer m b vs (code.plain p is) ls st h = nearer_counted m b vs (code.plain p is) ls st refl h
+nearer m b vs (code.branch c is) ls st h = nearer_counted m b vs (code.branch c is) ls st refl h
+nearer m b vs (code.call f is) ls st h = nearer_counted m b vs (code.call f is) ls st refl h
+nearer m b vs (code.call_indirect t is) ls st h = nearer_counted m b vs (code.call_indirect t is) ls st refl h
+nearer m b vs (code.unreachable is) ls st h = nearer_counted m b vs (code.unreachable is) ls st refl h
+nearer m b vs (code.block t body is) ls st h = nearer_counted m b vs (code.block t body is) ls st refl h
+nearer m b vs (code.loop t body is) ls st h = nearer_counted m b vs (code.loop t body is) ls st refl h
+nearer m b vs (code.choice t body other is) ls st h = nearer_counted m b vs (code.choice t body other is) ls st refl h
+
+pub falls : (m : Module) (b : ℕ) (p q : Place) → advance m (running p) ≡ running q → p.state.count + next_units p.code ≤ b → left_of b q < left_of b p
+falls m b p q e h = subst (λ (x : Machine). Nearer b (left_of b p) x) e (nearer m b p.values p.code p.layers p.state h)
+
+-- the count where the step came
+pub counted_running : (m : Module) (p q : Place) → advance m (running p) ≡ running q → q.state.count ≡ p.state.count + next_units p.code
+counted_running m p q e = (subst (λ (x : Machine). Within (p.state.count + next_units p.code) (suc (length p.layers)) x) e (within m p.values p.code p.layers p.state)).0
+
+pub counted_over : (m : Module) (p : Place) (x : Machine) → advance m (running p) ≡ x → Within (p.state.count + next_units p.code) (suc (length p.layers)) x
+counted_over m p x e = subst (λ (x : Machine). Within (p.state.count + next_units p.code) (suc (length p.layers)) x) e (within m p.values p.code p.layers p.state)

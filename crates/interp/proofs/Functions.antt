@@ -1,0 +1,34 @@
+-- Functions by number, and labels by place.
+use Rattle.std.proofs.Common.{◌≡◌, ℕ, zero, suc, ◌-◌, List, [], ◌∷◌, ◌++◌, map, length, slice_get, option_map, Some, None, refl, sym, ap, ◌∙◌, arith}
+use Rattle.std.proofs.lemmas.Option.{slice_get-map}
+use Rattle.wasm_ast.specs.declared.module.Module.{Module}
+use Rattle.host_calls.specs.declared.imports.HostCall.{HostCall}
+use Rattle.interp.specs.Machine.{Callee, host, defined, functions_of, label_of}
+use Rattle.interp.specs.Meaning.{AreImports, host_callee}
+
+nth_host : (calls : List HostCall) (fs : List Callee) (n : ℕ) (c : HostCall) → slice_get calls n ≡ Some c → slice_get (map host_callee calls ++ fs) n ≡ Some (host_callee c)
+nth_host [] fs n c e = absurd cc
+nth_host (d ∷ calls) fs zero c e = let h : d ≡ c = cc in ap (λ (x : HostCall). Some (host_callee x)) h
+nth_host (d ∷ calls) fs (suc n) c e = nth_host calls fs n c e
+
+nth_past : (calls : List HostCall) (fs : List Callee) (n : ℕ) → slice_get calls n ≡ None → slice_get (map host_callee calls ++ fs) n ≡ slice_get fs (n - length calls)
+nth_past [] fs n e = let h : n - 0 ≡ n = omega arith in ap (λ (k : ℕ). slice_get fs k) (sym h)
+nth_past (d ∷ calls) fs zero e = absurd cc
+nth_past (d ∷ calls) fs (suc n) e =
+    let h : suc n - length (d ∷ calls) ≡ n - length calls = omega arith in
+    nth_past calls fs n e ∙ ap (λ (k : ℕ). slice_get fs k) (sym h)
+
+module _ (m : Module) (calls : List HostCall) (imports : AreImports calls m) (n : ℕ) where
+  functions : slice_get (functions_of m) n ≡ slice_get (map host_callee calls ++ map defined m.functions) n
+  functions = ap (λ (fs : List Callee). slice_get (fs ++ map defined m.functions) n) imports
+
+  pub callee_host : (c : HostCall) → slice_get calls n ≡ Some c → slice_get (functions_of m) n ≡ Some (host (Some c))
+  callee_host c e = functions ∙ nth_host calls (map defined m.functions) n c e
+
+  pub callee_defined : slice_get calls n ≡ None → slice_get (functions_of m) n ≡ option_map defined (slice_get m.functions (n - length calls))
+  callee_defined e = functions ∙ nth_past calls (map defined m.functions) n e ∙ slice_get-map defined m.functions (n - length calls)
+
+pub label_past : (ls : List ℕ) (n other : ℕ) → slice_get ls n ≡ None → label_of ls n other ≡ other
+label_past [] n other e = refl
+label_past (l ∷ ls) zero other e = absurd cc
+label_past (l ∷ ls) (suc n) other e = label_past ls n other e

@@ -1,0 +1,92 @@
+-- The operands' two parts.
+use Rattle.std.proofs.Common.{◌≡◌, ℕ, ◌+◌, ◌-◌, ◌≤◌, List, [], ◌++◌, length, take, drop, reverse, sym, ap, ◌∙◌, subst, arith, length-drop}
+use Rattle.std.proofs.lemmas.List.{reverse-append, length-reverse, length-take-le, take-append-drop, drop_all, reverse-reverse}
+use Rattle.std.proofs.Math.Seq.{take-length}
+use Rattle.wasm_ast.specs.declared.types.Value.{Value}
+use Rattle.interp.specs.Split.{Split}
+use Rattle.interp.proofs.Lists.{joined, left_below, take-reverse, drop-reverse, take-take, drop-drop, drop-take}
+
+abbrev pub parts : ℕ → List Value → Split
+parts n xs = record { here = reverse (drop n xs); below = reverse (take n xs) }
+
+below_long : (n : ℕ) (xs : List Value) → n ≤ length xs → length (reverse (take n xs)) ≡ n
+below_long n xs h = length-reverse (take n xs) ∙ length-take-le n xs h
+
+pub floor_below : (n f : ℕ) (xs : List Value) (s : Split) → parts n xs ≡ s → n ≤ length xs → f ≤ length s.below → f ≤ n
+floor_below n f xs s e h g =
+    let P : Split → Type 0 = λ s. f ≤ length s.below → f ≤ n in
+    subst P e (λ g. omega (arith, below_long n xs h, g)) g
+
+pub join_here : (n f : ℕ) (xs : List Value) (s : Split) → parts n xs ≡ s → n ≤ length xs → f ≤ length s.below → reverse (drop f xs) ≡ s.here ++ take (length s.below - f) s.below
+join_here n f xs s e h g =
+    let P : Split → Type 0 = λ s. reverse (drop f xs) ≡ s.here ++ take (length s.below - f) s.below in
+    subst P e (joined f n (length (reverse (take n xs))) xs (floor_below n f xs s e h g) (length-reverse (take n xs)))
+
+pub join_below : (n f : ℕ) (xs : List Value) (s : Split) → parts n xs ≡ s → n ≤ length xs → f ≤ length s.below → reverse (take f xs) ≡ drop (length s.below - f) s.below
+join_below n f xs s e h g =
+    let P : Split → Type 0 = λ s. reverse (take f xs) ≡ drop (length s.below - f) s.below in
+    subst P e (left_below f n (length (reverse (take n xs))) xs (floor_below n f xs s e h g) (length-reverse (take n xs)))
+
+-- the same where the part on top is dropped
+pub fall_here : (n f : ℕ) (xs ys : List Value) (s : Split) → parts n xs ≡ s → n ≤ length xs → f ≤ length s.below → ys ≡ take n xs → reverse (drop f ys) ≡ take (length s.below - f) s.below
+fall_here n f xs ys s e h g cut =
+    let P : Split → Type 0 = λ s. reverse (drop f ys) ≡ take (length s.below - f) s.below in
+    subst P e (ap (λ (l : List Value). reverse (drop f l)) cut ∙ sym (take-reverse f (length (reverse (take n xs))) (take n xs) (length-reverse (take n xs))))
+
+pub fall_below : (n f : ℕ) (xs ys : List Value) (s : Split) → parts n xs ≡ s → n ≤ length xs → f ≤ length s.below → ys ≡ take n xs → reverse (take f ys) ≡ drop (length s.below - f) s.below
+fall_below n f xs ys s e h g cut =
+    let P : Split → Type 0 = λ s. reverse (take f ys) ≡ drop (length s.below - f) s.below in
+    subst P e (ap (λ (l : List Value). reverse (take f l)) cut ∙ sym (drop-reverse f (length (reverse (take n xs))) (take n xs) (length-reverse (take n xs))))
+
+pub opened : (n k : ℕ) (xs : List Value) (s : Split) → parts n xs ≡ s → k ≡ length xs → let t : Split = record { here = []; below = s.here ++ s.below } in parts k xs ≡ t
+opened n k xs s e l =
+    let P : Split → Type 0 = λ s. let t : Split = record { here = []; below = s.here ++ s.below } in parts k xs ≡ t in
+    let a : drop k xs ≡ [] = drop_all k xs (omega arith) in
+    let b : take k xs ≡ xs = ap (λ (j : ℕ). take j xs) l ∙ take-length xs in
+    let d : reverse (take k xs) ≡ reverse (drop n xs) ++ reverse (take n xs) = ap (λ (l : List Value). reverse l) (b ∙ sym (take-append-drop n xs)) ∙ reverse-append (take n xs) (drop n xs) in
+    let p : (h b : List Value) → Split = λ (h b : List Value). record { here = h; below = b } in
+    subst P e (ap (λ (l : List Value). p (reverse l) (reverse (take k xs))) a ∙ ap (λ (l : List Value). p [] l) d)
+
+pub top_fits : (n k : ℕ) (xs : List Value) (s : Split) → parts n xs ≡ s → k ≤ length s.here → k ≤ length xs - n
+top_fits n k xs s e g =
+    let P : Split → Type 0 = λ s. k ≤ length s.here → k ≤ length xs - n in
+    subst P e (λ g. omega (arith, length-reverse (drop n xs), length-drop n xs, g)) g
+
+pub here_long : (n : ℕ) (xs : List Value) (s : Split) → parts n xs ≡ s → length s.here ≡ length xs - n
+here_long n xs s e =
+    let P : Split → Type 0 = λ s. length s.here ≡ length xs - n in
+    subst P e (omega (arith, length-reverse (drop n xs), length-drop n xs))
+
+-- the topmost k, the lowest first
+pub topmost_is : (n k : ℕ) (xs : List Value) (s : Split) → parts n xs ≡ s → n ≤ length xs → k ≤ length xs - n → drop (length xs - k) xs ≡ reverse (take k s.here)
+topmost_is n k xs s e h g =
+    let P : Split → Type 0 = λ s. drop (length xs - k) xs ≡ reverse (take k s.here) in
+    let j : ℕ = length xs - n - k in
+    let a : take (length xs - n - j) (reverse (drop n xs)) ≡ reverse (drop j (drop n xs)) = take-reverse j (length xs - n) (drop n xs) (sym (length-drop n xs)) in
+    let b : length xs - n - (length xs - n - k) ≡ k = omega arith in
+    let d : n + (length xs - n - k) ≡ length xs - k = omega arith in
+    let f : take k (reverse (drop n xs)) ≡ reverse (drop j (drop n xs)) = ap (λ (i : ℕ). take i (reverse (drop n xs))) (sym b) ∙ a in
+    let z : reverse (take k (reverse (drop n xs))) ≡ drop j (drop n xs) = ap (λ (l : List Value). reverse l) f ∙ reverse-reverse (drop j (drop n xs)) in
+    subst P e (sym (z ∙ drop-drop n j xs ∙ ap (λ (i : ℕ). drop i xs) d))
+
+pub shed_is : (n k : ℕ) (xs ys : List Value) (s : Split) → parts n xs ≡ s → n ≤ length xs → k ≤ length xs - n → ys ≡ take (length xs - k) xs → let t : Split = record { here = drop k s.here; below = s.below } in parts n ys ≡ t
+shed_is n k xs ys s e h g cut =
+    let P : Split → Type 0 = λ s. let t : Split = record { here = drop k s.here; below = s.below } in parts n ys ≡ t in
+    let p : (h b : List Value) → Split = λ (h b : List Value). record { here = h; below = b } in
+    let j : ℕ = length xs - n - k in
+    let b : length xs - n - (length xs - n - k) ≡ k = omega arith in
+    let d : length xs - k ≡ n + (length xs - n - k) = omega arith in
+    let cut' : ys ≡ take (n + j) xs = cut ∙ ap (λ (i : ℕ). take i xs) d in
+    let here : reverse (drop n ys) ≡ drop k (reverse (drop n xs)) =
+    ap (λ (l : List Value). reverse (drop n l)) cut' ∙ ap (λ (l : List Value). reverse l) (drop-take n j xs)
+    ∙ sym (drop-reverse j (length xs - n) (drop n xs) (sym (length-drop n xs)))
+    ∙ ap (λ (i : ℕ). drop i (reverse (drop n xs))) b in
+    let below : reverse (take n ys) ≡ reverse (take n xs) =
+    ap (λ (l : List Value). reverse (take n l)) cut' ∙ ap (λ (l : List Value). reverse l) (take-take n (n + j) xs (omega arith)) in
+    subst P e (ap (λ (l : List Value). p l (reverse (take n ys))) here ∙ ap (λ (l : List Value). p (drop k (reverse (drop n xs))) l) below)
+
+pub topmost_slice : (n k m : ℕ) (xs ys : List Value) (s : Split) → parts n xs ≡ s → n ≤ length xs → k ≤ length xs - n → ys ≡ xs → m ≡ length xs → take (length ys - (m - k)) (drop (m - k) ys) ≡ reverse (take k s.here)
+topmost_slice n k m xs ys s e h g same l =
+    let a : length ys - (m - k) ≡ length (drop (m - k) ys) = sym (length-drop (m - k) ys) in
+    ap (λ (i : ℕ). take i (drop (m - k) ys)) a ∙ take-length (drop (m - k) ys)
+    ∙ ap (λ (l : List Value). drop (m - k) l) same ∙ ap (λ (i : ℕ). drop (i - k) xs) l ∙ topmost_is n k xs s e h g

@@ -1,0 +1,128 @@
+-- The layers, as one is taken off or put on.
+use Rattle.std.proofs.Common.{◌≡◌, ℕ, suc, Option, Some, None, ◌-◌, ◌≤◌, List, [], ◌∷◌, ◌++◌, Bool, length, take, drop, refl, sym, ap, ◌∙◌, subst, arith, length-drop, length-append}
+use Rattle.std.proofs.lemmas.List.{length-take-le}
+use Rattle.std.specs.Borrow.{Bor}
+use Rattle.wasm_ast.specs.declared.types.Value.{Value}
+use Rattle.wasm_ast.specs.declared.body.Instr.{Instr}
+use Rattle.wasm_ast.specs.Code.{Code}
+use Rattle.wasm_ast.specs.View.{code_of}
+use Rattle.interp.specs.Configuration.{State}
+use Rattle.interp.specs.Machine as machine
+use Rattle.interp.specs.Meaning.{layers_of, Ordered, floor_of}
+use Rattle.interp.specs.declared.layers.Layer.{Layer}
+use Rattle.interp.specs.declared.layers.Layer.TheVariants as layer
+use Rattle.interp.proofs.Lists.{take-length_is, drop-length_is}
+
+left_of : (f : ℕ) (vs : List Value) → f ≤ length vs → length (drop (length vs - f) vs) ≡ f
+left_of f vs h = omega (arith, length-drop (length vs - f) vs)
+
+-- a label is taken off
+pub record LabelOff (rs' : List Layer) (vs vs' ls : List Value) (f : ℕ) (keeps : Bool) (t a : Bor (List Instr)) (rs : List Layer) : Type 0 where
+  pub floor : f ≤ length vs
+  pub ordered : Ordered rs' (length vs') (length ls)
+  pub layers : layers_of rs vs ls ≡ machine.Label keeps (take (length vs - f) vs) (code_of t.now) (code_of a.now) ∷ layers_of rs' vs' ls
+
+pub label_floor : (rs rs' : List Layer) (vs ls : List Value) (f : ℕ) (keeps : Bool) (t a : Bor (List Instr)) → rs ≡ layer.Label keeps f t a ∷ rs' → Ordered rs (length vs) (length ls) → f ≤ length vs
+label_floor rs rs' vs ls f keeps t a e o = (subst (λ (r : List Layer). Ordered r (length vs) (length ls)) e o).0
+
+pub label_off : (rs rs' : List Layer) (vs vs' ls : List Value) (f : ℕ) (keeps : Bool) (t a : Bor (List Instr)) → rs ≡ layer.Label keeps f t a ∷ rs' → Ordered rs (length vs) (length ls) → vs' ≡ drop (length vs - f) vs → LabelOff rs' vs vs' ls f keeps t a rs
+label_off rs rs' vs vs' ls f keeps t a e o d =
+    let here : (f ≤ length vs) × Ordered rs' f (length ls) = subst (λ (r : List Layer). Ordered r (length vs) (length ls)) e o in
+    let n : f ≡ length vs' = sym (ap (λ (l : List Value). length l) d ∙ left_of f vs here.0) in
+    record {
+      floor = here.0;
+      ordered = subst (λ (k : ℕ). Ordered rs' k (length ls)) n here.1;
+      layers = ap (λ (r : List Layer). layers_of r vs ls) e ∙ ap (λ (l : List Value). machine.Label keeps (take (length vs - f) vs) (code_of t.now) (code_of a.now) ∷ layers_of rs' l ls) (sym d);
+    }
+
+-- a frame is taken off
+pub record FrameOff (rs' : List Layer) (vs vs' ls ls' : List Value) (f b : ℕ) (keeps : Bool) (a : Bor (List Instr)) (rs : List Layer) : Type 0 where
+  pub floor : f ≤ length vs
+  pub base : b ≤ length ls
+  pub ordered : Ordered rs' (length vs') (length ls')
+  pub layers : layers_of rs vs ls ≡ machine.Frame keeps (drop b ls) (take (length vs - f) vs) (code_of a.now) ∷ layers_of rs' vs' ls'
+
+pub frame_floors : (rs rs' : List Layer) (vs ls : List Value) (f b : ℕ) (keeps : Bool) (a : Bor (List Instr)) → rs ≡ layer.Frame keeps f b a ∷ rs' → Ordered rs (length vs) (length ls) → (f ≤ length vs) × (b ≤ length ls) × Ordered rs' f b
+frame_floors rs rs' vs ls f b keeps a e o = subst (λ (r : List Layer). Ordered r (length vs) (length ls)) e o
+
+pub frame_off : (rs rs' : List Layer) (vs vs' ls ls' : List Value) (f b : ℕ) (keeps : Bool) (a : Bor (List Instr)) → rs ≡ layer.Frame keeps f b a ∷ rs' → Ordered rs (length vs) (length ls) → vs' ≡ drop (length vs - f) vs → ls' ≡ take b ls → FrameOff rs' vs vs' ls ls' f b keeps a rs
+frame_off rs rs' vs vs' ls ls' f b keeps a e o d g =
+    let here = frame_floors rs rs' vs ls f b keeps a e o in
+    let n : f ≡ length vs' = sym (ap (λ (l : List Value). length l) d ∙ left_of f vs here.0) in
+    let m : b ≡ length ls' = sym (ap (λ (l : List Value). length l) g ∙ length-take-le b ls here.1) in
+    record {
+      floor = here.0;
+      base = here.1;
+      ordered = subst (λ (k : ℕ). Ordered rs' (length vs') k) m (subst (λ (k : ℕ). Ordered rs' k b) n here.2);
+      layers = ap (λ (r : List Layer). layers_of r vs ls) e ∙ ap (λ (l : List Value). machine.Frame keeps (drop b ls) (take (length vs - f) vs) (code_of a.now) ∷ layers_of rs' l (take b ls)) (sym d) ∙ ap (λ (l : List Value). machine.Frame keeps (drop b ls) (take (length vs - f) vs) (code_of a.now) ∷ layers_of rs' vs' l) (sym g);
+    }
+
+-- more below changes no order
+pub ordered_on : (rs : List Layer) (n m k l : ℕ) → n ≤ m → k ≤ l → Ordered rs n k → Ordered rs m l
+ordered_on [] n m k l h g o = tt
+ordered_on (layer.Label keeps f t a ∷ rs) n m k l h g o = (omega (arith, o.0, h), ordered_on rs f f k l (omega arith) g o.1)
+ordered_on (layer.Frame keeps f b a ∷ rs) n m k l h g o = (omega (arith, o.0, h), omega (arith, o.1, g), o.2)
+
+-- what a label put on stands over
+pub above_is : (vs us : List Value) → take (length (vs ++ us) - length us) (vs ++ us) ≡ vs
+above_is vs us = take-length_is (length (vs ++ us) - length us) vs us (omega (arith, length-append vs us))
+
+pub under_is : (vs us : List Value) → drop (length (vs ++ us) - length us) (vs ++ us) ≡ us
+under_is vs us = drop-length_is (length (vs ++ us) - length us) vs us (omega (arith, length-append vs us))
+
+pub label_on : (rs : List Layer) (vs us ls : List Value) (f : ℕ) (keeps : Bool) (t a : Bor (List Instr)) → f ≡ length us → layers_of (layer.Label keeps f t a ∷ rs) (vs ++ us) ls ≡ machine.Label keeps vs (code_of t.now) (code_of a.now) ∷ layers_of rs us ls
+label_on rs vs us ls f keeps t a e =
+    ap (λ (k : ℕ). machine.Label keeps (take (length (vs ++ us) - k) (vs ++ us)) (code_of t.now) (code_of a.now) ∷ layers_of rs (drop (length (vs ++ us) - k) (vs ++ us)) ls) e
+    ∙ ap (λ (l : List Value). machine.Label keeps l (code_of t.now) (code_of a.now) ∷ layers_of rs (drop (length (vs ++ us) - length us) (vs ++ us)) ls) (above_is vs us)
+    ∙ ap (λ (l : List Value). machine.Label keeps vs (code_of t.now) (code_of a.now) ∷ layers_of rs l ls) (under_is vs us)
+
+pub frame_on : (rs : List Layer) (vs us ls ms : List Value) (f b : ℕ) (keeps : Bool) (a : Bor (List Instr)) → f ≡ length us → b ≡ length ms → layers_of (layer.Frame keeps f b a ∷ rs) (vs ++ us) (ms ++ ls) ≡ machine.Frame keeps ls vs (code_of a.now) ∷ layers_of rs us ms
+frame_on rs vs us ls ms f b keeps a e g =
+    ap (λ (k : ℕ). machine.Frame keeps (drop b (ms ++ ls)) (take (length (vs ++ us) - k) (vs ++ us)) (code_of a.now) ∷ layers_of rs (drop (length (vs ++ us) - k) (vs ++ us)) (take b (ms ++ ls))) e
+    ∙ ap (λ (l : List Value). machine.Frame keeps (drop b (ms ++ ls)) l (code_of a.now) ∷ layers_of rs (drop (length (vs ++ us) - length us) (vs ++ us)) (take b (ms ++ ls))) (above_is vs us)
+    ∙ ap (λ (l : List Value). machine.Frame keeps (drop b (ms ++ ls)) vs (code_of a.now) ∷ layers_of rs l (take b (ms ++ ls))) (under_is vs us)
+    ∙ ap (λ (l : List Value). machine.Frame keeps l vs (code_of a.now) ∷ layers_of rs us (take b (ms ++ ls))) (drop-length_is b ms ls g)
+    ∙ ap (λ (l : List Value). machine.Frame keeps ls vs (code_of a.now) ∷ layers_of rs us l) (take-length_is b ms ls g)
+
+-- a branch goes past a label
+pub jump_label : (n k : ℕ) (top : Option Value) (st : State) (ls ms : List machine.Layer) (keeps : Bool) (vs : List Value) (t a : Code) → n ≡ suc k → ls ≡ machine.Label keeps vs t a ∷ ms → machine.jump n top ls st ≡ machine.jump k top ms st
+jump_label n k top st ls ms keeps vs t a e g = ap (λ (j : ℕ). machine.jump j top ls st) e ∙ ap (λ (l : List machine.Layer). machine.jump (suc k) top l st) g
+
+pub jump_frame : (n k : ℕ) (top : Option Value) (st : State) (ls ms : List machine.Layer) (keeps : Bool) (xs vs : List Value) (a : Code) → n ≡ suc k → ls ≡ machine.Frame keeps xs vs a ∷ ms → machine.jump n top ls st ≡ machine.Stuck st.count
+jump_frame n k top st ls ms keeps xs vs a e g = ap (λ (j : ℕ). machine.jump j top ls st) e ∙ ap (λ (l : List machine.Layer). machine.jump (suc k) top l st) g
+
+pub jump_none : (n k : ℕ) (top : Option Value) (st : State) (rs : List Layer) (vs ls : List Value) → n ≡ suc k → rs ≡ [] → machine.jump n top (layers_of rs vs ls) st ≡ machine.Stuck st.count
+jump_none n k top st rs vs ls e g = ap (λ (j : ℕ). machine.jump j top (layers_of rs vs ls) st) e ∙ ap (λ (r : List Layer). machine.jump (suc k) top (layers_of r vs ls) st) g
+
+-- out of a frame past a label
+pub record LabelPast (rs' : List Layer) (vs vs' ls : List Value) (f : ℕ) (rs : List Layer) : Type 0 where
+  pub floor : f ≤ length vs
+  pub ordered : Ordered rs' (length vs') (length ls)
+  pub back : (top : Option Value) (st : State) → machine.back top (layers_of rs vs ls) st ≡ machine.back top (layers_of rs' vs' ls) st
+
+pub floor_fits : (rs : List Layer) (vs ls : List Value) (f : ℕ) → floor_of rs ≡ Some f → Ordered rs (length vs) (length ls) → f ≤ length vs
+floor_fits [] vs ls f e o = absurd cc
+floor_fits (layer.Label keeps g t a ∷ rs) vs ls f e o = let h : g ≡ f = cc in subst (λ (k : ℕ). k ≤ length vs) h o.0
+floor_fits (layer.Frame keeps g b a ∷ rs) vs ls f e o = absurd cc
+
+past_cons : (l : Layer) (rs : List Layer) (vs vs' ls : List Value) (f : ℕ) → floor_of (l ∷ rs) ≡ Some f → Ordered (l ∷ rs) (length vs) (length ls) → vs' ≡ drop (length vs - f) vs → LabelPast rs vs vs' ls f (l ∷ rs)
+past_cons (layer.Label keeps g t a) rs vs vs' ls f e o d =
+    let h : g ≡ f = cc in
+    let d' : vs' ≡ drop (length vs - g) vs = d ∙ ap (λ (k : ℕ). drop (length vs - k) vs) (sym h) in
+    let off = label_off (layer.Label keeps g t a ∷ rs) rs vs vs' ls g keeps t a refl o d' in
+    record {
+      floor = subst (λ (k : ℕ). k ≤ length vs) h o.0;
+      ordered = off.ordered;
+      back = λ top st. ap (λ (l : List machine.Layer). machine.back top l st) off.layers;
+    }
+past_cons (layer.Frame keeps g b a) rs vs vs' ls f e o d = absurd cc
+
+pub label_past : (rs rs' : List Layer) (l : Layer) (vs vs' ls : List Value) (f : ℕ) → floor_of rs ≡ Some f → rs ≡ l ∷ rs' → Ordered rs (length vs) (length ls) → vs' ≡ drop (length vs - f) vs → LabelPast rs' vs vs' ls f rs
+label_past rs rs' l vs vs' ls f e g o d =
+    let P : List Layer → Type 0 = λ (r : List Layer). LabelPast rs' vs vs' ls f r in
+    subst P (sym g) (past_cons l rs' vs vs' ls f (ap (λ (r : List Layer). floor_of r) (sym g) ∙ e) (subst (λ (r : List Layer). Ordered r (length vs) (length ls)) g o) d)
+
+pub back_arrives : (rs : List Layer) (vs ls : List Value) (top : Option Value) (st : State) → floor_of rs ≡ None → machine.back top (layers_of rs vs ls) st ≡ machine.arrive top (layers_of rs vs ls) st
+back_arrives [] vs ls top st e = refl
+back_arrives (layer.Label keeps g t a ∷ rs) vs ls top st e = absurd cc
+back_arrives (layer.Frame keeps g b a ∷ rs) vs ls top st e = refl

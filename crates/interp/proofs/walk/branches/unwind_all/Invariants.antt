@@ -1,0 +1,15 @@
+use Rattle.std.proofs.Common.{◌≡◌, length, reverse, Option}
+use Rattle.wasm_ast.specs.declared.types.Value.{Value}
+use Rattle.interp.specs.Machine.{back}
+use Rattle.interp.specs.Configuration.{State}
+use Rattle.interp.specs.Meaning.{layers_of, Ordered}
+use Rattle.interp.proofs.walk.branches.unwind_all.Given as goal
+
+abbrev pub invariant-loop-floor : goal.invariant-loop-floor
+invariant-loop-floor l = record {
+  ordered : Ordered (reverse l.layers.items) (length l.operands.below) (length l.locals.below);
+  back : (top : Option Value) (st : State) → back top (layers_of (reverse l.initial.layers.items) l.initial.operands.below l.locals.below) st ≡ back top (layers_of (reverse l.layers.items) l.operands.below l.locals.below) st;
+}
+
+abbrev pub decreases-loop-floor : goal.decreases-loop-floor
+decreases-loop-floor l = length (reverse l.layers.items)

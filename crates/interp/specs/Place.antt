@@ -1,0 +1,101 @@
+-- Where a run is, and how it is stored: as the tuple of its parts.
+use Rattle.std.specs.Prelude.{◌≡◌, ℕ, ℤ, Bool, List, ◌⊎◌, refl}
+use Rattle.std.specs.Coded.{Coded, code_by, coded_list, coded_bool, coded_ℕ, coded_ℤ, coded×, coded⊎}
+use mathlib.Core.Logic.{inl, inr}
+use Rattle.wasm_ast.specs.declared.types.Value.{Value}
+use Rattle.wasm_ast.specs.contracts.types.Value as value_type
+use Rattle.wasm_ast.specs.Code.{Code, coded_code}
+use Rattle.host_calls.specs.Host.{Host}
+use Rattle.interp.specs.Configuration.{State}
+use Rattle.interp.specs.Machine.{Machine, Running, Layer, Label, Frame}
+
+-- a configuration that runs
+pub record Place : Type 0 where
+  pub values : List Value
+  pub code : Code
+  pub layers : List Layer
+  pub state : State
+
+abbrev pub running : Place → Machine
+running p = Running p.values p.code p.layers p.state
+
+-- ---- the stored form
+
+abbrev pub values_code : Coded (List Value)
+values_code = coded_list value_type.the_row.coded
+
+abbrev pub LayerParts : Type 0
+LayerParts = (Bool × (List Value × (Code × Code))) ⊎ (Bool × (List Value × (List Value × Code)))
+
+abbrev pub layer_parts_code : Coded LayerParts
+layer_parts_code =
+    coded⊎ (coded× coded_bool (coded× values_code (coded× coded_code coded_code))) (coded× coded_bool (coded× values_code (coded× values_code coded_code)))
+
+abbrev pub parts : Layer → LayerParts
+parts (Label keeps vs t a) = inl (keeps, (vs, (t, a)))
+parts (Frame keeps ls vs a) = inr (keeps, (ls, (vs, a)))
+
+abbrev pub whole : LayerParts → Layer
+whole (inl p) = Label p.0 p.1.0 p.1.1.0 p.1.1.1
+whole (inr p) = Frame p.0 p.1.0 p.1.1.0 p.1.1.1
+
+pub whole-parts : (l : Layer) → whole (parts l) ≡ l
+whole-parts (Label keeps vs t a) = refl
+whole-parts (Frame keeps ls vs a) = refl
+
+abbrev pub layer_code : Coded Layer
+layer_code = code_by LayerParts layer_parts_code parts whole whole-parts
+
+abbrev pub seen_code : Coded (List (ℤ × ℤ))
+seen_code = coded_list (coded× coded_ℤ coded_ℤ)
+
+-- what a call only reads, and what it takes from
+abbrev pub GivenParts : Type 0
+GivenParts = ℤ × (ℤ × (ℤ × (List ℤ × (List ℤ × List (ℤ × ℤ)))))
+
+abbrev pub given_code : Coded GivenParts
+given_code = coded× coded_ℤ (coded× coded_ℤ (coded× coded_ℤ (coded× (coded_list coded_ℤ) (coded× (coded_list coded_ℤ) seen_code))))
+
+-- what it sets
+abbrev pub LeftParts : Type 0
+LeftParts = ℤ × (ℤ × ((ℤ × ℤ) × (List (ℤ × ℤ) × (List (ℕ × ℤ) × Bool))))
+
+abbrev pub left_code : Coded LeftParts
+left_code =
+    coded× coded_ℤ (coded× coded_ℤ (coded× (coded× coded_ℤ coded_ℤ) (coded× seen_code (coded× (coded_list (coded× coded_ℕ coded_ℤ)) coded_bool))))
+
+abbrev pub given_of : Host → GivenParts
+given_of h = (h.id, (h.superstep, (h.num_vertices, (h.aggregated, (h.messages, h.edges)))))
+
+abbrev pub left_of_host : Host → LeftParts
+left_of_host h = (h.value, (h.message, (h.edge, (h.sends, (h.contributions, h.halted)))))
+
+abbrev pub host_whole : GivenParts × LeftParts → Host
+host_whole p = record {
+  id = p.0.0;
+  superstep = p.0.1.0;
+  num_vertices = p.0.1.1.0;
+  aggregated = p.0.1.1.1.0;
+  messages = p.0.1.1.1.1.0;
+  edges = p.0.1.1.1.1.1;
+  value = p.1.0;
+  message = p.1.1.0;
+  edge = p.1.1.1.0;
+  sends = p.1.1.1.1.0;
+  contributions = p.1.1.1.1.1.0;
+  halted = p.1.1.1.1.1.1;
+}
+
+abbrev pub host_code : Coded Host
+host_code = code_by (GivenParts × LeftParts) (coded× given_code left_code) (λ h. (given_of h, left_of_host h)) host_whole (λ _. refl)
+
+abbrev pub StateParts : Type 0
+StateParts = List Value × (List Value × (List ℕ × (Host × ℕ)))
+
+abbrev pub state_code : Coded State
+state_code =
+    code_by StateParts (coded× values_code (coded× values_code (coded× (coded_list coded_ℕ) (coded× host_code coded_ℕ)))) (λ s. (s.locals, (s.globals, (s.memory, (s.host, s.count))))) (λ p. record { locals = p.0; globals = p.1.0; memory = p.1.1.0; host = p.1.1.1.0; count = p.1.1.1.1 }) (λ _. refl)
+
+abbrev pub place_code : Coded Place
+place_code =
+    code_by (List Value × (Code × (List Layer × State))) (coded× values_code (coded× coded_code (coded× (coded_list layer_code) state_code))) (λ p. (p.values, (p.code, (p.layers, p.state)))) (λ p. record { values = p.0; code = p.1.0; layers = p.1.1.0; state = p.1.1.1 }) (λ _. refl)

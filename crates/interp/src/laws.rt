@@ -1,0 +1,23 @@
+//! What holds of every run of the machine.
+
+ghost use Rattle.std.specs.Prelude.{◌≡◌, ◌≤◌, ℕ};
+ghost use Rattle.wasm_ast.specs.declared.module.Module.{Module as AnyModule};
+ghost use Rattle.host_calls.specs.declared.call.CallInput.{CallInput as AnyInput};
+ghost use Rattle.host_calls.specs.declared.call.CallOutcome.{CallOutcome as AnyOutcome};
+ghost use Rattle.interp.specs.Call.{IsOutcome, SameOutcome, IsTrapped, IsStuck, HasNoStep};
+ghost use Rattle.interp.specs.Machine.{Machine, IsOver, run};
+
+/// A run that is over stays over.
+pub fn an_end_stays()
+    ensures { (m : AnyModule) (n k : ℕ) (x : Machine) → IsOver (run m n x) → n ≤ k → run m k x ≡ run m n x }
+{}
+
+/// A call has one end: one outcome, or one count at which it traps or has no step, or no first step.
+pub fn one_outcome()
+    ensures outcome { (m : AnyModule) (input : AnyInput) (a b : AnyOutcome) → IsOutcome m input a → IsOutcome m input b → SameOutcome a b }
+    ensures trap { (m : AnyModule) (input : AnyInput) (a b : ℕ) → IsTrapped m input a → IsTrapped m input b → a ≡ b }
+    ensures stuck { (m : AnyModule) (input : AnyInput) (a b : ℕ) → IsStuck m input a → IsStuck m input b → a ≡ b }
+    ensures outcome_no_trap { (m : AnyModule) (input : AnyInput) (a : AnyOutcome) (b : ℕ) → IsOutcome m input a → IsTrapped m input b → ⊥ }
+    ensures outcome_not_stuck { (m : AnyModule) (input : AnyInput) (a : AnyOutcome) (b : ℕ) → IsOutcome m input a → IsStuck m input b → ⊥ }
+    ensures trap_not_stuck { (m : AnyModule) (input : AnyInput) (a b : ℕ) → IsTrapped m input a → IsStuck m input b → ⊥ }
+{}

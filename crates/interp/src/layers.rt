@@ -1,0 +1,41 @@
+//! What lies round the running sequence.
+
+ghost use Rattle.std.specs.Prelude.{◌≡◌, ◌∷◌, [], reverse, OnOk, OnErr, MatchOption};
+
+use std::alloc::AllocError;
+use wasm_ast::Instr;
+
+/// A label or a frame (Core 1.0, 4.2.12), with what goes on after it. Each keeps where the operands, and a frame where
+/// the locals, of what lies round it begin.
+#[derive(Clone, Copy)]
+pub enum Layer<'a> {
+    Label {
+        keeps: bool,
+        floor: usize,
+        target: &'a [Instr],
+        after: &'a [Instr],
+    },
+    Frame {
+        keeps: bool,
+        floor: usize,
+        base: usize,
+        after: &'a [Instr],
+    },
+}
+
+#[inline]
+pub fn push_layer<'a>(layers: &mut Vec<Layer<'a>>, layer: Layer<'a>) -> Result<(), AllocError>
+    ensures ok { OnOk result (reverse layers.new.items ≡ layer.entry ∷ reverse layers.old.items) }
+    ensures err { OnErr result (layers.new.items ≡ layers.old.items) }
+{
+    layers.push(layer)?;
+    Ok(())
+}
+
+#[inline]
+pub fn pop_layer<'a>(layers: &mut Vec<Layer<'a>>) -> Option<Layer<'a>>
+    ensures { MatchOption result ((reverse layers.old.items ≡ []) × (reverse layers.new.items ≡ []))
+        (λ layer. reverse layers.old.items ≡ layer ∷ reverse layers.new.items) }
+{
+    layers.pop()
+}

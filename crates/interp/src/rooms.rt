@@ -1,0 +1,28 @@
+//! The lists of a call, which the next call takes over.
+
+use crate::globals::Globals;
+use crate::locals::Locals;
+use crate::memory::Memory;
+use crate::operands::Operands;
+use std::alloc::Global;
+
+/// The lists of a call. What they hold as it begins says nothing: it begins by clearing them.
+#[derive(Drop)]
+pub struct Rooms {
+    pub operands: Operands,
+    pub locals: Locals,
+    pub globals: Globals,
+    pub memory: Memory,
+}
+
+impl Rooms {
+    /// Lists that hold nothing and have no room; it takes no memory.
+    pub fn new(alloc: Global) -> Rooms {
+        Rooms {
+            operands: Operands::new(alloc),
+            locals: Locals::new(alloc),
+            globals: Globals::new(alloc),
+            memory: Memory::new(alloc),
+        }
+    }
+}

@@ -1,0 +1,123 @@
+//! Blocks (Core 1.0, 4.4.5), and what goes on after them.
+
+ghost use Rattle.std.specs.Prelude.{◌≡◌, ◌∷◌, [], Option, Some, if◌then◌else◌};
+ghost use Rattle.wasm_ast.specs.View.{code_of};
+ghost use Rattle.interp.specs.Machine.{Running, Label, arrive, arm, leave, taking};
+ghost use Rattle.interp.specs.Walk.{Turned};
+
+use crate::fault::RunFault;
+use crate::layers::{Layer, pop_layer, push_layer};
+use crate::walk::{Turn, Walk};
+use wasm_ast::{Body, Instr, Value};
+
+impl<'a, 'b> Walk<'a, 'b> {
+    /// Goes on at the innermost label or frame, with an operand.
+    pub fn arrive(&mut self, top: Option<Value>) -> Result<Turn, RunFault>
+        ensures { Turned result (arrive top self.old.layers self.old.state) self.new }
+    {
+        match pop_layer(&mut self.layers) {
+            None => Ok(Turn::Finished),
+            Some(
+                Layer::Label {
+                    keeps,
+                    floor,
+                    target,
+                    after: _,
+                },
+            ) => {
+                self.operands.fall(floor);
+                self.code = target;
+                if self.operands.carry(keeps, top)? {
+                    Ok(Turn::Next)
+                } else {
+                    Err(RunFault::Stuck)
+                }
+            }
+            Some(
+                Layer::Frame {
+                    keeps,
+                    floor,
+                    base,
+                    after,
+                },
+            ) => {
+                self.operands.fall(floor);
+                self.locals.close(base);
+                self.code = after;
+                if self.operands.carry(keeps, top)? {
+                    Ok(Turn::Next)
+                } else {
+                    Err(RunFault::Stuck)
+                }
+            }
+        }
+    }
+
+    /// Goes on after the innermost label or frame.
+    #[inline]
+    pub fn leave(&mut self) -> Result<Turn, RunFault>
+        ensures { Turned result (leave self.old.values self.old.layers self.old.state) self.new }
+    {
+        match pop_layer(&mut self.layers) {
+            None => Ok(Turn::Finished),
+            Some(Layer::Label { floor, after, .. }) => {
+                self.operands.join(floor);
+                self.code = after;
+                Ok(Turn::Next)
+            }
+            Some(
+                Layer::Frame {
+                    floor,
+                    base,
+                    after,
+                    ..
+                },
+            ) => {
+                self.operands.join(floor);
+                self.locals.close(base);
+                self.code = after;
+                Ok(Turn::Next)
+            }
+        }
+    }
+
+    /// Begins a sequence in a label.
+    #[inline]
+    pub fn open(
+        &mut self,
+        keeps: bool,
+        target: &'a [Instr],
+        body: &'a Body,
+    ) -> Result<Turn, RunFault>
+        ensures { Turned result (Running [] body.now (Label keeps self.old.values (code_of target.now) self.old.code ∷ self.old.layers) self.old.state) self.new }
+    {
+        let floor = self.operands.floor();
+        let label = Layer::Label {
+            keeps,
+            floor,
+            target,
+            after: self.code,
+        };
+        push_layer(&mut self.layers, label)?;
+        self.operands.open();
+        self.code = body.as_slice();
+        Ok(Turn::Next)
+    }
+
+    /// Begins one of two sequences.
+    #[inline]
+    pub fn choose(
+        &mut self,
+        keeps: bool,
+        then_body: &'a Body,
+        else_body: &'a Body,
+    ) -> Result<Turn, RunFault>
+        ensures { Turned result (taking self.old.values self.old.state.count (λ n us. Running [] (arm n then_body.now else_body.now) (Label keeps us self.old.code self.old.code ∷ self.old.layers) self.old.state)) self.new }
+    {
+        if self.operands.pop_i32()? == 0 {
+            self.open(keeps, self.code, else_body)
+        } else {
+            self.open(keeps, self.code, then_body)
+        }
+    }
+}

@@ -5,4 +5,7 @@ pub mod InputFaults
 pub mod Lines
 pub mod Refusal
 pub mod Engine
+pub mod Disk
+pub mod Modules
+pub mod CommandFaults
 pub mod Program

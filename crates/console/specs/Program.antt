@@ -1,86 +1,179 @@
--- What the program tells of a call of the module in one file with the input in another.
-use Rattle.std.specs.Prelude.{◌≡◌, ℕ, ◌⊎◌, List, ◌++◌, Option, Some, None, codes}
+-- What the program tells of a command over files.
+use Rattle.std.specs.Prelude.{◌≡◌, ℕ, ◌<◌, ◌≤◌, ◌⊎◌, Bool, true, false, List, ◌++◌, Some, None, codes, length}
+use Rattle.std.specs.Fmt.{decimal}
 use Rattle.std.specs.Str.{IsUtf8}
 use Rattle.wasm_ast.specs.declared.module.Module.{Module}
+use Rattle.wasm_ast.specs.Limits.{max_module_bytes, IsWithinLimits}
+use Rattle.wasm_decode.specs.Canonical.{canonical}
+use Rattle.wat_asm.specs.Layout.{layout}
+use Rattle.wasm_decode.specs.declared.fault.DecodeFault.{DecodeFault}
+use Rattle.validate.specs.Modules.{IsTyped}
 use Rattle.console.specs.declared.fault.CallFault.{CallFault}
-use Rattle.console.specs.declared.fault.CallFault.TheVariants.{OutOfMemory}
-use Rattle.console.specs.declared.program.CommandFault.{CommandFault}
-use Rattle.console.specs.declared.program.CommandFault.TheVariants as command
+use Rattle.console.specs.declared.fault.CallFault.TheVariants.{Decode, Invalid, OutOfMemory, Write}
+use Rattle.console.specs.declared.command_fault.CommandFault.{CommandFault}
+use Rattle.console.specs.declared.command_fault.CommandFault.TheVariants as command
 use Rattle.console.specs.declared.request.Options.{Options}
 use Rattle.console.specs.declared.request.Options.TheVariants as options
 use Rattle.console.specs.Lines.{line}
-use Rattle.console.specs.Refusal.{refusal_text}
-use Rattle.console.specs.Engine.{IsAnswer, Loads, Refuses, RefusesBytes}
+use Rattle.console.specs.Disk.{Disk}
+use Rattle.console.specs.Modules.{IsLayoutOf, IsModuleAt, IsValidAt, is_text_path}
+use Rattle.console.specs.CommandFaults.{fault_text, status_of}
+use Rattle.console.specs.Engine.{Answers, RefusesBytes, RefusesText}
 
--- what may be found at a path: bytes, or no file that can be read
-abbrev pub Holding : Type 1
-Holding = List ℕ → Option (List ℕ) → Type 0
+-- ---- answers
 
--- the files hold a module and a text, and their answer is told
-pub record TellsAnswer (holds : Holding) (module_path input_path told : List ℕ) : Type 0 where
-  pub bytes : List ℕ
+-- the files hold a valid module and a text, and the lines of the call are told
+pub record TellsOutcome (disk : Disk) (module_path input_path told : List ℕ) : Type 0 where
+  pub m : Module
+  pub valid : IsValidAt disk module_path m
   pub text : List ℕ
-  pub has_module : holds module_path (Some bytes)
-  pub has_input : holds input_path (Some text)
-  pub is_answer : IsAnswer bytes text told
+  pub has_input : disk.holds input_path (Some text)
+  pub answers : Answers m text told
 
--- the file's bytes are refused, or they and the text of the other file are
-abbrev pub RefusesFiles : Holding → (module_path input_path : List ℕ) → CallFault → Type 0
-RefusesFiles holds module_path input_path fault =
-    (bytes : List ℕ) × holds module_path (Some bytes)
-    × (RefusesBytes bytes fault ⊎ ((text : List ℕ) × holds input_path (Some text) × Refuses bytes text fault))
+abbrev pub length_line : ℕ → List ℕ
+length_line count = line (codes "ok " ++ decimal count)
 
--- a fault is told, and it comes of the files or of want of memory
-pub record TellsRefusal (holds : Holding) (module_path input_path told : List ℕ) : Type 0 where
-  pub fault : CallFault
-  pub because : (fault ≡ OutOfMemory) ⊎ RefusesFiles holds module_path input_path fault
-  pub line_of_fault : told ≡ line (refusal_text fault)
+-- the canonical spelling of a file's module was written to the other file, and its length is told
+pub record TellsLength (before after : Disk) (module_path binary_path told : List ℕ) : Type 0 where
+  pub m : Module
+  pub read : IsModuleAt before module_path m
+  pub small : length (canonical m) ≤ max_module_bytes
+  pub written : after.wrote binary_path (canonical m)
+  pub line_of_length : told ≡ length_line (length (canonical m))
 
--- the input's file cannot be read, or is no text
-abbrev pub IsNoText : Holding → List ℕ → Type 0
-IsNoText holds path = holds path None ⊎ ((bytes : List ℕ) × holds path (Some bytes) × (¬ (IsUtf8 bytes)))
+-- the text of a file's module is told
+pub record TellsLayout (disk : Disk) (module_path told : List ℕ) : Type 0 where
+  pub m : Module
+  pub read : IsModuleAt disk module_path m
+  pub text_of_module : told ≡ layout m
 
--- the module's file cannot be read; or the module loads, and the input's file cannot be read
-abbrev pub IsMissing : Holding → (module_path input_path path : List ℕ) → Type 0
-IsMissing holds module_path input_path path =
-    ((path ≡ module_path) × holds module_path None)
-    ⊎ ((path ≡ input_path) × IsNoText holds input_path
-    × ((bytes : List ℕ) × holds module_path (Some bytes) × (m : Module) × Loads bytes m))
-
-abbrev pub missing_line : List ℕ → List ℕ
-missing_line path = line (codes "no file " ++ path)
-
-pub record TellsMissing (holds : Holding) (module_path input_path told : List ℕ) : Type 0 where
-  pub path : List ℕ
-  pub missing : IsMissing holds module_path input_path path
-  pub line_of_path : told ≡ missing_line path
-
--- what is told with each status of the process
-abbrev pub Tells : Holding → (module_path input_path : List ℕ) → ℕ → List ℕ → Type 0
-Tells holds module_path input_path status told =
-    ((status ≡ 0) × TellsAnswer holds module_path input_path told)
-    ⊎ (((status ≡ 1) × TellsRefusal holds module_path input_path told)
-    ⊎ ((status ≡ 4) × TellsMissing holds module_path input_path told))
-
--- what may be found now could be found before
-abbrev pub Stays : (before after : Holding) → Type 0
-Stays before after = (path : List ℕ) (found : Option (List ℕ)) → after path found → before path found
-
-abbrev pub Told : Holding → Options → ℕ → List ℕ → Type 0
-Told holds (options.Call module_path input_path) status told = Tells holds module_path.now input_path.now status told
+abbrev pub Answered : (before after : Disk) → Options → List ℕ → Type 0
+Answered before after (options.Call module_path input_path) told = TellsOutcome before module_path.now input_path.now told
+Answered before after (options.Assemble module_path binary_path) told = TellsLength before after module_path.now binary_path.now told
+Answered before after (options.Print module_path) told = TellsLayout before module_path.now told
 
 -- ---- why a command is not carried out
 
 -- reading the file at the path came to this
-abbrev pub IsUnread : Holding → List ℕ → CommandFault → Type 0
-IsUnread holds path (command.Call fault) = fault ≡ OutOfMemory
-IsUnread holds path (command.File missing) = (missing.now ≡ path) × holds path None
+abbrev pub IsUnread : Disk → List ℕ → CommandFault → Type 0
+IsUnread disk path (command.Call fault) = fault ≡ OutOfMemory
+IsUnread disk path (command.File missing) = (missing.now ≡ path) × disk.holds path None
+IsUnread disk path _ = ⊥
 
-abbrev pub IsNoTextAt : Holding → List ℕ → CommandFault → Type 0
-IsNoTextAt holds path (command.Call fault) = fault ≡ OutOfMemory
-IsNoTextAt holds path (command.File missing) = (missing.now ≡ path) × IsNoText holds path
+-- the file at the path cannot be read, or is no text
+abbrev pub IsNoText : Disk → List ℕ → Type 0
+IsNoText disk path = disk.holds path None ⊎ ((bytes : List ℕ) × disk.holds path (Some bytes) × (¬ (IsUtf8 bytes)))
 
-abbrev pub IsCause : Holding → (module_path input_path : List ℕ) → CommandFault → Type 0
-IsCause holds module_path input_path (command.Call fault) =
-    (fault ≡ OutOfMemory) ⊎ RefusesFiles holds module_path input_path fault
-IsCause holds module_path input_path (command.File missing) = IsMissing holds module_path input_path missing.now
+abbrev pub IsNoTextAt : Disk → List ℕ → CommandFault → Type 0
+IsNoTextAt disk path (command.Call fault) = fault ≡ OutOfMemory
+IsNoTextAt disk path (command.File missing) = (missing.now ≡ path) × IsNoText disk path
+IsNoTextAt disk path _ = ⊥
+
+-- there is no file to be read: bytes can be read where a text cannot
+abbrev pub IsNoFile : (is_text : Bool) → Disk → List ℕ → Type 0
+IsNoFile true disk path = IsNoText disk path
+IsNoFile false disk path = disk.holds path None
+
+-- the bytes at the path spell no module
+pub record IsNoSpelling (disk : Disk) (path : List ℕ) (fault : DecodeFault) : Type 0 where
+  pub bytes : List ℕ
+  pub held : disk.holds path (Some bytes)
+  pub is_binary : is_text_path path ≡ false
+  pub refused : RefusesBytes bytes (Decode fault)
+
+-- the text at the path is not what is printed of a module
+pub record IsNoLayout (disk : Disk) (path : List ℕ) : Type 0 where
+  pub text : List ℕ
+  pub held : disk.holds path (Some text)
+  pub is_text : is_text_path path ≡ true
+  pub refused : (m : Module) → ¬ (IsLayoutOf m text)
+
+-- the file at the path is no module's
+abbrev pub IsNoModuleAt : Disk → List ℕ → CommandFault → Type 0
+IsNoModuleAt disk path (command.Call OutOfMemory) = Unit {0}
+IsNoModuleAt disk path (command.Call (Decode fault)) = IsNoSpelling disk path fault
+IsNoModuleAt disk path (command.Text fault) = IsNoLayout disk path
+IsNoModuleAt disk path (command.File missing) = (missing.now ≡ path) × IsNoFile (is_text_path path) disk path
+IsNoModuleAt disk path _ = ⊥
+
+-- the file's module is not valid
+pub record IsInvalidAt (disk : Disk) (path : List ℕ) : Type 0 where
+  pub m : Module
+  pub read : IsModuleAt disk path m
+  pub refused : ¬ (IsTyped m × IsWithinLimits m)
+
+-- the file at the path is no valid module's
+abbrev pub IsNotValidAt : Disk → List ℕ → CommandFault → Type 0
+IsNotValidAt disk path (command.Call (Invalid broken place)) = IsInvalidAt disk path
+IsNotValidAt disk path fault = IsNoModuleAt disk path fault
+
+-- the module is valid, and the input's file cannot be read
+pub record IsWithoutInput (disk : Disk) (module_path input_path : List ℕ) (fault : CommandFault) : Type 0 where
+  pub m : Module
+  pub valid : IsValidAt disk module_path m
+  pub no_text : IsNoTextAt disk input_path fault
+
+-- the module is valid, and its call with the input is refused
+pub record IsCallRefused (disk : Disk) (module_path input_path : List ℕ) (fault : CallFault) : Type 0 where
+  pub m : Module
+  pub valid : IsValidAt disk module_path m
+  pub text : List ℕ
+  pub has_input : disk.holds input_path (Some text)
+  pub refused : RefusesText m text fault
+
+abbrev pub IsRefusedAt : Disk → (module_path input_path : List ℕ) → CommandFault → Type 0
+IsRefusedAt disk module_path input_path (command.Call fault) = IsCallRefused disk module_path input_path fault
+IsRefusedAt disk module_path input_path _ = ⊥
+
+abbrev pub IsCallCause : Disk → (module_path input_path : List ℕ) → CommandFault → Type 0
+IsCallCause disk module_path input_path fault =
+    IsNotValidAt disk module_path fault
+    ⊎ (IsWithoutInput disk module_path input_path fault ⊎ IsRefusedAt disk module_path input_path fault)
+
+-- writing to the file at the path came to this
+abbrev pub IsUnwritable : Disk → List ℕ → CommandFault → Type 0
+IsUnwritable disk path (command.Call fault) = fault ≡ OutOfMemory
+IsUnwritable disk path (command.File refused) = (refused.now ≡ path) × disk.refuses path
+IsUnwritable disk path _ = ⊥
+
+-- why the module's spelling is not written and told
+abbrev pub IsUnspelled : Disk → List ℕ → Module → CommandFault → Type 0
+IsUnspelled disk path m (command.Call fault) = (fault ≡ OutOfMemory) ⊎ (fault ≡ Write)
+IsUnspelled disk path m command.TooLong = max_module_bytes < length (canonical m)
+IsUnspelled disk path m fault = IsUnwritable disk path fault
+
+-- the file is a module's, and its spelling is not written
+pub record IsNotAssembled (disk : Disk) (module_path binary_path : List ℕ) (fault : CommandFault) : Type 0 where
+  pub m : Module
+  pub read : IsModuleAt disk module_path m
+  pub unspelled : IsUnspelled disk binary_path m fault
+
+abbrev pub IsAssembleCause : Disk → (module_path binary_path : List ℕ) → CommandFault → Type 0
+IsAssembleCause disk module_path binary_path fault =
+    IsNoModuleAt disk module_path fault ⊎ IsNotAssembled disk module_path binary_path fault
+
+-- memory ran out, or writing failed
+abbrev pub IsUntold : CommandFault → Type 0
+IsUntold (command.Call fault) = (fault ≡ OutOfMemory) ⊎ (fault ≡ Write)
+IsUntold _ = ⊥
+
+abbrev pub IsPrintCause : Disk → List ℕ → CommandFault → Type 0
+IsPrintCause disk module_path fault = IsNoModuleAt disk module_path fault ⊎ IsUntold fault
+
+abbrev pub IsCause : Disk → Options → CommandFault → Type 0
+IsCause disk (options.Call module_path input_path) fault = IsCallCause disk module_path.now input_path.now fault
+IsCause disk (options.Assemble module_path binary_path) fault = IsAssembleCause disk module_path.now binary_path.now fault
+IsCause disk (options.Print module_path) fault = IsPrintCause disk module_path.now fault
+
+-- ---- what is told with each status of the process
+
+-- a fault is told, and there is a cause for it
+pub record TellsRefusal (disk : Disk) (asked : Options) (status : ℕ) (told : List ℕ) : Type 0 where
+  pub fault : CommandFault
+  pub because : IsCause disk asked fault
+  pub status_of_fault : status ≡ status_of fault
+  pub line_of_fault : told ≡ line (fault_text fault)
+
+abbrev pub Told : (before after : Disk) → Options → ℕ → List ℕ → Type 0
+Told before after asked status told =
+    ((status ≡ 0) × Answered before after asked told) ⊎ TellsRefusal before asked status told

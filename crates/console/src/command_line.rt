@@ -2,7 +2,7 @@
 
 use crate::request::Options;
 use clap::error::ErrorKind;
-use clap::{Arg, Command, Error};
+use clap::{Arg, ArgMatches, Command, Error};
 use std::alloc::{AllocError, Global};
 use std::convert::AsStr;
 
@@ -11,35 +11,76 @@ use std::convert::AsStr;
 pub fn options<'a, S: AsStr>(alloc: Global, words: &'a [S]) -> Result<Options<'a>, Error> {
     let mut command = pregel(alloc)?;
     let matches = command.try_get_matches_from_mut(words)?;
-    if let Some(("call", call)) = matches.subcommand()
-        && let Some(module) = call.get_str("module")
-        && let Some(input) = call.get_str("input")
+    if let Some((name, entries)) = matches.subcommand()
+        && let Some(options) = asked(name, entries)
     {
-        return Ok(Options::Call { module, input });
+        return Ok(options);
     }
     Err(command.error(ErrorKind::MissingSubcommand, "a command is missing")?)
+}
+
+// What a subcommand with these entries asks for.
+fn asked<'a>(name: &str, entries: &ArgMatches<'a>) -> Option<Options<'a>> {
+    let module = entries.get_str("module")?;
+    match name {
+        "call" => {
+            let input = entries.get_str("input")?;
+            Some(Options::Call { module, input })
+        }
+        "asm" => {
+            let binary = entries.get_str("binary")?;
+            Some(Options::Assemble { module, binary })
+        }
+        "print" => Some(Options::Print { module }),
+        _ => None,
+    }
 }
 
 fn pregel<'a>(alloc: Global) -> Result<Command<'a>, AllocError> {
     let command = Command::new(alloc, "pregel")
         .bin_name("pregel")?
         .about("Computes over graphs by programs of one vertex, each a WebAssembly module")
+        .after_help("A module whose file's name ends in `.wat` is text, any other is binary.")
         .subcommand_required(true)
         .arg_required_else_help(true);
-    command.subcommand(call(alloc)?)
+    command
+        .subcommand(call(alloc)?)?
+        .subcommand(asm(alloc)?)?
+        .subcommand(print(alloc)?)
 }
 
 fn call<'a>(alloc: Global) -> Result<Command<'a>, AllocError> {
-    let module = Arg::new(alloc, "module")
-        .value_name("MODULE")
-        .help("The module, in WebAssembly's binary format")
-        .required(true);
     let input = Arg::new(alloc, "input")
         .value_name("INPUT")
         .help("The input, in lines such as `value 34`")
         .required(true);
     Command::new(alloc, "call")
         .about("Makes one compute call of one vertex, and prints its outcome")
-        .arg(module)?
+        .arg(module(alloc, "MODULE"))?
         .arg(input)
+}
+
+fn asm<'a>(alloc: Global) -> Result<Command<'a>, AllocError> {
+    let binary = Arg::new(alloc, "binary")
+        .value_name("OUT")
+        .help("The file to be written")
+        .required(true);
+    Command::new(alloc, "asm")
+        .about("Writes a module in WebAssembly's binary format, in the fewest bytes")
+        .arg(module(alloc, "IN"))?
+        .arg(binary)
+}
+
+fn print<'a>(alloc: Global) -> Result<Command<'a>, AllocError> {
+    Command::new(alloc, "print")
+        .about("Prints a module in WebAssembly's text format")
+        .arg(module(alloc, "IN"))
+}
+
+// The module of a command.
+fn module<'a>(alloc: Global, value_name: &'a str) -> Arg<'a> {
+    Arg::new(alloc, "module")
+        .value_name(value_name)
+        .help("The module: text where the name ends in `.wat`, else binary")
+        .required(true)
 }

@@ -1,33 +1,38 @@
-//! Where files come from.
+//! Where files come from, and where they go.
 
-ghost use Rattle.std.specs.Prelude.{◌≡◌, List, ℕ, ⊤, Option, Some, None, MatchResult};
-ghost use Rattle.console.specs.Program.{Stays};
+ghost use Rattle.std.specs.Prelude.{◌≡◌, Some, None, OnOk, IfErr, MatchResult};
+ghost use Rattle.console.specs.Disk.{Disk, Stays, unknown};
 
 use std::alloc::Global;
 use std::{fs, io};
 use thiserror::Error;
 
-/// Why a file was not read.
+/// Why a file was not read or written.
 #[derive(Clone, Copy, Debug, PartialEq, Eq, Error)]
 pub enum FileFault {
-    /// It is not there, or reading it failed.
-    #[error("the file cannot be read")]
+    /// It is not there, or reading or writing it failed.
+    #[error("the file cannot be read or written")]
     Device,
     /// Memory ran out.
     #[error("out of memory")]
     OutOfMemory,
 }
 
-/// What files are read from.
+/// What files are read from and written to.
 pub trait Files {
-    /// What may be found at a path: bytes, or no file that can be read. No read changes it.
-    ghost holds: { Self → List ℕ → Option (List ℕ) → Type 0 };
+    /// What may be found at a path, where writing may fail, and what was written last.
+    ghost disk: { Self → Disk };
 
     /// The bytes of the file at a path.
     fn read(&mut self, alloc: Global, path: &str) -> Result<Vec<u8>, FileFault>
-        ensures found { MatchResult result (λ bytes. holds self.old path.now (Some bytes.items))
-            (λ fault. fault ≡ FileFault.Device → holds self.old path.now None) }
-        ensures kept { Stays (holds self.old) (holds self.new) };
+        ensures found { MatchResult result (λ bytes. (disk self.old).holds path.now (Some bytes.items))
+            (λ fault. fault ≡ FileFault.Device → (disk self.old).holds path.now None) }
+        ensures kept { Stays (disk self.old) (disk self.new) };
+
+    /// Makes these bytes the file at a path, in place of what it held. After a fault the file may hold some of them.
+    fn write(&mut self, path: &str, bytes: &[u8]) -> Result<(), FileFault>
+        ensures written { OnOk result ((disk self.new).wrote path.now bytes.now) }
+        ensures refused { IfErr result (λ fault. fault ≡ FileFault.Device → (disk self.old).refuses path.now) };
 }
 
 /// The files of the system.
@@ -36,12 +41,20 @@ pub struct SystemFiles<'a, R>(pub &'a R);
 
 // Nothing can be said of what the system's files hold.
 impl<R: std::rt::Files + AllocGlobal> Files for SystemFiles<'_, R> {
-    ghost holds = { λ _ _ _. ⊤ };
+    ghost disk = { λ _. unknown };
 
     fn read(&mut self, _alloc: Global, path: &str) -> Result<Vec<u8>, FileFault> {
-        fs::read(self.0, path).map_err(|error| match error.kind() {
-            io::ErrorKind::OutOfMemory => FileFault::OutOfMemory,
-            _ => FileFault::Device,
-        })
+        fs::read(self.0, path).map_err(|error| fault_of(&error))
+    }
+
+    fn write(&mut self, path: &str, bytes: &[u8]) -> Result<(), FileFault> {
+        fs::write(self.0, path, bytes).map_err(|error| fault_of(&error))
+    }
+}
+
+fn fault_of(error: &io::Error) -> FileFault {
+    match error.kind() {
+        io::ErrorKind::OutOfMemory => FileFault::OutOfMemory,
+        _ => FileFault::Device,
     }
 }

@@ -1,21 +1,23 @@
 //! The program behind `main`.
 
-ghost use Rattle.std.specs.Prelude.{◌≡◌, ◌≢◌, List, ℕ, Some, IfOk, IfErr, OnOk, MatchResult};
+ghost use Rattle.std.specs.Prelude.{◌≡◌, ◌≢◌, List, ℕ, IfOk, IfErr, OnOk};
 ghost use Rattle.std.specs.Io.KnownBytes.{Appends, Keeps};
-ghost use Rattle.std.specs.String.{string_vec};
-ghost use Rattle.console.specs.declared.program.CommandFault.TheVariants.{Call};
+ghost use Rattle.console.specs.CommandFaults.{fault_text, status_of};
 ghost use Rattle.console.specs.Lines.{line};
-ghost use Rattle.console.specs.Refusal.{refusal_text};
-ghost use Rattle.console.specs.Program.{Stays, Told, Tells, missing_line, TellsAnswer, IsCause, IsUnread, IsNoTextAt};
+ghost use Rattle.console.specs.Program.{Answered, IsAssembleCause, IsCallCause, IsCause, IsPrintCause, length_line, TellsLayout, TellsLength, TellsOutcome, Told};
 
-use crate::engine::{call, load};
+use crate::command_fault::{CommandFault, status_of};
+use crate::engine::answer;
 use crate::fault::CallFault;
-use crate::files::{FileFault, Files};
-use crate::refusal::refuse;
+use crate::files::Files;
+use crate::modules::{load_module, read_module};
+use crate::reading::{read_text, write};
 use crate::request::Options;
 use std::alloc::Global;
-use std::io::Write;
+use std::io::{self, Write};
 use thiserror::Error;
+use wasm_decode::encode;
+use wat_asm::print;
 
 /// Why the program could not tell how it went.
 #[derive(Clone, Copy, Debug, PartialEq, Eq, Error)]
@@ -25,82 +27,61 @@ pub enum ServeFault {
     Write,
 }
 
-// Why a command was not carried out.
-#[derive(Drop)]
-enum CommandFault<'a> {
-    Call(CallFault),
-    // The file at this path cannot be read, or is not the text that it should be.
-    File(&'a str),
-}
-
-impl From<CallFault> for CommandFault<'_> {
-    ghost from_gives = { λ cause fault. fault ≡ Call cause };
-
-    fn from(fault: CallFault) -> Self {
-        CommandFault::Call(fault)
-    }
-}
-
 /// Does what the options ask for, and writes the answer or, as one line, its refusal.
 ///
 /// It answers the status for the process: 0 where there is an answer, 1 where the module, the input or the call was
-/// refused, and 4 where a file cannot be read, which `no file PATH` tells. The module is looked at before the input's
-/// file. An answer is that of the engine's call; a refusal is told as one line, and is one of the module's and the
-/// input's own, or want of memory.
+/// refused, and 4 where a file cannot be read or written, which `no file PATH` tells. A module's file whose path ends in
+/// `.wat` is text, any other is binary; text that is not in UTF-8 cannot be read.
+///
+/// `call` answers with the outcome's lines; the module is looked at before the input's file. `asm` writes the module's
+/// canonical spelling to the other file, and answers `ok LENGTH`. `print` answers with the module's text. Neither of the
+/// two asks that the module is valid. A refusal is one of the module's and the input's own, or want of memory.
 pub fn command<F: Files, W: Write>(
     alloc: Global,
     options: Options<'_>,
     files: &mut F,
     out: &mut W,
 ) -> Result<u8, ServeFault>
-    ensures told { IfOk result (λ status. (told : List ℕ) × Told (F.holds files.old) options.entry status told
-        × Appends (W.contents out.old) (W.contents out.new) told) }
-{
-    match options {
-        Options::Call { module, input } => answer_call(alloc, module, input, files, out),
-    }
-}
-
-// Calls the module in one file with the input in another, and tells how it went.
-fn answer_call<F: Files, W: Write>(
-    alloc: Global,
-    module: &str,
-    input: &str,
-    files: &mut F,
-    out: &mut W,
-) -> Result<u8, ServeFault>
     ensures told { IfOk result (λ status. (told : List ℕ)
-        × Tells (F.holds files.old) «module».now input.now status told
+        × Told (F.disk files.old) (F.disk files.new) options.entry status told
         × Appends (W.contents out.old) (W.contents out.new) told) }
 {
-    match call_files(alloc, module, input, files, out) {
+    match carry_out(alloc, options, files, out) {
         Ok(()) => Ok(0),
-        Err(CommandFault::Call(fault)) => tell_refusal(&fault, out),
-        Err(CommandFault::File(path)) => tell_missing(path, out),
+        Err(fault) => tell(&fault, out),
     }
 }
 
 // A writer that failed is told nothing more.
-fn tell_refusal<W: Write>(fault: &CallFault, out: &mut W) -> Result<u8, ServeFault>
-    ensures { IfOk result (λ status. (status ≡ 1) × (fault.now ≢ CallFault.Write)
-        × Appends (W.contents out.old) (W.contents out.new) (line (refusal_text fault.now))) }
+fn tell<W: Write>(fault: &CommandFault, out: &mut W) -> Result<u8, ServeFault>
+    ensures { IfOk result (λ status. (status ≡ status_of fault.now) × (fault.now ≢ CommandFault.Call CallFault.Write)
+        × Appends (W.contents out.old) (W.contents out.new) (line (fault_text fault.now))) }
 {
-    if let CallFault::Write = fault {
+    if let CommandFault::Call(CallFault::Write) = fault {
         return Err(ServeFault::Write);
     }
-    match refuse(fault, out) {
-        Ok(()) => Ok(1),
+    match writeln!(out, "{fault}") {
+        Ok(()) => Ok(status_of(fault)),
         Err(_) => Err(ServeFault::Write),
     }
 }
 
-fn tell_missing<W: Write>(path: &str, out: &mut W) -> Result<u8, ServeFault>
-    ensures { IfOk result (λ status. (status ≡ 4)
-        × Appends (W.contents out.old) (W.contents out.new) (missing_line path.now)) }
+fn carry_out<'a, F: Files, W: Write>(
+    alloc: Global,
+    options: Options<'a>,
+    files: &mut F,
+    out: &mut W,
+) -> Result<(), CommandFault<'a>>
+    ensures answered { OnOk result ((told : List ℕ) × Answered (F.disk files.old) (F.disk files.new) options.entry told
+        × Appends (W.contents out.old) (W.contents out.new) told) }
+    ensures refused { IfErr result (IsCause (F.disk files.old) options.entry) }
+    ensures unwritten { IfErr result (λ fault. fault ≢ CommandFault.Call CallFault.Write
+        → Keeps (W.contents out.old) (W.contents out.new)) }
 {
-    match writeln!(out, "no file {path}") {
-        Ok(()) => Ok(4),
-        Err(_) => Err(ServeFault::Write),
+    match options {
+        Options::Call { module, input } => call_files(alloc, module, input, files, out),
+        Options::Assemble { module, binary } => assemble_file(alloc, module, binary, files, out),
+        Options::Print { module } => print_file(alloc, module, files, out),
     }
 }
 
@@ -112,51 +93,61 @@ fn call_files<'a, F: Files, W: Write>(
     files: &mut F,
     out: &mut W,
 ) -> Result<(), CommandFault<'a>>
-    ensures answer { OnOk result ((told : List ℕ) × TellsAnswer (F.holds files.old) «module».now input.now told
+    ensures answered { OnOk result ((told : List ℕ) × TellsOutcome (F.disk files.old) «module».now input.now told
         × Appends (W.contents out.old) (W.contents out.new) told) }
-    ensures refused { IfErr result (IsCause (F.holds files.old) «module».now input.now) }
+    ensures refused { IfErr result (IsCallCause (F.disk files.old) «module».now input.now) }
     ensures unwritten { IfErr result (λ fault. fault ≢ CommandFault.Call CallFault.Write
         → Keeps (W.contents out.old) (W.contents out.new)) }
 {
-    let bytes = read(alloc, module, files)?;
-    match read_text(alloc, input, files) {
-        Ok(text) => call(alloc, bytes.as_slice(), text.as_str(), out)?,
-        Err(fault) => {
-            // The module's faults are told first.
-            load(alloc, bytes.as_slice())?;
-            return Err(fault);
-        }
-    }
+    let valid = load_module(alloc, module, files)?;
+    let text = read_text(alloc, input, files)?;
+    answer(alloc, &valid, text.as_str(), out)?;
     Ok(())
 }
 
-fn read_text<'a, F: Files>(
+// Writes the module in one file to another, in the binary format.
+fn assemble_file<'a, F: Files, W: Write>(
     alloc: Global,
     path: &'a str,
+    binary: &'a str,
     files: &mut F,
-) -> Result<String, CommandFault<'a>>
-    ensures found { MatchResult result (λ text. F.holds files.old path.now (Some (string_vec text).items))
-        (IsNoTextAt (F.holds files.old) path.now) }
-    ensures kept { Stays (F.holds files.old) (F.holds files.new) }
+    out: &mut W,
+) -> Result<(), CommandFault<'a>>
+    ensures answered { OnOk result ((told : List ℕ)
+        × TellsLength (F.disk files.old) (F.disk files.new) path.now binary.now told
+        × Appends (W.contents out.old) (W.contents out.new) told) }
+    ensures refused { IfErr result (IsAssembleCause (F.disk files.old) path.now binary.now) }
+    ensures unwritten { IfErr result (λ fault. fault ≢ CommandFault.Call CallFault.Write
+        → Keeps (W.contents out.old) (W.contents out.new)) }
 {
-    let bytes = read(alloc, path, files)?;
-    match String::from_utf8(bytes) {
-        Ok(text) => Ok(text),
-        Err(_) => Err(CommandFault::File(path)),
-    }
+    let module = read_module(alloc, path, files)?;
+    let bytes = encode(alloc, &module)?;
+    write(binary, bytes.as_slice(), files)?;
+    tell_length(bytes.len(), out)?;
+    Ok(())
 }
 
-fn read<'a, F: Files>(
+fn tell_length<W: Write>(length: usize, out: &mut W) -> io::Result<()>
+    ensures { OnOk result (Appends (W.contents out.old) (W.contents out.new) (length_line length)) }
+{
+    writeln!(out, "ok {length}")
+}
+
+// Prints the module in a file.
+fn print_file<'a, F: Files, W: Write>(
     alloc: Global,
     path: &'a str,
     files: &mut F,
-) -> Result<Vec<u8>, CommandFault<'a>>
-    ensures found { MatchResult result (λ bytes. F.holds files.old path.now (Some bytes.items))
-        (IsUnread (F.holds files.old) path.now) }
-    ensures kept { Stays (F.holds files.old) (F.holds files.new) }
+    out: &mut W,
+) -> Result<(), CommandFault<'a>>
+    ensures answered { OnOk result ((told : List ℕ) × TellsLayout (F.disk files.old) path.now told
+        × Appends (W.contents out.old) (W.contents out.new) told) }
+    ensures refused { IfErr result (IsPrintCause (F.disk files.old) path.now) }
+    ensures unwritten { IfErr result (λ fault. fault ≢ CommandFault.Call CallFault.Write
+        → Keeps (W.contents out.old) (W.contents out.new)) }
 {
-    files.read(alloc, path).map_err(|fault| match fault {
-        FileFault::Device => CommandFault::File(path),
-        FileFault::OutOfMemory => CommandFault::Call(CallFault::OutOfMemory),
-    })
+    let module = read_module(alloc, path, files)?;
+    let text = print(alloc, &module)?;
+    out.write_all(text.as_bytes())?;
+    Ok(())
 }

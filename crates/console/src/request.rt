@@ -5,4 +5,8 @@
 pub enum Options<'a> {
     /// Call the module in one file with the input in the other.
     Call { module: &'a str, input: &'a str },
+    /// Write the module in one file to another, in the binary format.
+    Assemble { module: &'a str, binary: &'a str },
+    /// Print the module in a file as text.
+    Print { module: &'a str },
 }

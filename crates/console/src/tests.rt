@@ -1,6 +1,6 @@
 //! Rows of texts, of command lines, and of files.
 
-ghost use Rattle.std.specs.Prelude.{⊤};
+ghost use Rattle.console.specs.Disk.{unknown};
 
 use crate::{
     CallFault, FileFault, Files, Input, InputFault, Options, ServeFault, call, command, options,
@@ -258,24 +258,75 @@ fn a_million_units_are_the_limit(rt: HostRuntime) -> Result<(), Fail> {
     Ok(())
 }
 
-// Some modules and inputs by name.
+// The module that `SEVEN` spells.
+const SEVEN_TEXT: &str = r#"
+(module
+  (import "pregel" "get_value" (func $get_value (result i64)))
+  (import "pregel" "set_value" (func $set_value (param i64)))
+  (func (export "compute")
+    (call $set_value (i64.add (i64.mul (call $get_value) (i64.const 10)) (i64.const 7)))))
+"#;
+
+// `i32.const 0` and `drop`, with the number 0 spelled in two bytes.
+static LONG_ZERO: [u8; 41] = [
+    0x00, 0x61, 0x73, 0x6D, 0x01, 0x00, 0x00, 0x00, 0x01, 0x04, 0x01, 0x60, 0x00, 0x00, 0x03, 0x02,
+    0x01, 0x00, 0x07, 0x0B, 0x01, 0x07, 0x63, 0x6F, 0x6D, 0x70, 0x75, 0x74, 0x65, 0x00, 0x00, 0x0A,
+    0x08, 0x01, 0x06, 0x00, 0x41, 0x80, 0x00, 0x1A, 0x0B,
+];
+
+// The same in the fewest bytes.
+static SHORT_ZERO: [u8; 40] = [
+    0x00, 0x61, 0x73, 0x6D, 0x01, 0x00, 0x00, 0x00, 0x01, 0x04, 0x01, 0x60, 0x00, 0x00, 0x03, 0x02,
+    0x01, 0x00, 0x07, 0x0B, 0x01, 0x07, 0x63, 0x6F, 0x6D, 0x70, 0x75, 0x74, 0x65, 0x00, 0x00, 0x0A,
+    0x07, 0x01, 0x05, 0x00, 0x41, 0x00, 0x1A, 0x0B,
+];
+
+// What is printed of it.
+const ZERO_TEXT: &str = r#"(module
+  (type (func))
+  (func (type 0)
+    i32.const 0
+    drop
+  )
+  (export "compute" (func 0))
+)
+"#;
+
+// Some modules and inputs by name, and what was written last.
 #[derive(Drop)]
-struct Samples;
+struct Samples {
+    written: Vec<u8>,
+}
+
+impl Samples {
+    fn new(alloc: Global) -> Samples {
+        Samples {
+            written: Vec::new(alloc),
+        }
+    }
+}
 
 impl Files for Samples {
-    ghost holds = { λ _ _ _. ⊤ };
+    ghost disk = { λ _. unknown };
 
     fn read(&mut self, alloc: Global, path: &str) -> Result<Vec<u8>, FileFault> {
         let bytes: &[u8] = match path {
             "seven.wasm" => &SEVEN,
+            "seven.wat" | "seven.txt" | ".wat" => SEVEN_TEXT.as_bytes(),
             "cursors.wasm" => &CURSORS,
             "sum.wasm" => &SUM,
             "lost.wasm" => &LOST,
-            "nothing.wasm" => &[],
+            "zero.wasm" => &LONG_ZERO,
+            "short.wasm" => &SHORT_ZERO,
+            "nothing.wasm" | "nothing.wat" => &[],
             "empty.wasm" => &EMPTY,
+            "binary.wat" => &EMPTY,
             "untyped.wasm" => &UNTYPED,
             "unreachable.wasm" => &UNREACHABLE,
             "endless.wasm" => &ENDLESS,
+            "range.wat" => b"(module\n  (func i32.const 4294967296 drop))",
+            "mismatch.wat" => b"(module (func i32.const 1 i64.const 2 i32.add drop))",
+            "latin.wat" => b"(module) ;; \xE9\n",
             "thirty-four.txt" => b"value 34\n",
             "edges.txt" => b"message 1\nmessage 2\nmessage 3\nedge 5 6\nedge 7 8\n",
             "messages.txt" => b"message 1\nmessage 2\nmessage 3\n",
@@ -287,11 +338,22 @@ impl Files for Samples {
         };
         Vec::from_slice(alloc, bytes).map_err(|_| FileFault::OutOfMemory)
     }
+
+    fn write(&mut self, path: &str, bytes: &[u8]) -> Result<(), FileFault> {
+        if path != "out.wasm" {
+            return Err(FileFault::Device);
+        }
+        self.written.clear();
+        match self.written.extend_from_slice(bytes) {
+            Ok(()) => Ok(()),
+            Err(_) => Err(FileFault::OutOfMemory),
+        }
+    }
 }
 
 // Each module and input, with the status and what is written. The module comes before the input, and the input before
 // the call.
-static CALLS: [(&str, &str, u8, &str); 20] = [
+static CALLS: [(&str, &str, u8, &str); 28] = [
     (
         "seven.wasm",
         "thirty-four.txt",
@@ -342,6 +404,19 @@ static CALLS: [(&str, &str, u8, &str); 20] = [
     ("endless.wasm", "latin.txt", 4, "no file latin.txt\n"),
     ("gone.wasm", "thirty-four.txt", 4, "no file gone.wasm\n"),
     ("gone.wasm", "gone.txt", 4, "no file gone.wasm\n"),
+    (
+        "seven.wat",
+        "thirty-four.txt",
+        0,
+        "value 347\nactive 1\nunits 6\n",
+    ),
+    (".wat", "none.txt", 0, "value 7\nactive 1\nunits 6\n"),
+    ("seven.txt", "none.txt", 1, "no decode Magic 0\n"),
+    ("range.wat", "gone.txt", 1, "no text NumberRange 2 19\n"),
+    ("mismatch.wat", "gone.txt", 1, "no valid Mismatch 0 2\n"),
+    ("latin.wat", "gone.txt", 4, "no file latin.wat\n"),
+    ("gone.wat", "gone.txt", 4, "no file gone.wat\n"),
+    ("binary.wat", "none.txt", 1, "no text Lex 1 1\n"),
 ];
 
 #[test]
@@ -349,45 +424,157 @@ fn calls_are_answered(rt: HostRuntime) -> Result<(), Fail> {
     for (module, input, status, written) in &CALLS {
         let mut out = Vec::new(rt.alloc());
         let options = Options::Call { module, input };
-        let answered = command(rt.alloc(), options, &mut Samples, &mut out)?;
+        let mut files = Samples::new(rt.alloc());
+        let answered = command(rt.alloc(), options, &mut files, &mut out)?;
         assert_eq!(rt; answered, *status, "at {module} {input}");
         assert_eq!(rt; out.as_slice(), written.as_bytes(), "at {module} {input}");
+        assert!(rt; files.written.is_empty());
+    }
+    Ok(())
+}
+
+// Each module and file to be written, with the status, what is told, and the file that what is written equals.
+static SPELLINGS: [(&str, &str, u8, &str, &str); 10] = [
+    ("seven.wat", "out.wasm", 0, "ok 96\n", "seven.wasm"),
+    ("seven.wasm", "out.wasm", 0, "ok 96\n", "seven.wasm"),
+    ("zero.wasm", "out.wasm", 0, "ok 40\n", "short.wasm"),
+    ("untyped.wasm", "out.wasm", 0, "ok 43\n", "untyped.wasm"),
+    (
+        "seven.wat",
+        "locked.wasm",
+        4,
+        "no file locked.wasm\n",
+        "none.txt",
+    ),
+    ("gone.wat", "out.wasm", 4, "no file gone.wat\n", "none.txt"),
+    (
+        "latin.wat",
+        "out.wasm",
+        4,
+        "no file latin.wat\n",
+        "none.txt",
+    ),
+    (
+        "nothing.wat",
+        "out.wasm",
+        1,
+        "no text Syntax 1 1\n",
+        "none.txt",
+    ),
+    (
+        "range.wat",
+        "locked.wasm",
+        1,
+        "no text NumberRange 2 19\n",
+        "none.txt",
+    ),
+    (
+        "nothing.wasm",
+        "out.wasm",
+        1,
+        "no decode Truncated 0\n",
+        "none.txt",
+    ),
+];
+
+#[test]
+fn modules_are_written(rt: HostRuntime) -> Result<(), Fail> {
+    for (module, binary, status, told, written) in &SPELLINGS {
+        let mut out = Vec::new(rt.alloc());
+        let options = Options::Assemble { module, binary };
+        let mut files = Samples::new(rt.alloc());
+        let answered = command(rt.alloc(), options, &mut files, &mut out)?;
+        assert_eq!(rt; answered, *status, "at {module} {binary}");
+        assert_eq!(rt; out.as_slice(), told.as_bytes(), "at {module} {binary}");
+        let wanted = files.read(rt.alloc(), written)?;
+        assert_eq!(rt;
+            files.written.as_slice(),
+            wanted.as_slice(),
+            "at {module} {binary}"
+        );
+    }
+    Ok(())
+}
+
+// Each module, with the status and what is told.
+static TEXTS: [(&str, u8, &str); 8] = [
+    ("zero.wasm", 0, ZERO_TEXT),
+    ("empty.wasm", 0, "(module\n)\n"),
+    (
+        "mismatch.wat",
+        0,
+        "(module\n  (type (func))\n  (func (type 0)\n    i32.const 1\n    i64.const 2\n    i32.add\n    drop\n  )\n)\n",
+    ),
+    ("nothing.wasm", 1, "no decode Truncated 0\n"),
+    ("range.wat", 1, "no text NumberRange 2 19\n"),
+    ("latin.wat", 4, "no file latin.wat\n"),
+    ("gone.wasm", 4, "no file gone.wasm\n"),
+    ("gone.wat", 4, "no file gone.wat\n"),
+];
+
+#[test]
+fn modules_are_printed(rt: HostRuntime) -> Result<(), Fail> {
+    for (module, status, told) in &TEXTS {
+        let mut out = Vec::new(rt.alloc());
+        let options = Options::Print { module };
+        let mut files = Samples::new(rt.alloc());
+        let answered = command(rt.alloc(), options, &mut files, &mut out)?;
+        assert_eq!(rt; answered, *status, "at {module}");
+        assert_eq!(rt; out.as_slice(), told.as_bytes(), "at {module}");
+        assert!(rt; files.written.is_empty());
     }
     Ok(())
 }
 
 #[test]
 fn a_writer_fails(rt: HostRuntime) {
+    let input = "thirty-four.txt";
     for module in ["seven.wasm", "untyped.wasm", "gone.wasm"] {
-        let mut room = [0u8; 4];
-        let mut out = room.as_mut_slice();
-        let options = Options::Call {
-            module,
-            input: "thirty-four.txt",
-        };
-        assert_eq!(rt;
-            command(rt.alloc(), options, &mut Samples, &mut out),
-            Err(ServeFault::Write)
-        );
+        for options in [
+            Options::Call { module, input },
+            Options::Print { module },
+            Options::Assemble {
+                module,
+                binary: "out.wasm",
+            },
+        ] {
+            let mut room = [0u8; 4];
+            let mut out = room.as_mut_slice();
+            let mut files = Samples::new(rt.alloc());
+            assert_eq!(rt;
+                command(rt.alloc(), options, &mut files, &mut out),
+                Err(ServeFault::Write)
+            );
+        }
     }
 }
 
 #[test]
-fn words_are_read(rt: HostRuntime) -> Result<(), Fail> {
-    let words = ["pregel", "call", "seven.wasm", "in.txt"];
-    assert_eq!(rt;
-        options(rt.alloc(), &words)?,
-        Options::Call {
-            module: "seven.wasm",
-            input: "in.txt"
-        }
-    );
-    Ok(())
+fn words_are_read(rt: HostRuntime) {
+    let (module, input, binary) = ("seven.wasm", "in.txt", "out.wasm");
+    let rows: [(&[&str], Options); 3] = [
+        (
+            &["pregel", "call", "seven.wasm", "in.txt"],
+            Options::Call { module, input },
+        ),
+        (
+            &["pregel", "asm", "seven.wasm", "out.wasm"],
+            Options::Assemble { module, binary },
+        ),
+        (
+            &["pregel", "print", "seven.wasm"],
+            Options::Print { module },
+        ),
+    ];
+    for (words, wanted) in rows {
+        let found = options(rt.alloc(), words).ok();
+        assert_eq!(rt; found, Some(wanted), "at {words:?}");
+    }
 }
 
 #[test]
 fn words_are_refused(rt: HostRuntime) {
-    let rows: [(&[&str], ErrorKind); 5] = [
+    let rows: [(&[&str], ErrorKind); 8] = [
         (&["pregel", "--help"], ErrorKind::DisplayHelp),
         (&["pregel", "call", "--help"], ErrorKind::DisplayHelp),
         (
@@ -399,6 +586,15 @@ fn words_are_refused(rt: HostRuntime) {
             ErrorKind::UnknownArgument,
         ),
         (&["pregel", "recall"], ErrorKind::InvalidSubcommand),
+        (&["pregel", "asm", "--help"], ErrorKind::DisplayHelp),
+        (
+            &["pregel", "asm", "seven.wat"],
+            ErrorKind::MissingRequiredArgument,
+        ),
+        (
+            &["pregel", "print", "seven.wat", "out.txt"],
+            ErrorKind::UnknownArgument,
+        ),
     ];
     for (words, kind) in rows {
         let found = options(rt.alloc(), words).map_or_else(|error| Some(error.kind()), |_| None);

@@ -13,7 +13,8 @@ fn main(rt: HostRuntime) -> ExitCode {
     }
 }
 
-// The status: 0 for an answer, 1 for a refusal, 2 for a mistake in the command line, 4 for a file that cannot be read.
+// The status: 0 for an answer, 1 for a refusal, 2 for a mistake in the command line, 4 for a file that cannot be read or
+// written.
 fn run(rt: &HostRuntime) -> io::Result<u8> {
     let alloc = rt.alloc();
     let words: Vec<String> = env::args(rt)?.collect(alloc)?;

@@ -10,3 +10,4 @@ pub mod Widths
 pub mod Same
 pub mod Stored
 pub mod Modules
+pub mod Representable

@@ -21,7 +21,7 @@ use Rattle.wasm_decode.specs.Types.{val_type_byte}
 use Rattle.wasm_decode.specs.Instructions.{SpellsExpression}
 use Rattle.wasm_decode.specs.Grammar.{SpellsImportDescription, SpellsImport, SpellsGlobal, SpellsExportDescription, SpellsExport, SpellsElement, SpellsData, SpellsGroup, locals_of, SpellsLocals, SpellsFunction}
 use Rattle.wasm_decode.specs.Canonical.{sized, vector, val_type_bytes, limits_bytes, table_bytes, global_type_bytes, expression_bytes, import_description_bytes, import_bytes, global_bytes, export_description_bytes, export_bytes, element_bytes, data_bytes, is_same_type, groups_from, groups_of, group_bytes, locals_bytes, function_bytes}
-use Rattle.wasm_decode.specs.Representable.{IsU32, IsImportDescriptionHeld, IsImportHeld, IsGlobalHeld, IsExportDescriptionHeld, IsExportHeld, IsElementHeld, IsDataHeld, IsFunctionHeld, IsCodeHeld}
+use Rattle.wasm_ast.specs.Representable.{IsU32, IsImportDescriptionHeld, IsImportHeld, IsGlobalHeld, IsExportDescriptionHeld, IsExportHeld, IsElementHeld, IsDataHeld, IsFunctionHeld, IsCodeHeld}
 use Rattle.wasm_decode.proofs.CanonicalParts.{IsSmall, IsSpelled, u32_spelled, u32_is_spelled, some_u32, joined, behind, small_front, small_back, sized_spelled, small_sized, some_sized, bytes_spelled, name_spelled, vector_spelled}
 use Rattle.wasm_decode.proofs.CanonicalInstructions.{limits_are_spelled, table_is_spelled, global_type_spelled, expression_is_spelled}
 

@@ -9,7 +9,7 @@ use Rattle.leb.proofs.Shortest.{shortest_unsigned-spells, shortest_signed-spells
 use Rattle.wasm_ast.specs.Numeric.{signed}
 use Rattle.wasm_decode.specs.Bytes.{Then, Byte, U32, Uninterpreted, Items, Vector, Name, Sized}
 use Rattle.wasm_decode.specs.Canonical.{sized, vector}
-use Rattle.wasm_decode.specs.Representable.{IsU32}
+use Rattle.wasm_ast.specs.Representable.{IsU32}
 
 -- so few bytes that their number has a spelling
 abbrev pub IsSmall : List ℕ → Type 0

@@ -24,7 +24,7 @@ use Rattle.wasm_decode.specs.Bytes.{Then, Byte, U32, Vector}
 use Rattle.wasm_decode.specs.Types.{val_type_byte, SpellsValType, SpellsBlockType, SpellsFuncType, SpellsRange, SpellsLimits, SpellsTableType, SpellsGlobalType}
 use Rattle.wasm_decode.specs.Instructions.{SpellsVariable, SpellsMemory, SpellsPlain, SpellsBranch, SpellsCallIndirect, Ended, Arm, SpellsCode, SpellsExpression}
 use Rattle.wasm_decode.specs.Canonical.{vector, val_type_bytes, func_type_bytes, limits_bytes, maximum_bytes, table_bytes, global_type_bytes, variable_bytes, memory_bytes, memory_argument_bytes, plain_bytes, branch_bytes, else_bytes, code_bytes, expression_bytes}
-use Rattle.wasm_decode.specs.Representable.{IsU32, IsOptionalU32, AreLimitsHeld, IsVariableHeld, IsMemoryHeld, IsPlainHeld, IsBranchHeld, IsCodeHeld}
+use Rattle.wasm_ast.specs.Representable.{IsU32, IsOptionalU32, AreLimitsHeld, IsVariableHeld, IsMemoryHeld, IsPlainHeld, IsBranchHeld, IsCodeHeld}
 use Rattle.wasm_decode.proofs.ShortestParts.{IsShortest, u32_is_shortest, i32_shortest, i64_shortest, Then_length, vector_is_shortest}
 
 -- a byte is one byte

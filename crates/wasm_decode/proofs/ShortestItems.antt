@@ -18,7 +18,7 @@ use Rattle.wasm_decode.specs.Bytes.{U32}
 use Rattle.wasm_decode.specs.Types.{val_type_byte}
 use Rattle.wasm_decode.specs.Grammar.{SpellsImportDescription, SpellsImport, SpellsGlobal, SpellsExportDescription, SpellsExport, SpellsElement, SpellsData, SpellsGroup, SpellsLocals, SpellsFunction, locals_of}
 use Rattle.wasm_decode.specs.Canonical.{sized, vector, global_type_bytes, expression_bytes, import_description_bytes, import_bytes, global_bytes, export_description_bytes, export_bytes, element_bytes, data_bytes, groups_of, group_bytes, locals_bytes, function_bytes}
-use Rattle.wasm_decode.specs.Representable.{IsU32, IsImportDescriptionHeld, IsImportHeld, IsGlobalHeld, IsExportDescriptionHeld, IsExportHeld, IsElementHeld, IsDataHeld, IsCodeHeld}
+use Rattle.wasm_ast.specs.Representable.{IsU32, IsImportDescriptionHeld, IsImportHeld, IsGlobalHeld, IsExportDescriptionHeld, IsExportHeld, IsElementHeld, IsDataHeld, IsCodeHeld}
 use Rattle.wasm_decode.proofs.ShortestParts.{IsShortest, u32_is_shortest, u32_grows, Then_length, sized_shortest, bytes_shortest, name_is_shortest, items_are_shortest, vector_is_shortest}
 use Rattle.wasm_decode.proofs.ShortestInstructions.{behind_byte, limits_are_shortest, table_is_shortest, global_type_shortest, numbered_shortest, expression_is_shortest}
 use Rattle.wasm_decode.proofs.ShortestGroups.{bytes_of, groups_are_shortest}

@@ -9,7 +9,7 @@ use Rattle.leb.proofs.Shortest.{length-shortest_unsigned-le, length-shortest_sig
 use Rattle.wasm_ast.specs.Numeric.{signed}
 use Rattle.wasm_decode.specs.Bytes.{Then, Byte, U32, Uninterpreted, Items, Vector, Name, Sized}
 use Rattle.wasm_decode.specs.Canonical.{sized, vector}
-use Rattle.wasm_decode.specs.Representable.{IsU32}
+use Rattle.wasm_ast.specs.Representable.{IsU32}
 
 -- no spelling of such a thing is shorter than what is written of it, and what has a spelling is held
 abbrev pub IsShortest : {A : Type 0} → (A → Type 0) → (A → List ℕ → Type 0) → (A → List ℕ) → Type 0

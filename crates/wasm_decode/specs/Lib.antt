@@ -3,7 +3,6 @@ pub mod Types
 pub mod Instructions
 pub mod Grammar
 pub mod Canonical
-pub mod Representable
 pub mod Reading
 pub mod ReadingCode
 pub mod ReadingModule

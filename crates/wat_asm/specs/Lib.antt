@@ -3,3 +3,11 @@ pub mod Quoted
 pub mod Pieces
 pub mod Instructions
 pub mod Layout
+pub mod Follows
+pub mod Strings
+pub mod Tokens
+pub mod Reading
+pub mod ReadingCode
+pub mod ReadingModule
+pub mod Names
+pub mod Lexing

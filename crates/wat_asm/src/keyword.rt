@@ -187,7 +187,7 @@ const KEYWORDS: [Keyword; 124] = [
 impl Keyword {
     ghost use Rattle.std.specs.Prelude.{◌≡◌, ◌↔◌};
     ghost use Rattle.wat_asm.specs.declared.keyword.Keyword.{Keyword as AnyKeyword};
-    ghost use Rattle.wat_asm.specs.Keywords.{keyword_text};
+    ghost use Rattle.wat_asm.specs.Keywords.{keyword_text, lookup};
 
     /// How it is spelled.
     pub fn text(self) -> &'static str
@@ -247,15 +247,22 @@ impl Keyword {
     pub fn named(word: &str) -> Option<Keyword>
         ensures { (keyword : AnyKeyword) → (result ≡ Some keyword) ↔ (keyword_text keyword ≡ word.now) }
     {
+        Keyword::spelled(word.as_bytes())
+    }
+
+    /// The same of the bytes of a word.
+    pub fn spelled(word: &[u8]) -> Option<Keyword>
+        ensures { result ≡ lookup KEYWORDS word.now }
+    {
         find(&KEYWORDS, word)
     }
 }
 
-fn find(keywords: &[Keyword], word: &str) -> Option<Keyword>
+fn find(keywords: &[Keyword], word: &[u8]) -> Option<Keyword>
     ensures { result ≡ lookup keywords.now word.now }
 {
     for keyword in keywords {
-        if keyword.text() == word {
+        if keyword.text().as_bytes() == word {
             return Some(*keyword);
         }
     }

@@ -5,7 +5,7 @@ ghost use Rattle.wasm_ast.specs.declared.module.Module.{Module as AnyModule};
 ghost use Rattle.wasm_ast.specs.Limits.{max_module_bytes, IsWithinLimits};
 ghost use Rattle.wasm_decode.specs.Grammar.{Spells};
 ghost use Rattle.wasm_decode.specs.Canonical.{canonical};
-ghost use Rattle.wasm_decode.specs.Representable.{IsRepresentable};
+ghost use Rattle.wasm_ast.specs.Representable.{IsRepresentable};
 
 use crate::laws::spells_one_module;
 

@@ -1,0 +1,21 @@
+-- The operands of the code, whose topmost is last, as a list whose topmost is first.
+use Rattle.std.proofs.Common.{◌≡◌, ℕ, ◌+◌, ◌<◌, List, [], ◌∷◌, ◌++◌, length, drop, reverse, sym, ap, ◌∙◌}
+use Rattle.std.proofs.lemmas.List.{reverse-append, at_drop_more}
+use Rattle.wasm_ast.specs.declared.types.ValType.{ValType}
+use Rattle.wasm_ast.specs.declared.types.ValType.TheVariants.{I32}
+use Rattle.bounded_profile.specs.declared.constants.operands.Operand.{Operand}
+use Rattle.bounded_profile.specs.Tracking.{top, below, forget_each}
+
+pub piled : (less more : List Operand) (o : Operand) → more ≡ less ++ o ∷ [] → reverse more ≡ o ∷ reverse less
+piled less more o e = ap reverse e ∙ reverse-append less (o ∷ [])
+
+pub topmost : (less more : List Operand) (o : Operand) → more ≡ less ++ o ∷ [] → o ≡ top (reverse more)
+topmost less more o e = sym (ap top (piled less more o e))
+
+pub left : (less more : List Operand) (o : Operand) → more ≡ less ++ o ∷ [] → reverse less ≡ below (reverse more)
+left less more o e = sym (ap below (piled less more o e))
+
+-- one more of the types
+pub forget_more : (ts : List ValType) (i : ℕ) (s r : List Operand) → i < length ts → r ≡ below s → forget_each (drop i ts) s ≡ forget_each (drop (i + 1) ts) r
+forget_more ts i s r h e =
+    at_drop_more (λ (us : List ValType). forget_each us s) ts i I32 h ∙ ap (λ (q : List Operand). forget_each (drop (i + 1) ts) q) (sym e)

@@ -1,0 +1,11 @@
+pub mod KnownPiles
+pub mod KnownKinds
+pub mod KnownSound
+pub mod KnownComplete
+pub mod KnownVerdict
+pub mod Climbing
+pub mod Leveling
+pub mod Walking
+pub mod Refusals
+pub mod Computing
+pub mod Opening

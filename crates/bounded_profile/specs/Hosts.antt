@@ -1,0 +1,34 @@
+-- The host's functions that a module imports.
+use Rattle.std.specs.Prelude.{◌≡◌, ℕ, List, map, filter, slice_get, Option, Some, None}
+use Rattle.std.specs.Option.{option_and_then, option_flatten}
+use Rattle.wasm_ast.specs.declared.types.FuncType.{FuncType}
+use Rattle.wasm_ast.specs.declared.module.ImportDescription.TheVariants as import
+use Rattle.wasm_ast.specs.declared.module.Import.{Import}
+use Rattle.wasm_ast.specs.declared.module.Module.{Module}
+use Rattle.wasm_ast.specs.Limits.{is_function}
+use Rattle.host_calls.specs.declared.imports.HostCall.{HostCall}
+use Rattle.host_calls.specs.Imports.{BringsIn, call_named}
+
+-- the import is a function of module `pregel` by its name and its type
+pub record IsHostImport (m : Module) (i : Import) : Type 0 where
+  pub host_call : HostCall
+  pub type_number : ℕ
+  pub function_type : FuncType
+  pub describes : i.description ≡ import.Function type_number
+  pub typed : slice_get m.types type_number ≡ Some function_type
+  pub brings_in : BringsIn i.«module» i.name function_type host_call
+
+-- the host's function that the import brings in, by its names
+abbrev pub call_of : Import → Option HostCall
+call_of i = call_named i.«module» i.name
+
+-- the host's function with this number, by the import's names
+abbrev pub host_call_at : Module → ℕ → Option HostCall
+host_call_at m f = option_and_then call_of (slice_get (filter is_function m.imports) f)
+
+-- the host's function for each imported function
+abbrev pub host_table : Module → List (Option HostCall)
+host_table m = map call_of (filter is_function m.imports)
+
+abbrev pub call_at : List (Option HostCall) → ℕ → Option HostCall
+call_at table f = option_flatten (slice_get table f)

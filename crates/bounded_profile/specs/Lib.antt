@@ -1,0 +1,16 @@
+pub mod Kinds
+pub mod Hosts
+pub mod Known
+pub mod Shapes
+pub mod Memory
+pub mod Profile
+pub mod Tracking
+pub mod ConstantsFaults
+pub mod Faults
+pub mod Compute
+pub mod Arities
+pub mod Heights
+pub mod Climbs
+pub mod Levels
+pub mod Facts
+pub mod Stages

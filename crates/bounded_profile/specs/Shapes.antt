@@ -1,0 +1,72 @@
+-- Which instructions code has, and in which order.
+use Rattle.std.specs.Prelude.{◌≡◌, ℕ, ◌≤◌, ⊤, Option, Some, None}
+use Rattle.wasm_ast.specs.declared.types.ValType.TheVariants.{I32}
+use Rattle.wasm_ast.specs.declared.numeric.Numeric.TheVariants as numeric
+use Rattle.wasm_ast.specs.declared.plain.Memory.TheVariants as memory
+use Rattle.wasm_ast.specs.declared.plain.Plain.TheVariants as plain
+use Rattle.wasm_ast.specs.declared.plain.Branch.TheVariants as branch
+use Rattle.wasm_ast.specs.Code.{Code}
+use Rattle.wasm_ast.specs.Code as code
+use Rattle.host_calls.specs.declared.imports.HostCall.{HostCall}
+use Rattle.host_calls.specs.declared.imports.HostCall.TheVariants.{NextMessage, NextEdge}
+use Rattle.bounded_profile.specs.declared.shapes.Shape.{Shape}
+use Rattle.bounded_profile.specs.declared.shapes.Shape.TheVariants.{Direct, Reached, Steady, Ordered, Opening}
+
+-- P holds of the code from each instruction on, to the end of its sequence
+abbrev pub Everywhere : (Code → Type 0) → Code → Type 0
+Everywhere P code.end = ⊤
+Everywhere P (code.plain p rest) = P (code.plain p rest) × Everywhere P rest
+Everywhere P (code.branch b rest) = P (code.branch b rest) × Everywhere P rest
+Everywhere P (code.call f rest) = P (code.call f rest) × Everywhere P rest
+Everywhere P (code.call_indirect t rest) = P (code.call_indirect t rest) × Everywhere P rest
+Everywhere P (code.unreachable rest) = P (code.unreachable rest) × Everywhere P rest
+Everywhere P (code.block t body rest) = P (code.block t body rest) × Everywhere P body × Everywhere P rest
+Everywhere P (code.loop t body rest) = P (code.loop t body rest) × Everywhere P body × Everywhere P rest
+Everywhere P (code.choice t body other rest) =
+    P (code.choice t body other rest) × Everywhere P body × Everywhere P other × Everywhere P rest
+
+abbrev pub NotIndirect : Code → Type 0
+NotIndirect (code.call_indirect t rest) = ⊥
+NotIndirect _ = ⊤
+
+abbrev pub NotUnreachable : Code → Type 0
+NotUnreachable (code.unreachable rest) = ⊥
+NotUnreachable _ = ⊤
+
+abbrev pub NotGrow : Code → Type 0
+NotGrow (code.plain (plain.Memory memory.Grow) rest) = ⊥
+NotGrow _ = ⊤
+
+-- nothing stands after a branch that is always taken
+abbrev pub LastIfBranch : Code → Type 0
+LastIfBranch (code.branch (branch.Br l) rest) = rest ≡ code.end
+LastIfBranch (code.branch (branch.BrTable ls l) rest) = rest ≡ code.end
+LastIfBranch (code.branch branch.Return rest) = rest ≡ code.end
+LastIfBranch _ = ⊤
+
+-- the host's function takes the next message or the next edge
+abbrev pub TakesItem : Option HostCall → Type 0
+TakesItem (Some NextMessage) = ⊤
+TakesItem (Some NextEdge) = ⊤
+TakesItem _ = ⊥
+
+-- the code takes an item, and where there is none it leaves the loop; `calls` gives the host's functions
+pub record OpensWithItem (calls : ℕ → Option HostCall) (body : Code) : Type 0 where
+  pub function : ℕ
+  pub label : ℕ
+  pub rest : Code
+  pub opens : body ≡ code.call function (code.plain (plain.Numeric (numeric.Eqz I32)) (code.branch (branch.BrIf label) rest))
+  pub takes : TakesItem (calls function)
+  pub leaves : 1 ≤ label
+
+abbrev pub LoopOpens : (ℕ → Option HostCall) → Code → Type 0
+LoopOpens calls (code.loop t body rest) = OpensWithItem calls body
+LoopOpens calls _ = ⊤
+
+-- the rule holds of the code from its first instruction on
+abbrev pub Keeps : (ℕ → Option HostCall) → Shape → Code → Type 0
+Keeps calls Direct = NotIndirect
+Keeps calls Reached = NotUnreachable
+Keeps calls Steady = NotGrow
+Keeps calls Ordered = LastIfBranch
+Keeps calls Opening = LoopOpens calls

@@ -1,0 +1,35 @@
+//! Rules on calls: no function calls itself by way of others (P12), and `compute` with its calls unfolded is small (P14).
+
+ghost use Rattle.std.specs.Prelude.{IfOk, MatchResult};
+ghost use Rattle.cost.specs.Calls.{callees};
+ghost use Rattle.cost.specs.Ranks.{IsRanking};
+ghost use Rattle.bounded_profile.specs.Faults.{Denies, ShowsCycle};
+ghost use Rattle.bounded_profile.specs.Profile.{NoCycles, SizeWithin};
+ghost use Rattle.bounded_profile.specs.Facts.{IsSizeAt};
+
+use crate::fault::{ProfileFault, ProfileRule};
+use crate::module_rules::NOWHERE;
+use cost::{Ranks, has_one_sizing, ranks, unfolded};
+use std::alloc::Global;
+use validate::Valid;
+
+/// P12: the ranks of the functions, where none calls itself.
+pub fn check_cycles(alloc: Global, valid: &Valid) -> Result<Ranks, ProfileFault>
+    ensures ranked { IfOk result (IsRanking valid.now) }
+    ensures decided { MatchResult result (λ _. NoCycles valid.now) (ShowsCycle (callees valid.now)) }
+{
+    Ok(ranks(alloc, valid)?)
+}
+
+/// P14: the size of the function, its calls unfolded, where it is at most `cost::MAX_SIZE`.
+pub fn check_size(valid: &Valid, ranks: &Ranks, function: u32) -> Result<u32, ProfileFault>
+    requires { IsRanking valid.now ranks.now }
+    ensures { MatchResult result (λ size. SizeWithin valid.now function × IsSizeAt valid.now function size)
+        (λ e. Denies e (SizeWithin valid.now function)) }
+{
+    has_one_sizing(valid, ranks);
+    match unfolded(valid, ranks, function) {
+        Some(size) => Ok(size),
+        None => Err(ProfileFault::Breaks(ProfileRule::P14, NOWHERE)),
+    }
+}

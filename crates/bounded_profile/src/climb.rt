@@ -1,0 +1,97 @@
+//! The height of the operands along code.
+
+ghost use Rattle.std.specs.Prelude.{◌≡◌};
+ghost use Rattle.wasm_ast.specs.Code.{end};
+ghost use Rattle.wasm_ast.specs.View.{then_code};
+ghost use Rattle.bounded_profile.specs.Arities.{block_arity};
+ghost use Rattle.bounded_profile.specs.Climbs.{ground_level, reaching, stepping, with_call, with_code};
+
+use crate::arity::{Arity, TEST, arity_at, branch_arity, plain_arity, result_count};
+use crate::height_table::HeightTable;
+use wasm_ast::{BlockType, Body, Instr};
+
+/// What calls of each function take and give, and how high the operands stand in them.
+#[derive(Clone, Copy)]
+pub struct Callees<'a> {
+    pub arities: &'a [Arity],
+    pub heights: &'a HeightTable,
+}
+
+/// How many operands stand at a place of code, and how many stood at most; counts stop at the greatest number.
+#[derive(Clone, Copy, Debug)]
+pub struct Climb {
+    here: usize,
+    most: usize,
+}
+
+impl Climb {
+    // Code that stands on the operands that are here.
+    fn reach(&mut self, above: usize)
+        ensures { self.new ≡ reaching above self.old }
+    {
+        self.most = self.here.saturating_add(above).max(self.most);
+    }
+
+    fn step(&mut self, arity: Arity)
+        ensures { self.new ≡ stepping arity self.old }
+    {
+        self.here = self
+            .here
+            .saturating_sub(arity.takes)
+            .saturating_add(arity.gives);
+        self.most = self.most.max(self.here);
+    }
+
+    // The arguments are gone while the function runs.
+    fn call(&mut self, callees: Callees, function: u32)
+        ensures { self.new ≡ with_call callees.entry.arities.now callees.entry.heights.now function self.old }
+    {
+        let arity = arity_at(callees.arities, function);
+        let left = self.here.saturating_sub(arity.takes);
+        self.most = left
+            .saturating_add(callees.heights.get(function))
+            .max(self.most);
+        self.step(arity);
+    }
+
+    fn give(&mut self, gives: BlockType)
+        ensures { self.new ≡ stepping (block_arity gives) self.old }
+    {
+        let gives = result_count(gives);
+        self.step(Arity { takes: 0, gives });
+    }
+
+    /// The greatest height in code that begins with no operands.
+    #[cycle(code)]
+    pub fn most_along(callees: Callees, body: &Body) -> usize
+        ensures { result ≡ (with_code callees.entry.arities.now callees.entry.heights.now ground_level body.now).most }
+    {
+        let mut climb = Climb { here: 0, most: 0 };
+        for instr in body.as_slice() {
+            climb.add_instr(callees, instr);
+        }
+        climb.most
+    }
+
+    #[cycle(code)]
+    fn add_instr(&mut self, callees: Callees, instr: &Instr)
+        ensures { self.new ≡ with_code callees.entry.arities.now callees.entry.heights.now self.old (then_code instr.now end) }
+    {
+        match instr {
+            Instr::Plain(plain) => self.step(plain_arity(*plain)),
+            Instr::Branch(branch) => self.step(branch_arity(branch)),
+            Instr::Call(function) => self.call(callees, *function),
+            Instr::CallIndirect(_) | Instr::Unreachable => {}
+            Instr::Block(gives, body) | Instr::Loop(gives, body) => {
+                self.reach(Climb::most_along(callees, body));
+                self.give(*gives);
+            }
+            Instr::If(gives, body, other) => {
+                self.step(TEST);
+                self.reach(Climb::most_along(callees, body));
+                self.reach(Climb::most_along(callees, other));
+                self.give(*gives);
+            }
+        }
+    }
+}

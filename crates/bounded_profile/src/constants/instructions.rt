@@ -1,0 +1,226 @@
+//! Instructions that hold no others (Core 1.0, 3.3): what each asks of its operands, and what is known of what it gives.
+
+ghost use Rattle.std.specs.Prelude.{◌≡◌, ◌∷◌, [], reverse, OnOk};
+ghost use Rattle.bounded_profile.specs.declared.constants.operands.Operand.TheVariants.{Unknown as NotKnown};
+ghost use Rattle.bounded_profile.specs.ConstantsFaults.{Finds};
+ghost use Rattle.bounded_profile.specs.Memory.{number_of};
+ghost use Rattle.bounded_profile.specs.Tracking.{operands_of, below, change, numeric_demands, plain_step, variable_step, memory_step, branch_step, call_step, call_indirect_step, take_parameters};
+
+use crate::constants::asks::division_premise;
+use crate::constants::demands::Demand;
+use crate::constants::fault::ConstantsFault;
+use crate::constants::nesting::Nesting;
+use crate::constants::operands::{Operand, Operands, first_of};
+use crate::constants::setting::ModuleSetting;
+use crate::wants::Premise;
+use std::alloc::AllocError;
+use validate::Place;
+use wasm_ast::{Branch, Memory, Numeric, Plain, ValType, Value, Variable};
+
+/// Core 1.0, 3.3.1, 3.3.2 and `nop` of 3.3.5.
+pub fn check_plain(
+    plain: Plain,
+    setting: &ModuleSetting,
+    place: Place,
+    operands: &mut Operands,
+) -> Result<(), ConstantsFault>
+    ensures { Finds (plain_step setting.now plain (operands_of operands.old)) result (operands_of operands.new) }
+{
+    match plain {
+        Plain::Nop => Ok(()),
+        Plain::Drop => {
+            let _operand = operands.pop();
+            Ok(())
+        }
+        Plain::Select => {
+            select(operands)?;
+            Ok(())
+        }
+        Plain::Const(value) => {
+            operands.push(Operand::Known(number_of(value)))?;
+            Ok(())
+        }
+        Plain::Numeric(op) => check_numeric(op, setting, place, operands),
+        Plain::Variable(op) => {
+            move_variable(op, operands)?;
+            Ok(())
+        }
+        Plain::Memory(op) => check_memory(op, setting, place, operands),
+    }
+}
+
+fn number_of(value: Value) -> u64
+    ensures { result ≡ number_of value }
+{
+    match value {
+        Value::I32(number) => u64::from(number),
+        Value::I64(number) => number,
+    }
+}
+
+fn select(operands: &mut Operands) -> Result<(), AllocError>
+    ensures { OnOk result (operands_of operands.new ≡ NotKnown ∷ below (below (below (operands_of operands.old)))) }
+{
+    let _condition = operands.pop();
+    let _second = operands.pop();
+    let _first = operands.pop();
+    operands.push(Operand::Unknown)
+}
+
+// Core 1.0, 3.3.1.
+fn check_numeric(
+    op: Numeric,
+    setting: &ModuleSetting,
+    place: Place,
+    operands: &mut Operands,
+) -> Result<(), ConstantsFault>
+    ensures { Finds (change setting.now.bytes (numeric_demands setting.now.asks op) (NotKnown ∷ []) (operands_of operands.old)) result (operands_of operands.new) }
+{
+    let unknown = Some(Operand::Unknown);
+    let bytes = setting.bytes;
+    match op {
+        Numeric::Eqz(_) | Numeric::Unary(_, _) | Numeric::Conversion(_) => {
+            operands.change(&[Demand::Any], unknown, bytes, place)
+        }
+        Numeric::Comparison(_, _) | Numeric::Binary(_, _) => {
+            operands.change(&[Demand::Any, Demand::Any], unknown, bytes, place)
+        }
+        Numeric::Division(of, division) => {
+            let divisor = setting.asks.demand(of, division_premise(division));
+            operands.change(&[divisor, Demand::Any], unknown, bytes, place)
+        }
+    }
+}
+
+// Core 1.0, 3.3.3.
+fn move_variable(op: Variable, operands: &mut Operands) -> Result<(), AllocError>
+    ensures { OnOk result (operands_of operands.new ≡ variable_step op (operands_of operands.old)) }
+{
+    match op {
+        Variable::LocalGet(_) | Variable::GlobalGet(_) => operands.push(Operand::Unknown),
+        Variable::LocalSet(_) | Variable::GlobalSet(_) => {
+            let _set = operands.pop();
+            Ok(())
+        }
+        Variable::LocalTee(_) => {
+            let _kept = operands.pop();
+            operands.push(Operand::Unknown)
+        }
+    }
+}
+
+// Core 1.0, 3.3.4.
+fn check_memory(
+    op: Memory,
+    setting: &ModuleSetting,
+    place: Place,
+    operands: &mut Operands,
+) -> Result<(), ConstantsFault>
+    ensures { Finds (memory_step setting.now op (operands_of operands.old)) result (operands_of operands.new) }
+{
+    match op {
+        Memory::Load(load, argument) => {
+            let reaches = Premise::Reaches(argument.offset, load.width());
+            let address = setting.asks.demand(ValType::I32, reaches);
+            operands.change(&[address], Some(Operand::Unknown), setting.bytes, place)
+        }
+        Memory::Store(store, argument) => {
+            let reaches = Premise::Reaches(argument.offset, store.width());
+            let address = setting.asks.demand(ValType::I32, reaches);
+            operands.change(&[Demand::Any, address], None, setting.bytes, place)
+        }
+        Memory::Size => {
+            operands.push(Operand::Unknown)?;
+            Ok(())
+        }
+        Memory::Grow => {
+            let _pages = operands.pop();
+            operands.push(Operand::Unknown)?;
+            Ok(())
+        }
+    }
+}
+
+/// Core 1.0, 3.3.5: `br`, `br_if`, `br_table` and `return`. After those that are always taken nothing comes.
+pub fn check_branch(
+    branch: &Branch,
+    nesting: &Nesting,
+    place: Place,
+    operands: &mut Operands,
+) -> Result<(), ConstantsFault>
+    ensures { Finds (branch_step (reverse nesting.now.labels.items) branch.now (operands_of operands.old)) result (operands_of operands.new) }
+{
+    match branch {
+        Branch::BrIf(label) => {
+            let Some(taken) = nesting.label_at(*label) else {
+                return Err(ConstantsFault::Breaks(place));
+            };
+            let _condition = operands.pop();
+            operands.forget_result(taken);
+            operands.give(taken)?;
+            Ok(())
+        }
+        Branch::Br(_) | Branch::BrTable(_, _) | Branch::Return => Ok(()),
+    }
+}
+
+/// Core 1.0, 3.3.5: `call`.
+pub fn check_call(
+    function: u32,
+    setting: &ModuleSetting,
+    place: Place,
+    operands: &mut Operands,
+) -> Result<(), ConstantsFault>
+    ensures { Finds (call_step setting.now function (operands_of operands.old)) result (operands_of operands.new) }
+{
+    let Some(called) = setting.called(function) else {
+        return Err(ConstantsFault::Breaks(place));
+    };
+    let takes_slot = setting.takes_slot(function);
+    let parameters = called.parameters.as_slice();
+    pass_parameters(parameters, takes_slot, setting, place, operands)?;
+    operands.give(first_of(called.results.as_slice()))?;
+    Ok(())
+}
+
+// Takes the parameters, of which the first may be a slot.
+fn pass_parameters(
+    parameters: &[ValType],
+    takes_slot: bool,
+    setting: &ModuleSetting,
+    place: Place,
+    operands: &mut Operands,
+) -> Result<(), ConstantsFault>
+    ensures { Finds (take_parameters setting.now takes_slot parameters.now (operands_of operands.old)) result (operands_of operands.new) }
+{
+    if !takes_slot {
+        operands.forget_each(parameters);
+        return Ok(());
+    }
+    match parameters {
+        [slot, others @ ..] => {
+            operands.forget_each(others);
+            let demand = setting.asks.demand(*slot, Premise::IsSlot);
+            operands.take(demand, setting.bytes, place)
+        }
+        [] => Ok(()),
+    }
+}
+
+/// Core 1.0, 3.3.5: `call_indirect`.
+pub fn check_call_indirect(
+    type_number: u32,
+    setting: &ModuleSetting,
+    place: Place,
+    operands: &mut Operands,
+) -> Result<(), ConstantsFault>
+    ensures { Finds (call_indirect_step setting.now type_number (operands_of operands.old)) result (operands_of operands.new) }
+{
+    let Some(called) = setting.type_at(type_number) else {
+        return Err(ConstantsFault::Breaks(place));
+    };
+    let _element = operands.pop();
+    operands.forget_each(called.parameters.as_slice());
+    operands.give(first_of(called.results.as_slice()))?;
+    Ok(())
+}

@@ -1,0 +1,157 @@
+//! What is known of the operands at a place of a body.
+
+ghost use Rattle.std.specs.Prelude.{◌≡◌, [], ◌∷◌, ◌++◌, OnOk};
+ghost use Rattle.bounded_profile.specs.Tracking.{operands_of, fits, top, below, take_one, take_each, change, forget_each, forget_result, unknowns, given_of};
+ghost use Rattle.bounded_profile.specs.ConstantsFaults.{Finds};
+ghost use Rattle.validate.specs.Spaces.{first_type};
+
+use crate::constants::demands::{Demand, is_met};
+use crate::constants::fault::ConstantsFault;
+use std::alloc::{AllocError, Global};
+use validate::Place;
+use wasm_ast::{BlockType, ValType};
+
+/// What is known of one operand.
+#[derive(Clone, Copy, Debug, PartialEq, Eq)]
+pub enum Operand {
+    Unknown,
+    /// This constant, read unsigned.
+    Known(u64),
+}
+
+/// The operands, the topmost last.
+#[derive(Drop)]
+pub struct Operands {
+    pub operands: Vec<Operand>,
+}
+
+fn fits(bytes: u64, demand: Demand, operand: Operand) -> bool
+    ensures { result ≡ fits bytes demand operand }
+{
+    match (demand, operand) {
+        (Demand::Any, _) => true,
+        (Demand::Constant(of, premise), Operand::Known(constant)) => {
+            is_met(bytes, of, premise, constant)
+        }
+        (Demand::Constant(_, _), Operand::Unknown) => false,
+    }
+}
+
+impl Operands {
+    /// No operands; it takes no memory.
+    pub fn new(alloc: Global) -> Operands
+        ensures { operands_of result ≡ [] }
+    {
+        Operands {
+            operands: Vec::new(alloc),
+        }
+    }
+
+    pub fn push(&mut self, operand: Operand) -> Result<(), AllocError>
+        ensures { OnOk result (operands_of self.new ≡ operand ∷ operands_of self.old) }
+    {
+        self.operands.push(operand)?;
+        Ok(())
+    }
+
+    /// Takes the topmost; of one that is not there nothing is known.
+    pub fn pop(&mut self) -> Operand
+        ensures topmost { result ≡ top (operands_of self.old) }
+        ensures left { operands_of self.new ≡ below (operands_of self.old) }
+    {
+        match self.operands.pop() {
+            Some(operand) => operand,
+            None => Operand::Unknown,
+        }
+    }
+
+    /// Takes one that is as demanded.
+    pub fn take(&mut self, demand: Demand, bytes: u64, place: Place) -> Result<(), ConstantsFault>
+        ensures { Finds (take_one bytes demand (operands_of self.old)) result (operands_of self.new) }
+    {
+        let operand = self.pop();
+        if fits(bytes, demand, operand) {
+            Ok(())
+        } else {
+            Err(ConstantsFault::Breaks(place))
+        }
+    }
+
+    /// Takes these, the first of which is topmost.
+    fn take_each(
+        &mut self,
+        demands: &[Demand],
+        bytes: u64,
+        place: Place,
+    ) -> Result<(), ConstantsFault>
+        ensures { Finds (take_each bytes demands.now (operands_of self.old)) result (operands_of self.new) }
+    {
+        for demand in demands {
+            self.take(*demand, bytes, place)?;
+        }
+        Ok(())
+    }
+
+    fn push_given(&mut self, given: Option<Operand>) -> Result<(), AllocError>
+        ensures { OnOk result (operands_of self.new ≡ given_of given ++ operands_of self.old) }
+    {
+        match given {
+            Some(operand) => self.push(operand),
+            None => Ok(()),
+        }
+    }
+
+    /// Takes these, the first of which is topmost, and gives one or none.
+    pub fn change(
+        &mut self,
+        demands: &[Demand],
+        given: Option<Operand>,
+        bytes: u64,
+        place: Place,
+    ) -> Result<(), ConstantsFault>
+        ensures { Finds (change bytes demands.now (given_of given) (operands_of self.old)) result (operands_of self.new) }
+    {
+        self.take_each(demands, bytes, place)?;
+        self.push_given(given)?;
+        Ok(())
+    }
+
+    /// Takes one for each of the types.
+    pub fn forget_each(&mut self, types: &[ValType])
+        ensures { operands_of self.new ≡ forget_each types.now (operands_of self.old) }
+    {
+        for taken in types {
+            let _type = *taken;
+            let _operand = self.pop();
+        }
+    }
+
+    /// Takes a result, where there is one.
+    pub fn forget_result(&mut self, taken: BlockType)
+        ensures { operands_of self.new ≡ forget_result taken (operands_of self.old) }
+    {
+        if taken.is_some() {
+            let _operand = self.pop();
+        }
+    }
+
+    /// Gives a result, where there is one, of which nothing is known.
+    pub fn give(&mut self, given: BlockType) -> Result<(), AllocError>
+        ensures { OnOk result (operands_of self.new ≡ unknowns given ++ operands_of self.old) }
+    {
+        match given {
+            Some(_) => self.push(Operand::Unknown),
+            None => Ok(()),
+        }
+    }
+}
+
+/// What a function of these results gives, of which there is at most one (Core 1.0, 3.2.3).
+pub fn first_of(results: &[ValType]) -> BlockType
+    ensures { result ≡ first_type results.now }
+{
+    match results {
+        [first, ..] => Some(*first),
+        [] => None,
+    }
+}

@@ -1,0 +1,148 @@
+//! What instructions are looked at in, the same for all functions of a module.
+
+ghost use Rattle.std.specs.Prelude.{◌≡◌, ◌++◌, map, slice_get, IfOk};
+ghost use Rattle.std.specs.List.{filter_map};
+ghost use Rattle.std.specs.Option.{option_copied};
+ghost use Rattle.wasm_ast.specs.declared.module.Function.{Function as AnyFunction};
+ghost use Rattle.validate.specs.Spaces.{function_import, imported};
+ghost use Rattle.bounded_profile.specs.Known.{takes_slot};
+ghost use Rattle.bounded_profile.specs.Memory.{bytes_of};
+ghost use Rattle.bounded_profile.specs.Tracking.{setting_of, imported_call, called, host_called};
+
+use crate::constants::asks::Asks;
+use host_calls::HostCall;
+use std::alloc::{AllocError, Global};
+use std::marker::Model;
+use wasm_ast::{FuncType, Function, Import, ImportDescription, Limits, Module};
+
+/// How many bytes a page has (Core 1.0, 4.2.8).
+const PAGE: u64 = 65_536;
+
+/// What instructions are looked at in.
+#[derive(Drop)]
+pub struct ModuleSetting<'a> {
+    pub types: &'a [FuncType],
+    // the type number of each function, the imports first
+    functions: Vec<u32>,
+    // what each imported function is by its name
+    host_calls: Vec<Option<HostCall>>,
+    /// How many bytes the memory begins with, and stays at.
+    pub bytes: u64,
+    pub asks: Asks,
+}
+
+impl<'a> Model for ModuleSetting<'a> {
+    ghost use Rattle.bounded_profile.specs.Tracking.{Setting};
+
+    ghost Value = { Setting };
+
+    ghost view = { λ a. record { types = a.types.now; functions = a.functions.items; host_calls = a.host_calls.items; bytes = a.bytes; asks = a.asks } };
+}
+
+impl<'a> ModuleSetting<'a> {
+    /// The setting of a module, in which these constants are asked.
+    pub fn new(
+        alloc: Global,
+        module: &'a Module,
+        asks: Asks,
+    ) -> Result<ModuleSetting<'a>, AllocError>
+        ensures { IfOk result (λ setting. setting ≡ setting_of asks «module».now) }
+    {
+        let imports = module.imports.as_slice();
+        Ok(ModuleSetting {
+            types: module.types.as_slice(),
+            functions: function_types(alloc, imports, module.functions.as_slice())?,
+            host_calls: host_calls(alloc, imports)?,
+            bytes: memory_bytes(module.memories.as_slice()),
+            asks,
+        })
+    }
+
+    /// How many functions there are, imports counted.
+    pub fn function_count(&self) -> usize {
+        self.functions.len()
+    }
+
+    pub fn type_at(&self, number: u32) -> Option<&FuncType>
+        ensures { option_copied result ≡ slice_get self.now.types number }
+    {
+        self.types.get(number as usize)
+    }
+
+    /// The type of the function with this number.
+    pub fn called(&self, number: u32) -> Option<&FuncType>
+        ensures { option_copied result ≡ called self.now number }
+    {
+        match self.functions.get(number as usize) {
+            Some(type_number) => self.type_at(*type_number),
+            None => None,
+        }
+    }
+
+    /// Whether the first parameter of the function with this number is a slot.
+    pub fn takes_slot(&self, number: u32) -> bool
+        ensures { result ≡ takes_slot (host_called self.now number) }
+    {
+        match self.host_calls.get(number as usize) {
+            Some(Some(HostCall::Aggregate | HostCall::Aggregated)) => true,
+            _ => false,
+        }
+    }
+}
+
+// The type number of each function.
+fn function_types(
+    alloc: Global,
+    imports: &[Import],
+    functions: &[Function],
+) -> Result<Vec<u32>, AllocError>
+    ensures { IfOk result (λ v. v.items ≡ imported function_import imports.now ++ map (λ (f : AnyFunction). f.type_number) functions.now) }
+{
+    imports
+        .iter()
+        .filter_map(|import| imported_function(import.description))
+        .chain(functions.iter().map(|function| function.type_number))
+        .collect(alloc)
+}
+
+fn imported_function(description: ImportDescription) -> Option<u32>
+    ensures { result ≡ function_import description }
+{
+    match description {
+        ImportDescription::Function(type_number) => Some(type_number),
+        _ => None,
+    }
+}
+
+// What each imported function is by its name.
+fn host_calls(alloc: Global, imports: &[Import]) -> Result<Vec<Option<HostCall>>, AllocError>
+    ensures { IfOk result (λ v. v.items ≡ filter_map imported_call imports.now) }
+{
+    imports
+        .iter()
+        .filter_map(|import| imported_call(import))
+        .collect(alloc)
+}
+
+// What an import is by its name, if it is a function.
+#[tactic(auto, unfolding(crate::specs::Tracking::imported_call))]
+fn imported_call(import: &Import) -> Option<Option<HostCall>>
+    ensures { result ≡ imported_call import.now }
+{
+    match import.description {
+        ImportDescription::Function(_) => Some(HostCall::named(
+            import.module.as_str(),
+            import.name.as_str(),
+        )),
+        _ => None,
+    }
+}
+
+fn memory_bytes(memories: &[Limits]) -> u64
+    ensures { result ≡ bytes_of memories.now }
+{
+    match memories {
+        [first, ..] => PAGE * u64::from(first.minimum),
+        [] => 0,
+    }
+}

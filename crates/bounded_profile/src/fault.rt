@@ -1,0 +1,123 @@
+//! Why a module is not in the bounded profile.
+
+ghost use Rattle.std.specs.Prelude.{◌≡◌};
+ghost use Rattle.bounded_profile.specs.declared.fault.ProfileFault.TheVariants.{OutOfMemory};
+ghost use Rattle.bounded_profile.specs.Faults.{cost_fault};
+
+use cost::CostFault;
+use std::alloc::{AllocError, AllocFailed};
+use std::error::Error;
+use std::fmt;
+use validate::Place;
+
+/// A rule of the bounded profile. It is shown as its name.
+#[derive(Clone, Copy, Debug, PartialEq, Eq)]
+pub enum ProfileRule {
+    /// Every import is a function of the host, with its type.
+    P1,
+    /// There is an exported function `compute` of no parameters and no results, which the module defines.
+    P2,
+    /// There is no start function.
+    P3,
+    /// There are no elements.
+    P4,
+    /// There is no `call_indirect`.
+    P5,
+    /// There is no `unreachable`.
+    P6,
+    /// There is no `memory.grow`.
+    P7,
+    /// Nothing stands after `br`, `br_table` or `return` in a sequence.
+    P8,
+    /// Each loop begins by taking an item, and leaves where there is none.
+    P9,
+    /// The memory begins with at most 16 pages, and each address is known and lies in it.
+    P10,
+    /// Each divisor is known, and traps at no operand.
+    P11,
+    /// No function calls itself, at once or by way of others; told by its cycle.
+    P12,
+    /// Each slot is known.
+    P13,
+    /// The size of `compute`, its calls unfolded, is at most `cost::MAX_SIZE`.
+    P14,
+}
+
+impl fmt::Display for ProfileRule {
+    fn fmt<W: fmt::Write>(&self, f: &mut fmt::Formatter<W>) -> fmt::Result {
+        f.write_str(match self {
+            ProfileRule::P1 => "P1",
+            ProfileRule::P2 => "P2",
+            ProfileRule::P3 => "P3",
+            ProfileRule::P4 => "P4",
+            ProfileRule::P5 => "P5",
+            ProfileRule::P6 => "P6",
+            ProfileRule::P7 => "P7",
+            ProfileRule::P8 => "P8",
+            ProfileRule::P9 => "P9",
+            ProfileRule::P10 => "P10",
+            ProfileRule::P11 => "P11",
+            ProfileRule::P12 => "P12",
+            ProfileRule::P13 => "P13",
+            ProfileRule::P14 => "P14",
+        })
+    }
+}
+
+/// Why a module is not in the bounded profile. It is shown as the rule and the place; a cycle as `P12` and its numbers.
+#[derive(Debug, Drop)]
+pub enum ProfileFault {
+    /// The module breaks the rule at this place.
+    Breaks(ProfileRule, Place),
+    /// The module breaks P12: each function calls the next, and the last the first, which has the least number.
+    Cycle(Vec<u32>),
+    /// Memory ran out.
+    OutOfMemory,
+}
+
+impl fmt::Display for ProfileFault {
+    fn fmt<W: fmt::Write>(&self, f: &mut fmt::Formatter<W>) -> fmt::Result {
+        match self {
+            ProfileFault::Breaks(rule, place) => write!(f, "{rule} {place}"),
+            ProfileFault::Cycle(functions) => write_cycle(functions, f),
+            ProfileFault::OutOfMemory => f.write_str("OutOfMemory - -"),
+        }
+    }
+}
+
+fn write_cycle<W: fmt::Write>(functions: &[u32], f: &mut fmt::Formatter<W>) -> fmt::Result {
+    write!(f, "{}", ProfileRule::P12)?;
+    for function in functions {
+        write!(f, " {function}")?;
+    }
+    Ok(())
+}
+
+impl Error for ProfileFault {}
+
+impl From<CostFault> for ProfileFault {
+    ghost from_gives = { λ fault told. told ≡ cost_fault fault };
+
+    fn from(fault: CostFault) -> ProfileFault {
+        match fault {
+            CostFault::Cycle(functions) => ProfileFault::Cycle(functions),
+            CostFault::OutOfMemory => ProfileFault::OutOfMemory,
+        }
+    }
+}
+
+impl From<AllocError> for ProfileFault {
+    ghost from_gives = { λ _ fault. fault ≡ OutOfMemory };
+
+    fn from(_: AllocError) -> ProfileFault {
+        ProfileFault::OutOfMemory
+    }
+}
+
+impl<T: Drop> From<AllocFailed<T>> for ProfileFault {
+    ghost from_gives = { λ _ fault. fault ≡ OutOfMemory };
+
+    fn from(_: AllocFailed<T>) -> ProfileFault {
+        ProfileFault::OutOfMemory
+    }
+}

@@ -1,0 +1,49 @@
+//! The heights of functions by number.
+
+ghost use Rattle.std.specs.Prelude.{◌≡◌, ◌<◌, length, set, replicate, IfOk};
+ghost use Rattle.bounded_profile.specs.Climbs.{height_at};
+
+use std::alloc::{AllocError, Global};
+use std::marker::Model;
+
+/// How high the operands stand in a call of each function, as far as that is known; imports first.
+#[derive(Drop)]
+pub struct HeightTable {
+    heights: Vec<usize>,
+}
+
+impl Model for HeightTable {
+    ghost use Rattle.std.specs.Prelude.{List, ℕ};
+
+    ghost Value = { List ℕ };
+
+    ghost view = { λ a. a.heights.items };
+}
+
+impl HeightTable {
+    /// 0 for each of so many functions.
+    pub fn new(alloc: Global, count: usize) -> Result<HeightTable, AllocError>
+        ensures { IfOk result (λ table. table ≡ replicate count 0) }
+    {
+        Ok(HeightTable {
+            heights: vec![in alloc; 0; count]?,
+        })
+    }
+
+    /// The height of the function with this number, 0 where there is none.
+    pub fn get(&self, function: u32) -> usize
+        ensures { result ≡ height_at self.now function }
+    {
+        match self.heights.get(function as usize) {
+            Some(height) => *height,
+            None => 0,
+        }
+    }
+
+    pub fn set(&mut self, number: usize, height: usize)
+        requires { number < length self.old }
+        ensures { self.new ≡ set self.old number height }
+    {
+        self.heights[number] = height;
+    }
+}

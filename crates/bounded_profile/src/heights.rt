@@ -1,0 +1,73 @@
+//! How many operands stand in a call of a function, its calls unfolded.
+
+ghost use Rattle.std.specs.Prelude.{◌≡◌, ◌-◌, ◌≤◌, IfOk, length};
+ghost use Rattle.cost.specs.Ranks.{IsRanking};
+ghost use Rattle.bounded_profile.specs.Arities.{arity_table};
+ghost use Rattle.bounded_profile.specs.Climbs.{ground_level, with_code};
+ghost use Rattle.bounded_profile.specs.Facts.{IsHeightAt};
+ghost use Rattle.bounded_profile.specs.Levels.{AreTold};
+ghost use Rattle.bounded_profile.specs.Profile.{SizeWithin};
+
+use crate::arity::{Arity, arity_table};
+use crate::climb::{Callees, Climb};
+use crate::height_table::HeightTable;
+use crate::module_rules::imported_count;
+use cost::{Ranks, has_one_sizing};
+use std::alloc::{AllocError, Global};
+use validate::Valid;
+use wasm_ast::Body;
+
+/// The greatest height of the operands in a call of the function.
+pub fn operand_height(
+    alloc: Global,
+    valid: &Valid,
+    ranks: &Ranks,
+    function: u32,
+) -> Result<u32, AllocError>
+    requires ranked { IsRanking valid.now ranks.now }
+    requires small { SizeWithin valid.now function }
+    ensures { IfOk result (IsHeightAt valid.now function) }
+{
+    has_one_sizing(valid, ranks);
+    let module = valid.module();
+    let arities = arity_table(alloc, module)?;
+    let mut heights = HeightTable::new(alloc, arities.len())?;
+    for rank in 0..ranks.rank(function) {
+        add_heights(valid, &arities, ranks, rank + 1, &mut heights);
+    }
+    Ok(heights.get(function) as u32)
+}
+
+// The heights of the functions of this rank, where those of the functions of a lower one are told.
+fn add_heights(
+    valid: &Valid,
+    arities: &[Arity],
+    ranks: &Ranks,
+    rank: u32,
+    heights: &mut HeightTable,
+)
+    requires arities { arities.now ≡ arity_table valid.now }
+    requires ranked { IsRanking valid.now ranks.now }
+    requires positive { 1 ≤ rank }
+    requires long { length heights.old ≡ length arities.now }
+    requires told { AreTold valid.now ranks.now heights.old (rank - 1) }
+    ensures told { AreTold valid.now ranks.now heights.new rank }
+    ensures kept { length heights.new ≡ length heights.old }
+{
+    let module = valid.module();
+    let imported = imported_count(module.imports.as_slice());
+    for (index, function) in module.functions.as_slice().iter().enumerate() {
+        let number = imported + index;
+        if ranks.rank(number as u32) == rank {
+            let height = height_along(arities, heights, &function.body);
+            heights.set(number, height);
+        }
+    }
+}
+
+// The greatest height in code that begins with no operands.
+fn height_along(arities: &[Arity], heights: &HeightTable, body: &Body) -> usize
+    ensures { result ≡ (with_code arities.now heights.now ground_level body.now).most }
+{
+    Climb::most_along(Callees { arities, heights }, body)
+}

@@ -1,0 +1,142 @@
+//! How large the memory begins, and what is laid in it (P10).
+
+ghost use Rattle.std.specs.Prelude.{◌≡◌, ◌↔◌, ◌*◌, IsTrue};
+ghost use Rattle.bounded_profile.specs.Faults.{Settles};
+ghost use Rattle.wasm_ast.specs.Code.{Code};
+ghost use Rattle.wasm_ast.specs.View.{then_code};
+ghost use Rattle.wasm_ast.specs.declared.plain.Variable.TheVariants.{GlobalGet};
+ghost use Rattle.bounded_profile.specs.Memory.{page, memory_bytes, number_of, initial_number, offset_number, plain_offset, variable_number, DataWithin, MinimumsWithin, SegmentsWithin};
+
+use crate::fault::{ProfileFault, ProfileRule};
+use crate::module_rules::NOWHERE;
+use wasm_ast::{Body, Data, Instr, Limits, Module, Plain, Value, Variable};
+
+/// Bytes of a page (Core 1.0, 4.2.8).
+const PAGE: u64 = 65_536;
+
+/// The pages that a memory may begin with.
+const MAX_MINIMUM: u32 = 16;
+
+/// The memory begins with at most 16 pages.
+pub fn check_minimums(module: &Module) -> Result<(), ProfileFault>
+    ensures { Settles (MinimumsWithin «module».now) result }
+{
+    if module
+        .memories
+        .as_slice()
+        .iter()
+        .all(|limits| limits.minimum <= MAX_MINIMUM)
+    {
+        Ok(())
+    } else {
+        Err(ProfileFault::Breaks(ProfileRule::P10, NOWHERE))
+    }
+}
+
+/// Each data segment lies within the memory as it begins.
+pub fn check_segments(module: &Module) -> Result<(), ProfileFault>
+    ensures { Settles (SegmentsWithin «module».now) result }
+{
+    for segment in module.data.as_slice() {
+        if !is_segment_within(module, segment) {
+            return Err(ProfileFault::Breaks(ProfileRule::P10, NOWHERE));
+        }
+    }
+    Ok(())
+}
+
+fn is_segment_within(module: &Module, segment: &Data) -> bool
+    ensures { IsTrue result ↔ DataWithin «module».now segment.now }
+{
+    let bytes = memory_bytes(module);
+    let length = segment.bytes.as_slice().len() as u64;
+    match offset_number(module, &segment.offset) {
+        Some(offset) => length <= bytes && offset <= bytes - length,
+        None => false,
+    }
+}
+
+/// How many bytes the memory has as it begins.
+pub fn memory_bytes(module: &Module) -> u64
+    ensures { result ≡ memory_bytes «module».now }
+{
+    match module.memories.as_slice().first() {
+        Some(limits) => bytes_of(limits.minimum),
+        None => 0,
+    }
+}
+
+fn bytes_of(pages: u32) -> u64
+    ensures { result ≡ page * pages }
+{
+    PAGE * u64::from(pages)
+}
+
+// The number that an offset gives: a constant, or what a global begins with.
+fn offset_number(module: &Module, offset: &Body) -> Option<u64>
+    ensures { result ≡ offset_number «module».now offset.now }
+{
+    match offset.as_slice() {
+        [first, ..] => number_at(module, first),
+        [] => None,
+    }
+}
+
+// The number that an offset gives which begins so.
+fn number_at(module: &Module, first: &Instr) -> Option<u64>
+    ensures { (rest : Code) → result ≡ offset_number «module».now (then_code first.now rest) }
+{
+    match first {
+        Instr::Plain(plain) => plain_offset(module, *plain),
+        _ => None,
+    }
+}
+
+fn plain_offset(module: &Module, plain: Plain) -> Option<u64>
+    ensures { result ≡ plain_offset «module».now plain }
+{
+    match plain {
+        Plain::Const(value) => Some(number_of(value)),
+        Plain::Variable(Variable::GlobalGet(number)) => global_number(module, number),
+        _ => None,
+    }
+}
+
+// What the global begins with.
+fn global_number(module: &Module, number: u32) -> Option<u64>
+    ensures { result ≡ variable_number «module».now (GlobalGet number) }
+{
+    match module.globals.as_slice().get(number as usize) {
+        Some(global) => initial_number(&global.initial),
+        None => None,
+    }
+}
+
+// The number that an initialiser gives, where it is a constant.
+fn initial_number(initial: &Body) -> Option<u64>
+    ensures { result ≡ initial_number initial.now }
+{
+    match initial.as_slice() {
+        [first, ..] => constant_at(first),
+        [] => None,
+    }
+}
+
+// The number that an initialiser gives which begins so.
+fn constant_at(first: &Instr) -> Option<u64>
+    ensures { (rest : Code) → result ≡ initial_number (then_code first.now rest) }
+{
+    match first {
+        Instr::Plain(Plain::Const(value)) => Some(number_of(*value)),
+        _ => None,
+    }
+}
+
+fn number_of(value: Value) -> u64
+    ensures { result ≡ number_of value }
+{
+    match value {
+        Value::I32(number) => u64::from(number),
+        Value::I64(number) => number,
+    }
+}

@@ -1,0 +1,158 @@
+//! Rules on the parts of a module other than its code.
+
+ghost use Rattle.std.specs.Prelude.{◌≡◌, ◌↔◌, Some, IfSome, IfNone, MatchResult, IsTrue, slice_get};
+ghost use Rattle.wasm_ast.specs.Limits.{imported_functions};
+ghost use Rattle.validate.specs.Modules.{IsTyped};
+ghost use Rattle.bounded_profile.specs.Compute.{exported_compute, IsDefinedPlain, IsComputeNumber};
+ghost use Rattle.bounded_profile.specs.Faults.{Denies, Settles};
+ghost use Rattle.bounded_profile.specs.Hosts.{IsHostImport};
+ghost use Rattle.bounded_profile.specs.Profile.{ImportsHostCalls, HasCompute, NoStart, NoElements, plain_type};
+
+use crate::fault::{ProfileFault, ProfileRule};
+use host_calls::HostCall;
+use validate::Place;
+use wasm_ast::{Export, ExportDescription, FuncType, Function, Import, ImportDescription, Module};
+
+/// No function and no instruction.
+pub const NOWHERE: Place = Place {
+    function: None,
+    instruction: None,
+};
+
+/// P1: each import is a function of the host, with its type. The place is the function's number, where the import is a
+/// function: those before it are all functions.
+pub fn check_imports(module: &Module) -> Result<(), ProfileFault>
+    ensures { Settles (ImportsHostCalls «module».now) result }
+{
+    for (index, import) in module.imports.as_slice().iter().enumerate() {
+        match host_import(module, import) {
+            Some(_) => {}
+            None => {
+                let place = Place {
+                    function: number_of_import(import, index),
+                    instruction: None,
+                };
+                return Err(ProfileFault::Breaks(ProfileRule::P1, place));
+            }
+        }
+    }
+    Ok(())
+}
+
+fn number_of_import(import: &Import, index: usize) -> Option<u32> {
+    match import.description {
+        ImportDescription::Function(_) => u32::try_from(index).ok(),
+        _ => None,
+    }
+}
+
+// The function of the host that the import brings in, under its name and type.
+fn host_import(module: &Module, import: &Import) -> Option<HostCall>
+    ensures found { IfSome result (λ call. IsHostImport «module».now import.now) }
+    ensures none { IfNone result (IsHostImport «module».now import.now → ⊥) }
+{
+    let ImportDescription::Function(number) = import.description else {
+        return None;
+    };
+    let func_type = module.types.as_slice().get(number as usize)?;
+    HostCall::of_import(import.module.as_str(), import.name.as_str(), func_type)
+}
+
+/// P2: the number of the exported function `compute`, which the module defines, and which takes and gives nothing.
+pub fn find_compute(module: &Module) -> Result<u32, ProfileFault>
+    requires { IsTyped «module».now }
+    ensures { MatchResult result (IsComputeNumber «module».now) (λ e. Denies e (HasCompute «module».now)) }
+{
+    match exported_compute(module.exports.as_slice()) {
+        Some(number) => {
+            if is_defined_plain(module, number) {
+                Ok(number)
+            } else {
+                Err(ProfileFault::Breaks(ProfileRule::P2, NOWHERE))
+            }
+        }
+        None => Err(ProfileFault::Breaks(ProfileRule::P2, NOWHERE)),
+    }
+}
+
+// The number of the function that is exported as `compute`.
+fn exported_compute(exports: &[Export]) -> Option<u32>
+    ensures { result ≡ exported_compute exports.now }
+{
+    for export in exports {
+        if export.name.as_str() == "compute" {
+            return match export.description {
+                ExportDescription::Function(number) => Some(number),
+                _ => None,
+            };
+        }
+    }
+    None
+}
+
+// Whether the module defines the function, which takes nothing and gives nothing.
+fn is_defined_plain(module: &Module, number: u32) -> bool
+    ensures { IsTrue result ↔ IsDefinedPlain «module».now number }
+{
+    let imported = imported_count(module.imports.as_slice());
+    let number = number as usize;
+    if number < imported {
+        return false;
+    }
+    match module.functions.as_slice().get(number - imported) {
+        Some(function) => is_of_plain_type(module, function),
+        None => false,
+    }
+}
+
+/// How many of the imports are functions.
+pub fn imported_count(imports: &[Import]) -> usize
+    ensures { result ≡ imported_functions imports.now }
+{
+    imports
+        .iter()
+        .filter(|import| matches!(import.description, ImportDescription::Function(_)))
+        .count()
+}
+
+fn is_of_plain_type(module: &Module, function: &Function) -> bool
+    ensures { IsTrue result ↔ (slice_get «module».now.types function.now.type_number ≡ Some plain_type) }
+{
+    match module.types.as_slice().get(function.type_number as usize) {
+        Some(func_type) => is_plain(func_type),
+        None => false,
+    }
+}
+
+fn is_plain(func_type: &FuncType) -> bool
+    ensures { IsTrue result ↔ (func_type.now ≡ plain_type) }
+{
+    func_type.parameters.as_slice().is_empty() && func_type.results.as_slice().is_empty()
+}
+
+/// P3: there is no start function. The place is its number.
+pub fn check_start(module: &Module) -> Result<(), ProfileFault>
+    ensures { Settles (NoStart «module».now) result }
+{
+    match module.start {
+        None => Ok(()),
+        Some(function) => {
+            let place = Place {
+                function: Some(function),
+                instruction: None,
+            };
+            Err(ProfileFault::Breaks(ProfileRule::P3, place))
+        }
+    }
+}
+
+/// P4: there are no elements.
+pub fn check_elements(module: &Module) -> Result<(), ProfileFault>
+    ensures { Settles (NoElements «module».now) result }
+{
+    if module.elements.as_slice().is_empty() {
+        Ok(())
+    } else {
+        Err(ProfileFault::Breaks(ProfileRule::P4, NOWHERE))
+    }
+}

@@ -1,0 +1,115 @@
+//! The rules of the bounded profile, in order.
+
+ghost use Rattle.std.specs.Prelude.{MatchResult};
+ghost use Rattle.validate.specs.Modules.{IsTyped};
+ghost use Rattle.bounded_profile.specs.Tracking.{asks_of};
+ghost use Rattle.bounded_profile.specs.Compute.{IsComputeNumber};
+ghost use Rattle.bounded_profile.specs.Facts.{AreFacts, AreFactsAt};
+ghost use Rattle.bounded_profile.specs.Faults.{Denies, Settles, Refuses};
+ghost use Rattle.bounded_profile.specs.Known.{ConstantsKnown};
+ghost use Rattle.bounded_profile.specs.Profile.{IsBounded, AddressesWithin, NoUnreachable, NothingAfterBranches, SizeWithin, NoCycles};
+ghost use Rattle.bounded_profile.specs.Stages.{PartsHold, ShapesHold, CallsHold};
+
+use crate::calls::{check_cycles, check_size};
+use crate::constants::{Asks, ConstantsFault, check_constants};
+use crate::facts::Facts;
+use crate::fault::{ProfileFault, ProfileRule};
+use crate::heights::operand_height;
+use crate::hosts::host_table;
+use crate::memory_rules::{check_minimums, check_segments};
+use crate::module_rules::{check_elements, check_imports, check_start, find_compute};
+use crate::shapes::{Shape, check_shape};
+use std::alloc::Global;
+use validate::Valid;
+use wasm_ast::Module;
+
+/// What is told of the module, where it keeps all rules.
+pub fn check_rules(alloc: Global, valid: &Valid) -> Result<Facts, ProfileFault>
+    ensures { MatchResult result (λ facts. IsBounded valid.now × AreFacts valid.now facts) (Refuses valid.now) }
+{
+    let module = valid.module();
+    let compute = check_parts(module)?;
+    check_shapes(alloc, module)?;
+    check_memory(alloc, valid)?;
+    check_known(alloc, valid, Asks::Divisors, ProfileRule::P11)?;
+    let facts = check_calls(alloc, valid, compute)?;
+    // Where each of the three passes alone, all do together.
+    check_known(alloc, valid, Asks::All, ProfileRule::P10)?;
+    Ok(facts)
+}
+
+// P1 to P4, and the number of `compute`.
+fn check_parts(module: &Module) -> Result<u32, ProfileFault>
+    requires { IsTyped «module».now }
+    ensures { MatchResult result (λ compute. PartsHold «module».now × IsComputeNumber «module».now compute)
+        (λ e. Denies e (IsBounded «module».now)) }
+{
+    check_imports(module)?;
+    let compute = find_compute(module)?;
+    check_start(module)?;
+    check_elements(module)?;
+    Ok(compute)
+}
+
+// P5 to P9.
+fn check_shapes(alloc: Global, module: &Module) -> Result<(), ProfileFault>
+    ensures { MatchResult result (λ _. ShapesHold «module».now) (λ e. Denies e (IsBounded «module».now)) }
+{
+    let hosts = host_table(alloc, module)?;
+    check_shape(Shape::Direct, &hosts, module)?;
+    check_shape(Shape::Reached, &hosts, module)?;
+    check_shape(Shape::Steady, &hosts, module)?;
+    check_shape(Shape::Ordered, &hosts, module)?;
+    check_shape(Shape::Opening, &hosts, module)?;
+    Ok(())
+}
+
+// P10.
+fn check_memory(alloc: Global, valid: &Valid) -> Result<(), ProfileFault>
+    requires reached { NoUnreachable valid.now }
+    requires ordered { NothingAfterBranches valid.now }
+    ensures { Settles (AddressesWithin valid.now) result }
+{
+    let module = valid.module();
+    check_minimums(module)?;
+    check_known(alloc, valid, Asks::Addresses, ProfileRule::P10)?;
+    check_segments(module)?;
+    Ok(())
+}
+
+// P12, P13 and P14, and how large a call of `compute` can get.
+fn check_calls(alloc: Global, valid: &Valid, compute: u32) -> Result<Facts, ProfileFault>
+    requires number { IsComputeNumber valid.now compute }
+    requires reached { NoUnreachable valid.now }
+    requires ordered { NothingAfterBranches valid.now }
+    ensures { MatchResult result (λ facts. CallsHold valid.now compute × AreFactsAt valid.now compute facts) (Refuses valid.now) }
+{
+    let ranks = check_cycles(alloc, valid)?;
+    check_known(alloc, valid, Asks::Slots, ProfileRule::P13)?;
+    let size = check_size(valid, &ranks, compute)?;
+    let max_operands = operand_height(alloc, valid, &ranks, compute)?;
+    let max_frames = ranks.rank(compute);
+    Ok(Facts {
+        size,
+        max_operands,
+        max_frames,
+    })
+}
+
+// The constants of a rule are known.
+fn check_known(
+    alloc: Global,
+    valid: &Valid,
+    asks: Asks,
+    rule: ProfileRule,
+) -> Result<(), ProfileFault>
+    requires reached { NoUnreachable valid.now }
+    requires ordered { NothingAfterBranches valid.now }
+    ensures { Settles (ConstantsKnown (asks_of asks) valid.now) result }
+{
+    match check_constants(alloc, valid, asks) {
+        Ok(()) => Ok(()),
+        Err(ConstantsFault::Breaks(place)) => Err(ProfileFault::Breaks(rule, place)),
+        Err(ConstantsFault::OutOfMemory) => Err(ProfileFault::OutOfMemory),
+    }
+}

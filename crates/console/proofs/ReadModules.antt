@@ -1,0 +1,125 @@
+-- Which module is read of a file, and why none is.
+use Rattle.std.proofs.Common.{◌≡◌, ℕ, Bool, true, false, List, Some, subst, sym, ◌∙◌}
+use Rattle.wasm_ast.specs.declared.module.Module.{Module}
+use Rattle.wasm_ast.specs.Limits.{IsWithinLimits}
+use Rattle.wasm_decode.specs.declared.fault.DecodeFault.{DecodeFault}
+use Rattle.wasm_decode.specs.declared.fault.DecodeFault.TheVariants as decode
+use Rattle.wasm_decode.specs.Grammar.{Spells}
+use Rattle.wasm_decode.specs.Reading.{Fails, found}
+use Rattle.wat_asm.specs.declared.fault.TextFault.{TextFault}
+use Rattle.wat_asm.specs.declared.fault.TextFault.TheVariants as text
+use Rattle.wat_asm.specs.Layout.{HasBytes, layout}
+use Rattle.wasm_ast.specs.Representable.{IsRepresentable}
+use Rattle.validate.specs.declared.fault.ValidFault.{ValidFault}
+use Rattle.validate.specs.declared.fault.ValidFault.TheVariants as valid
+use Rattle.validate.specs.Modules.{IsTyped}
+use Rattle.console.specs.declared.fault.CallFault.TheVariants.{Invalid}
+use Rattle.console.specs.declared.command_fault.CommandFault.{CommandFault}
+use Rattle.console.specs.declared.command_fault.CommandFault.TheVariants as command
+use Rattle.console.specs.Disk.{Disk}
+use Rattle.console.specs.Refusal.{of_decode_fault, of_valid_fault}
+use Rattle.console.specs.CommandFaults.{of_text_fault}
+use Rattle.console.specs.Modules.{IsLayoutOf, IsModuleAt, IsTakenFor, IsValidAt, MeansBy, is_text_path}
+use Rattle.console.specs.Program.{IsNoFile, IsNoModuleAt, IsNoTextAt, IsNotValidAt, IsUnread}
+use Rattle.console.proofs.Faults.{decode_refuses}
+
+-- ---- binary
+
+pub spelled_at : (disk : Disk) (path bytes seen : List ℕ) (m : Module) → is_text_path path ≡ false → seen ≡ bytes
+    → disk.holds path (Some bytes) → Spells seen m → IsModuleAt disk path m
+spelled_at disk path bytes seen m binary same held spelled = record {
+  content = bytes;
+  held = held;
+  means =
+      let here : Spells bytes m = subst (λ bs. Spells bs m) same spelled in
+      subst (λ b. MeansBy b bytes m) (sym binary) here;
+}
+
+-- the bytes cannot be read
+pub unread_at : (disk : Disk) (path : List ℕ) (fault : CommandFault) → is_text_path path ≡ false → IsUnread disk path fault → IsNoModuleAt disk path fault
+unread_at disk path (command.Call fault) binary unread = rw unread tt
+unread_at disk path (command.Text fault) binary unread = absurd unread
+unread_at disk path command.TooLong binary unread = absurd unread
+unread_at disk path (command.File missing) binary (same, none) = (same, subst (λ b. IsNoFile b disk path) (sym binary) none)
+
+-- the bytes spell no module
+pub misspelled_at : (disk : Disk) (path bytes seen : List ℕ) (fault : DecodeFault) → is_text_path path ≡ false → seen ≡ bytes
+    → disk.holds path (Some bytes) → ((m : Module) → Spells seen m → Fails fault (found m))
+    → IsNoModuleAt disk path (command.Call (of_decode_fault fault))
+misspelled_at disk path bytes seen decode.OutOfMemory binary same held fails = tt
+misspelled_at disk path bytes seen fault binary same held fails = record {
+  bytes = bytes;
+  held = held;
+  is_binary = binary;
+  refused = decode_refuses bytes fault (subst (λ bs. (m : Module) → Spells bs m → Fails fault (found m)) same fails);
+}
+
+-- ---- text
+
+-- a text, as a clause of the assembler speaks of it
+abbrev Printed : (List ℕ) → (Module → Type 0) → Type 0
+Printed seen P = (m : Module) → IsWithinLimits m → IsRepresentable m → HasBytes m → seen ≡ layout m → P m
+
+printed : (content seen : List ℕ) (m : Module) (P : Module → Type 0) → seen ≡ content → Printed seen P → IsLayoutOf m content → P m
+printed content seen m P same clause is = clause m is.within is.representable is.has_bytes (same ∙ is.printed)
+
+pub taken_at : (disk : Disk) (path content seen : List ℕ) (m : Module) → is_text_path path ≡ true → seen ≡ content
+    → disk.holds path (Some content) → IsWithinLimits m → Printed seen (λ n. m ≡ n) → IsModuleAt disk path m
+taken_at disk path content seen m is_text same held within clause = record {
+  content = content;
+  held = held;
+  means =
+      let here : IsTakenFor m content = record {
+        within = within;
+        is_printed = λ n is. printed content seen n (λ n. m ≡ n) same clause is;
+      } in
+      subst (λ b. MeansBy b content m) (sym is_text) here;
+}
+
+-- the text cannot be read
+pub no_text_at : (disk : Disk) (path : List ℕ) (fault : CommandFault) → is_text_path path ≡ true → IsNoTextAt disk path fault → IsNoModuleAt disk path fault
+no_text_at disk path (command.Call fault) is_text unread = rw unread tt
+no_text_at disk path (command.Text fault) is_text unread = absurd unread
+no_text_at disk path command.TooLong is_text unread = absurd unread
+no_text_at disk path (command.File missing) is_text (same, none) = (same, subst (λ b. IsNoFile b disk path) (sym is_text) none)
+
+-- the text is no module's
+pub untaken_at : (disk : Disk) (path content seen : List ℕ) (fault : TextFault) → is_text_path path ≡ true → seen ≡ content
+    → disk.holds path (Some content) → Printed seen (λ n. fault ≡ text.OutOfMemory) → IsNoModuleAt disk path (of_text_fault fault)
+untaken_at disk path content seen text.OutOfMemory is_text same held clause = tt
+untaken_at disk path content seen fault is_text same held clause = record {
+  text = content;
+  held = held;
+  is_text = is_text;
+  refused = λ n is. let bad = printed content seen n (λ n. fault ≡ text.OutOfMemory) same clause is in absurd (cc);
+}
+
+-- ---- validity
+
+pub not_module : (disk : Disk) (path : List ℕ) (fault : CommandFault) → IsNoModuleAt disk path fault → IsNotValidAt disk path fault
+not_module disk path (command.Call (Invalid broken place)) none = absurd none
+not_module disk path fault none = none
+
+pub not_valid : (disk : Disk) (path : List ℕ) (m : Module) (fault : ValidFault) → IsModuleAt disk path m
+    → (IsTyped m → IsWithinLimits m → fault ≡ valid.OutOfMemory) → IsNotValidAt disk path (command.Call (of_valid_fault fault))
+not_valid disk path m (valid.Breaks broken place) read refused = record {
+  m = m;
+  read = read;
+  refused = λ both. let bad = refused both.0 both.1 in absurd (cc);
+}
+not_valid disk path m valid.OutOfMemory read refused = tt
+
+pub valid_at : (disk : Disk) (path : List ℕ) (m checked : Module) → checked ≡ m → IsModuleAt disk path m → IsTyped m × IsWithinLimits m
+    → IsValidAt disk path checked
+valid_at disk path m checked same read (typed, within) =
+    let here : IsValidAt disk path m = record { read = read; typed = typed; within = within } in
+    subst (λ (x : Module). IsValidAt disk path x) (sym same) here
+
+-- ---- limits
+
+within_by : (is_text : Bool) (content : List ℕ) (m : Module) → MeansBy is_text content m → IsWithinLimits m
+within_by true content m means = means.within
+within_by false content m means = means.limited
+
+pub within_at : (disk : Disk) (path : List ℕ) (m : Module) → IsModuleAt disk path m → IsWithinLimits m
+within_at disk path m read = within_by (is_text_path path) read.content m read.means

@@ -1,0 +1,27 @@
+use Rattle.std.proofs.Common.{inl, inr, refl, ◌∙◌}
+use Rattle.console.proofs.Faults.{is_fault}
+use Rattle.console.proofs.ReadModules.{within_at}
+use Rattle.console.proofs.program.print_file.Goals as goal
+
+pub print-requires : goal.print-requires
+print-requires g c = within_at (g.F.Files.disk c.args.files.now) c.args.path.now c.in_ok-module.module c.in_ok-module.ensures.found
+
+pub returns-in_err-module-clause-refused : goal.returns-in_err-module-clause-refused
+returns-in_err-module-clause-refused g c = rw (is_fault _ _ c.from_residual.ensures.1) (inl c.in_err-module.ensures.found)
+
+pub returns-in_err-text-clause-refused : goal.returns-in_err-text-clause-refused
+returns-in_err-text-clause-refused g c = rw (is_fault _ _ c.from_residual-in_err-text.ensures.1) (inr (inl refl))
+
+pub returns-in_err-write_all-clause-refused : goal.returns-in_err-write_all-clause-refused
+returns-in_err-write_all-clause-refused g c = rw (is_fault _ _ c.from_residual-in_err-write_all.ensures.1) (inr (inr refl))
+
+pub returns-clause-answered : goal.returns-clause-answered
+returns-clause-answered g c = (
+  c.as_bytes.result.now,
+  record {
+    m = c.in_ok-module.module;
+    read = c.in_ok-module.ensures.found;
+    text_of_module = c.as_bytes.ensures.value ∙ c.in_ok-text.ensures;
+  },
+  c.in_ok-write_all.ensures.bytes,
+)

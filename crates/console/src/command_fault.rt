@@ -1,0 +1,144 @@
+//! Why a command is not carried out.
+
+ghost use Rattle.std.specs.Prelude.{◌≡◌, Some};
+ghost use Rattle.std.specs.Fmt.{DisplaysOnOk};
+ghost use Rattle.console.specs.CommandFaults.{fault_text, of_encode_fault, of_text_fault, status_of, text_fault_text, word_at_position};
+ghost use Rattle.console.specs.Refusal.{of_decode_fault, of_valid_fault};
+ghost use Rattle.console.specs.declared.command_fault.CommandFault.TheVariants.{Call};
+ghost use Rattle.console.specs.declared.fault.CallFault.TheVariants.{OutOfMemory, Write};
+
+use crate::fault::CallFault;
+use crate::refusal::Refusal;
+use std::alloc::AllocError;
+use std::{fmt, io};
+use validate::ValidFault;
+use wasm_decode::{DecodeFault, EncodeFault};
+use wat_asm::{Position, TextFault};
+
+/// Why a command is not carried out. It is displayed as the line that tells of it, without its end.
+#[derive(Debug, Drop)]
+pub enum CommandFault<'a> {
+    /// The module, the input or the call is refused, or memory ran out, or writing failed.
+    Call(CallFault),
+    /// The text is no module's.
+    Text(TextFault),
+    /// The module's shortest spelling takes more than 1,048,576 bytes.
+    TooLong,
+    /// The file at this path cannot be read or written, or is not the text that it should be.
+    File(&'a str),
+}
+
+/// The status of the process: 4 for a file's fault, and 1 for any other.
+pub fn status_of(fault: &CommandFault) -> u8
+    ensures { result ≡ status_of fault.now }
+{
+    match fault {
+        CommandFault::File(_) => 4,
+        _ => 1,
+    }
+}
+
+impl fmt::Display for CommandFault<'_> {
+    ghost output = { λ fault. Some (fault_text fault) };
+
+    fn fmt<W: fmt::Write>(&self, f: &mut fmt::Formatter<W>) -> fmt::Result {
+        match self {
+            CommandFault::Call(fault) => write!(f, "{}", Refusal(fault)),
+            CommandFault::Text(fault) => {
+                f.write_str("no text ")?;
+                tell_text_fault(fault, f)
+            }
+            CommandFault::TooLong => f.write_str("no encode OverLimit"),
+            CommandFault::File(path) => write!(f, "no file {path}"),
+        }
+    }
+}
+
+// The fault's word and its place in the text.
+fn tell_text_fault<W: fmt::Write>(fault: &TextFault, f: &mut fmt::Formatter<W>) -> fmt::Result
+    ensures { DisplaysOnOk W.write_str_gives f.old result (Some (text_fault_text fault.now)) f.new }
+{
+    match fault {
+        TextFault::Lex(place) => tell_word_at("Lex", place, f),
+        TextFault::Syntax(place) => tell_word_at("Syntax", place, f),
+        TextFault::UnknownName(place) => tell_word_at("UnknownName", place, f),
+        TextFault::DuplicateName(place) => tell_word_at("DuplicateName", place, f),
+        TextFault::NumberRange(place) => tell_word_at("NumberRange", place, f),
+        TextFault::TypeUse(place) => tell_word_at("TypeUse", place, f),
+        TextFault::Unsupported(place) => tell_word_at("Unsupported", place, f),
+        TextFault::OverLimit(place) => tell_word_at("OverLimit", place, f),
+        TextFault::OutOfMemory => f.write_str("OutOfMemory"),
+    }
+}
+
+fn tell_word_at<W: fmt::Write>(
+    word: &str,
+    place: &Position,
+    f: &mut fmt::Formatter<W>,
+) -> fmt::Result
+    ensures { DisplaysOnOk W.write_str_gives f.old result (Some (word_at_position word.now place.now)) f.new }
+{
+    write!(f, "{word} {} {}", place.line, place.column)
+}
+
+impl From<CallFault> for CommandFault<'_> {
+    ghost from_gives = { λ cause fault. fault ≡ Call cause };
+
+    fn from(cause: CallFault) -> Self {
+        CommandFault::Call(cause)
+    }
+}
+
+impl From<DecodeFault> for CommandFault<'_> {
+    ghost from_gives = { λ cause fault. fault ≡ Call (of_decode_fault cause) };
+
+    fn from(cause: DecodeFault) -> Self {
+        CommandFault::Call(CallFault::from(cause))
+    }
+}
+
+impl From<ValidFault> for CommandFault<'_> {
+    ghost from_gives = { λ cause fault. fault ≡ Call (of_valid_fault cause) };
+
+    fn from(cause: ValidFault) -> Self {
+        CommandFault::Call(CallFault::from(cause))
+    }
+}
+
+impl From<TextFault> for CommandFault<'_> {
+    ghost from_gives = { λ cause fault. fault ≡ of_text_fault cause };
+
+    fn from(cause: TextFault) -> Self {
+        match cause {
+            TextFault::OutOfMemory => CommandFault::Call(CallFault::OutOfMemory),
+            fault => CommandFault::Text(fault),
+        }
+    }
+}
+
+impl From<EncodeFault> for CommandFault<'_> {
+    ghost from_gives = { λ cause fault. fault ≡ of_encode_fault cause };
+
+    fn from(cause: EncodeFault) -> Self {
+        match cause {
+            EncodeFault::OverLimit => CommandFault::TooLong,
+            EncodeFault::OutOfMemory => CommandFault::Call(CallFault::OutOfMemory),
+        }
+    }
+}
+
+impl From<AllocError> for CommandFault<'_> {
+    ghost from_gives = { λ _ fault. fault ≡ Call OutOfMemory };
+
+    fn from(_: AllocError) -> Self {
+        CommandFault::Call(CallFault::OutOfMemory)
+    }
+}
+
+impl From<io::Error> for CommandFault<'_> {
+    ghost from_gives = { λ _ fault. fault ≡ Call Write };
+
+    fn from(_: io::Error) -> Self {
+        CommandFault::Call(CallFault::Write)
+    }
+}

@@ -1,0 +1,69 @@
+-- Instructions one after another, and those in a block, as loops and calls read them.
+use Rattle.std.proofs.Common.{◌≡◌, ℕ, zero, suc, ◌+◌, ◌-◌, ◌<◌, ◌≤◌, Bool, true, false, List, [], ◌∷◌, ◌++◌, Option, Some, None, refl, sym, ap, ◌∙◌, subst, arith}
+use Rattle.wasm_ast.specs.declared.types.FuncType.{FuncType}
+use Rattle.wasm_ast.specs.declared.body.Instr.{Instr}
+use Rattle.wasm_ast.specs.View.{code_of}
+use Rattle.wat_asm.specs.declared.fault.Failure.{Failure}
+use Rattle.wat_asm.specs.declared.keyword.Keyword.TheVariants as keyword
+use Rattle.wat_asm.specs.Follows.{◌>>=◌}
+use Rattle.wat_asm.specs.Tokens.{Tok, opens}
+use Rattle.wat_asm.specs.Reading.{State, repeated, open_first}
+use Rattle.wat_asm.specs.ReadingCode.{Inner, instr_with, instr_step, stops, goes_on, instrs_at, inner_at}
+use Rattle.wat_asm.proofs.Repeats.{Said, Failed, Onward, IsAnswer, answers, then_said, then_failed, first_failed, loop_steps, loop_fails, loop_done}
+
+pub goes : (ts : List Tok) → stops ts ≡ false → IsAnswer (goes_on ts) true
+goes ts e = answers (goes_on ts) true (rw e refl)
+
+pub ends : (ts : List Tok) → stops ts ≡ true → IsAnswer (goes_on ts) false
+ends ts e = answers (goes_on ts) false (rw e refl)
+
+-- no folded instruction is read
+folded_unread : (n : ℕ) (inner : Inner) (ts : List Tok) (types : List FuncType) → open_first ts ≡ true → instr_with n inner (ts, types) ≡ None
+unfolding instr_with
+folded_unread n inner (opens ∷ ts) types e = refl
+folded_unread n inner _ types e = absurd cc
+
+none_said : {Y : Type 0} (v : Y) (o : Option Y) → o ≡ None → Said v o
+none_said v None e = tt
+none_said v (Some y) e = absurd cc
+
+none_failed : {Y : Type 0} (f : Failure) (o : Option Y) → o ≡ None → Failed f o
+none_failed f None e = tt
+none_failed f (Some y) e = absurd cc
+
+step_unread : (n : ℕ) (inner : Inner) (front : List Instr) (ts : List Tok) (types : List FuncType) → open_first ts ≡ true → instr_step n inner (front, (ts, types)) ≡ None
+step_unread n inner front ts types e = rw (folded_unread n inner ts types e) refl
+
+pub folded_said : (n : ℕ) (inner : Inner) (front : List Instr) (ts : List Tok) (types : List FuncType) (y : List Instr × State)
+    → open_first ts ≡ true → Said y (instr_step n inner (front, (ts, types)))
+folded_said n inner front ts types y e = none_said y (instr_step n inner (front, (ts, types))) (step_unread n inner front ts types e)
+
+pub folded_failed : (n : ℕ) (inner : Inner) (front : List Instr) (ts : List Tok) (types : List FuncType) (f : Failure)
+    → open_first ts ≡ true → Failed f (instr_step n inner (front, (ts, types)))
+folded_failed n inner front ts types f e = none_failed f (instr_step n inner (front, (ts, types))) (step_unread n inner front ts types e)
+
+pub instr_said : (n : ℕ) (inner : Inner) (front : List Instr) (i : Instr) (s after : State) → Said (i, after) (instr_with n inner s) → Said (front ++ i ∷ [], after) (instr_step n inner (front, s))
+instr_said n inner front i s after h =
+    then_said (i, after) (instr_with n inner s) (λ i. Some (front ++ i.0 ∷ [], i.1)) (front ++ i ∷ [], after) h refl
+
+pub instr_failed : (n : ℕ) (inner : Inner) (front : List Instr) (s : State) (f : Failure) → Failed f (instr_with n inner s) → Failed f (instr_step n inner (front, s))
+instr_failed n inner front s f h = first_failed (instr_with n inner s) (λ i. Some (front ++ i.0 ∷ [], i.1)) f h
+
+-- inside of a block
+pub inner_said : (levels below n : ℕ) (before instrs : List Instr) (s after : State) → 1 ≤ levels → below ≡ levels - 1 → before ≡ [] → Said (instrs, after) (instrs_at below n (before, s))
+    → Said (code_of instrs, after) (inner_at levels n s)
+unfolding instrs_at inner_at
+inner_said zero below n before instrs s after some fewer none h = absurd (omega arith)
+inner_said (suc levels) below n before instrs s after some fewer none h =
+    let same : below ≡ levels = omega arith in
+    let read : Said (instrs, after) (instrs_at levels n ([], s)) = subst (λ (l : ℕ). Said (instrs, after) (instrs_at l n ([], s))) same (subst (λ (l : List Instr). Said (instrs, after) (instrs_at below n (l, s))) none h) in
+    then_said (instrs, after) (instrs_at levels n ([], s)) (λ y. Some (code_of y.0, y.1)) (code_of instrs, after) read refl
+
+pub inner_failed : (levels below n : ℕ) (before : List Instr) (s : State) (f : Failure) → 1 ≤ levels → below ≡ levels - 1 → before ≡ [] → Failed f (instrs_at below n (before, s))
+    → Failed f (inner_at levels n s)
+unfolding instrs_at inner_at
+inner_failed zero below n before s f some fewer none h = absurd (omega arith)
+inner_failed (suc levels) below n before s f some fewer none h =
+    let same : below ≡ levels = omega arith in
+    let read : Failed f (instrs_at levels n ([], s)) = subst (λ (l : ℕ). Failed f (instrs_at l n ([], s))) same (subst (λ (l : List Instr). Failed f (instrs_at below n (l, s))) none h) in
+    first_failed (instrs_at levels n ([], s)) (λ y. Some (code_of y.0, y.1)) f read

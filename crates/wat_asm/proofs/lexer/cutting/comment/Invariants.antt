@@ -1,0 +1,8 @@
+use Rattle.std.proofs.Common.{◌≤◌, length}
+use Rattle.wat_asm.proofs.lexer.cutting.comment.Given as goal
+
+abbrev pub invariant-each : goal.invariant-each
+invariant-each l = length l.rest ≤ length l.text
+
+abbrev pub decreases-each : goal.decreases-each
+decreases-each l = length l.rest

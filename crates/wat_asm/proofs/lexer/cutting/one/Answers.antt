@@ -1,0 +1,26 @@
+use Rattle.std.proofs.Common.{get_or, arith}
+use Rattle.wat_asm.specs.Lexing.{one_at}
+use Rattle.wat_asm.proofs.Cutting.{one_opening, one_quoted, one_word, IsOther}
+use Rattle.wat_asm.proofs.lexer.cutting.one.Goals as goal
+
+pub returns-in-40-clause-again : goal.returns-in-40-clause-again
+returns-in-40-clause-again c = λ source all ends.
+    one_opening source c.args.text.now c.opening.result c.in-len1-up.len_at_least c.in-40.is (c.opening.ensures.again source)
+
+pub returns-in-34-clause-again : goal.returns-in-34-clause-again
+returns-in-34-clause-again c = λ source all ends.
+    one_quoted source c.args.text.now c.quoted.result c.in-len1-up.len_at_least c.in-34.is ends (c.quoted.ensures.again source all)
+
+pub returns-in_default-clause-again : goal.returns-in_default-clause-again
+returns-in_default-clause-again c = λ source all ends.
+    let other : IsOther (get_or c.args.text.now 0 0) = record {
+      space = omega arith;
+      feed = omega arith;
+      tab = omega arith;
+      carriage = omega arith;
+      closing = omega arith;
+      opening = omega arith;
+      semicolon = omega arith;
+      quote = omega arith;
+    } in
+    one_word source c.args.text.now c.spelled.result c.in-len1-up.len_at_least other (c.spelled.ensures.again source)

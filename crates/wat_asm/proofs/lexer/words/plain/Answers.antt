@@ -1,0 +1,26 @@
+use Rattle.std.proofs.Common.{◌≡◌, List, ℕ, Option, Some, None, ap, subst, sym, ◌∙◌}
+use Rattle.std.specs.Prelude.{codes}
+use Rattle.wat_asm.specs.Lexing.{Tells, behind, or_align, or_key, plain_of}
+use Rattle.wat_asm.specs.Tokens.{Tok}
+use Rattle.wat_asm.proofs.Words.{stripped, not_stripped}
+use Rattle.wat_asm.proofs.lexer.words.plain.Goals as goal
+
+pub returns-in-Some : goal.returns-in-Some
+unfolding plain_of
+returns-in-Some c =
+    let e = stripped (codes "offset=") c.args.word.now c.in-Some.digits c.in-Some.ensures.cases in
+    rw e c.offset.ensures
+
+pub returns-in-Some-strip_prefix : goal.returns-in-Some-strip_prefix
+unfolding plain_of
+returns-in-Some-strip_prefix c =
+    let e = not_stripped (codes "offset=") c.args.word.now c.in_default.ensures.cases in
+    let f = stripped (codes "align=") c.args.word.now c.in-Some-strip_prefix.digits c.in-Some-strip_prefix.ensures.cases in
+    rw (e, f) c.alignment.ensures
+
+pub returns-in_default-strip_prefix : goal.returns-in_default-strip_prefix
+unfolding plain_of
+returns-in_default-strip_prefix c =
+    let e = not_stripped (codes "offset=") c.args.word.now c.in_default.ensures.cases in
+    let f = not_stripped (codes "align=") c.args.word.now c.in_default-strip_prefix.ensures.cases in
+    rw (e, f) c.keyword.ensures

@@ -1,0 +1,7 @@
+use Rattle.wat_asm.specs.Reading.{state_of}
+use Rattle.wat_asm.proofs.Texts.{name_failed}
+use Rattle.wat_asm.proofs.parser.tokens.Parser.text.Goals as goal
+
+pub returns-clause-again : goal.returns-clause-again
+returns-clause-again c =
+    name_failed c.in_ok-bytes.bytes.items (state_of c.args.self.now) (state_of c.bytes.new.self) _ c.in_ok-bytes.ensures.again (λ u. let e = c.in-Err.ensures.succeeds u in absurd cc)

@@ -1,0 +1,250 @@
+-- Reading the tokens of a printed module (Core 1.0, 6.6).
+use Rattle.std.specs.Prelude.{◌≡◌, ℕ, zero, suc, Bool, true, false, not, ◌&&◌, ◌==◌, List, [], ◌∷◌, ◌++◌, length, Option, Some, None, IsSome, is_some, if◌then◌else◌}
+use Rattle.wasm_ast.specs.declared.types.FuncType.{FuncType}
+use Rattle.wasm_ast.specs.declared.types.Limits.{Limits}
+use Rattle.wasm_ast.specs.declared.module.ImportDescription.{ImportDescription}
+use Rattle.wasm_ast.specs.declared.module.ImportDescription.TheVariants as import
+use Rattle.wasm_ast.specs.declared.module.Import.{Import}
+use Rattle.wasm_ast.specs.declared.module.Function.{Function}
+use Rattle.wasm_ast.specs.declared.module.Global.{Global}
+use Rattle.wasm_ast.specs.declared.module.ExportDescription.{ExportDescription}
+use Rattle.wasm_ast.specs.declared.module.ExportDescription.TheVariants as export
+use Rattle.wasm_ast.specs.declared.module.Export.{Export}
+use Rattle.wasm_ast.specs.declared.module.Element.{Element}
+use Rattle.wasm_ast.specs.declared.module.Data.{Data}
+use Rattle.wasm_ast.specs.declared.module.Module.{Module}
+use Rattle.wasm_ast.specs.Limits.{max_nesting}
+use Rattle.wasm_ast.specs.Code.{Code}
+use Rattle.wasm_ast.specs.Modules.{empty_module}
+use Rattle.wat_asm.specs.declared.keyword.Keyword.{Keyword}
+use Rattle.wat_asm.specs.declared.keyword.Keyword.TheVariants as keyword
+use Rattle.wat_asm.specs.declared.lexer.token.Token.{Token}
+use Rattle.wat_asm.specs.declared.lexer.token.Token.TheVariants as token
+use Rattle.wat_asm.specs.declared.parser.draft.Draft.{Draft}
+use Rattle.wat_asm.specs.Follows.{◌>>=◌}
+use Rattle.wat_asm.specs.Tokens.{Tok, opens, closes, key, number, text, other}
+use Rattle.wat_asm.specs.Reading.{State, Reads, repeated, item_step, closed_at, funcref_at, unnamed_at, number_at, number_first, text_at, name_at, limits_at, global_type_at, locals_at, defined_type_at, type_use_at}
+use Rattle.wat_asm.specs.ReadingCode.{code_at}
+
+-- ---- a module in the making, but for its types
+
+abbrev pub drafted : Draft → Module
+drafted d = record {
+  types = [];
+  imports = d.imports.items;
+  functions = d.functions.items;
+  tables = d.tables.items;
+  memories = d.memories.items;
+  globals = d.globals.items;
+  exports = d.exports.items;
+  start = d.start;
+  elements = d.elements.items;
+  «data» = d.segments.items;
+}
+
+-- a module in the making, and what is left to be read
+abbrev pub Making : Type 0
+Making = Module × State
+
+abbrev pub with_import : Module → Import → Module
+with_import m x = record m { imports = m.imports ++ x ∷ [] }
+
+abbrev pub with_function : Module → Function → Module
+with_function m x = record m { functions = m.functions ++ x ∷ [] }
+
+abbrev pub with_table : Module → Limits → Module
+with_table m x = record m { tables = m.tables ++ x ∷ [] }
+
+abbrev pub with_memory : Module → Limits → Module
+with_memory m x = record m { memories = m.memories ++ x ∷ [] }
+
+abbrev pub with_global : Module → Global → Module
+with_global m x = record m { globals = m.globals ++ x ∷ [] }
+
+abbrev pub with_export : Module → Export → Module
+with_export m x = record m { exports = m.exports ++ x ∷ [] }
+
+abbrev pub with_start : Module → ℕ → Module
+with_start m x = record m { start = Some x }
+
+abbrev pub with_element : Module → Element → Module
+with_element m x = record m { elements = m.elements ++ x ∷ [] }
+
+abbrev pub with_segment : Module → Data → Module
+with_segment m x = record m { «data» = m.«data» ++ x ∷ [] }
+
+abbrev pub with_types : Module → List FuncType → Module
+with_types m ts = record m { types = ts }
+
+abbrev pub is_empty : {A : Type 0} → List A → Bool
+is_empty [] = true
+is_empty (x ∷ xs) = false
+
+-- whether a function, table, memory or global is defined
+abbrev pub has_definition : Module → Bool
+has_definition m = not (is_empty m.functions && is_empty m.tables && is_empty m.memories && is_empty m.globals)
+
+-- ---- imports and exports
+
+unfoldable pub imported_at : Keyword → Reads ImportDescription
+imported_at keyword.Func s = type_use_at s >>= λ n. Some (import.Function n.0, n.1)
+imported_at keyword.Table s = limits_at s >>= λ l. funcref_at l.1 >>= λ e. Some (import.Table l.0, e)
+imported_at keyword.Memory s = limits_at s >>= λ l. Some (import.Memory l.0, l.1)
+imported_at keyword.Global s = global_type_at s >>= λ t. Some (import.Global t.0, t.1)
+imported_at _ s = None
+
+unfoldable pub import_description_at : Reads ImportDescription
+import_description_at (opens ∷ key k ∷ ts, types) =
+    unnamed_at (ts, types) >>= λ a. imported_at k a >>= λ d. closed_at d.1 >>= λ e. Some (d.0, e)
+import_description_at _ = None
+
+unfoldable pub import_at : Reads Import
+import_at s =
+    name_at s >>= λ m. name_at m.1 >>= λ n. import_description_at n.1 >>= λ d. closed_at d.1 >>= λ e.
+    Some (record { «module» = m.0; name = n.0; description = d.0 }, e)
+
+unfoldable pub exported_at : Keyword → Reads ExportDescription
+exported_at keyword.Func s = number_at s >>= λ n. Some (export.Function n.0, n.1)
+exported_at keyword.Table s = number_at s >>= λ n. Some (export.Table n.0, n.1)
+exported_at keyword.Memory s = number_at s >>= λ n. Some (export.Memory n.0, n.1)
+exported_at keyword.Global s = number_at s >>= λ n. Some (export.Global n.0, n.1)
+exported_at _ s = None
+
+unfoldable pub export_description_at : Reads ExportDescription
+export_description_at (opens ∷ key k ∷ ts, types) = exported_at k (ts, types) >>= λ d. closed_at d.1 >>= λ e. Some (d.0, e)
+export_description_at _ = None
+
+unfoldable pub export_at : Reads Export
+export_at s = name_at s >>= λ n. export_description_at n.1 >>= λ d. closed_at d.1 >>= λ e. Some (record { name = n.0; description = d.0 }, e)
+
+-- ---- definitions
+
+-- an export or an import inside of a field
+abbrev pub inline_first : List Tok → Bool
+inline_first (opens ∷ key keyword.Export ∷ ts) = true
+inline_first (opens ∷ key keyword.Import ∷ ts) = true
+inline_first _ = false
+
+unfoldable pub inline_at : Making → Option Making
+inline_at x = if inline_first x.1.0 then None else Some x
+
+-- behind the keyword of a definition no name and no inline export stands
+unfoldable pub defined_at : {A : Type 0} → Reads A → (Module → A → Module) → Making → Option Making
+defined_at item with_item x = unnamed_at x.1 >>= λ s. inline_at (x.0, s) >>= λ y. item y.1 >>= λ i. Some (with_item y.0 i.0, i.1)
+
+unfoldable pub function_at : ℕ → Reads Function
+function_at n s =
+    type_use_at s >>= λ t. locals_at n ([], t.1) >>= λ l. code_at max_nesting n l.1 >>= λ b. closed_at b.1 >>= λ e.
+    Some (record { type_number = t.0; locals = l.0; body = b.0 }, e)
+
+unfoldable pub table_at : Reads Limits
+table_at s = limits_at s >>= λ l. funcref_at l.1 >>= λ a. closed_at a >>= λ b. Some (l.0, b)
+
+unfoldable pub memory_at : Reads Limits
+memory_at s = limits_at s >>= λ l. closed_at l.1 >>= λ a. Some (l.0, a)
+
+unfoldable pub global_at : ℕ → Reads Global
+global_at n s =
+    global_type_at s >>= λ t. code_at max_nesting n t.1 >>= λ b. closed_at b.1 >>= λ e. Some (record { global_type = t.0; initial = b.0 }, e)
+
+unfoldable pub start_at : Reads ℕ
+start_at s = number_at s >>= λ n. closed_at n.1 >>= λ e. Some (n.0, e)
+
+-- ---- segments
+
+-- the number of a table or memory, which is 0 where none stands
+unfoldable pub number_or_0_at : Reads ℕ
+number_or_0_at s = number_first s.0 >>= λ b. if b then number_at s else Some (0, s)
+
+unfoldable pub offset_at : ℕ → Reads Code
+offset_at n (opens ∷ key keyword.Offset ∷ ts, types) = code_at max_nesting n (ts, types) >>= λ b. closed_at b.1 >>= λ e. Some (b.0, e)
+offset_at n _ = None
+
+unfoldable pub numbers_at : ℕ → Reads (List ℕ)
+numbers_at n s = repeated number_first (item_step number_at) n ([], s)
+
+unfoldable pub element_at : ℕ → Reads Element
+element_at n s =
+    number_or_0_at s >>= λ t. offset_at n t.1 >>= λ o. numbers_at n o.1 >>= λ f. closed_at f.1 >>= λ e.
+    Some (record { table = t.0; offset = o.0; functions = f.0 }, e)
+
+-- whether a string stands in front
+unfoldable pub text_first : List Tok → Option Bool
+text_first (text bytes ∷ ts) = Some true
+text_first (other ∷ ts) = None
+text_first _ = Some false
+
+abbrev pub text_step : List ℕ × State → Option (List ℕ × State)
+text_step x = text_at x.1 >>= λ b. Some (x.0 ++ b.0, b.1)
+
+unfoldable pub bytes_at : ℕ → Reads (List ℕ)
+bytes_at n s = repeated text_first text_step n ([], s)
+
+unfoldable pub segment_at : ℕ → Reads Data
+segment_at n s =
+    number_or_0_at s >>= λ t. offset_at n t.1 >>= λ o. bytes_at n o.1 >>= λ b. closed_at b.1 >>= λ e.
+    Some (record { memory = t.0; offset = o.0; bytes = b.0 }, e)
+
+-- ---- fields
+
+-- an item that is added to the module
+abbrev pub added : {A : Type 0} → Reads A → (Module → A → Module) → Making → Option Making
+added item with_item x = item x.1 >>= λ i. Some (with_item x.0 i.0, i.1)
+
+-- behind a field's keyword
+unfoldable pub field_at : ℕ → Keyword → Making → Option Making
+field_at n keyword.Import x = if has_definition x.0 then None else added import_at with_import x
+field_at n keyword.Func x = defined_at (function_at n) with_function x
+field_at n keyword.Table x = defined_at table_at with_table x
+field_at n keyword.Memory x = defined_at memory_at with_memory x
+field_at n keyword.Global x = defined_at (global_at n) with_global x
+field_at n keyword.Export x = added export_at with_export x
+field_at n keyword.Start x = if is_some x.0.start then None else added start_at with_start x
+field_at n keyword.Elem x = added (element_at n) with_element x
+field_at n keyword.Data x = added (segment_at n) with_segment x
+field_at n _ x = None
+
+unfoldable pub field_first : List Tok → Option Bool
+field_first (opens ∷ key k ∷ ts) = Some true
+field_first _ = Some false
+
+unfoldable pub field_step : ℕ → Making → Option Making
+field_step n (m, (opens ∷ key k ∷ ts, types)) = field_at n k (m, (ts, types))
+field_step n _ = None
+
+unfoldable pub fields_at : ℕ → Making → Option Making
+fields_at n x = repeated field_first (field_step n) n x
+
+-- ---- the module
+
+abbrev pub type_first : List Tok → Option Bool
+type_first (opens ∷ key keyword.FuncType ∷ ts) = Some true
+type_first _ = Some false
+
+-- a type that is added to those so far
+unfoldable pub type_step : ℕ → Unit {0} × State → Option (Unit {0} × State)
+type_step n (u, (opens ∷ key keyword.FuncType ∷ ts, types)) =
+    defined_type_at n (ts, types) >>= λ t. Some (u, (t.1.0, t.1.1 ++ t.0 ∷ []))
+type_step n _ = None
+
+unfoldable pub types_at : ℕ → State → Option State
+types_at n s = repeated type_first (type_step n) n (tt, s) >>= λ x. Some x.1
+
+unfoldable pub module_open_at : State → Option State
+module_open_at (opens ∷ key keyword.Module ∷ ts, types) = unnamed_at (ts, types)
+module_open_at _ = None
+
+-- the module's fields, between its parentheses
+unfoldable pub whole_at : ℕ → Making → Option Making
+whole_at n x =
+    module_open_at x.1 >>= λ a. types_at n a >>= λ b. fields_at n (x.0, b) >>= λ y. closed_at y.1 >>= λ e. Some (y.0, e)
+
+-- all of a text's tokens
+unfoldable pub module_at : ℕ → List Tok → Option Module
+module_at n ts = whole_at n (empty_module, (ts, [])) >>= λ x. if is_empty x.1.0 then Some (with_types x.0 x.1.1) else None
+
+-- no token is a name
+abbrev pub nameless : List Token → Bool
+nameless [] = true
+nameless (token.Name n ∷ ts) = false
+nameless (t ∷ ts) = nameless ts

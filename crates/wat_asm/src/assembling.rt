@@ -1,0 +1,110 @@
+//! A module from its text.
+
+ghost use Rattle.std.specs.Prelude.{◌≡◌, ℕ, true, Some, IfOk, MatchResult};
+ghost use Rattle.wasm_ast.specs.declared.module.Module.{Module as AnyModule};
+ghost use Rattle.wasm_ast.specs.Limits.{IsWithinLimits};
+ghost use Rattle.wasm_ast.specs.Representable.{IsRepresentable};
+ghost use Rattle.wat_asm.specs.declared.fault.TextFault.TheVariants.{OutOfMemory};
+ghost use Rattle.wat_asm.specs.Follows.{IsMemory};
+ghost use Rattle.wat_asm.specs.Layout.{HasBytes, layout};
+ghost use Rattle.wat_asm.specs.ReadingModule.{module_at, nameless};
+ghost use Rattle.wat_asm.specs.Tokens.{toks_of};
+
+use crate::fault::{Failure, Position, TextFault, Wrong};
+use crate::lexer::{Tokens, lex};
+use crate::parser::parse;
+use std::alloc::Global;
+use wasm_ast::Module;
+
+/// The module that this text spells (Core 1.0, section 6).
+///
+/// Instructions may stand in line or folded, and names in place of numbers. At most 512 parentheses stand inside each
+/// other. What is refused is told with its place: no text is `Ok` that is beyond the limits, and no module is validated.
+/// What `print` writes of a module is that module again, unless memory runs out.
+pub fn assemble(alloc: Global, text: &str) -> Result<Module, TextFault>
+    ensures within { IfOk result IsWithinLimits }
+    ensures printed { (m : AnyModule) → IsWithinLimits m → IsRepresentable m → HasBytes m → text.now ≡ layout m
+        → MatchResult result (λ x. x ≡ m) (λ fault. fault ≡ OutOfMemory) }
+{
+    match lex(alloc, text) {
+        Ok(tokens) => parsed(alloc, text, tokens),
+        Err(failure) => Err(lexed_fault(text, failure)),
+    }
+}
+
+// The module that these tokens of the text spell.
+fn parsed(alloc: Global, text: &str, tokens: Tokens) -> Result<Module, TextFault>
+    ensures within { IfOk result IsWithinLimits }
+    ensures again { (n : ℕ) (m : AnyModule) → nameless tokens.tokens.items ≡ true
+        → module_at n (toks_of text.now tokens.tokens.items) ≡ Some m → IsWithinLimits m
+        → MatchResult result (λ x. x ≡ m) (λ fault. fault ≡ OutOfMemory) }
+{
+    match parse(alloc, text.as_bytes(), tokens.tokens.as_slice()) {
+        Ok(module) => Ok(module),
+        Err(failure) => Err(parsed_fault(text, &tokens, failure)),
+    }
+}
+
+// A failure whose place is told by the bytes that are left.
+fn lexed_fault(text: &str, failure: Failure) -> TextFault
+    ensures { IsMemory failure → result ≡ OutOfMemory }
+{
+    match failure {
+        Failure::OutOfMemory => TextFault::OutOfMemory,
+        Failure::Fault(what, left) => fault(text, what, text.len().saturating_sub(left)),
+    }
+}
+
+// A failure whose place is told by the tokens that are left.
+fn parsed_fault(text: &str, tokens: &Tokens, failure: Failure) -> TextFault
+    ensures { IsMemory failure → result ≡ OutOfMemory }
+{
+    match failure {
+        Failure::OutOfMemory => TextFault::OutOfMemory,
+        Failure::Fault(what, left) => {
+            let index = tokens.tokens.len().saturating_sub(left);
+            match tokens.places.as_slice().get(index) {
+                Some(place) => fault(text, what, *place),
+                None => fault(text, what, text.len()),
+            }
+        }
+    }
+}
+
+// The fault at a place of the text.
+fn fault(text: &str, what: Wrong, place: usize) -> TextFault {
+    let position = position(text.as_bytes(), place);
+    match what {
+        Wrong::Lex => TextFault::Lex(position),
+        Wrong::Syntax => TextFault::Syntax(position),
+        Wrong::UnknownName => TextFault::UnknownName(position),
+        Wrong::DuplicateName => TextFault::DuplicateName(position),
+        Wrong::NumberRange => TextFault::NumberRange(position),
+        Wrong::TypeUse => TextFault::TypeUse(position),
+        Wrong::Unsupported => TextFault::Unsupported(position),
+        Wrong::OverLimit => TextFault::OverLimit(position),
+    }
+}
+
+// Whether a character of a text in UTF-8 begins with this byte.
+fn begins_character(b: u8) -> bool {
+    b & 0xc0 != 0x80
+}
+
+// The line and the column of the byte at this place.
+fn position(text: &[u8], place: usize) -> Position {
+    let mut line = 1usize;
+    let mut column = 1usize;
+    for b in text.iter().take(place) {
+        if *b == b'\n' {
+            line = line.saturating_add(1);
+            column = 1;
+        } else if begins_character(*b) {
+            column = column.saturating_add(1);
+        }
+    }
+    Position { line, column }
+}
+
+#[cfg(test)]
+mod tests;

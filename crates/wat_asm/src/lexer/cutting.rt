@@ -1,0 +1,169 @@
+//! Where tokens begin and end.
+
+ghost use Rattle.std.specs.Prelude.{◌≡◌, ◌+◌, ◌<◌, ◌≤◌, List, ℕ, Some, length, take, drop, IfOk, IfSome};
+ghost use Rattle.std.specs.List.{prefix_len};
+ghost use Rattle.wat_asm.specs.Follows.{Follows};
+ghost use Rattle.wat_asm.specs.Lexing.{EndsWith, is_word, one_at, opening_at, quoted_at, read_of, word_at};
+
+use super::names::Names;
+use super::strings::behind;
+use super::token::Token;
+use super::words::token_of;
+use crate::fault::{Failure, Wrong};
+
+// A byte of a name, a keyword or a number (Core 1.0, 6.3.5).
+#[tactic(auto, unfolding(crate::specs::Lexing::is_word))]
+fn is_word_byte(b: u8) -> bool
+    ensures { result ≡ is_word b }
+{
+    b > 32
+        && b < 127
+        && b != b'"'
+        && b != b'('
+        && b != b')'
+        && b != b','
+        && b != b';'
+        && b != b'['
+        && b != b']'
+        && b != b'{'
+        && b != b'}'
+}
+
+// How many bytes the word has with which the text begins.
+fn word_length(text: &[u8]) -> usize
+    ensures value { result ≡ prefix_len is_word text.now }
+    ensures within { result ≤ length text.now }
+{
+    let mut count = 0;
+    'each: while count < text.len() && is_word_byte(text[count]) {
+        count += 1;
+    }
+    count
+}
+
+// A word, and what is left behind it.
+fn word(text: &[u8]) -> (&[u8], &[u8])
+    ensures first { result.0.now ≡ take (prefix_len is_word text.now) text.now }
+    ensures rest { result.1.now ≡ drop (prefix_len is_word text.now) text.now }
+    ensures shrinks { length result.0.now + length result.1.now ≡ length text.now }
+{
+    let count = word_length(text);
+    (&text[..count], &text[count..])
+}
+
+// What is left behind a comment, of which this is the inside and what follows; none where it does not end.
+fn comment(text: &[u8]) -> Option<&[u8]>
+    ensures { IfSome result (λ rest. length rest.now ≤ length text.now) }
+{
+    let mut rest = text;
+    let mut depth = 1u64;
+    'each: loop {
+        match rest {
+            [b';', b')', after @ ..] => {
+                rest = after;
+                depth = depth.saturating_sub(1);
+                if depth == 0 {
+                    return Some(rest);
+                }
+            }
+            [b'(', b';', after @ ..] => {
+                rest = after;
+                depth = depth.saturating_add(1);
+            }
+            [_, after @ ..] => rest = after,
+            [] => return None,
+        }
+    }
+}
+
+// From the line's end on.
+fn line_end(text: &[u8]) -> &[u8]
+    ensures { length result.now ≤ length text.now }
+{
+    let mut rest = text;
+    'each: while let [b, after @ ..] = rest {
+        if *b == b'\n' {
+            return rest;
+        }
+        rest = after;
+    }
+    rest
+}
+
+// A parenthesis, or a comment, of which this is what follows the parenthesis. With it so much is left.
+fn opening(left: usize, text: &[u8]) -> Result<(Option<Token>, &[u8]), Failure>
+    ensures again { (source : List ℕ) → Follows (read_of source) result (opening_at text.now) }
+    ensures shrinks { IfOk result (λ x. length x.1.now ≤ length text.now) }
+{
+    match text {
+        [b';', inside @ ..] => match comment(inside) {
+            Some(rest) => Ok((None, rest)),
+            None => Err(Failure::Fault(Wrong::Lex, left)),
+        },
+        _ => Ok((Some(Token::Open), text)),
+    }
+}
+
+// A comment to the line's end, of which this is what follows the first semicolon. With it so much is left.
+fn line_comment(left: usize, text: &[u8]) -> Result<(Option<Token>, &[u8]), Failure>
+    ensures { IfOk result (λ x. length x.1.now ≤ length text.now) }
+{
+    match text {
+        [b';', inside @ ..] => Ok((None, line_end(inside))),
+        _ => Err(Failure::Fault(Wrong::Lex, left)),
+    }
+}
+
+// A string, of which this is what follows the quotation mark, of a text of so many bytes. With the mark so much is left.
+fn quoted(size: usize, left: usize, text: &[u8]) -> Result<(Option<Token>, &[u8]), Failure>
+    requires { length text.now ≤ size }
+    ensures again { (source : List ℕ) → size ≡ length source → EndsWith source text.now
+        → Follows (read_of source) result (quoted_at text.now) }
+    ensures shrinks { IfOk result (λ x. length x.1.now ≤ length text.now) }
+{
+    match behind(text) {
+        Some(rest) => Ok((Some(Token::Text(size - text.len())), rest)),
+        None => Err(Failure::Fault(Wrong::Lex, left)),
+    }
+}
+
+// A word.
+fn spelled<'t>(names: &mut Names<'t>, text: &'t [u8]) -> Result<(Option<Token>, &'t [u8]), Failure>
+    ensures again { (source : List ℕ) → Follows (read_of source) result (word_at text.now) }
+    ensures shrinks { IfOk result (λ x. length x.1.now < length text.now) }
+{
+    let (first, rest) = word(text);
+    if first.is_empty() {
+        return Err(Failure::Fault(Wrong::Lex, text.len()));
+    }
+    let token = token_of(names, first)?;
+    Ok((Some(token), rest))
+}
+
+/// One token, or none where there is a blank or a comment, and what is left behind it, of a text of so many bytes.
+#[tactic(auto, unfolding(crate::specs::Lexing::one_at), using(crate::proofs::Cutting::ends_behind))]
+pub fn one<'t>(
+    names: &mut Names<'t>,
+    size: usize,
+    text: &'t [u8],
+) -> Result<(Option<Token>, &'t [u8]), Failure>
+    requires { length text.now ≤ size }
+    ensures again { (source : List ℕ) → size ≡ length source → EndsWith source text.now
+        → Follows (read_of source) result (one_at text.now) }
+    ensures shrinks { IfOk result (λ x. length x.1.now < length text.now) }
+{
+    match text {
+        [] => Err(Failure::Fault(Wrong::Lex, 0)),
+        [first, rest @ ..] => match *first {
+            b' ' => Ok((None, rest)),
+            b'\n' => Ok((None, rest)),
+            b'\t' => Ok((None, rest)),
+            b'\r' => Ok((None, rest)),
+            b')' => Ok((Some(Token::Close), rest)),
+            b'(' => opening(text.len(), rest),
+            b';' => line_comment(text.len(), rest),
+            b'"' => quoted(size, text.len(), rest),
+            _ => spelled(names, text),
+        },
+    }
+}

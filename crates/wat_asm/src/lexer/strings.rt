@@ -1,0 +1,144 @@
+//! Strings (Core 1.0, 6.3.3).
+
+ghost use Rattle.std.specs.Prelude.{◌≡◌, ◌<◌, ◌≤◌, ℕ, List, Some, drop, length, false, IfOk, IfSome, IsSomeAnd, IsTrue};
+ghost use Rattle.wat_asm.specs.Follows.{FollowsSome};
+ghost use Rattle.wat_asm.specs.Quoted.{stands_as_itself};
+ghost use Rattle.wat_asm.specs.Strings.{hex_digit, plain, quote_at, escape_at, step_at, string_of};
+
+use std::alloc::{AllocError, Global};
+
+/// One step through a string.
+#[derive(Clone, Copy, Debug, PartialEq, Eq)]
+enum Part {
+    Byte(u8),
+    /// A character by its number.
+    Character(char),
+    /// The quotation mark that ends the string.
+    End,
+}
+
+// A hexadecimal digit.
+fn digit(b: u8) -> Option<u8>
+    ensures again { (n : ℕ) → hex_digit b ≡ Some n → result ≡ Some n }
+    ensures within { IfSome result (λ n. n < 16) }
+{
+    match b {
+        b'0'..=b'9' => Some(b - b'0'),
+        b'a'..=b'f' => Some(b - b'a' + 10),
+        b'A'..=b'F' => Some(b - b'A' + 10),
+        _ => None,
+    }
+}
+
+// The number of a character, in hexadecimal up to the bracket, and what is behind that. Underscores may stand between
+// digits.
+fn character(text: &[u8]) -> Option<(Part, &[u8])>
+    ensures { IfSome result (λ x. length x.1.now < length text.now) }
+{
+    let mut rest = text;
+    let mut number = 0u32;
+    let mut after_digit = false;
+    'each: while let [b, behind @ ..] = rest {
+        if *b == b'}' {
+            if !after_digit {
+                return None;
+            }
+            return Some((Part::Character(char::from_u32(number)?), behind));
+        }
+        if *b == b'_' && after_digit {
+            after_digit = false;
+        } else {
+            let value = digit(*b)?;
+            number = number.checked_mul(16)?.checked_add(u32::from(value))?;
+            after_digit = true;
+        }
+        rest = behind;
+    }
+    None
+}
+
+// What stands behind a backslash.
+fn escape(text: &[u8]) -> Option<(Part, &[u8])>
+    ensures again { FollowsSome (λ x. (x.0, x.1.now)) result (escape_at text.now) }
+    ensures shrinks { IfSome result (λ x. length x.1.now < length text.now) }
+{
+    match text {
+        [b't', rest @ ..] => Some((Part::Byte(b'\t'), rest)),
+        [b'n', rest @ ..] => Some((Part::Byte(b'\n'), rest)),
+        [b'r', rest @ ..] => Some((Part::Byte(b'\r'), rest)),
+        [b'"', rest @ ..] => Some((Part::Byte(b'"'), rest)),
+        [b'\'', rest @ ..] => Some((Part::Byte(b'\''), rest)),
+        [b'\\', rest @ ..] => Some((Part::Byte(b'\\'), rest)),
+        [b'u', b'{', rest @ ..] => character(rest),
+        [high, low, rest @ ..] => {
+            let high = digit(*high)?;
+            let low = digit(*low)?;
+            Some((Part::Byte(high * 16 + low), rest))
+        }
+        _ => None,
+    }
+}
+
+fn is_control(b: u8) -> bool
+    ensures { IsTrue result → stands_as_itself b ≡ false }
+{
+    b < 32 || b == 127
+}
+
+// One step, and what is left behind it.
+fn step(text: &[u8]) -> Option<(Part, &[u8])>
+    ensures again { FollowsSome (λ x. (x.0, x.1.now)) result (step_at text.now) }
+    ensures shrinks { IfSome result (λ x. length x.1.now < length text.now) }
+{
+    match text {
+        [b'"', rest @ ..] => Some((Part::End, rest)),
+        [b'\\', rest @ ..] => escape(rest),
+        [b, rest @ ..] => {
+            if is_control(*b) {
+                None
+            } else {
+                Some((Part::Byte(*b), rest))
+            }
+        }
+        [] => None,
+    }
+}
+
+/// What is left behind a string, of which this is the inside and what follows; none where it is no string.
+pub fn behind(text: &[u8]) -> Option<&[u8]>
+    ensures again { (bytes rest : List ℕ) → quote_at plain text.now ≡ Some (bytes, rest) → IsSomeAnd result (λ x. x.now ≡ rest) }
+    ensures shrinks { IfSome result (λ x. length x.now < length text.now) }
+{
+    let mut rest = text;
+    'each: loop {
+        let (one, after) = step(rest)?;
+        match one {
+            Part::End => return Some(after),
+            Part::Byte(_) => rest = after,
+            Part::Character(_) => rest = after,
+        }
+    }
+}
+
+/// The bytes of the string that begins at this place of the text, as a token tells it.
+pub fn string(alloc: Global, source: &[u8], place: usize) -> Result<Vec<u8>, AllocError>
+    ensures { (bytes : List ℕ) → string_of (drop place source.now) ≡ Some bytes → IfOk result (λ v. v.items ≡ bytes) }
+{
+    let mut bytes = Vec::new(alloc);
+    if place > source.len() {
+        return Ok(bytes);
+    }
+    let mut rest = &source[place..];
+    'each: while let Some((one, after)) = step(rest) {
+        match one {
+            Part::Byte(b) => bytes.push(b)?,
+            Part::Character(c) => {
+                let mut room = [0; 4];
+                bytes.extend_from_slice(c.encode_utf8(&mut room).as_bytes())?;
+            }
+            Part::End => return Ok(bytes),
+        }
+        rest = after;
+    }
+    Ok(bytes)
+}

@@ -1,0 +1,121 @@
+//! What words mean.
+
+ghost use Rattle.std.specs.Prelude.{List, ℕ};
+ghost use Rattle.wat_asm.specs.Follows.{Follows};
+ghost use Rattle.wat_asm.specs.Keywords.{lookup};
+ghost use Rattle.wat_asm.specs.declared.keyword.TheConstants.{KEYWORDS};
+ghost use Rattle.wat_asm.specs.Lexing.{Tells, as_key, plain_of, word_of};
+ghost use Rattle.wat_asm.specs.Tokens.{tok_of};
+
+use super::names::Names;
+use super::numeral::{alignment, negative, offset, positive, unsigned};
+use super::token::Token;
+use crate::fault::Failure;
+use crate::keyword::Keyword;
+use std::str;
+
+const OFFSET: &[u8] = b"offset=";
+
+const ALIGN: &[u8] = b"align=";
+
+// How words of the format begin that are not taken: of floating point, and of later versions.
+const UNSUPPORTED: [&str; 31] = [
+    "f32",
+    "f64",
+    "i32.trunc_",
+    "i64.trunc_",
+    "i32.reinterpret_",
+    "i64.reinterpret_",
+    "i32.extend",
+    "i64.extend",
+    "v128",
+    "i8x16",
+    "i16x8",
+    "i32x4",
+    "i64x2",
+    "ref.",
+    "table.",
+    "memory.",
+    "elem.drop",
+    "data.drop",
+    "externref",
+    "return_call",
+    "call_ref",
+    "br_on_",
+    "struct.",
+    "array.",
+    "any.",
+    "extern.",
+    "i31.",
+    "throw",
+    "rethrow",
+    "try",
+    "catch",
+];
+
+fn is_unsupported(word: &[u8]) -> bool {
+    for beginning in &UNSUPPORTED {
+        if word.starts_with(beginning.as_bytes()) {
+            return true;
+        }
+    }
+    false
+}
+
+fn name<'t>(names: &mut Names<'t>, word: &'t [u8]) -> Result<Token, Failure> {
+    if word.len() < 2 {
+        return Ok(Token::Other);
+    }
+    match str::from_utf8(word) {
+        Ok(text) => {
+            let n = names.number(text)?;
+            Ok(Token::Name(n))
+        }
+        Err(_) => Ok(Token::Other),
+    }
+}
+
+fn keyword(word: &[u8]) -> Token
+    ensures { Tells result (as_key (lookup KEYWORDS word.now)) }
+{
+    match Keyword::spelled(word) {
+        Some(found) => Token::Key(found),
+        None => {
+            if is_unsupported(word) {
+                Token::Unsupported
+            } else {
+                Token::Other
+            }
+        }
+    }
+}
+
+// A word that begins with a letter.
+fn plain(word: &[u8]) -> Token
+    ensures { Tells result (plain_of word.now) }
+{
+    if let Some(digits) = word.strip_prefix(OFFSET) {
+        offset(digits)
+    } else if let Some(digits) = word.strip_prefix(ALIGN) {
+        alignment(digits)
+    } else {
+        keyword(word)
+    }
+}
+
+/// The token that a word is.
+#[tactic(auto, unfolding(crate::specs::Lexing::word_of))]
+pub fn token_of<'t>(names: &mut Names<'t>, word: &'t [u8]) -> Result<Token, Failure>
+    ensures { (source : List ℕ) → Follows (tok_of source) result (word_of word.now) }
+{
+    match word {
+        [] => Ok(Token::Other),
+        [first, digits @ ..] => match *first {
+            b'0'..=b'9' => Ok(unsigned(word)),
+            b'-' => Ok(negative(digits)),
+            b'+' => Ok(positive(digits)),
+            b'$' => name(names, word),
+            _ => Ok(plain(word)),
+        },
+    }
+}

@@ -1,0 +1,16 @@
+//! From tokens to a module.
+
+mod code;
+mod draft;
+mod equal_types;
+mod fields;
+mod modules;
+mod names;
+mod plain;
+mod tokens;
+mod types;
+
+pub use modules::parse;
+
+#[cfg(test)]
+mod tests;

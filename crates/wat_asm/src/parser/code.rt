@@ -1,0 +1,341 @@
+//! Instructions one after another, linear and folded, and those that hold others (Core 1.0, 6.5).
+
+ghost use Rattle.std.specs.Prelude.{◌≡◌, ◌<◌, ◌≤◌, ℕ, length, IfOk};
+ghost use Rattle.wat_asm.specs.Follows.{Follows};
+ghost use Rattle.wat_asm.specs.Reading.{State, state_of, unnamed_at};
+ghost use Rattle.wat_asm.specs.ReadingCode.{code_at, else_with, end_at, if_with, inner_at, instr_with, instrs_at, stops, typed_with};
+ghost use Rattle.wat_asm.specs.Tokens.{toks_of};
+
+use crate::fault::{Failure, Wrong};
+use crate::keyword::Keyword;
+use crate::lexer::Token;
+use crate::parser::tokens::Parser;
+use wasm_ast::{BlockType, Body, Instr};
+
+/// How much may still stand inside each other.
+#[derive(Clone, Copy, Debug)]
+pub struct Room {
+    /// Blocks, loops and ifs.
+    pub levels: u32,
+    pub parentheses: u32,
+}
+
+impl Room {
+    ghost use Rattle.std.specs.Prelude.{◌≡◌, ◌<◌, ◌-◌};
+
+    // Inside of one more parenthesis.
+    fn in_parenthesis(self) -> Room
+        requires { 0 < self.parentheses }
+    {
+        Room {
+            levels: self.levels,
+            parentheses: self.parentheses - 1,
+        }
+    }
+
+    // Inside of one more block.
+    fn in_block(self) -> Room
+        requires { 0 < self.levels }
+        ensures levels { result.levels ≡ self.levels - 1 }
+        ensures parentheses { result.parentheses ≡ self.parentheses }
+    {
+        Room {
+            levels: self.levels - 1,
+            parentheses: self.parentheses,
+        }
+    }
+}
+
+// Whether a token stands next that ends a sequence.
+fn is_stop(parser: &Parser<'_>) -> bool
+    ensures { result ≡ stops (toks_of parser.now.source.now parser.now.rest.now) }
+{
+    match parser.rest {
+        [] => true,
+        [Token::Close, ..] => true,
+        [Token::Key(Keyword::End), ..] => true,
+        [Token::Key(Keyword::Else), ..] => true,
+        _ => false,
+    }
+}
+
+/// Instructions up to what ends them.
+#[tactic(auto, unfolding(crate::specs::ReadingCode::code_at))]
+pub fn sequence(parser: &mut Parser<'_>, room: Room) -> Result<Body, Failure>
+    ensures again { (n : ℕ) → 0 < room.parentheses → Follows (λ body. (body, state_of parser.new)) result (code_at room.levels n (state_of parser.old)) }
+    ensures shrinks { IfOk result (λ _. length parser.new.rest.now ≤ length parser.old.rest.now) }
+{
+    let mut instrs = Vec::new(parser.alloc);
+    instructions(parser, room, &mut instrs)?;
+    Ok(Body::from(instrs))
+}
+
+// Instructions up to what ends them are added to these.
+#[cycle(parser)]
+#[tactic(auto, unfolding(crate::specs::ReadingCode::instrs_at))]
+fn instructions(parser: &mut Parser<'_>, room: Room, instrs: &mut Vec<Instr>) -> Result<(), Failure>
+    ensures again { (n : ℕ) → 0 < room.parentheses → Follows (λ _. (instrs.new.items, state_of parser.new)) result (instrs_at room.levels n (instrs.old.items, state_of parser.old)) }
+    ensures shrinks { IfOk result (λ _. length parser.new.rest.now ≤ length parser.old.rest.now) }
+{
+    'each: while !is_stop(parser) {
+        if parser.is_open() {
+            folded(parser, room, instrs)?;
+        } else {
+            let instr = instruction(parser, room)?;
+            instrs.push(instr)?;
+        }
+    }
+    Ok(())
+}
+
+// One instruction that is not folded.
+#[cycle(parser)]
+#[tactic(auto, unfolding(crate::specs::ReadingCode::instr_with, crate::specs::ReadingCode::block_with, crate::specs::ReadingCode::loop_with))]
+fn instruction(parser: &mut Parser<'_>, room: Room) -> Result<Instr, Failure>
+    ensures again { (n : ℕ) → 0 < room.parentheses → Follows (λ i. (i, state_of parser.new)) result (instr_with n (inner_at room.levels n) (state_of parser.old)) }
+    ensures shrinks { IfOk result (λ _. length parser.new.rest.now < length parser.old.rest.now) }
+{
+    match parser.rest {
+        [Token::Key(Keyword::Block), rest @ ..] => {
+            parser.rest = rest;
+            let (name, given, body) = typed_body(parser, room)?;
+            ended(parser, name)?;
+            Ok(Instr::Block(given, body))
+        }
+        [Token::Key(Keyword::Loop), rest @ ..] => {
+            parser.rest = rest;
+            let (name, given, body) = typed_body(parser, room)?;
+            ended(parser, name)?;
+            Ok(Instr::Loop(given, body))
+        }
+        [Token::Key(Keyword::If), rest @ ..] => {
+            parser.rest = rest;
+            choice(parser, room)
+        }
+        [Token::Key(keyword), rest @ ..] => {
+            parser.rest = rest;
+            parser.plain(*keyword, room.parentheses)
+        }
+        _ => Err(parser.unexpected()),
+    }
+}
+
+// The name, the type and the body of a block, behind its keyword.
+#[cycle(parser)]
+#[tactic(auto, unfolding(crate::specs::ReadingCode::typed_with))]
+fn typed_body(
+    parser: &mut Parser<'_>,
+    room: Room,
+) -> Result<(Option<u32>, BlockType, Body), Failure>
+    ensures again { (n : ℕ) → 0 < room.parentheses → Follows (λ x. ((x.1, x.2), state_of parser.new)) result (typed_with (inner_at room.levels n) (state_of parser.old)) }
+    ensures shrinks { IfOk result (λ _. length parser.new.rest.now ≤ length parser.old.rest.now) }
+{
+    let name = parser.name();
+    let given = parser.block_type(room.parentheses)?;
+    let body = inner(parser, room, name)?;
+    Ok((name, given, body))
+}
+
+// What follows `if`.
+#[cycle(parser)]
+#[tactic(auto, unfolding(crate::specs::ReadingCode::if_with))]
+fn choice(parser: &mut Parser<'_>, room: Room) -> Result<Instr, Failure>
+    ensures again { (n : ℕ) → 0 < room.parentheses → Follows (λ i. (i, state_of parser.new)) result (if_with (inner_at room.levels n) (state_of parser.old)) }
+    ensures shrinks { IfOk result (λ _. length parser.new.rest.now ≤ length parser.old.rest.now) }
+{
+    let (name, given, body) = typed_body(parser, room)?;
+    let other = else_arm(parser, room, name)?;
+    ended(parser, name)?;
+    Ok(Instr::If(given, body, other))
+}
+
+// The arm behind `else`, which is empty where there is none.
+#[cycle(parser)]
+#[tactic(auto, unfolding(crate::specs::ReadingCode::else_with))]
+fn else_arm(parser: &mut Parser<'_>, room: Room, name: Option<u32>) -> Result<Body, Failure>
+    ensures again { (n : ℕ) → 0 < room.parentheses → Follows (λ body. (body, state_of parser.new)) result (else_with (inner_at room.levels n) (state_of parser.old)) }
+    ensures shrinks { IfOk result (λ _. length parser.new.rest.now ≤ length parser.old.rest.now) }
+{
+    match parser.rest {
+        [Token::Key(Keyword::Else), rest @ ..] => {
+            parser.rest = rest;
+            same_label(parser, name)?;
+            inner(parser, room, name)
+        }
+        _ => Ok(Body::empty(parser.alloc)),
+    }
+}
+
+// The `end` of a block with this name.
+#[tactic(auto, unfolding(crate::specs::ReadingCode::end_at))]
+fn ended(parser: &mut Parser<'_>, name: Option<u32>) -> Result<(), Failure>
+    ensures again { Follows (λ _. state_of parser.new) result (end_at (state_of parser.old)) }
+    ensures shrinks { IfOk result (λ _. length parser.new.rest.now < length parser.old.rest.now) }
+{
+    match parser.rest {
+        [Token::Key(Keyword::End), rest @ ..] => {
+            parser.rest = rest;
+            same_label(parser, name)
+        }
+        _ => Err(parser.unexpected()),
+    }
+}
+
+// Passes a label that repeats this one, where one stands.
+#[tactic(auto, unfolding(crate::specs::Reading::unnamed_at))]
+fn same_label(parser: &mut Parser<'_>, name: Option<u32>) -> Result<(), Failure>
+    ensures again { Follows (λ _. state_of parser.new) result (unnamed_at (state_of parser.old)) }
+    ensures shrinks { IfOk result (λ _. length parser.new.rest.now ≤ length parser.old.rest.now) }
+{
+    match parser.rest {
+        [Token::Name(again), rest @ ..] => {
+            if name != Some(*again) {
+                return Err(parser.fault(Wrong::UnknownName));
+            }
+            parser.rest = rest;
+            Ok(())
+        }
+        _ => Ok(()),
+    }
+}
+
+// The instructions in a block of this name.
+#[cycle(parser)]
+#[tactic(auto, unfolding(crate::specs::ReadingCode::inner_at, crate::specs::ReadingCode::instrs_at))]
+fn inner(parser: &mut Parser<'_>, room: Room, name: Option<u32>) -> Result<Body, Failure>
+    ensures again { (n : ℕ) → 0 < room.parentheses → Follows (λ body. (body, state_of parser.new)) result (inner_at room.levels n (state_of parser.old)) }
+    ensures shrinks { IfOk result (λ _. length parser.new.rest.now ≤ length parser.old.rest.now) }
+{
+    if room.levels == 0 {
+        return Err(parser.fault(Wrong::OverLimit));
+    }
+    parser.labels.push(name)?;
+    let mut instrs = Vec::new(parser.alloc);
+    instructions(parser, room.in_block(), &mut instrs)?;
+    let _ = parser.labels.pop();
+    Ok(Body::from(instrs))
+}
+
+/// A folded instruction, of which the operands stand first, is added to these.
+#[cycle(parser)]
+pub fn folded(parser: &mut Parser<'_>, room: Room, instrs: &mut Vec<Instr>) -> Result<(), Failure>
+    ensures shrinks { IfOk result (λ _. length parser.new.rest.now < length parser.old.rest.now) }
+{
+    if room.parentheses == 0 {
+        return Err(parser.fault(Wrong::OverLimit));
+    }
+    match parser.rest {
+        [Token::Open, Token::Key(keyword), rest @ ..] => {
+            parser.rest = rest;
+            let instr = unfolded(parser, room.in_parenthesis(), *keyword, instrs)?;
+            instrs.push(instr)?;
+            parser.close()
+        }
+        [Token::Open, rest @ ..] => {
+            parser.rest = rest;
+            Err(parser.unexpected())
+        }
+        _ => Err(parser.unexpected()),
+    }
+}
+
+// A folded instruction, behind its keyword and without its closing parenthesis. Its operands are added to these.
+#[cycle(parser)]
+fn unfolded(
+    parser: &mut Parser<'_>,
+    room: Room,
+    keyword: Keyword,
+    instrs: &mut Vec<Instr>,
+) -> Result<Instr, Failure>
+    ensures shrinks { IfOk result (λ _. length parser.new.rest.now ≤ length parser.old.rest.now) }
+{
+    match keyword {
+        Keyword::Block => {
+            let (_name, given, body) = typed_body(parser, room)?;
+            Ok(Instr::Block(given, body))
+        }
+        Keyword::Loop => {
+            let (_name, given, body) = typed_body(parser, room)?;
+            Ok(Instr::Loop(given, body))
+        }
+        Keyword::If => folded_choice(parser, room, instrs),
+        _ => {
+            let instr = parser.plain(keyword, room.parentheses)?;
+            operands(parser, room, instrs)?;
+            Ok(instr)
+        }
+    }
+}
+
+// The operands of a folded instruction.
+#[cycle(parser)]
+fn operands(parser: &mut Parser<'_>, room: Room, instrs: &mut Vec<Instr>) -> Result<(), Failure>
+    ensures shrinks { IfOk result (λ _. length parser.new.rest.now ≤ length parser.old.rest.now) }
+{
+    'each: while is_operand(parser) {
+        folded(parser, room, instrs)?;
+    }
+    Ok(())
+}
+
+// Whether a parenthesis opens that is not that of `then`.
+fn is_operand(parser: &Parser<'_>) -> bool {
+    match parser.rest {
+        [Token::Open, Token::Key(Keyword::Then), ..] => false,
+        [Token::Open, ..] => true,
+        _ => false,
+    }
+}
+
+// A folded `if`, behind its keyword. Its label is not in scope in its condition.
+#[cycle(parser)]
+fn folded_choice(
+    parser: &mut Parser<'_>,
+    room: Room,
+    instrs: &mut Vec<Instr>,
+) -> Result<Instr, Failure>
+    ensures shrinks { IfOk result (λ _. length parser.new.rest.now ≤ length parser.old.rest.now) }
+{
+    let name = parser.name();
+    let given = parser.block_type(room.parentheses)?;
+    operands(parser, room, instrs)?;
+    if room.parentheses == 0 {
+        return Err(parser.fault(Wrong::OverLimit));
+    }
+    let room = room.in_parenthesis();
+    let body = then_arm(parser, room, name)?;
+    let other = folded_else(parser, room, name)?;
+    Ok(Instr::If(given, body, other))
+}
+
+// The arm in `(then ..)`.
+#[cycle(parser)]
+fn then_arm(parser: &mut Parser<'_>, room: Room, name: Option<u32>) -> Result<Body, Failure>
+    ensures shrinks { IfOk result (λ _. length parser.new.rest.now ≤ length parser.old.rest.now) }
+{
+    match parser.rest {
+        [Token::Open, Token::Key(Keyword::Then), rest @ ..] => {
+            parser.rest = rest;
+            let body = inner(parser, room, name)?;
+            parser.close()?;
+            Ok(body)
+        }
+        _ => Err(parser.unexpected()),
+    }
+}
+
+// The arm in `(else ..)`, which is empty where there is none.
+#[cycle(parser)]
+fn folded_else(parser: &mut Parser<'_>, room: Room, name: Option<u32>) -> Result<Body, Failure>
+    ensures shrinks { IfOk result (λ _. length parser.new.rest.now ≤ length parser.old.rest.now) }
+{
+    match parser.rest {
+        [Token::Open, Token::Key(Keyword::Else), rest @ ..] => {
+            parser.rest = rest;
+            let other = inner(parser, room, name)?;
+            parser.close()?;
+            Ok(other)
+        }
+        _ => Ok(Body::empty(parser.alloc)),
+    }
+}

@@ -1,0 +1,102 @@
+//! A module in the making.
+
+use std::alloc::Global as Heap;
+use wasm_ast::{
+    Data, Element, Export, FuncType, Function, Global, Import, ImportDescription, Limits, Module,
+    Sequence,
+};
+
+/// What the fields of a module hold that were read so far, but for types.
+#[derive(Drop)]
+pub struct Draft {
+    pub imports: Vec<Import>,
+    pub functions: Vec<Function>,
+    pub tables: Vec<Limits>,
+    pub memories: Vec<Limits>,
+    pub globals: Vec<Global>,
+    pub exports: Vec<Export>,
+    pub start: Option<u32>,
+    pub elements: Vec<Element>,
+    pub segments: Vec<Data>,
+    /// How much of each kind the imports bring in.
+    pub imported: Imported,
+}
+
+/// How much of each kind is imported.
+#[derive(Clone, Copy, Debug)]
+pub struct Imported {
+    pub functions: usize,
+    pub tables: usize,
+    pub memories: usize,
+    pub globals: usize,
+}
+
+impl Draft {
+    ghost use Rattle.std.specs.Prelude.{◌≡◌};
+    ghost use Rattle.wasm_ast.specs.Modules.{empty_module};
+    ghost use Rattle.wat_asm.specs.ReadingModule.{drafted, has_definition, with_types};
+
+    /// Nothing yet; it takes no memory.
+    pub fn new(alloc: Heap) -> Draft
+        ensures { drafted result ≡ empty_module }
+    {
+        Draft {
+            imports: Vec::new(alloc),
+            functions: Vec::new(alloc),
+            tables: Vec::new(alloc),
+            memories: Vec::new(alloc),
+            globals: Vec::new(alloc),
+            exports: Vec::new(alloc),
+            start: None,
+            elements: Vec::new(alloc),
+            segments: Vec::new(alloc),
+            imported: Imported {
+                functions: 0,
+                tables: 0,
+                memories: 0,
+                globals: 0,
+            },
+        }
+    }
+
+    /// Whether a function, table, memory or global is defined. No import may follow it.
+    pub fn has_definition(&self) -> bool
+        ensures { result ≡ has_definition (drafted self.now) }
+    {
+        !(self.functions.is_empty()
+            && self.tables.is_empty()
+            && self.memories.is_empty()
+            && self.globals.is_empty())
+    }
+
+    /// One more import of this kind.
+    pub fn count_import(&mut self, description: ImportDescription)
+        ensures { drafted self.new ≡ drafted self.old }
+    {
+        let count = &mut self.imported;
+        match description {
+            ImportDescription::Function(_) => count.functions = count.functions.saturating_add(1),
+            ImportDescription::Table(_) => count.tables = count.tables.saturating_add(1),
+            ImportDescription::Memory(_) => count.memories = count.memories.saturating_add(1),
+            ImportDescription::Global(_) => count.globals = count.globals.saturating_add(1),
+        }
+    }
+
+    /// The module with these fields and types.
+    pub fn into_module(self, types: Vec<FuncType>) -> Module
+        ensures { result ≡ with_types (drafted self) types.items }
+    {
+        Module {
+            types: Sequence::from(types),
+            imports: Sequence::from(self.imports),
+            functions: Sequence::from(self.functions),
+            tables: Sequence::from(self.tables),
+            memories: Sequence::from(self.memories),
+            globals: Sequence::from(self.globals),
+            exports: Sequence::from(self.exports),
+            start: self.start,
+            elements: Sequence::from(self.elements),
+            data: Sequence::from(self.segments),
+        }
+    }
+}

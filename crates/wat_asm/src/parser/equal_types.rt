@@ -1,0 +1,69 @@
+//! Which types are equal.
+
+use std::alloc::{AllocError, Global};
+use std::collections::HashMap;
+use wasm_ast::{FuncType, ValType};
+
+// What the text of a type has, one after another.
+#[derive(Clone, Copy, Debug, PartialEq, Eq, Hash)]
+enum Part {
+    I32,
+    I64,
+    // between the parameters and the results
+    Gives,
+}
+
+/// Types, each with the number of the first that is equal to it.
+#[derive(Drop)]
+pub struct EqualTypes {
+    firsts: HashMap<Vec<Part>, u32>,
+}
+
+impl EqualTypes {
+    /// No types; it takes no memory.
+    pub fn new(alloc: Global) -> EqualTypes {
+        EqualTypes {
+            firsts: HashMap::new(alloc),
+        }
+    }
+
+    /// The number of the first type that is equal to this one. Where none is, it is this one, which has this number from
+    /// now on.
+    pub fn first(&mut self, alloc: Global, t: &FuncType, number: u32) -> Result<u32, AllocError> {
+        let parts = parts(alloc, t)?;
+        if let Some(first) = self.firsts.get(parts.as_slice()) {
+            return Ok(*first);
+        }
+        self.firsts.insert(parts, number)?;
+        Ok(number)
+    }
+
+    /// Types that are numbered from 0.
+    pub fn add(&mut self, alloc: Global, types: &[FuncType]) -> Result<(), AllocError> {
+        let mut number = 0u32;
+        for t in types {
+            let _first = self.first(alloc, t, number)?;
+            number = number.saturating_add(1);
+        }
+        Ok(())
+    }
+}
+
+fn part_of(t: ValType) -> Part {
+    match t {
+        ValType::I32 => Part::I32,
+        ValType::I64 => Part::I64,
+    }
+}
+
+fn parts(alloc: Global, t: &FuncType) -> Result<Vec<Part>, AllocError> {
+    let mut parts = Vec::new(alloc);
+    for parameter in t.parameters.as_slice() {
+        parts.push(part_of(*parameter))?;
+    }
+    parts.push(Part::Gives)?;
+    for given in t.results.as_slice() {
+        parts.push(part_of(*given))?;
+    }
+    Ok(parts)
+}

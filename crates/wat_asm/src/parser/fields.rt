@@ -1,0 +1,626 @@
+//! The fields of a module (Core 1.0, 6.6).
+
+ghost use Rattle.std.specs.Prelude.{◌≡◌, ◌<◌, ◌≤◌, ℕ, Bool, Some, None, length, IfOk, is_some, if◌then◌else◌};
+ghost use Rattle.wat_asm.specs.Follows.{Follows};
+ghost use Rattle.wat_asm.specs.Reading.{local_first, local_group_at, locals_at, nameless_at, state_of};
+ghost use Rattle.wat_asm.specs.ReadingModule.{added, bytes_at, defined_at, drafted, element_at, export_at, export_description_at, exported_at, field_at, field_first, field_step, function_at, global_at, has_definition, import_at, import_description_at, imported_at, inline_at, inline_first, memory_at, number_or_0_at, numbers_at, offset_at, segment_at, start_at, table_at, text_first, with_element, with_export, with_function, with_global, with_import, with_memory, with_segment, with_start, with_table};
+ghost use Rattle.wat_asm.specs.Tokens.{toks_of};
+
+use crate::fault::{Failure, Wrong};
+use crate::keyword::Keyword;
+use crate::lexer::Token;
+use crate::parser::code::{Room, folded, sequence};
+use crate::parser::draft::Draft;
+use crate::parser::names::{Space, declare};
+use crate::parser::tokens::Parser;
+use crate::parser::types::ParameterNames;
+use wasm_ast::{
+    Body, Data, Element, Export, ExportDescription, Function, Global, Import, ImportDescription,
+    Limits, MAX_NESTING, Sequence, ValType,
+};
+
+/// Parentheses inside each other, the module's own among them.
+pub const MAX_PARENTHESES: u32 = 512;
+
+// What may stand inside of a field, where two parentheses are open.
+const ROOM: Room = Room {
+    levels: MAX_NESTING,
+    parentheses: MAX_PARENTHESES - 2,
+};
+
+// What may stand inside of a parenthesis in a field.
+const INNER_ROOM: Room = Room {
+    levels: MAX_NESTING,
+    parentheses: MAX_PARENTHESES - 3,
+};
+
+/// Whether a field begins here.
+#[tactic(auto, unfolding(crate::specs::ReadingModule::field_first))]
+pub fn is_field(parser: &Parser<'_>) -> bool
+    ensures { field_first (toks_of parser.now.source.now parser.now.rest.now) ≡ Some result }
+{
+    match parser.rest {
+        [Token::Open, Token::Key(_), ..] => true,
+        _ => false,
+    }
+}
+
+/// One field is added to what was read before.
+#[tactic(auto, unfolding(crate::specs::ReadingModule::field_step))]
+pub fn field(parser: &mut Parser<'_>, draft: &mut Draft) -> Result<(), Failure>
+    ensures again { (n : ℕ) → Follows (λ _. (drafted draft.new, state_of parser.new)) result (field_step n (drafted draft.old, state_of parser.old)) }
+    ensures shrinks { IfOk result (λ _. length parser.new.rest.now < length parser.old.rest.now) }
+{
+    match parser.rest {
+        [Token::Open, Token::Key(keyword), rest @ ..] => {
+            parser.rest = rest;
+            behind_keyword(parser, draft, *keyword)
+        }
+        _ => Err(parser.unexpected()),
+    }
+}
+
+// What follows a field's keyword.
+#[tactic(auto, unfolding(crate::specs::ReadingModule::field_at))]
+fn behind_keyword(
+    parser: &mut Parser<'_>,
+    draft: &mut Draft,
+    keyword: Keyword,
+) -> Result<(), Failure>
+    ensures again { (n : ℕ) → Follows (λ _. (drafted draft.new, state_of parser.new)) result (field_at n keyword (drafted draft.old, state_of parser.old)) }
+    ensures shrinks { IfOk result (λ _. length parser.new.rest.now ≤ length parser.old.rest.now) }
+{
+    match keyword {
+        Keyword::Import => import(parser, draft),
+        Keyword::Func => function(parser, draft),
+        Keyword::Table => table(parser, draft),
+        Keyword::Memory => memory(parser, draft),
+        Keyword::Global => global(parser, draft),
+        Keyword::Export => export(parser, draft),
+        Keyword::Start => start(parser, draft),
+        Keyword::Elem => element(parser, draft),
+        Keyword::Data => segment(parser, draft),
+        Keyword::FuncType => later_type(parser),
+        _ => Err(parser.unexpected()),
+    }
+}
+
+// A type that stands behind another field. Where all types were wanted before, it is read already.
+fn later_type(parser: &mut Parser<'_>) -> Result<(), Failure>
+    ensures shrinks { IfOk result (λ _. length parser.new.rest.now ≤ length parser.old.rest.now) }
+{
+    let t = parser.defined_type()?;
+    if !parser.are_types_read {
+        parser.types.push(t)?;
+    }
+    Ok(())
+}
+
+// ---- imports and exports
+
+fn import(parser: &mut Parser<'_>, draft: &mut Draft) -> Result<(), Failure>
+    ensures again { Follows (λ _. (drafted draft.new, state_of parser.new)) result ((if has_definition (drafted draft.old) then None else added import_at with_import (drafted draft.old, state_of parser.old))) }
+    ensures shrinks { IfOk result (λ _. length parser.new.rest.now ≤ length parser.old.rest.now) }
+{
+    if draft.has_definition() {
+        return Err(parser.fault(Wrong::Syntax));
+    }
+    let import = import_item(parser)?;
+    draft.count_import(import.description);
+    draft.imports.push(import)?;
+    Ok(())
+}
+
+#[tactic(auto, unfolding(crate::specs::ReadingModule::import_at))]
+fn import_item(parser: &mut Parser<'_>) -> Result<Import, Failure>
+    ensures again { Follows (λ i. (i, state_of parser.new)) result (import_at (state_of parser.old)) }
+    ensures shrinks { IfOk result (λ _. length parser.new.rest.now ≤ length parser.old.rest.now) }
+{
+    let module = parser.text()?;
+    let name = parser.text()?;
+    let description = import_description(parser)?;
+    parser.close()?;
+    Ok(Import {
+        module,
+        name,
+        description,
+    })
+}
+
+#[tactic(auto, unfolding(crate::specs::ReadingModule::import_description_at))]
+fn import_description(parser: &mut Parser<'_>) -> Result<ImportDescription, Failure>
+    ensures again { Follows (λ d. (d, state_of parser.new)) result (import_description_at (state_of parser.old)) }
+    ensures shrinks { IfOk result (λ _. length parser.new.rest.now ≤ length parser.old.rest.now) }
+{
+    match parser.rest {
+        [Token::Open, Token::Key(keyword), rest @ ..] => {
+            parser.rest = rest;
+            let _name = parser.name();
+            let description = imported(parser, *keyword)?;
+            parser.close()?;
+            Ok(description)
+        }
+        _ => Err(parser.unexpected()),
+    }
+}
+
+// What is imported, behind its keyword and its name.
+#[tactic(auto, unfolding(crate::specs::ReadingModule::imported_at))]
+fn imported(parser: &mut Parser<'_>, keyword: Keyword) -> Result<ImportDescription, Failure>
+    ensures again { Follows (λ d. (d, state_of parser.new)) result (imported_at keyword (state_of parser.old)) }
+    ensures shrinks { IfOk result (λ _. length parser.new.rest.now ≤ length parser.old.rest.now) }
+{
+    match keyword {
+        Keyword::Func => {
+            parser.locals = Space::new(parser.alloc);
+            let number = parser.type_use(ParameterNames::Bound, INNER_ROOM.parentheses)?;
+            Ok(ImportDescription::Function(number))
+        }
+        Keyword::Table => {
+            let limits = parser.limits()?;
+            parser.funcref()?;
+            Ok(ImportDescription::Table(limits))
+        }
+        Keyword::Memory => {
+            let limits = parser.limits()?;
+            Ok(ImportDescription::Memory(limits))
+        }
+        Keyword::Global => {
+            let t = parser.global_type()?;
+            Ok(ImportDescription::Global(t))
+        }
+        _ => Err(parser.unexpected()),
+    }
+}
+
+fn export(parser: &mut Parser<'_>, draft: &mut Draft) -> Result<(), Failure>
+    ensures again { Follows (λ _. (drafted draft.new, state_of parser.new)) result (added export_at with_export (drafted draft.old, state_of parser.old)) }
+    ensures shrinks { IfOk result (λ _. length parser.new.rest.now ≤ length parser.old.rest.now) }
+{
+    let export = export_item(parser)?;
+    draft.exports.push(export)?;
+    Ok(())
+}
+
+#[tactic(auto, unfolding(crate::specs::ReadingModule::export_at))]
+fn export_item(parser: &mut Parser<'_>) -> Result<Export, Failure>
+    ensures again { Follows (λ e. (e, state_of parser.new)) result (export_at (state_of parser.old)) }
+    ensures shrinks { IfOk result (λ _. length parser.new.rest.now ≤ length parser.old.rest.now) }
+{
+    let name = parser.text()?;
+    let description = export_description(parser)?;
+    parser.close()?;
+    Ok(Export { name, description })
+}
+
+#[tactic(auto, unfolding(crate::specs::ReadingModule::export_description_at))]
+fn export_description(parser: &mut Parser<'_>) -> Result<ExportDescription, Failure>
+    ensures again { Follows (λ d. (d, state_of parser.new)) result (export_description_at (state_of parser.old)) }
+    ensures shrinks { IfOk result (λ _. length parser.new.rest.now ≤ length parser.old.rest.now) }
+{
+    match parser.rest {
+        [Token::Open, Token::Key(keyword), rest @ ..] => {
+            parser.rest = rest;
+            let description = exported(parser, *keyword)?;
+            parser.close()?;
+            Ok(description)
+        }
+        _ => Err(parser.unexpected()),
+    }
+}
+
+// What is exported, behind its keyword.
+#[tactic(auto, unfolding(crate::specs::ReadingModule::exported_at))]
+fn exported(parser: &mut Parser<'_>, keyword: Keyword) -> Result<ExportDescription, Failure>
+    ensures again { Follows (λ d. (d, state_of parser.new)) result (exported_at keyword (state_of parser.old)) }
+    ensures shrinks { IfOk result (λ _. length parser.new.rest.now ≤ length parser.old.rest.now) }
+{
+    match keyword {
+        Keyword::Func => {
+            let n = parser.function_index()?;
+            Ok(ExportDescription::Function(n))
+        }
+        Keyword::Table => {
+            let n = parser.table_index()?;
+            Ok(ExportDescription::Table(n))
+        }
+        Keyword::Memory => {
+            let n = parser.memory_index()?;
+            Ok(ExportDescription::Memory(n))
+        }
+        Keyword::Global => {
+            let n = parser.global_index()?;
+            Ok(ExportDescription::Global(n))
+        }
+        _ => Err(parser.unexpected()),
+    }
+}
+
+// Whether an export or an import stands next, inside of a field.
+fn is_inline(parser: &Parser<'_>) -> bool
+    ensures { result ≡ inline_first (toks_of parser.now.source.now parser.now.rest.now) }
+{
+    match parser.rest {
+        [Token::Open, Token::Key(Keyword::Export), ..] => true,
+        [Token::Open, Token::Key(Keyword::Import), ..] => true,
+        _ => false,
+    }
+}
+
+// The exports inside of a field, of what the field defines. An import there is not taken.
+#[tactic(auto, unfolding(crate::specs::ReadingModule::inline_at))]
+fn inline_exports(
+    parser: &mut Parser<'_>,
+    draft: &mut Draft,
+    description: Option<ExportDescription>,
+) -> Result<(), Failure>
+    ensures again { Follows (λ _. (drafted draft.new, state_of parser.new)) result (inline_at (drafted draft.old, state_of parser.old)) }
+    ensures shrinks { IfOk result (λ _. length parser.new.rest.now ≤ length parser.old.rest.now) }
+{
+    'each: while is_inline(parser) {
+        inline_export(parser, draft, description)?;
+    }
+    Ok(())
+}
+
+fn inline_export(
+    parser: &mut Parser<'_>,
+    draft: &mut Draft,
+    description: Option<ExportDescription>,
+) -> Result<(), Failure>
+    ensures shrinks { IfOk result (λ _. length parser.new.rest.now < length parser.old.rest.now) }
+{
+    match (parser.rest, description) {
+        ([Token::Open, Token::Key(Keyword::Export), rest @ ..], Some(description)) => {
+            parser.rest = rest;
+            let name = parser.text()?;
+            parser.close()?;
+            draft.exports.push(Export { name, description })?;
+            Ok(())
+        }
+        ([Token::Open, Token::Key(Keyword::Export), ..], None) => {
+            Err(parser.fault(Wrong::OverLimit))
+        }
+        _ => Err(parser.fault(Wrong::Unsupported)),
+    }
+}
+
+// The number of the next thing, where so many are imported and so many defined.
+fn next_number(imported: usize, defined: usize) -> Option<u32> {
+    u32::try_from(imported.checked_add(defined)?).ok()
+}
+
+// ---- definitions
+
+#[tactic(auto, unfolding(crate::specs::ReadingModule::defined_at))]
+fn function(parser: &mut Parser<'_>, draft: &mut Draft) -> Result<(), Failure>
+    ensures again { (n : ℕ) → Follows (λ _. (drafted draft.new, state_of parser.new)) result (defined_at (function_at n) with_function (drafted draft.old, state_of parser.old)) }
+    ensures shrinks { IfOk result (λ _. length parser.new.rest.now ≤ length parser.old.rest.now) }
+{
+    let _name = parser.name();
+    let number = next_number(draft.imported.functions, draft.functions.len());
+    inline_exports(parser, draft, number.map(ExportDescription::Function))?;
+    let item = function_item(parser)?;
+    draft.functions.push(item)?;
+    Ok(())
+}
+
+#[tactic(auto, unfolding(crate::specs::ReadingModule::function_at))]
+fn function_item(parser: &mut Parser<'_>) -> Result<Function, Failure>
+    ensures again { (n : ℕ) → Follows (λ f. (f, state_of parser.new)) result (function_at n (state_of parser.old)) }
+    ensures shrinks { IfOk result (λ _. length parser.new.rest.now ≤ length parser.old.rest.now) }
+{
+    parser.locals = Space::new(parser.alloc);
+    let type_number = parser.type_use(ParameterNames::Bound, ROOM.parentheses)?;
+    let mut locals = Vec::new(parser.alloc);
+    all_locals(parser, type_number, &mut locals)?;
+    let body = sequence(parser, ROOM)?;
+    parser.close()?;
+    Ok(Function {
+        type_number,
+        locals: Sequence::from(locals),
+        body,
+    })
+}
+
+// All groups of locals that stand next, in a function of this type, are added to these.
+#[tactic(auto, unfolding(crate::specs::Reading::locals_at))]
+fn all_locals(
+    parser: &mut Parser<'_>,
+    type_number: u32,
+    locals: &mut Vec<ValType>,
+) -> Result<(), Failure>
+    ensures again { (n : ℕ) → Follows (λ _. (locals.new.items, state_of parser.new)) result (locals_at n (locals.old.items, state_of parser.old)) }
+    ensures shrinks { IfOk result (λ _. length parser.new.rest.now ≤ length parser.old.rest.now) }
+{
+    'each: while is_locals(parser) {
+        local_group(parser, type_number, locals)?;
+    }
+    Ok(())
+}
+
+fn is_locals(parser: &Parser<'_>) -> bool
+    ensures { local_first (toks_of parser.now.source.now parser.now.rest.now) ≡ Some result }
+{
+    match parser.rest {
+        [Token::Open, Token::Key(Keyword::Local), ..] => true,
+        _ => false,
+    }
+}
+
+// A group of locals.
+#[tactic(auto, unfolding(crate::specs::Reading::local_group_at))]
+fn local_group(
+    parser: &mut Parser<'_>,
+    type_number: u32,
+    locals: &mut Vec<ValType>,
+) -> Result<(), Failure>
+    ensures again { (n : ℕ) → Follows (λ _. (locals.new.items, state_of parser.new)) result (local_group_at n (locals.old.items, state_of parser.old)) }
+    ensures shrinks { IfOk result (λ _. length parser.new.rest.now < length parser.old.rest.now) }
+{
+    match parser.rest {
+        [Token::Open, Token::Key(Keyword::Local), rest @ ..] => {
+            parser.rest = rest;
+            named_local(parser, type_number, locals)?;
+            parser.group(locals)
+        }
+        _ => Err(parser.unexpected()),
+    }
+}
+
+// A local with a name, where a name stands next.
+#[tactic(auto, unfolding(crate::specs::Reading::nameless_at, crate::specs::Reading::unnamed_at))]
+fn named_local(
+    parser: &mut Parser<'_>,
+    type_number: u32,
+    locals: &mut Vec<ValType>,
+) -> Result<(), Failure>
+    ensures again { Follows (λ _. (locals.new.items, state_of parser.new)) result (nameless_at (locals.old.items, state_of parser.old)) }
+    ensures shrinks { IfOk result (λ _. length parser.new.rest.now ≤ length parser.old.rest.now) }
+{
+    match parser.rest {
+        [Token::Name(name), rest @ ..] => {
+            let parameters = parser.parameter_count(type_number)?;
+            let number = parameters.saturating_add(locals.len());
+            declare(&mut parser.locals, *name, number, parser.rest.len())?;
+            parser.rest = rest;
+            let t = parser.val_type()?;
+            locals.push(t)?;
+            Ok(())
+        }
+        _ => Ok(()),
+    }
+}
+
+#[tactic(auto, unfolding(crate::specs::ReadingModule::defined_at))]
+fn table(parser: &mut Parser<'_>, draft: &mut Draft) -> Result<(), Failure>
+    ensures again { Follows (λ _. (drafted draft.new, state_of parser.new)) result (defined_at table_at with_table (drafted draft.old, state_of parser.old)) }
+    ensures shrinks { IfOk result (λ _. length parser.new.rest.now ≤ length parser.old.rest.now) }
+{
+    let _name = parser.name();
+    let number = next_number(draft.imported.tables, draft.tables.len());
+    inline_exports(parser, draft, number.map(ExportDescription::Table))?;
+    let item = table_item(parser)?;
+    draft.tables.push(item)?;
+    Ok(())
+}
+
+#[tactic(auto, unfolding(crate::specs::ReadingModule::table_at))]
+fn table_item(parser: &mut Parser<'_>) -> Result<Limits, Failure>
+    ensures again { Follows (λ l. (l, state_of parser.new)) result (table_at (state_of parser.old)) }
+    ensures shrinks { IfOk result (λ _. length parser.new.rest.now ≤ length parser.old.rest.now) }
+{
+    let limits = parser.limits()?;
+    parser.funcref()?;
+    parser.close()?;
+    Ok(limits)
+}
+
+#[tactic(auto, unfolding(crate::specs::ReadingModule::defined_at))]
+fn memory(parser: &mut Parser<'_>, draft: &mut Draft) -> Result<(), Failure>
+    ensures again { Follows (λ _. (drafted draft.new, state_of parser.new)) result (defined_at memory_at with_memory (drafted draft.old, state_of parser.old)) }
+    ensures shrinks { IfOk result (λ _. length parser.new.rest.now ≤ length parser.old.rest.now) }
+{
+    let _name = parser.name();
+    let number = next_number(draft.imported.memories, draft.memories.len());
+    inline_exports(parser, draft, number.map(ExportDescription::Memory))?;
+    let item = memory_item(parser)?;
+    draft.memories.push(item)?;
+    Ok(())
+}
+
+#[tactic(auto, unfolding(crate::specs::ReadingModule::memory_at))]
+fn memory_item(parser: &mut Parser<'_>) -> Result<Limits, Failure>
+    ensures again { Follows (λ l. (l, state_of parser.new)) result (memory_at (state_of parser.old)) }
+    ensures shrinks { IfOk result (λ _. length parser.new.rest.now ≤ length parser.old.rest.now) }
+{
+    let limits = parser.limits()?;
+    parser.close()?;
+    Ok(limits)
+}
+
+#[tactic(auto, unfolding(crate::specs::ReadingModule::defined_at))]
+fn global(parser: &mut Parser<'_>, draft: &mut Draft) -> Result<(), Failure>
+    ensures again { (n : ℕ) → Follows (λ _. (drafted draft.new, state_of parser.new)) result (defined_at (global_at n) with_global (drafted draft.old, state_of parser.old)) }
+    ensures shrinks { IfOk result (λ _. length parser.new.rest.now ≤ length parser.old.rest.now) }
+{
+    let _name = parser.name();
+    let number = next_number(draft.imported.globals, draft.globals.len());
+    inline_exports(parser, draft, number.map(ExportDescription::Global))?;
+    let item = global_item(parser)?;
+    draft.globals.push(item)?;
+    Ok(())
+}
+
+#[tactic(auto, unfolding(crate::specs::ReadingModule::global_at))]
+fn global_item(parser: &mut Parser<'_>) -> Result<Global, Failure>
+    ensures again { (n : ℕ) → Follows (λ g. (g, state_of parser.new)) result (global_at n (state_of parser.old)) }
+    ensures shrinks { IfOk result (λ _. length parser.new.rest.now ≤ length parser.old.rest.now) }
+{
+    let global_type = parser.global_type()?;
+    let initial = sequence(parser, ROOM)?;
+    parser.close()?;
+    Ok(Global {
+        global_type,
+        initial,
+    })
+}
+
+fn start(parser: &mut Parser<'_>, draft: &mut Draft) -> Result<(), Failure>
+    ensures again { Follows (λ _. (drafted draft.new, state_of parser.new)) result ((if is_some draft.old.start then None else added start_at with_start (drafted draft.old, state_of parser.old))) }
+    ensures shrinks { IfOk result (λ _. length parser.new.rest.now ≤ length parser.old.rest.now) }
+{
+    if draft.start.is_some() {
+        return Err(parser.fault(Wrong::Syntax));
+    }
+    let n = start_item(parser)?;
+    draft.start = Some(n);
+    Ok(())
+}
+
+#[tactic(auto, unfolding(crate::specs::ReadingModule::start_at))]
+fn start_item(parser: &mut Parser<'_>) -> Result<u32, Failure>
+    ensures again { Follows (λ n. (n, state_of parser.new)) result (start_at (state_of parser.old)) }
+    ensures shrinks { IfOk result (λ _. length parser.new.rest.now ≤ length parser.old.rest.now) }
+{
+    let n = parser.function_index()?;
+    parser.close()?;
+    Ok(n)
+}
+
+// ---- segments
+
+// The offset of a segment: `(offset ..)`, or one folded instruction (Core 1.0, 6.6.11).
+#[tactic(auto, unfolding(crate::specs::ReadingModule::offset_at))]
+fn offset(parser: &mut Parser<'_>) -> Result<Body, Failure>
+    ensures again { (n : ℕ) → Follows (λ b. (b, state_of parser.new)) result (offset_at n (state_of parser.old)) }
+    ensures shrinks { IfOk result (λ _. length parser.new.rest.now ≤ length parser.old.rest.now) }
+{
+    match parser.rest {
+        [Token::Open, Token::Key(Keyword::Offset), rest @ ..] => {
+            parser.rest = rest;
+            let body = sequence(parser, INNER_ROOM)?;
+            parser.close()?;
+            Ok(body)
+        }
+        _ => {
+            let mut instrs = Vec::new(parser.alloc);
+            folded(parser, ROOM, &mut instrs)?;
+            Ok(Body::from(instrs))
+        }
+    }
+}
+
+// The number of a table, which is 0 where none stands.
+#[tactic(auto, unfolding(crate::specs::ReadingModule::number_or_0_at))]
+fn table_number(parser: &mut Parser<'_>) -> Result<u32, Failure>
+    ensures again { Follows (λ n. (n, state_of parser.new)) result (number_or_0_at (state_of parser.old)) }
+    ensures shrinks { IfOk result (λ _. length parser.new.rest.now ≤ length parser.old.rest.now) }
+{
+    if parser.is_index() {
+        parser.table_index()
+    } else {
+        Ok(0)
+    }
+}
+
+// The number of a memory, which is 0 where none stands.
+#[tactic(auto, unfolding(crate::specs::ReadingModule::number_or_0_at))]
+fn memory_number(parser: &mut Parser<'_>) -> Result<u32, Failure>
+    ensures again { Follows (λ n. (n, state_of parser.new)) result (number_or_0_at (state_of parser.old)) }
+    ensures shrinks { IfOk result (λ _. length parser.new.rest.now ≤ length parser.old.rest.now) }
+{
+    if parser.is_index() {
+        parser.memory_index()
+    } else {
+        Ok(0)
+    }
+}
+
+fn element(parser: &mut Parser<'_>, draft: &mut Draft) -> Result<(), Failure>
+    ensures again { (n : ℕ) → Follows (λ _. (drafted draft.new, state_of parser.new)) result (added (element_at n) with_element (drafted draft.old, state_of parser.old)) }
+    ensures shrinks { IfOk result (λ _. length parser.new.rest.now ≤ length parser.old.rest.now) }
+{
+    let item = element_item(parser)?;
+    draft.elements.push(item)?;
+    Ok(())
+}
+
+#[tactic(auto, unfolding(crate::specs::ReadingModule::element_at))]
+fn element_item(parser: &mut Parser<'_>) -> Result<Element, Failure>
+    ensures again { (n : ℕ) → Follows (λ e. (e, state_of parser.new)) result (element_at n (state_of parser.old)) }
+    ensures shrinks { IfOk result (λ _. length parser.new.rest.now ≤ length parser.old.rest.now) }
+{
+    let table = table_number(parser)?;
+    let offset = offset(parser)?;
+    let functions = functions(parser)?;
+    parser.close()?;
+    Ok(Element {
+        table,
+        offset,
+        functions: Sequence::from(functions),
+    })
+}
+
+// All functions that stand next by their numbers or names.
+#[tactic(auto, unfolding(crate::specs::ReadingModule::numbers_at))]
+fn functions(parser: &mut Parser<'_>) -> Result<Vec<u32>, Failure>
+    ensures again { (n : ℕ) → Follows (λ v. (v.items, state_of parser.new)) result (numbers_at n (state_of parser.old)) }
+    ensures shrinks { IfOk result (λ _. length parser.new.rest.now ≤ length parser.old.rest.now) }
+{
+    let mut functions = Vec::new(parser.alloc);
+    'each: while parser.is_index() {
+        let n = parser.function_index()?;
+        functions.push(n)?;
+    }
+    Ok(functions)
+}
+
+fn segment(parser: &mut Parser<'_>, draft: &mut Draft) -> Result<(), Failure>
+    ensures again { (n : ℕ) → Follows (λ _. (drafted draft.new, state_of parser.new)) result (added (segment_at n) with_segment (drafted draft.old, state_of parser.old)) }
+    ensures shrinks { IfOk result (λ _. length parser.new.rest.now ≤ length parser.old.rest.now) }
+{
+    let item = segment_item(parser)?;
+    draft.segments.push(item)?;
+    Ok(())
+}
+
+#[tactic(auto, unfolding(crate::specs::ReadingModule::segment_at))]
+fn segment_item(parser: &mut Parser<'_>) -> Result<Data, Failure>
+    ensures again { (n : ℕ) → Follows (λ d. (d, state_of parser.new)) result (segment_at n (state_of parser.old)) }
+    ensures shrinks { IfOk result (λ _. length parser.new.rest.now ≤ length parser.old.rest.now) }
+{
+    let memory = memory_number(parser)?;
+    let offset = offset(parser)?;
+    let bytes = bytes(parser)?;
+    parser.close()?;
+    Ok(Data {
+        memory,
+        offset,
+        bytes: Sequence::from(bytes),
+    })
+}
+
+// The bytes of all strings that stand next.
+#[tactic(auto, unfolding(crate::specs::ReadingModule::bytes_at))]
+fn bytes(parser: &mut Parser<'_>) -> Result<Vec<u8>, Failure>
+    ensures again { (n : ℕ) → Follows (λ v. (v.items, state_of parser.new)) result (bytes_at n (state_of parser.old)) }
+    ensures shrinks { IfOk result (λ _. length parser.new.rest.now ≤ length parser.old.rest.now) }
+{
+    let mut bytes = Vec::new(parser.alloc);
+    'each: while is_text(parser) {
+        let more = parser.bytes()?;
+        bytes.extend_from_slice(more.as_slice())?;
+    }
+    Ok(bytes)
+}
+
+#[tactic(auto, unfolding(crate::specs::ReadingModule::text_first))]
+fn is_text(parser: &Parser<'_>) -> bool
+    ensures { (b : Bool) → text_first (toks_of parser.now.source.now parser.now.rest.now) ≡ Some b → result ≡ b }
+{
+    match parser.rest {
+        [Token::Text(_), ..] => true,
+        _ => false,
+    }
+}

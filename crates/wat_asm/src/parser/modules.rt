@@ -1,0 +1,129 @@
+//! A module from its tokens (Core 1.0, 6.6.13).
+
+ghost use Rattle.std.specs.Prelude.{◌≡◌, ◌<◌, ◌≤◌, ℕ, true, Some, length, IfOk};
+ghost use Rattle.wasm_ast.specs.declared.module.Module.{Module as AnyModule};
+ghost use Rattle.wasm_ast.specs.Limits.{IsWithinLimits};
+ghost use Rattle.wat_asm.specs.Follows.{Follows, IsRead};
+ghost use Rattle.wat_asm.specs.Reading.{state_of};
+ghost use Rattle.wat_asm.specs.ReadingModule.{drafted, fields_at, is_empty, module_at, module_open_at, nameless, type_first, type_step, types_at, whole_at};
+ghost use Rattle.wat_asm.specs.Tokens.{toks_of};
+
+use crate::fault::{Failure, Wrong};
+use crate::keyword::Keyword;
+use crate::lexer::Token;
+use crate::parser::draft::Draft;
+use crate::parser::fields::{field, is_field};
+use crate::parser::names::{Names, declared};
+use crate::parser::tokens::Parser;
+use std::alloc::Global;
+use wasm_ast::{Module, within_limits};
+
+/// The module that the tokens of this text spell. A failure's place is told by the tokens that are left.
+pub fn parse(alloc: Global, source: &[u8], tokens: &[Token]) -> Result<Module, Failure>
+    ensures within { IfOk result (λ m. IsWithinLimits m) }
+    ensures again { (n : ℕ) (m : AnyModule) → nameless tokens.now ≡ true → module_at n (toks_of source.now tokens.now) ≡ Some m
+        → IsWithinLimits m → IsRead (λ x. x) result m }
+{
+    let names = declared(alloc, tokens)?;
+    let module = module(alloc, source, &names, tokens)?;
+    if within_limits(&module) {
+        Ok(module)
+    } else {
+        Err(Failure::Fault(Wrong::OverLimit, tokens.len()))
+    }
+}
+
+// The module, whose names are known, whether it is within the limits or not.
+fn module(alloc: Global, source: &[u8], names: &Names, tokens: &[Token]) -> Result<Module, Failure>
+    ensures { (n : ℕ) → Follows (λ m. m) result (module_at n (toks_of source.now tokens.now)) }
+{
+    let mut parser = Parser::new(alloc, source, names, tokens);
+    let mut draft = Draft::new(alloc);
+    whole(&mut parser, &mut draft)?;
+    if is_at_end(&parser) {
+        Ok(draft.into_module(parser.types))
+    } else {
+        Err(parser.unexpected())
+    }
+}
+
+// A module's fields, between its parentheses.
+#[tactic(auto, unfolding(crate::specs::ReadingModule::whole_at))]
+fn whole(parser: &mut Parser<'_>, draft: &mut Draft) -> Result<(), Failure>
+    ensures again { (n : ℕ) → Follows (λ _. (drafted draft.new, state_of parser.new)) result (whole_at n (drafted draft.old, state_of parser.old)) }
+{
+    open_module(parser)?;
+    types(parser)?;
+    fields(parser, draft)?;
+    parser.close()
+}
+
+fn is_at_end(parser: &Parser<'_>) -> bool
+    ensures { result ≡ is_empty (toks_of parser.now.source.now parser.now.rest.now) }
+{
+    match parser.rest {
+        [] => true,
+        _ => false,
+    }
+}
+
+#[tactic(auto, unfolding(crate::specs::ReadingModule::module_open_at))]
+fn open_module(parser: &mut Parser<'_>) -> Result<(), Failure>
+    ensures again { Follows (λ _. state_of parser.new) result (module_open_at (state_of parser.old)) }
+{
+    match parser.rest {
+        [Token::Open, Token::Key(Keyword::Module), rest @ ..] => {
+            parser.rest = rest;
+            let _name = parser.name();
+            Ok(())
+        }
+        _ => Err(parser.unexpected()),
+    }
+}
+
+// The types that stand before all other fields.
+#[tactic(auto, unfolding(crate::specs::ReadingModule::types_at))]
+fn types(parser: &mut Parser<'_>) -> Result<(), Failure>
+    ensures { (n : ℕ) → Follows (λ _. state_of parser.new) result (types_at n (state_of parser.old)) }
+{
+    'each: while is_type(parser) {
+        one_type(parser)?;
+    }
+    Ok(())
+}
+
+fn is_type(parser: &Parser<'_>) -> bool
+    ensures { type_first (toks_of parser.now.source.now parser.now.rest.now) ≡ Some result }
+{
+    match parser.rest {
+        [Token::Open, Token::Key(Keyword::FuncType), ..] => true,
+        _ => false,
+    }
+}
+
+#[tactic(auto, unfolding(crate::specs::ReadingModule::type_step))]
+fn one_type(parser: &mut Parser<'_>) -> Result<(), Failure>
+    ensures again { (n : ℕ) → Follows (λ u. (u, state_of parser.new)) result (type_step n (tt, state_of parser.old)) }
+    ensures shrinks { IfOk result (λ _. length parser.new.rest.now < length parser.old.rest.now) }
+{
+    match parser.rest {
+        [Token::Open, Token::Key(Keyword::FuncType), rest @ ..] => {
+            parser.rest = rest;
+            let t = parser.defined_type()?;
+            parser.types.push(t)?;
+            Ok(())
+        }
+        _ => Err(parser.unexpected()),
+    }
+}
+
+// All other fields.
+#[tactic(auto, unfolding(crate::specs::ReadingModule::fields_at))]
+fn fields(parser: &mut Parser<'_>, draft: &mut Draft) -> Result<(), Failure>
+    ensures { (n : ℕ) → Follows (λ _. (drafted draft.new, state_of parser.new)) result (fields_at n (drafted draft.old, state_of parser.old)) }
+{
+    'each: while is_field(parser) {
+        field(parser, draft)?;
+    }
+    Ok(())
+}

@@ -1,0 +1,301 @@
+//! What is still to be read, and the readers of single tokens.
+
+ghost use Rattle.std.specs.Prelude.{◌≡◌, ◌<◌, ◌≤◌, [], Bool, Some, length, IfOk};
+ghost use Rattle.wat_asm.specs.Follows.{Follows};
+ghost use Rattle.wat_asm.specs.Reading.{State, closed_at, funcref_at, name_at, number_at, number_first, open_first, state_of, text_at, unnamed_at};
+ghost use Rattle.wat_asm.specs.Names.{AtName, IsFound, number_of};
+ghost use Rattle.wat_asm.specs.Tokens.{toks_of};
+
+use crate::fault::{Failure, Wrong};
+use crate::keyword::Keyword;
+use crate::lexer::{Token, string};
+use crate::parser::equal_types::EqualTypes;
+use crate::parser::names::{Names, Space};
+use std::alloc::Global;
+use wasm_ast::{FuncType, Name};
+
+/// The tokens of a module that are not read yet, with what was read that later tokens may refer to.
+#[derive(Drop)]
+pub struct Parser<'a> {
+    pub alloc: Global,
+    pub source: &'a [u8],
+    pub rest: &'a [Token],
+    /// What the module's fields are called.
+    pub names: &'a Names,
+    /// The module's types so far, those that uses made among them.
+    pub types: Vec<FuncType>,
+    /// Whether all types that the module defines are read, wherever they stand.
+    pub are_types_read: bool,
+    /// Those types, and behind them those that uses made, once they are all read.
+    pub equal_types: EqualTypes,
+    /// What the parameters and locals of the function are called.
+    pub locals: Space,
+    /// What the blocks round the next instruction are called, the innermost last.
+    pub labels: Vec<Option<u32>>,
+}
+
+impl<'a> Parser<'a> {
+    pub fn new(alloc: Global, source: &'a [u8], names: &'a Names, tokens: &'a [Token]) -> Parser<'a>
+        ensures { state_of result ≡ (toks_of source.now tokens.now, []) }
+    {
+        Parser {
+            alloc,
+            source,
+            rest: tokens,
+            names,
+            types: Vec::new(alloc),
+            are_types_read: false,
+            equal_types: EqualTypes::new(alloc),
+            locals: Space::new(alloc),
+            labels: Vec::new(alloc),
+        }
+    }
+
+    /// Something is wrong with the next token.
+    pub fn fault(&self, wrong: Wrong) -> Failure {
+        Failure::Fault(wrong, self.rest.len())
+    }
+
+    /// The next token cannot stand here.
+    pub fn unexpected(&self) -> Failure {
+        match self.rest {
+            [Token::Unsupported, ..] => self.fault(Wrong::Unsupported),
+            [Token::OutOfRange, ..] => self.fault(Wrong::NumberRange),
+            _ => self.fault(Wrong::Syntax),
+        }
+    }
+
+    /// Passes a closing parenthesis.
+    #[tactic(auto, unfolding(crate::specs::Reading::closed_at))]
+    pub fn close(&mut self) -> Result<(), Failure>
+        ensures again { Follows (λ _. state_of self.new) result (closed_at (state_of self.old)) }
+        ensures shrinks { IfOk result (λ _. length self.new.rest.now < length self.old.rest.now) }
+    {
+        match self.rest {
+            [Token::Close, rest @ ..] => {
+                self.rest = rest;
+                Ok(())
+            }
+            _ => Err(self.unexpected()),
+        }
+    }
+
+    /// Passes `funcref`.
+    #[tactic(auto, unfolding(crate::specs::Reading::funcref_at))]
+    pub fn funcref(&mut self) -> Result<(), Failure>
+        ensures again { Follows (λ _. state_of self.new) result (funcref_at (state_of self.old)) }
+        ensures shrinks { IfOk result (λ _. length self.new.rest.now < length self.old.rest.now) }
+    {
+        match self.rest {
+            [Token::Key(Keyword::Funcref), rest @ ..] => {
+                self.rest = rest;
+                Ok(())
+            }
+            _ => Err(self.unexpected()),
+        }
+    }
+
+    /// Whether an opening parenthesis stands next.
+    pub fn is_open(&self) -> bool
+        ensures { result ≡ open_first (toks_of self.now.source.now self.now.rest.now) }
+    {
+        match self.rest {
+            [Token::Open, ..] => true,
+            _ => false,
+        }
+    }
+
+    /// Whether a number or a name stands next.
+    #[tactic(auto, unfolding(crate::specs::Reading::number_first))]
+    pub fn is_index(&self) -> bool
+        ensures { (b : Bool) → number_first (toks_of self.now.source.now self.now.rest.now) ≡ Some b → result ≡ b }
+    {
+        match self.rest {
+            [Token::Number(_), ..] => true,
+            [Token::Name(_), ..] => true,
+            [Token::OutOfRange, ..] => true,
+            _ => false,
+        }
+    }
+
+    /// A name, where one stands next.
+    #[tactic(auto, unfolding(crate::specs::Reading::unnamed_at))]
+    pub fn name(&mut self) -> Option<u32>
+        ensures again { (s : State) → unnamed_at (state_of self.old) ≡ Some s → state_of self.new ≡ s }
+        ensures shrinks { length self.new.rest.now ≤ length self.old.rest.now }
+    {
+        match self.rest {
+            [Token::Name(name), rest @ ..] => {
+                self.rest = rest;
+                Some(*name)
+            }
+            _ => None,
+        }
+    }
+
+    /// A number of 32 bits without a sign (Core 1.0, 6.3.1).
+    #[tactic(auto, unfolding(crate::specs::Reading::number_at))]
+    pub fn number(&mut self) -> Result<u32, Failure>
+        ensures again { Follows (λ n. (n, state_of self.new)) result (number_at (state_of self.old)) }
+        ensures shrinks { IfOk result (λ _. length self.new.rest.now < length self.old.rest.now) }
+    {
+        match self.rest {
+            [Token::Number(n), rest @ ..] => match u32::try_from(*n) {
+                Ok(n) => {
+                    self.rest = rest;
+                    Ok(n)
+                }
+                Err(_) => Err(self.fault(Wrong::NumberRange)),
+            },
+            _ => Err(self.unexpected()),
+        }
+    }
+
+    // A number, or what the name that stands next was found to stand for.
+    #[tactic(auto, unfolding(crate::specs::Reading::number_at))]
+    fn found(&mut self, found: Option<u32>) -> Result<u32, Failure>
+        ensures named { AtName (λ _. IsFound result found (length self.old.rest.now)) self.old.rest.now }
+        ensures again { Follows (λ n. (n, state_of self.new)) result (number_at (state_of self.old)) }
+        ensures shrinks { IfOk result (λ _. length self.new.rest.now < length self.old.rest.now) }
+    {
+        match self.rest {
+            [Token::Name(_), rest @ ..] => match found {
+                Some(n) => {
+                    self.rest = rest;
+                    Ok(n)
+                }
+                None => Err(Failure::Fault(Wrong::UnknownName, self.rest.len())),
+            },
+            _ => self.number(),
+        }
+    }
+
+    // What the name that stands next stands for, if one does.
+    fn found_in(&self, space: &Space) -> Option<u32>
+        ensures { AtName (λ name. result ≡ number_of space.now name) self.now.rest.now }
+    {
+        match self.rest {
+            [Token::Name(name), ..] => space.find(*name),
+            _ => None,
+        }
+    }
+
+    /// The number of a type (Core 1.0, 6.6.1).
+    pub fn type_index(&mut self) -> Result<u32, Failure>
+        ensures named { AtName (λ name. IsFound result (number_of self.old.names.now.types.space name) (length self.old.rest.now)) self.old.rest.now }
+        ensures again { Follows (λ n. (n, state_of self.new)) result (number_at (state_of self.old)) }
+        ensures shrinks { IfOk result (λ _. length self.new.rest.now < length self.old.rest.now) }
+    {
+        let names = self.names;
+        let found = self.found_in(&names.types.space);
+        self.found(found)
+    }
+
+    /// The number of a function (Core 1.0, 6.6.1).
+    pub fn function_index(&mut self) -> Result<u32, Failure>
+        ensures named { AtName (λ name. IsFound result (number_of self.old.names.now.functions.space name) (length self.old.rest.now)) self.old.rest.now }
+        ensures again { Follows (λ n. (n, state_of self.new)) result (number_at (state_of self.old)) }
+        ensures shrinks { IfOk result (λ _. length self.new.rest.now < length self.old.rest.now) }
+    {
+        let names = self.names;
+        let found = self.found_in(&names.functions.space);
+        self.found(found)
+    }
+
+    /// The number of a table (Core 1.0, 6.6.1).
+    pub fn table_index(&mut self) -> Result<u32, Failure>
+        ensures named { AtName (λ name. IsFound result (number_of self.old.names.now.tables.space name) (length self.old.rest.now)) self.old.rest.now }
+        ensures again { Follows (λ n. (n, state_of self.new)) result (number_at (state_of self.old)) }
+        ensures shrinks { IfOk result (λ _. length self.new.rest.now < length self.old.rest.now) }
+    {
+        let names = self.names;
+        let found = self.found_in(&names.tables.space);
+        self.found(found)
+    }
+
+    /// The number of a memory (Core 1.0, 6.6.1).
+    pub fn memory_index(&mut self) -> Result<u32, Failure>
+        ensures named { AtName (λ name. IsFound result (number_of self.old.names.now.memories.space name) (length self.old.rest.now)) self.old.rest.now }
+        ensures again { Follows (λ n. (n, state_of self.new)) result (number_at (state_of self.old)) }
+        ensures shrinks { IfOk result (λ _. length self.new.rest.now < length self.old.rest.now) }
+    {
+        let names = self.names;
+        let found = self.found_in(&names.memories.space);
+        self.found(found)
+    }
+
+    /// The number of a global (Core 1.0, 6.6.1).
+    pub fn global_index(&mut self) -> Result<u32, Failure>
+        ensures named { AtName (λ name. IsFound result (number_of self.old.names.now.globals.space name) (length self.old.rest.now)) self.old.rest.now }
+        ensures again { Follows (λ n. (n, state_of self.new)) result (number_at (state_of self.old)) }
+        ensures shrinks { IfOk result (λ _. length self.new.rest.now < length self.old.rest.now) }
+    {
+        let names = self.names;
+        let found = self.found_in(&names.globals.space);
+        self.found(found)
+    }
+
+    /// The number of a parameter or a local (Core 1.0, 6.6.1).
+    pub fn local_index(&mut self) -> Result<u32, Failure>
+        ensures named { AtName (λ name. IsFound result (number_of self.old.locals name) (length self.old.rest.now)) self.old.rest.now }
+        ensures again { Follows (λ n. (n, state_of self.new)) result (number_at (state_of self.old)) }
+        ensures shrinks { IfOk result (λ _. length self.new.rest.now < length self.old.rest.now) }
+    {
+        let found = self.found_in(&self.locals);
+        self.found(found)
+    }
+
+    /// The number of a label, 0 being the innermost (Core 1.0, 6.5.1).
+    pub fn label_index(&mut self) -> Result<u32, Failure>
+        ensures again { Follows (λ n. (n, state_of self.new)) result (number_at (state_of self.old)) }
+        ensures shrinks { IfOk result (λ _. length self.new.rest.now < length self.old.rest.now) }
+    {
+        let found = match self.rest {
+            [Token::Name(name), ..] => label(self.labels.as_slice(), *name),
+            _ => None,
+        };
+        self.found(found)
+    }
+
+    /// The bytes of a string (Core 1.0, 6.3.3).
+    #[tactic(auto, unfolding(crate::specs::Reading::text_at))]
+    pub fn bytes(&mut self) -> Result<Vec<u8>, Failure>
+        ensures again { Follows (λ v. (v.items, state_of self.new)) result (text_at (state_of self.old)) }
+        ensures shrinks { IfOk result (λ _. length self.new.rest.now < length self.old.rest.now) }
+    {
+        match self.rest {
+            [Token::Text(place), rest @ ..] => {
+                let bytes = string(self.alloc, self.source, *place)?;
+                self.rest = rest;
+                Ok(bytes)
+            }
+            _ => Err(self.unexpected()),
+        }
+    }
+
+    /// A string in UTF-8 (Core 1.0, 6.3.4).
+    #[tactic(auto, unfolding(crate::specs::Reading::name_at))]
+    pub fn text(&mut self) -> Result<Name, Failure>
+        ensures again { Follows (λ x. (x, state_of self.new)) result (name_at (state_of self.old)) }
+        ensures shrinks { IfOk result (λ _. length self.new.rest.now < length self.old.rest.now) }
+    {
+        let fault = self.fault(Wrong::Lex);
+        let bytes = self.bytes()?;
+        match String::from_utf8(bytes) {
+            Ok(text) => Ok(Name::from(text)),
+            Err(_) => Err(fault),
+        }
+    }
+}
+
+// How many labels stand inside of the innermost with this name.
+fn label(labels: &[Option<u32>], name: u32) -> Option<u32> {
+    let mut inside = 0u32;
+    for label in labels.iter().rev() {
+        if *label == Some(name) {
+            return Some(inside);
+        }
+        inside = inside.checked_add(1)?;
+    }
+    None
+}

@@ -1,0 +1,438 @@
+//! Types and their uses (Core 1.0, 6.4 and 6.6.3).
+
+ghost use Rattle.std.specs.Prelude.{◌≡◌, ◌<◌, ◌≤◌, ℕ, Some, length, IfOk};
+ghost use Rattle.wat_asm.specs.Follows.{Follows};
+ghost use Rattle.wat_asm.specs.Reading.{block_type_at, defined_type_at, func_at, global_type_at, group_at, limits_at, maximum_at, mut_first, mut_type_at, nameless_at, param_first, param_group_at, params_at, result_first, result_group_at, results_at, signature_at, signature_first, state_of, type_use_at, val_type_at, val_type_first, val_types_at};
+ghost use Rattle.wat_asm.specs.Tokens.{toks_of};
+
+use crate::fault::{Failure, Wrong};
+use crate::keyword::Keyword;
+use crate::lexer::Token;
+use crate::parser::names::{Space, declare};
+use crate::parser::tokens::Parser;
+use wasm_ast::{BlockType, FuncType, GlobalType, Limits, Mutability, Sequence, ValType};
+
+/// What the names of parameters are for.
+#[derive(Clone, Copy, Debug)]
+pub enum ParameterNames {
+    /// They may stand, and the function's instructions may refer to them.
+    Bound,
+    /// None may stand.
+    Refused,
+}
+
+impl<'a> Parser<'a> {
+    /// A value type (Core 1.0, 6.4.1).
+    #[tactic(auto, unfolding(crate::specs::Reading::val_type_at))]
+    pub fn val_type(&mut self) -> Result<ValType, Failure>
+        ensures again { Follows (λ t. (t, state_of self.new)) result (val_type_at (state_of self.old)) }
+        ensures shrinks { IfOk result (λ _. length self.new.rest.now < length self.old.rest.now) }
+    {
+        match self.rest {
+            [Token::Key(Keyword::Type(t)), rest @ ..] => {
+                self.rest = rest;
+                Ok(*t)
+            }
+            _ => Err(self.unexpected()),
+        }
+    }
+
+    #[tactic(auto, unfolding(crate::specs::Reading::val_type_first))]
+    fn is_val_type(&self) -> bool
+        ensures { val_type_first (toks_of self.now.source.now self.now.rest.now) ≡ Some result }
+    {
+        match self.rest {
+            [Token::Key(Keyword::Type(_)), ..] => true,
+            _ => false,
+        }
+    }
+
+    /// All value types that stand next are added to these.
+    #[tactic(auto, unfolding(crate::specs::Reading::val_types_at))]
+    pub fn val_types(&mut self, types: &mut Vec<ValType>) -> Result<(), Failure>
+        ensures again { (n : ℕ) → Follows (λ _. (types.new.items, state_of self.new)) result (val_types_at n (types.old.items, state_of self.old)) }
+        ensures shrinks { IfOk result (λ _. length self.new.rest.now ≤ length self.old.rest.now) }
+    {
+        'each: while self.is_val_type() {
+            let t = self.val_type()?;
+            types.push(t)?;
+        }
+        Ok(())
+    }
+
+    /// The result of a block, if it has one, with room for so many more parentheses (Core 1.0, 6.5.2).
+    #[tactic(auto, unfolding(crate::specs::Reading::block_type_at))]
+    pub fn block_type(&mut self, parentheses: u32) -> Result<BlockType, Failure>
+        ensures again { 0 < parentheses → Follows (λ t. (t, state_of self.new)) result (block_type_at (state_of self.old)) }
+        ensures shrinks { IfOk result (λ _. length self.new.rest.now ≤ length self.old.rest.now) }
+    {
+        match self.rest {
+            [Token::Open, Token::Key(Keyword::Result), rest @ ..] => {
+                if parentheses == 0 {
+                    return Err(self.fault(Wrong::OverLimit));
+                }
+                self.rest = rest;
+                let t = self.val_type()?;
+                self.close()?;
+                Ok(Some(t))
+            }
+            _ => Ok(None),
+        }
+    }
+
+    /// Limits (Core 1.0, 6.4.4).
+    #[tactic(auto, unfolding(crate::specs::Reading::limits_at))]
+    pub fn limits(&mut self) -> Result<Limits, Failure>
+        ensures again { Follows (λ x. (x, state_of self.new)) result (limits_at (state_of self.old)) }
+        ensures shrinks { IfOk result (λ _. length self.new.rest.now ≤ length self.old.rest.now) }
+    {
+        let minimum = self.number()?;
+        let maximum = self.maximum()?;
+        Ok(Limits { minimum, maximum })
+    }
+
+    #[tactic(auto, unfolding(crate::specs::Reading::maximum_at))]
+    fn maximum(&mut self) -> Result<Option<u32>, Failure>
+        ensures again { Follows (λ x. (x, state_of self.new)) result (maximum_at (state_of self.old)) }
+        ensures shrinks { IfOk result (λ _. length self.new.rest.now ≤ length self.old.rest.now) }
+    {
+        match self.rest {
+            [Token::Number(_), ..] => {
+                let n = self.number()?;
+                Ok(Some(n))
+            }
+            [Token::OutOfRange, ..] => Err(self.fault(Wrong::NumberRange)),
+            _ => Ok(None),
+        }
+    }
+
+    fn is_mut(&self) -> bool
+        ensures { result ≡ mut_first (toks_of self.now.source.now self.now.rest.now) }
+    {
+        match self.rest {
+            [Token::Open, Token::Key(Keyword::Mut), ..] => true,
+            _ => false,
+        }
+    }
+
+    #[tactic(auto, unfolding(crate::specs::Reading::mut_type_at))]
+    fn mut_type(&mut self) -> Result<GlobalType, Failure>
+        ensures again { Follows (λ t. (t, state_of self.new)) result (mut_type_at (state_of self.old)) }
+        ensures shrinks { IfOk result (λ _. length self.new.rest.now ≤ length self.old.rest.now) }
+    {
+        match self.rest {
+            [Token::Open, Token::Key(Keyword::Mut), rest @ ..] => {
+                self.rest = rest;
+                let value = self.val_type()?;
+                self.close()?;
+                Ok(GlobalType {
+                    mutability: Mutability::Variable,
+                    value,
+                })
+            }
+            _ => Err(self.unexpected()),
+        }
+    }
+
+    /// The type of a global (Core 1.0, 6.4.7).
+    #[tactic(auto, unfolding(crate::specs::Reading::global_type_at))]
+    pub fn global_type(&mut self) -> Result<GlobalType, Failure>
+        ensures again { Follows (λ t. (t, state_of self.new)) result (global_type_at (state_of self.old)) }
+        ensures shrinks { IfOk result (λ _. length self.new.rest.now ≤ length self.old.rest.now) }
+    {
+        if self.is_mut() {
+            return self.mut_type();
+        }
+        let value = self.val_type()?;
+        Ok(GlobalType {
+            mutability: Mutability::Constant,
+            value,
+        })
+    }
+
+    /// Whether parameters or results stand next.
+    pub fn is_signature(&self) -> bool
+        ensures { result ≡ signature_first (toks_of self.now.source.now self.now.rest.now) }
+    {
+        match self.rest {
+            [Token::Open, Token::Key(Keyword::Param), ..] => true,
+            [Token::Open, Token::Key(Keyword::Result), ..] => true,
+            _ => false,
+        }
+    }
+
+    /// Parameters and results (Core 1.0, 6.4.3). It takes what follows the keyword of a type.
+    #[tactic(auto, unfolding(crate::specs::Reading::signature_at))]
+    pub fn signature(&mut self, names: ParameterNames) -> Result<FuncType, Failure>
+        ensures again { (n : ℕ) → Follows (λ t. (t, state_of self.new)) result (signature_at n (state_of self.old)) }
+        ensures shrinks { IfOk result (λ _. length self.new.rest.now ≤ length self.old.rest.now) }
+    {
+        let mut parameters = Vec::new(self.alloc);
+        let mut results = Vec::new(self.alloc);
+        self.parameters(names, &mut parameters)?;
+        self.results(&mut results)?;
+        Ok(FuncType {
+            parameters: Sequence::from(parameters),
+            results: Sequence::from(results),
+        })
+    }
+
+    fn is_parameters(&self) -> bool
+        ensures { param_first (toks_of self.now.source.now self.now.rest.now) ≡ Some result }
+    {
+        match self.rest {
+            [Token::Open, Token::Key(Keyword::Param), ..] => true,
+            _ => false,
+        }
+    }
+
+    // All groups of parameters that stand next.
+    #[tactic(auto, unfolding(crate::specs::Reading::params_at))]
+    fn parameters(
+        &mut self,
+        names: ParameterNames,
+        parameters: &mut Vec<ValType>,
+    ) -> Result<(), Failure>
+        ensures again { (n : ℕ) → Follows (λ _. (parameters.new.items, state_of self.new)) result (params_at n (parameters.old.items, state_of self.old)) }
+        ensures shrinks { IfOk result (λ _. length self.new.rest.now ≤ length self.old.rest.now) }
+    {
+        'each: while self.is_parameters() {
+            self.parameter_group(names, parameters)?;
+        }
+        Ok(())
+    }
+
+    // A group of parameters.
+    #[tactic(auto, unfolding(crate::specs::Reading::param_group_at))]
+    fn parameter_group(
+        &mut self,
+        names: ParameterNames,
+        parameters: &mut Vec<ValType>,
+    ) -> Result<(), Failure>
+        ensures again { (n : ℕ) → Follows (λ _. (parameters.new.items, state_of self.new)) result (param_group_at n (parameters.old.items, state_of self.old)) }
+        ensures shrinks { IfOk result (λ _. length self.new.rest.now < length self.old.rest.now) }
+    {
+        match self.rest {
+            [Token::Open, Token::Key(Keyword::Param), rest @ ..] => {
+                self.rest = rest;
+                self.named_parameter(names, parameters)?;
+                self.group(parameters)
+            }
+            _ => Err(self.unexpected()),
+        }
+    }
+
+    // A parameter with a name, where a name stands next.
+    #[tactic(auto, unfolding(crate::specs::Reading::nameless_at, crate::specs::Reading::unnamed_at))]
+    fn named_parameter(
+        &mut self,
+        names: ParameterNames,
+        parameters: &mut Vec<ValType>,
+    ) -> Result<(), Failure>
+        ensures again { Follows (λ _. (parameters.new.items, state_of self.new)) result (nameless_at (parameters.old.items, state_of self.old)) }
+        ensures shrinks { IfOk result (λ _. length self.new.rest.now ≤ length self.old.rest.now) }
+    {
+        match self.rest {
+            [Token::Name(name), rest @ ..] => {
+                if let ParameterNames::Refused = names {
+                    return Err(self.fault(Wrong::Syntax));
+                }
+                declare(&mut self.locals, *name, parameters.len(), self.rest.len())?;
+                self.rest = rest;
+                let t = self.val_type()?;
+                parameters.push(t)?;
+                Ok(())
+            }
+            _ => Ok(()),
+        }
+    }
+
+    /// Value types, which are added to these, and the parenthesis that closes their group.
+    #[tactic(auto, unfolding(crate::specs::Reading::group_at))]
+    pub fn group(&mut self, types: &mut Vec<ValType>) -> Result<(), Failure>
+        ensures again { (n : ℕ) → Follows (λ _. (types.new.items, state_of self.new)) result (group_at n (types.old.items, state_of self.old)) }
+        ensures shrinks { IfOk result (λ _. length self.new.rest.now < length self.old.rest.now) }
+    {
+        self.val_types(types)?;
+        self.close()
+    }
+
+    fn is_results(&self) -> bool
+        ensures { result_first (toks_of self.now.source.now self.now.rest.now) ≡ Some result }
+    {
+        match self.rest {
+            [Token::Open, Token::Key(Keyword::Result), ..] => true,
+            _ => false,
+        }
+    }
+
+    // All groups of results that stand next.
+    #[tactic(auto, unfolding(crate::specs::Reading::results_at))]
+    fn results(&mut self, results: &mut Vec<ValType>) -> Result<(), Failure>
+        ensures again { (n : ℕ) → Follows (λ _. (results.new.items, state_of self.new)) result (results_at n (results.old.items, state_of self.old)) }
+        ensures shrinks { IfOk result (λ _. length self.new.rest.now ≤ length self.old.rest.now) }
+    {
+        'each: while self.is_results() {
+            self.result_group(results)?;
+        }
+        Ok(())
+    }
+
+    #[tactic(auto, unfolding(crate::specs::Reading::result_group_at))]
+    fn result_group(&mut self, results: &mut Vec<ValType>) -> Result<(), Failure>
+        ensures again { (n : ℕ) → Follows (λ _. (results.new.items, state_of self.new)) result (result_group_at n (results.old.items, state_of self.old)) }
+        ensures shrinks { IfOk result (λ _. length self.new.rest.now < length self.old.rest.now) }
+    {
+        match self.rest {
+            [Token::Open, Token::Key(Keyword::Result), rest @ ..] => {
+                self.rest = rest;
+                self.group(results)
+            }
+            _ => Err(self.unexpected()),
+        }
+    }
+
+    /// The use of a type, with room for so many more parentheses: its number (Core 1.0, 6.6.3). Where only parameters and
+    /// results stand, it is the first type that is equal to them, and where there is none, a new one behind all others.
+    #[tactic(auto, unfolding(crate::specs::Reading::type_use_at))]
+    pub fn type_use(&mut self, names: ParameterNames, parentheses: u32) -> Result<u32, Failure>
+        ensures again { 0 < parentheses → Follows (λ n. (n, state_of self.new)) result (type_use_at (state_of self.old)) }
+        ensures shrinks { IfOk result (λ _. length self.new.rest.now ≤ length self.old.rest.now) }
+    {
+        if parentheses == 0 && self.is_open() {
+            return Err(self.fault(Wrong::OverLimit));
+        }
+        match self.rest {
+            [Token::Open, Token::Key(Keyword::FuncType), rest @ ..] => {
+                self.rest = rest;
+                let number = self.type_index()?;
+                self.close()?;
+                if self.is_signature() {
+                    self.agree(names, number)?;
+                }
+                Ok(number)
+            }
+            _ => {
+                let t = self.signature(names)?;
+                self.number_of_type(t)
+            }
+        }
+    }
+
+    // Reads the parameters and results beside the number of a type, which have to be the type's.
+    fn agree(&mut self, names: ParameterNames, number: u32) -> Result<(), Failure>
+        ensures shrinks { IfOk result (λ _. length self.new.rest.now ≤ length self.old.rest.now) }
+    {
+        let fault = self.fault(Wrong::TypeUse);
+        let t = self.signature(names)?;
+        self.read_all_types()?;
+        match self.types.get(number as usize) {
+            Some(named) => { if *named == t { Ok(()) } else { Err(fault) } }
+            None => Err(fault),
+        }
+    }
+
+    // The number of the first type that is equal to this one, which is added where there is none.
+    fn number_of_type(&mut self, t: FuncType) -> Result<u32, Failure>
+        ensures shrinks { self.new.rest.now ≡ self.old.rest.now }
+    {
+        self.read_all_types()?;
+        let Ok(next) = u32::try_from(self.types.len()) else {
+            return Err(self.fault(Wrong::OverLimit));
+        };
+        let number = self.equal_types.first(self.alloc, &t, next)?;
+        if number == next {
+            self.types.push(t)?;
+        }
+        Ok(number)
+    }
+
+    /// How many parameters the type with this number has, and none where it names no type.
+    pub fn parameter_count(&mut self, number: u32) -> Result<usize, Failure>
+        ensures { self.new.rest.now ≡ self.old.rest.now }
+    {
+        self.read_all_types()?;
+        match self.types.get(number as usize) {
+            Some(t) => Ok(t.parameters.as_slice().len()),
+            None => Ok(0),
+        }
+    }
+
+    #[tactic(auto, unfolding(crate::specs::Reading::func_at))]
+    fn open_func(&mut self) -> Result<(), Failure>
+        ensures again { Follows (λ _. state_of self.new) result (func_at (state_of self.old)) }
+        ensures shrinks { IfOk result (λ _. length self.new.rest.now < length self.old.rest.now) }
+    {
+        match self.rest {
+            [Token::Open, Token::Key(Keyword::Func), rest @ ..] => {
+                self.rest = rest;
+                Ok(())
+            }
+            _ => Err(self.unexpected()),
+        }
+    }
+
+    /// A type that the module defines, behind its keyword (Core 1.0, 6.6.2).
+    #[tactic(auto, unfolding(crate::specs::Reading::defined_type_at))]
+    pub fn defined_type(&mut self) -> Result<FuncType, Failure>
+        ensures again { (n : ℕ) → Follows (λ t. (t, state_of self.new)) result (defined_type_at n (state_of self.old)) }
+        ensures shrinks { IfOk result (λ _. length self.new.rest.now < length self.old.rest.now) }
+    {
+        let _name = self.name();
+        self.open_func()?;
+        self.locals = Space::new(self.alloc);
+        let t = self.signature(ParameterNames::Bound)?;
+        self.close()?;
+        self.close()?;
+        Ok(t)
+    }
+
+    // Reads the types that the module defines behind here, unless that was done before. Types that uses make are numbered
+    // behind all of them.
+    fn read_all_types(&mut self) -> Result<(), Failure>
+        ensures { self.new.rest.now ≡ self.old.rest.now }
+    {
+        if self.are_types_read {
+            return Ok(());
+        }
+        let mut reader = Parser::new(self.alloc, self.source, self.names, self.rest);
+        'each: while let [_, rest @ ..] = reader.rest {
+            if reader.is_defined_type() {
+                reader.rest = rest;
+                reader.later_type(&mut self.types)?;
+            } else {
+                reader.rest = rest;
+            }
+        }
+        self.are_types_read = true;
+        self.equal_types.add(self.alloc, self.types.as_slice())?;
+        Ok(())
+    }
+
+    // The definition of a type, behind its opening parenthesis, is added to these.
+    fn later_type(&mut self, types: &mut Vec<FuncType>) -> Result<(), Failure>
+        ensures shrinks { IfOk result (λ _. length self.new.rest.now ≤ length self.old.rest.now) }
+    {
+        if let [_, rest @ ..] = self.rest {
+            self.rest = rest;
+            let t = self.defined_type()?;
+            types.push(t)?;
+        }
+        Ok(())
+    }
+
+    // Whether the definition of a type begins here, and not a use of one.
+    fn is_defined_type(&self) -> bool {
+        match self.rest {
+            [
+                Token::Open,
+                Token::Key(Keyword::FuncType),
+                Token::Name(_),
+                Token::Open,
+                ..
+            ] => true,
+            [Token::Open, Token::Key(Keyword::FuncType), Token::Open, ..] => true,
+            _ => false,
+        }
+    }
+}

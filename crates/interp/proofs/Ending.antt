@@ -1,8 +1,8 @@
 -- A walk's turn, and the end of a walk.
 use Rattle.std.proofs.Common.{◌≡◌, ◌≢◌, ℕ, zero, suc, ◌+◌, ◌<◌, ◌≤◌, refl, arith, Result, Err}
 use Rattle.wasm_ast.specs.declared.module.Module.{Module}
-use Rattle.interp.specs.declared.fault.RunFault.{RunFault}
-use Rattle.interp.specs.declared.fault.RunFault.TheVariants as fault
+use Rattle.interp.specs.declared.fault.WalkFault.{WalkFault}
+use Rattle.interp.specs.declared.fault.WalkFault.TheVariants as fault
 use Rattle.interp.specs.declared.walk.Turn.{Turn}
 use Rattle.interp.specs.Configuration.{State}
 use Rattle.interp.specs.Machine.{Machine, Done, Trapped, Stuck, advance, run, next_units}
@@ -27,7 +27,7 @@ module _ (m : Module) (from : Machine) (budget : ℕ) (p : Place) (comes : Comes
     omega (arith, counted_over m p (Done q.state) e, h),
   )
 
-  pub ends_err : (T : Type 0) (q : Place) (f : RunFault) → p.state.count ≤ budget → (let r : Result Turn RunFault = Err f in Stepped r (advance m (running p)) q (p.state.count + next_units p.code) budget) → let r : Result T RunFault = Err f in Ends r m from budget q
+  pub ends_err : (T : Type 0) (q : Place) (f : WalkFault) → p.state.count ≤ budget → (let r : Result Turn WalkFault = Err f in Stepped r (advance m (running p)) q (p.state.count + next_units p.code) budget) → let r : Result T WalkFault = Err f in Ends r m from budget q
   ends_err T q fault.Trap w s = (comes_on m from (running p) (Trapped q.state.count) comes s.0, omega (arith, counted_over m p (Trapped q.state.count) s.0, s.1))
   ends_err T q fault.Stuck w s = (comes_on m from (running p) (Stuck q.state.count) comes s.0, omega (arith, counted_over m p (Stuck q.state.count) s.0, s.1))
   ends_err T q fault.OutOfMemory w s = tt

@@ -6,8 +6,8 @@ use Rattle.host_calls.specs.Host.{Host}
 use Rattle.host_calls.specs.Effects.{HostEffect}
 use Rattle.host_calls.specs.Effects as host
 use Rattle.host_calls.specs.Operands.{pop}
-use Rattle.interp.specs.declared.fault.RunFault.{RunFault}
-use Rattle.interp.specs.declared.fault.RunFault.TheVariants as fault
+use Rattle.interp.specs.declared.fault.WalkFault.{WalkFault}
+use Rattle.interp.specs.declared.fault.WalkFault.TheVariants as fault
 use Rattle.interp.specs.Configuration.{State, Effect, Gives, Traps, Misses}
 use Rattle.interp.specs.Effects.{popped, value}
 
@@ -16,7 +16,7 @@ state locals globals bytes host count =
     record { locals = locals; globals = globals; memory = bytes; host = host; count = count }
 
 -- a number of a type is taken off the operands, or there is none on top
-abbrev pub Pops : ValType → Result ℕ RunFault → List Value → List Value → Type 0
+abbrev pub Pops : ValType → Result ℕ WalkFault → List Value → List Value → Type 0
 Pops t (Ok n) old new = old ≡ value t n ∷ new
 Pops t (Err fault.Stuck) old new =
     ((go : ℕ → List Value → Effect) → popped t old go ≡ Misses)
@@ -26,7 +26,7 @@ Pops t (Err fault.OutOfMemory) old new = ⊥
 Pops t (Err fault.Budget) old new = ⊥
 
 -- it has this effect, unless memory runs out
-abbrev pub Acts : {T : Type 0} → Result T RunFault → Effect → List Value → State → Type 0
+abbrev pub Acts : {T : Type 0} → Result T WalkFault → Effect → List Value → State → Type 0
 Acts (Ok _) e values st = e ≡ Gives values st
 Acts (Err fault.Trap) e values st = e ≡ Traps
 Acts (Err fault.Stuck) e values st = e ≡ Misses

@@ -10,3 +10,5 @@ pub mod Call
 pub mod Place
 pub mod Meaning
 pub mod Walk
+pub mod Heights
+pub mod Bounded

@@ -1,8 +1,8 @@
 -- What the answers of the walk say of the machine's run.
 use Rattle.std.specs.Prelude.{◌≡◌, ◌≢◌, ℕ, ◌+◌, ◌-◌, ◌*◌, ◌<◌, ◌≤◌, length, Result, Ok, Err}
 use Rattle.wasm_ast.specs.declared.module.Module.{Module}
-use Rattle.interp.specs.declared.fault.RunFault.{RunFault}
-use Rattle.interp.specs.declared.fault.RunFault.TheVariants as fault
+use Rattle.interp.specs.declared.fault.WalkFault.{WalkFault}
+use Rattle.interp.specs.declared.fault.WalkFault.TheVariants as fault
 use Rattle.interp.specs.declared.walk.Turn.{Turn}
 use Rattle.interp.specs.declared.walk.Turn.TheVariants as turn
 use Rattle.interp.specs.Configuration.{State}
@@ -10,7 +10,7 @@ use Rattle.interp.specs.Machine.{Machine, Done, Trapped, Stuck, run, next_units}
 use Rattle.interp.specs.Place.{Place, running}
 
 -- the machine is this, and where it runs it is at that place
-abbrev pub Turned : Result Turn RunFault → Machine → Place → Type 0
+abbrev pub Turned : Result Turn WalkFault → Machine → Place → Type 0
 Turned (Ok turn.Next) x p = x ≡ running p
 Turned (Ok turn.Finished) x p = x ≡ Done p.state
 Turned (Err fault.Trap) x p = x ≡ Trapped p.state.count
@@ -19,7 +19,7 @@ Turned (Err fault.OutOfMemory) x p = Unit {0}
 Turned (Err fault.Budget) x p = ⊥
 
 -- the same of a step that counts so many units, where the budget allows it
-abbrev pub Stepped : Result Turn RunFault → Machine → Place → ℕ → ℕ → Type 0
+abbrev pub Stepped : Result Turn WalkFault → Machine → Place → ℕ → ℕ → Type 0
 Stepped (Err fault.Budget) x p total budget = budget < total
 Stepped (Ok turn.Next) x p total budget = (x ≡ running p) × (total ≤ budget)
 Stepped (Ok turn.Finished) x p total budget = (x ≡ Done p.state) × (total ≤ budget)
@@ -46,7 +46,7 @@ pub record Passes (m : Module) (from : Machine) (budget : ℕ) : Type 0 where
   pub passes : budget < place.state.count + next_units place.code
 
 -- the run ends so, within the budget, where the walk is at that place
-abbrev pub Ends : {T : Type 0} → Result T RunFault → Module → Machine → ℕ → Place → Type 0
+abbrev pub Ends : {T : Type 0} → Result T WalkFault → Module → Machine → ℕ → Place → Type 0
 Ends (Ok _) m from budget p = Finishes m from p.state × (p.state.count ≤ budget)
 Ends (Err fault.Trap) m from budget p = Comes m from (Trapped p.state.count) × (p.state.count ≤ budget)
 Ends (Err fault.Stuck) m from budget p = Comes m from (Stuck p.state.count) × (p.state.count ≤ budget)

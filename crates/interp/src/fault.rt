@@ -14,21 +14,28 @@ pub enum RunFault {
     /// The next instruction would pass the budget.
     #[error("the budget is used up")]
     Budget,
+}
+
+/// Why a walk over any valid module gave no outcome.
+#[derive(Clone, Copy, Debug, PartialEq, Eq)]
+pub enum WalkFault {
+    /// Memory ran out.
+    OutOfMemory,
+    /// The next instruction would pass the budget.
+    Budget,
     /// The instruction traps (Core 1.0, 4.4).
-    #[error("the call trapped")]
     Trap,
     /// There is no step: the module is not one that is called, an operand is missing or of the wrong type, a number names
     /// nothing, or the instruction is `call_indirect` or `memory.grow`.
-    #[error("the call has no step")]
     Stuck,
 }
 
-impl From<AllocError> for RunFault {
-    ghost use Rattle.interp.specs.declared.fault.RunFault.TheVariants.{OutOfMemory};
+impl From<AllocError> for WalkFault {
+    ghost use Rattle.interp.specs.declared.fault.WalkFault.TheVariants.{OutOfMemory};
 
     ghost from_gives = { λ _ fault. fault ≡ OutOfMemory };
 
-    fn from(_: AllocError) -> RunFault {
-        RunFault::OutOfMemory
+    fn from(_: AllocError) -> WalkFault {
+        WalkFault::OutOfMemory
     }
 }

@@ -2,7 +2,7 @@
 
 ghost use Rattle.std.specs.Prelude.{◌≡◌, ◌∷◌, ◌++◌, [], length, nat_lt, ok_or, true, false, slice_get, slice_set, OnOk, OnErr, IfErr};
 
-use crate::fault::RunFault;
+use crate::fault::WalkFault;
 use std::alloc::{AllocError, Global};
 use std::marker::Model;
 use wasm_ast::Value;
@@ -50,28 +50,28 @@ impl Globals {
 
     /// The global's value; `Stuck` where there is no global with this number.
     #[inline]
-    pub fn get(&self, number: u32) -> Result<Value, RunFault>
-        ensures { result ≡ ok_or (slice_get self.now number) RunFault.Stuck }
+    pub fn get(&self, number: u32) -> Result<Value, WalkFault>
+        ensures { result ≡ ok_or (slice_get self.now number) WalkFault.Stuck }
     {
         self.values
             .as_slice()
             .get(number as usize)
             .copied()
-            .ok_or(RunFault::Stuck)
+            .ok_or(WalkFault::Stuck)
     }
 
     /// Sets the global; `Stuck` where there is no global with this number.
     #[inline]
-    pub fn set(&mut self, number: u32, value: Value) -> Result<(), RunFault>
+    pub fn set(&mut self, number: u32, value: Value) -> Result<(), WalkFault>
         ensures there { OnOk result ((nat_lt number (length self.old) ≡ true) × (self.new ≡ slice_set self.old number value)) }
-        ensures missing { IfErr result (λ fault. (fault ≡ RunFault.Stuck) × (nat_lt number (length self.old) ≡ false)) }
+        ensures missing { IfErr result (λ fault. (fault ≡ WalkFault.Stuck) × (nat_lt number (length self.old) ≡ false)) }
     {
         match self.values.get_mut(number as usize) {
             Some(global) => {
                 *global = value;
                 Ok(())
             }
-            None => Err(RunFault::Stuck),
+            None => Err(WalkFault::Stuck),
         }
     }
 }

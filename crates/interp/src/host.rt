@@ -7,7 +7,7 @@ ghost use Rattle.host_calls.specs.Effects.{signed};
 ghost use Rattle.interp.specs.Acts.{Acts, state};
 ghost use Rattle.interp.specs.Effects.{call_effect};
 
-use crate::fault::RunFault;
+use crate::fault::WalkFault;
 use crate::operands::Operands;
 use host_calls::{CallState, HostCall, SLOTS};
 use wasm_ast::Value;
@@ -19,7 +19,7 @@ pub fn call_host(
     call: HostCall,
     operands: &mut Operands,
     vertex: &mut CallState,
-) -> Result<(), RunFault>
+) -> Result<(), WalkFault>
     ensures acts { (locals globals : List AnyValue) (bytes : List ℕ) (count : ℕ) → Acts result (call_effect call operands.old.here (state locals globals bytes vertex.old count)) operands.new.here (state locals globals bytes vertex.new count) }
     ensures below { operands.new.below ≡ operands.old.below }
 {
@@ -50,7 +50,7 @@ fn signed(number: i64) -> Value
     Value::I64(number.cast_unsigned())
 }
 
-fn send(operands: &mut Operands, vertex: &mut CallState) -> Result<(), RunFault>
+fn send(operands: &mut Operands, vertex: &mut CallState) -> Result<(), WalkFault>
     ensures acts { (locals globals : List AnyValue) (bytes : List ℕ) (count : ℕ) → Acts result (call_effect calls.Send operands.old.here (state locals globals bytes vertex.old count)) operands.new.here (state locals globals bytes vertex.new count) }
     ensures below { operands.new.below ≡ operands.old.below }
 {
@@ -60,26 +60,26 @@ fn send(operands: &mut Operands, vertex: &mut CallState) -> Result<(), RunFault>
     Ok(())
 }
 
-fn aggregate(operands: &mut Operands, vertex: &mut CallState) -> Result<(), RunFault>
+fn aggregate(operands: &mut Operands, vertex: &mut CallState) -> Result<(), WalkFault>
     ensures acts { (locals globals : List AnyValue) (bytes : List ℕ) (count : ℕ) → Acts result (call_effect calls.Aggregate operands.old.here (state locals globals bytes vertex.old count)) operands.new.here (state locals globals bytes vertex.new count) }
     ensures below { operands.new.below ≡ operands.old.below }
 {
     let value = operands.pop_i64()?.cast_signed();
     let slot = operands.pop_i32()?;
     if slot >= SLOTS {
-        return Err(RunFault::Trap);
+        return Err(WalkFault::Trap);
     }
     vertex.aggregate(slot, value)?;
     Ok(())
 }
 
-fn aggregated(operands: &mut Operands, vertex: &mut CallState) -> Result<(), RunFault>
+fn aggregated(operands: &mut Operands, vertex: &mut CallState) -> Result<(), WalkFault>
     ensures acts { (locals globals : List AnyValue) (bytes : List ℕ) (count : ℕ) → Acts result (call_effect calls.Aggregated operands.old.here (state locals globals bytes vertex.old count)) operands.new.here (state locals globals bytes vertex.new count) }
     ensures below { operands.new.below ≡ operands.old.below }
 {
     let slot = operands.pop_i32()?;
     if slot >= SLOTS {
-        return Err(RunFault::Trap);
+        return Err(WalkFault::Trap);
     }
     operands.push(signed(vertex.aggregated(slot)))?;
     Ok(())

@@ -4,6 +4,9 @@ ghost use Rattle.std.specs.Prelude.{◌≡◌, ◌≤◌, ℕ};
 ghost use Rattle.wasm_ast.specs.declared.module.Module.{Module as AnyModule};
 ghost use Rattle.host_calls.specs.declared.call.CallInput.{CallInput as AnyInput};
 ghost use Rattle.host_calls.specs.declared.call.CallOutcome.{CallOutcome as AnyOutcome};
+ghost use Rattle.validate.specs.Modules.{IsTyped};
+ghost use Rattle.bounded_profile.specs.Profile.{IsBounded};
+ghost use Rattle.interp.specs.Bounded.{CallsEnd, FactsHold, Ends, ComesToItsEnd, MeetsNoFault, HasBounds};
 ghost use Rattle.interp.specs.Call.{IsOutcome, SameOutcome, IsTrapped, IsStuck, HasNoStep};
 ghost use Rattle.interp.specs.Machine.{Machine, IsOver, run};
 
@@ -20,4 +23,15 @@ pub fn one_outcome()
     ensures outcome_no_trap { (m : AnyModule) (input : AnyInput) (a : AnyOutcome) (b : ℕ) → IsOutcome m input a → IsTrapped m input b → ⊥ }
     ensures outcome_not_stuck { (m : AnyModule) (input : AnyInput) (a : AnyOutcome) (b : ℕ) → IsOutcome m input a → IsStuck m input b → ⊥ }
     ensures trap_not_stuck { (m : AnyModule) (input : AnyInput) (a b : ℕ) → IsTrapped m input a → IsStuck m input b → ⊥ }
+{}
+
+/// Each compute call of a module in the bounded profile comes to its end: it is never trapped, there is a step for each of
+/// its instructions, it counts no more than the size of `compute` times one more than there are messages and edges, and
+/// never do more operands or frames stand than the module's bounds say.
+pub fn calls_end()
+    ensures ends { (m : AnyModule) → CallsEnd m }
+    ensures facts { (m : AnyModule) → FactsHold m }
+    ensures always { (m : AnyModule) → IsTyped m → IsBounded m → (input : AnyInput) → ComesToItsEnd m input }
+    ensures faults { (m : AnyModule) (input : AnyInput) (units most_operands most_frames : ℕ) → Ends m input units most_operands most_frames → MeetsNoFault m input units }
+    ensures bounds { (m : AnyModule) → IsBounded m → HasBounds m }
 {}

@@ -1,4 +1,4 @@
-//! Compute calls: the reduction of WebAssembly (Core 1.0, section 4) over valid modules.
+//! Compute calls: the reduction of WebAssembly (Core 1.0, section 4) over modules in the bounded profile.
 #![tactic(auto)]
 
 mod fault;
@@ -20,7 +20,7 @@ mod walk;
 
 pub use fault::RunFault;
 pub use host_calls::{CallInput, CallOutcome};
-pub use laws::{an_end_stays, one_outcome};
+pub use laws::{an_end_stays, calls_end, one_outcome};
 pub use runs::run;
 pub use scratch::Scratch;
 

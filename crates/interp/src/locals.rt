@@ -3,7 +3,7 @@
 ghost use Rattle.std.specs.Prelude.{◌≡◌, ◌++◌, ◌≤◌, [], length, take, drop, map, nat_lt, ok_or, true, false, slice_get, slice_set, OnOk, OnErr, IfErr};
 ghost use Rattle.wasm_ast.specs.Values.{zero_of};
 
-use crate::fault::RunFault;
+use crate::fault::WalkFault;
 use std::alloc::{AllocError, Global};
 use std::marker::Model;
 use wasm_ast::{ValType, Value};
@@ -48,19 +48,19 @@ impl Locals {
 
     /// The local's value; `Stuck` where the frame has no local with this number.
     #[inline]
-    pub fn get(&self, number: u32) -> Result<Value, RunFault>
-        ensures { result ≡ ok_or (slice_get self.now.here number) RunFault.Stuck }
+    pub fn get(&self, number: u32) -> Result<Value, WalkFault>
+        ensures { result ≡ ok_or (slice_get self.now.here number) WalkFault.Stuck }
     {
         let here = &self.values[self.base..];
-        here.get(number as usize).copied().ok_or(RunFault::Stuck)
+        here.get(number as usize).copied().ok_or(WalkFault::Stuck)
     }
 
     /// Sets the local; `Stuck` where the frame has no local with this number.
     #[inline]
-    pub fn set(&mut self, number: u32, value: Value) -> Result<(), RunFault>
+    pub fn set(&mut self, number: u32, value: Value) -> Result<(), WalkFault>
         ensures there { OnOk result (nat_lt number (length self.old.here) ≡ true) }
         ensures here { OnOk result (self.new.here ≡ slice_set self.old.here number value) }
-        ensures missing { IfErr result (λ fault. (fault ≡ RunFault.Stuck) × (nat_lt number (length self.old.here) ≡ false)) }
+        ensures missing { IfErr result (λ fault. (fault ≡ WalkFault.Stuck) × (nat_lt number (length self.old.here) ≡ false)) }
         ensures below { self.new.below ≡ self.old.below }
     {
         let number = number as usize;
@@ -69,7 +69,7 @@ impl Locals {
             self.values[at] = value;
             Ok(())
         } else {
-            Err(RunFault::Stuck)
+            Err(WalkFault::Stuck)
         }
     }
 

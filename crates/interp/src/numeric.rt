@@ -7,7 +7,7 @@ ghost use Rattle.interp.specs.Acts.{Acts};
 ghost use Rattle.wasm_ast.specs.declared.numeric.Numeric.TheVariants as numeric;
 ghost use Rattle.wasm_ast.specs.declared.types.ValType.TheVariants.{I32 as i32_type, I64 as i64_type};
 
-use crate::fault::RunFault;
+use crate::fault::WalkFault;
 use crate::operands::Operands;
 use wasm_ast::{
     Binary, Comparison, Conversion, Division, Numeric, Unary, ValType, Value, i32_eqz,
@@ -16,7 +16,7 @@ use wasm_ast::{
 
 /// Takes the operands of a numeric instruction and gives its result. Divisions trap where there is none.
 #[inline]
-pub fn act_numeric(op: Numeric, operands: &mut Operands) -> Result<(), RunFault>
+pub fn act_numeric(op: Numeric, operands: &mut Operands) -> Result<(), WalkFault>
     ensures acts { (st : State) → Acts result (numeric_effect op operands.old.here st) operands.new.here st }
     ensures below { operands.new.below ≡ operands.old.below }
 {
@@ -30,7 +30,7 @@ pub fn act_numeric(op: Numeric, operands: &mut Operands) -> Result<(), RunFault>
     }
 }
 
-fn act_eqz(of: ValType, operands: &mut Operands) -> Result<(), RunFault>
+fn act_eqz(of: ValType, operands: &mut Operands) -> Result<(), WalkFault>
     ensures acts { (st : State) → Acts result (numeric_effect (numeric.Eqz of) operands.old.here st) operands.new.here st }
     ensures below { operands.new.below ≡ operands.old.below }
 {
@@ -46,7 +46,7 @@ fn act_comparison(
     of: ValType,
     comparison: Comparison,
     operands: &mut Operands,
-) -> Result<(), RunFault>
+) -> Result<(), WalkFault>
     ensures acts { (st : State) → Acts result (numeric_effect (numeric.Comparison of comparison) operands.old.here st) operands.new.here st }
     ensures below { operands.new.below ≡ operands.old.below }
 {
@@ -64,7 +64,7 @@ fn act_comparison(
     Ok(())
 }
 
-fn act_unary(of: ValType, unary: Unary, operands: &mut Operands) -> Result<(), RunFault>
+fn act_unary(of: ValType, unary: Unary, operands: &mut Operands) -> Result<(), WalkFault>
     ensures acts { (st : State) → Acts result (numeric_effect (numeric.Unary of unary) operands.old.here st) operands.new.here st }
     ensures below { operands.new.below ≡ operands.old.below }
 {
@@ -76,7 +76,7 @@ fn act_unary(of: ValType, unary: Unary, operands: &mut Operands) -> Result<(), R
     Ok(())
 }
 
-fn act_binary(of: ValType, binary: Binary, operands: &mut Operands) -> Result<(), RunFault>
+fn act_binary(of: ValType, binary: Binary, operands: &mut Operands) -> Result<(), WalkFault>
     ensures acts { (st : State) → Acts result (numeric_effect (numeric.Binary of binary) operands.old.here st) operands.new.here st }
     ensures below { operands.new.below ≡ operands.old.below }
 {
@@ -94,7 +94,7 @@ fn act_binary(of: ValType, binary: Binary, operands: &mut Operands) -> Result<()
     Ok(())
 }
 
-fn act_division(of: ValType, division: Division, operands: &mut Operands) -> Result<(), RunFault>
+fn act_division(of: ValType, division: Division, operands: &mut Operands) -> Result<(), WalkFault>
     ensures acts { (st : State) → Acts result (numeric_effect (numeric.Division of division) operands.old.here st) operands.new.here st }
     ensures below { operands.new.below ≡ operands.old.below }
 {
@@ -104,33 +104,33 @@ fn act_division(of: ValType, division: Division, operands: &mut Operands) -> Res
     }
 }
 
-fn divide_i32(division: Division, operands: &mut Operands) -> Result<(), RunFault>
+fn divide_i32(division: Division, operands: &mut Operands) -> Result<(), WalkFault>
     ensures acts { (st : State) → Acts result (numeric_effect (numeric.Division i32_type division) operands.old.here st) operands.new.here st }
     ensures below { operands.new.below ≡ operands.old.below }
 {
     let second = operands.pop_i32()?;
     let first = operands.pop_i32()?;
     if division.traps_i32(first, second) {
-        return Err(RunFault::Trap);
+        return Err(WalkFault::Trap);
     }
     operands.push(Value::I32(division.apply_i32(first, second)))?;
     Ok(())
 }
 
-fn divide_i64(division: Division, operands: &mut Operands) -> Result<(), RunFault>
+fn divide_i64(division: Division, operands: &mut Operands) -> Result<(), WalkFault>
     ensures acts { (st : State) → Acts result (numeric_effect (numeric.Division i64_type division) operands.old.here st) operands.new.here st }
     ensures below { operands.new.below ≡ operands.old.below }
 {
     let second = operands.pop_i64()?;
     let first = operands.pop_i64()?;
     if division.traps_i64(first, second) {
-        return Err(RunFault::Trap);
+        return Err(WalkFault::Trap);
     }
     operands.push(Value::I64(division.apply_i64(first, second)))?;
     Ok(())
 }
 
-fn act_conversion(conversion: Conversion, operands: &mut Operands) -> Result<(), RunFault>
+fn act_conversion(conversion: Conversion, operands: &mut Operands) -> Result<(), WalkFault>
     ensures acts { (st : State) → Acts result (numeric_effect (numeric.Conversion conversion) operands.old.here st) operands.new.here st }
     ensures below { operands.new.below ≡ operands.old.below }
 {

@@ -5,7 +5,7 @@ ghost use Rattle.wasm_ast.specs.declared.types.ValType.TheVariants.{I32 as i32_t
 ghost use Rattle.interp.specs.Acts.{Pops};
 ghost use Rattle.interp.specs.Machine.{first, carry};
 
-use crate::fault::RunFault;
+use crate::fault::WalkFault;
 use std::alloc::{AllocError, Global};
 use std::marker::Model;
 use wasm_ast::Value;
@@ -60,37 +60,37 @@ impl Operands {
 
     /// The topmost value; `Stuck` where the layer has none.
     #[inline]
-    pub fn pop(&mut self) -> Result<Value, RunFault>
+    pub fn pop(&mut self) -> Result<Value, WalkFault>
         ensures { MatchResult result (λ v. self.old ≡ record { here = v ∷ self.new.here; below = self.new.below })
-            (λ fault. (fault ≡ RunFault.Stuck) × ((self.old.here ≡ []) × (self.new ≡ self.old))) }
+            (λ fault. (fault ≡ WalkFault.Stuck) × ((self.old.here ≡ []) × (self.new ≡ self.old))) }
     {
         if self.values.len() == self.floor {
-            return Err(RunFault::Stuck);
+            return Err(WalkFault::Stuck);
         }
-        self.values.pop().ok_or(RunFault::Stuck)
+        self.values.pop().ok_or(WalkFault::Stuck)
     }
 
     /// The topmost value, an i32; `Stuck` where the layer has none or it is an i64, which is then off the operands.
     #[inline]
-    pub fn pop_i32(&mut self) -> Result<u32, RunFault>
+    pub fn pop_i32(&mut self) -> Result<u32, WalkFault>
         ensures here { Pops i32_type result self.old.here self.new.here }
         ensures below { self.new.below ≡ self.old.below }
     {
         match self.pop()? {
             Value::I32(number) => Ok(number),
-            Value::I64(_) => Err(RunFault::Stuck),
+            Value::I64(_) => Err(WalkFault::Stuck),
         }
     }
 
     /// The topmost value, an i64; `Stuck` where the layer has none or it is an i32, which is then off the operands.
     #[inline]
-    pub fn pop_i64(&mut self) -> Result<u64, RunFault>
+    pub fn pop_i64(&mut self) -> Result<u64, WalkFault>
         ensures here { Pops i64_type result self.old.here self.new.here }
         ensures below { self.new.below ≡ self.old.below }
     {
         match self.pop()? {
             Value::I64(number) => Ok(number),
-            Value::I32(_) => Err(RunFault::Stuck),
+            Value::I32(_) => Err(WalkFault::Stuck),
         }
     }
 

@@ -9,7 +9,7 @@ ghost use Rattle.interp.specs.Acts.{Acts, state};
 ghost use Rattle.interp.specs.Configuration.{State};
 ghost use Rattle.interp.specs.Effects.{effect, variable_effect, memory_effect};
 
-use crate::fault::RunFault;
+use crate::fault::WalkFault;
 use crate::globals::Globals;
 use crate::locals::Locals;
 use crate::memory::Memory;
@@ -28,7 +28,7 @@ pub fn act_plain(
     locals: &mut Locals,
     globals: &mut Globals,
     bytes: &mut Memory,
-) -> Result<(), RunFault>
+) -> Result<(), WalkFault>
     ensures acts { (host : AnyHost) (count : ℕ) → Acts result (effect instruction operands.old.here (state locals.old.here globals.old bytes.old host count)) operands.new.here (state locals.new.here globals.new bytes.new host count) }
     ensures below { operands.new.below ≡ operands.old.below }
     ensures locals_below { locals.new.below ≡ locals.old.below }
@@ -52,7 +52,7 @@ pub fn act_plain(
 
 /// Gives the first of two operands of one type for a number other than 0, and the second for 0 (Core 1.0, 4.4.2).
 #[inline]
-fn act_select(operands: &mut Operands) -> Result<(), RunFault>
+fn act_select(operands: &mut Operands) -> Result<(), WalkFault>
     ensures acts { (st : State) → Acts result (effect plain.Select operands.old.here st) operands.new.here st }
     ensures below { operands.new.below ≡ operands.old.below }
 {
@@ -60,7 +60,7 @@ fn act_select(operands: &mut Operands) -> Result<(), RunFault>
     let second = operands.pop()?;
     let first = operands.pop()?;
     if first.val_type() != second.val_type() {
-        return Err(RunFault::Stuck);
+        return Err(WalkFault::Stuck);
     }
     operands.push(if number == 0 { second } else { first })?;
     Ok(())
@@ -73,7 +73,7 @@ fn act_variable(
     operands: &mut Operands,
     locals: &mut Locals,
     globals: &mut Globals,
-) -> Result<(), RunFault>
+) -> Result<(), WalkFault>
     ensures acts { (bytes : List ℕ) (host : AnyHost) (count : ℕ) → Acts result (variable_effect instruction operands.old.here (state locals.old.here globals.old bytes host count)) operands.new.here (state locals.new.here globals.new bytes host count) }
     ensures below { operands.new.below ≡ operands.old.below }
     ensures locals_below { locals.new.below ≡ locals.old.below }
@@ -98,7 +98,7 @@ fn act_memory(
     instruction: MemoryAccess,
     operands: &mut Operands,
     bytes: &mut Memory,
-) -> Result<(), RunFault>
+) -> Result<(), WalkFault>
     ensures acts { (locals globals : List AnyValue) (host : AnyHost) (count : ℕ) → Acts result (memory_effect instruction operands.old.here (state locals globals bytes.old host count)) operands.new.here (state locals globals bytes.new host count) }
     ensures below { operands.new.below ≡ operands.old.below }
 {
@@ -109,7 +109,7 @@ fn act_memory(
             operands.push(Value::I32(bytes.size()))?;
             Ok(())
         }
-        MemoryAccess::Grow => Err(RunFault::Stuck),
+        MemoryAccess::Grow => Err(WalkFault::Stuck),
     }
 }
 
@@ -119,12 +119,12 @@ fn act_load(
     argument: MemoryArgument,
     operands: &mut Operands,
     bytes: &Memory,
-) -> Result<(), RunFault>
+) -> Result<(), WalkFault>
     ensures acts { (locals globals : List AnyValue) (host : AnyHost) (count : ℕ) → Acts result (memory_effect (memory_variant.Load op argument) operands.old.here (state locals globals bytes.now host count)) operands.new.here (state locals globals bytes.now host count) }
     ensures below { operands.new.below ≡ operands.old.below }
 {
     let place = u64::from(operands.pop_i32()?) + u64::from(argument.offset);
-    let value = bytes.load(op, place).ok_or(RunFault::Trap)?;
+    let value = bytes.load(op, place).ok_or(WalkFault::Trap)?;
     operands.push(value)?;
     Ok(())
 }
@@ -135,7 +135,7 @@ fn act_store(
     argument: MemoryArgument,
     operands: &mut Operands,
     bytes: &mut Memory,
-) -> Result<(), RunFault>
+) -> Result<(), WalkFault>
     ensures acts { (locals globals : List AnyValue) (host : AnyHost) (count : ℕ) → Acts result (memory_effect (memory_variant.Store op argument) operands.old.here (state locals globals bytes.old host count)) operands.new.here (state locals globals bytes.new host count) }
     ensures below { operands.new.below ≡ operands.old.below }
 {
@@ -147,6 +147,6 @@ fn act_store(
     if bytes.store(op, place, number) {
         Ok(())
     } else {
-        Err(RunFault::Trap)
+        Err(WalkFault::Trap)
     }
 }

@@ -5,6 +5,7 @@ ghost use Rattle.std.specs.List.{AllByRecursion};
 ghost use Rattle.interp.specs.Meaning.{AreImports};
 ghost use Rattle.interp.specs.Start.{IsOfHost};
 
+use bounded_profile::Verified;
 use crate::rooms::Rooms;
 use crate::start::imported_calls;
 use host_calls::HostCall;
@@ -12,7 +13,6 @@ use std::alloc::{AllocError, Global};
 use std::marker::Model;
 use std::mem::replace;
 use std::snapshot::Snapshot;
-use validate::Valid;
 use wasm_ast::Module;
 
 /// What the calls of one module have in common, and lists that they take over from one another. Contracts see it as the
@@ -44,10 +44,16 @@ impl Model for Scratch {
 
 impl Scratch {
     /// Looks at the module once for all its calls. The only refusal is that there is no memory.
-    pub fn new(alloc: Global, valid: &Valid) -> Result<Scratch, AllocError>
-        ensures { IfOk result (λ scratch. scratch ≡ valid.now) }
+    pub fn new(alloc: Global, verified: &Verified) -> Result<Scratch, AllocError>
+        ensures { IfOk result (λ scratch. scratch ≡ verified.now) }
     {
-        let module = valid.module();
+        Scratch::of(alloc, verified.module())
+    }
+
+    // The same of any module.
+    pub(crate) fn of(alloc: Global, module: &Module) -> Result<Scratch, AllocError>
+        ensures { IfOk result (λ scratch. scratch ≡ «module».now) }
+    {
         let calls = imported_calls(alloc, module)?;
         Ok(Scratch {
             module: Snapshot::of(module),
@@ -56,22 +62,22 @@ impl Scratch {
         })
     }
 
-    /// Gives the lists of the last call out, and keeps lists without room.
-    pub fn take_rooms(&mut self, alloc: Global) -> Rooms
+    // Gives the lists of the last call out, and keeps lists without room.
+    pub(crate) fn take_rooms(&mut self, alloc: Global) -> Rooms
         ensures { self.new ≡ self.old }
     {
         replace(&mut self.rooms, Rooms::new(alloc))
     }
 
-    /// Keeps the lists for the next call.
-    pub fn keep_rooms(&mut self, rooms: Rooms)
+    // Keeps the lists for the next call.
+    pub(crate) fn keep_rooms(&mut self, rooms: Rooms)
         ensures { self.new ≡ self.old }
     {
         self.rooms = rooms;
     }
 
-    /// The functions of the host that the imports bring in, in order, where each brings in one.
-    pub fn calls(&self) -> Option<&[HostCall]>
+    // The functions of the host that the imports bring in, in order, where each brings in one.
+    pub(crate) fn calls(&self) -> Option<&[HostCall]>
         ensures { MatchOption result (AllByRecursion (IsOfHost self.now) self.now.imports → ⊥)
             (λ calls. AllByRecursion (IsOfHost self.now) self.now.imports × AreImports calls.now self.now) }
     {

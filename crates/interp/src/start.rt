@@ -11,7 +11,7 @@ ghost use Rattle.interp.specs.Start.{IsOfHost, is_compute, exported_function, co
 mod imports;
 mod initial;
 
-use crate::fault::RunFault;
+use crate::fault::WalkFault;
 use crate::program::{Callee, Program};
 use crate::rooms::Rooms;
 use crate::walk::Walk;
@@ -27,20 +27,20 @@ pub fn begin<'a, 'b>(
     program: Program<'a>,
     input: &CallInput<'b>,
     rooms: Rooms,
-) -> Result<Walk<'a, 'b>, RunFault>
+) -> Result<Walk<'a, 'b>, WalkFault>
     requires calls { AreImports program.calls.now program.«module».now }
     requires host { AllByRecursion (IsOfHost program.«module».now) program.«module».now.imports }
     ensures { Begun result program.entry.«module».now input.now }
 {
     let module = program.module;
     if has_more(module) {
-        return Err(RunFault::Stuck);
+        return Err(WalkFault::Stuck);
     }
     let Some(function) = compute_function(program) else {
-        return Err(RunFault::Stuck);
+        return Err(WalkFault::Stuck);
     };
     if !is_of_nothing(module, function) {
-        return Err(RunFault::Stuck);
+        return Err(WalkFault::Stuck);
     }
     let Rooms {
         mut operands,

@@ -11,7 +11,9 @@ mod memories;
 mod numbers;
 mod refused;
 
-use crate::{CallInput, RunFault, Scratch, run};
+use crate::fault::WalkFault;
+use crate::runs::answer;
+use crate::{CallInput, Scratch};
 use std::alloc::{AllocError, Global as Heap};
 use validate::{Valid, validate};
 use wasm_ast::{
@@ -54,7 +56,7 @@ const NEXT_MESSAGE: Step = Step::Call(5);
 const NEXT_EDGE: Step = Step::Call(7);
 
 /// What a call gave: the value and the count, or why it gave none; `None` where there is no such call.
-type End = Option<Result<(i64, u128), RunFault>>;
+type End = Option<Result<(i64, u128), WalkFault>>;
 
 /// What the modules of these tests differ in.
 #[derive(Clone, Copy)]
@@ -357,8 +359,8 @@ fn valid(alloc: Heap, program: &Program) -> Option<Valid> {
 }
 
 fn run_once(alloc: Heap, valid: &Valid, input: &CallInput, steps: u128) -> End {
-    match Scratch::new(alloc, valid) {
-        Ok(mut scratch) => match run(alloc, valid, input, &mut scratch, steps) {
+    match Scratch::of(alloc, valid.module()) {
+        Ok(mut scratch) => match answer(alloc, valid.module(), input, &mut scratch, steps) {
             Ok(outcome) => Some(Ok((outcome.value, outcome.units))),
             Err(fault) => Some(Err(fault)),
         },
@@ -380,7 +382,7 @@ fn end_of_body(alloc: Heap, compute: &[Step]) -> End {
 }
 
 /// The value that such a call leaves.
-fn value_of_body(alloc: Heap, compute: &[Step]) -> Option<Result<i64, RunFault>> {
+fn value_of_body(alloc: Heap, compute: &[Step]) -> Option<Result<i64, WalkFault>> {
     match end_of_body(alloc, compute) {
         Some(Ok((value, _))) => Some(Ok(value)),
         Some(Err(fault)) => Some(Err(fault)),

@@ -13,7 +13,7 @@ mod branches;
 mod calls;
 mod labels;
 
-use crate::fault::RunFault;
+use crate::fault::WalkFault;
 use crate::globals::Globals;
 use crate::host::call_host;
 use crate::layers::Layer;
@@ -61,7 +61,7 @@ impl<'a, 'b> Model for Walk<'a, 'b> {
 
 impl<'a, 'b> Walk<'a, 'b> {
     /// Runs until it is over or the next instruction would make the count greater than the budget.
-    pub fn finish(&mut self, program: Program<'a>, budget: u128) -> Result<(), RunFault>
+    pub fn finish(&mut self, program: Program<'a>, budget: u128) -> Result<(), WalkFault>
         requires calls { AreImports program.calls.now program.«module».now }
         requires within { self.old.state.count ≤ budget }
         ensures { Ends result program.entry.«module».now (running self.old) budget self.new }
@@ -77,7 +77,7 @@ impl<'a, 'b> Walk<'a, 'b> {
 
     /// One step, if the budget allows it.
     #[inline]
-    fn turn(&mut self, program: Program<'a>, budget: u128) -> Result<Turn, RunFault>
+    fn turn(&mut self, program: Program<'a>, budget: u128) -> Result<Turn, WalkFault>
         requires calls { AreImports program.calls.now program.«module».now }
         requires within { self.old.state.count ≤ budget }
         ensures stepped { Stepped result (advance program.entry.«module».now (running self.old)) self.new (self.old.state.count + next_units self.old.code) budget }
@@ -100,7 +100,7 @@ impl<'a, 'b> Walk<'a, 'b> {
         program: Program<'a>,
         whole: &'a [Instr],
         first: &'a Instr,
-    ) -> Result<Turn, RunFault>
+    ) -> Result<Turn, WalkFault>
         requires calls { AreImports program.calls.now program.«module».now }
         requires whole { code_of whole.now ≡ then_code first.now self.old.code }
         ensures { Turned result (take_next program.entry.«module».now self.old.values (code_of whole.now) self.old.layers self.old.state) self.new }
@@ -109,8 +109,8 @@ impl<'a, 'b> Walk<'a, 'b> {
             Instr::Plain(plain) => self.act(*plain),
             Instr::Branch(branch) => self.branch(branch),
             Instr::Call(number) => self.call(program, *number),
-            Instr::CallIndirect(_) => Err(RunFault::Stuck),
-            Instr::Unreachable => Err(RunFault::Trap),
+            Instr::CallIndirect(_) => Err(WalkFault::Stuck),
+            Instr::Unreachable => Err(WalkFault::Trap),
             Instr::Block(block_type, body) => self.open(block_type.is_some(), self.code, body),
             Instr::Loop(_, body) => self.open(false, whole, body),
             Instr::If(block_type, then_body, else_body) => {
@@ -120,7 +120,7 @@ impl<'a, 'b> Walk<'a, 'b> {
     }
 
     #[inline]
-    fn act(&mut self, plain: Plain) -> Result<Turn, RunFault>
+    fn act(&mut self, plain: Plain) -> Result<Turn, WalkFault>
         ensures { Turned result (after_effect (effect plain self.old.values self.old.state) self.old.code self.old.layers self.old.state.count) self.new }
     {
         act_plain(
@@ -133,7 +133,7 @@ impl<'a, 'b> Walk<'a, 'b> {
         Ok(Turn::Next)
     }
 
-    fn act_host(&mut self, call: HostCall) -> Result<Turn, RunFault>
+    fn act_host(&mut self, call: HostCall) -> Result<Turn, WalkFault>
         ensures { Turned result (after_effect (call_effect call self.old.values self.old.state) self.old.code self.old.layers self.old.state.count) self.new }
     {
         call_host(call, &mut self.operands, &mut self.host)?;
@@ -143,11 +143,11 @@ impl<'a, 'b> Walk<'a, 'b> {
 
 /// The count with so many units more; `Budget` where that is greater than the budget.
 #[inline]
-fn charged(count: u128, units: u32, budget: u128) -> Result<u128, RunFault>
-    ensures { MatchResult result (λ total. (total ≡ count + units) × (total ≤ budget)) (λ fault. (fault ≡ RunFault.Budget) × (budget < count + units)) }
+fn charged(count: u128, units: u32, budget: u128) -> Result<u128, WalkFault>
+    ensures { MatchResult result (λ total. (total ≡ count + units) × (total ≤ budget)) (λ fault. (fault ≡ WalkFault.Budget) × (budget < count + units)) }
 {
     match count.checked_add(u128::from(units)) {
         Some(total) if total <= budget => Ok(total),
-        _ => Err(RunFault::Budget),
+        _ => Err(WalkFault::Budget),
     }
 }

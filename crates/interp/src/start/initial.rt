@@ -4,7 +4,7 @@ ghost use Rattle.std.specs.Prelude.{◌≡◌, [], length};
 ghost use Rattle.interp.specs.Begun.{Gives};
 ghost use Rattle.interp.specs.Start.{constant_value, constant_plain, initial_globals, initial_memory, laid_at, laid_in, pages_of};
 
-use crate::fault::RunFault;
+use crate::fault::WalkFault;
 use crate::globals::Globals;
 use crate::memory::{MAX_PAGES, Memory};
 use std::alloc::Global;
@@ -17,7 +17,7 @@ pub fn lay_globals(
     alloc: Global,
     definitions: &[GlobalDefinition],
     globals: &mut Globals,
-) -> Result<(), RunFault>
+) -> Result<(), WalkFault>
     requires { globals.old ≡ [] }
     ensures { Gives result (initial_globals definitions.now) globals.new }
 {
@@ -25,25 +25,25 @@ pub fn lay_globals(
     for definition in definitions {
         match constant_value(&none, &definition.initial) {
             Some(value) => globals.add(value)?,
-            None => return Err(RunFault::Stuck),
+            None => return Err(WalkFault::Stuck),
         }
     }
     Ok(())
 }
 
 /// Zeros, and the data segments in order; `Stuck` where there are too many pages, or a segment does not lie within them.
-pub fn lay_memory(module: &Module, globals: &Globals, memory: &mut Memory) -> Result<(), RunFault>
+pub fn lay_memory(module: &Module, globals: &Globals, memory: &mut Memory) -> Result<(), WalkFault>
     ensures { Gives result (initial_memory globals.now «module».now) memory.new }
 {
     let pages = page_count(module.memories.as_slice());
     if pages > MAX_PAGES {
-        return Err(RunFault::Stuck);
+        return Err(WalkFault::Stuck);
     }
     memory.renew(pages)?;
     lay_segments(module.data.as_slice(), globals, memory)
 }
 
-fn lay_segments(segments: &[Data], globals: &Globals, memory: &mut Memory) -> Result<(), RunFault>
+fn lay_segments(segments: &[Data], globals: &Globals, memory: &mut Memory) -> Result<(), WalkFault>
     ensures { Gives result (laid_in globals.now segments.now memory.old) memory.new }
 {
     for segment in segments {
@@ -52,7 +52,7 @@ fn lay_segments(segments: &[Data], globals: &Globals, memory: &mut Memory) -> Re
     Ok(())
 }
 
-fn lay_segment(segment: &Data, globals: &Globals, memory: &mut Memory) -> Result<(), RunFault>
+fn lay_segment(segment: &Data, globals: &Globals, memory: &mut Memory) -> Result<(), WalkFault>
     ensures { Gives result (laid_at (constant_value globals.now segment.now.offset) segment.now.bytes memory.old) memory.new }
 {
     match constant_value(globals, &segment.offset) {
@@ -60,11 +60,11 @@ fn lay_segment(segment: &Data, globals: &Globals, memory: &mut Memory) -> Result
             if memory.lay(u64::from(place), segment.bytes.as_slice()) {
                 Ok(())
             } else {
-                Err(RunFault::Stuck)
+                Err(WalkFault::Stuck)
             }
         }
-        Some(Value::I64(_)) => Err(RunFault::Stuck),
-        None => Err(RunFault::Stuck),
+        Some(Value::I64(_)) => Err(WalkFault::Stuck),
+        None => Err(WalkFault::Stuck),
     }
 }
 

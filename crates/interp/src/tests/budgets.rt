@@ -1,7 +1,7 @@
 //! Budgets: the next instruction is taken only where its units stay within.
 
 use super::{EMPTY, End, GET_VALUE, Program, SET_VALUE, Step, VERTEX, end_of};
-use crate::RunFault;
+use crate::fault::WalkFault;
 use std::alloc::Global as Heap;
 use wasm_ast::{Binary, Memory, Numeric, Plain, ValType};
 
@@ -21,8 +21,8 @@ fn budgets_of_a_straight_body(rt: HostRuntime) {
         SET_VALUE,
     ];
     for (steps, wanted) in [
-        (0, Err(RunFault::Budget)),
-        (5, Err(RunFault::Budget)),
+        (0, Err(WalkFault::Budget)),
+        (5, Err(WalkFault::Budget)),
         (6, Ok((347, 6))),
         (7, Ok((347, 6))),
         (u128::MAX, Ok((347, 6))),
@@ -45,32 +45,32 @@ fn ends_count_nothing(rt: HostRuntime) {
         Step::End,
     ];
     assert_eq!(rt; end_within(rt.alloc(), &blocks, 4), Some(Ok((34, 4))));
-    let fault = Some(Err(RunFault::Budget));
+    let fault = Some(Err(WalkFault::Budget));
     assert_eq!(rt; end_within(rt.alloc(), &blocks, 3), fault);
 }
 
 #[test]
 fn the_last_unit_may_be_that_of_a_trap(rt: HostRuntime) {
     let grow = Step::Plain(Plain::Memory(Memory::Grow));
-    let rows: [(&[Step], RunFault); 3] = [
-        (&[Step::I32(1), Step::Unreachable], RunFault::Trap),
+    let rows: [(&[Step], WalkFault); 3] = [
+        (&[Step::I32(1), Step::Unreachable], WalkFault::Trap),
         (
             &[
                 Step::I32(u32::MAX),
                 Step::Load(wasm_ast::Load::I32, 0),
                 Step::Plain(Plain::Drop),
             ],
-            RunFault::Trap,
+            WalkFault::Trap,
         ),
         (
             &[Step::I32(1), grow, Step::Plain(Plain::Drop)],
-            RunFault::Stuck,
+            WalkFault::Stuck,
         ),
     ];
     for (body, fault) in rows {
         assert_eq!(rt;
             end_within(rt.alloc(), body, 1),
-            Some(Err(RunFault::Budget))
+            Some(Err(WalkFault::Budget))
         );
         assert_eq!(rt; end_within(rt.alloc(), body, 2), Some(Err(fault)));
     }

@@ -1,7 +1,7 @@
 //! Calls of functions that the module defines.
 
 use super::{EMPTY, ENOUGH, End, Program, SET_VALUE, Step, VERTEX, end_of};
-use crate::RunFault;
+use crate::fault::WalkFault;
 use std::alloc::Global as Heap;
 use wasm_ast::{Binary, Numeric, Plain, ValType, Variable};
 
@@ -130,9 +130,9 @@ fn frames(rt: HostRuntime) {
 #[test]
 fn a_trap_in_a_call(rt: HostRuntime) {
     let end = end_with(rt.alloc(), &[UNREACHABLE], &[FIRST], 3);
-    assert_eq!(rt; end, Some(Err(RunFault::Trap)));
+    assert_eq!(rt; end, Some(Err(WalkFault::Trap)));
     let end = end_with(rt.alloc(), &[UNREACHABLE], &[FIRST], 2);
-    assert_eq!(rt; end, Some(Err(RunFault::Budget)));
+    assert_eq!(rt; end, Some(Err(WalkFault::Budget)));
 }
 
 /// 1 more than itself of one less, down to 0.
@@ -166,11 +166,11 @@ fn deep_recursion(rt: HostRuntime) {
 fn endless_calls_and_loops(rt: HostRuntime) {
     let turning = [Step::Loop(None), Step::Br(0), Step::End];
     let end = end_with(rt.alloc(), &[], &turning, 100_000);
-    assert_eq!(rt; end, Some(Err(RunFault::Budget)));
+    assert_eq!(rt; end, Some(Err(WalkFault::Budget)));
     // the function calls itself
     let end = end_with(rt.alloc(), &[(0, &[FIRST])], &[FIRST], 100_000);
-    assert_eq!(rt; end, Some(Err(RunFault::Budget)));
+    assert_eq!(rt; end, Some(Err(WalkFault::Budget)));
     // compute calls itself
     let end = end_with(rt.alloc(), &[], &[Step::Call(14)], 100_000);
-    assert_eq!(rt; end, Some(Err(RunFault::Budget)));
+    assert_eq!(rt; end, Some(Err(WalkFault::Budget)));
 }

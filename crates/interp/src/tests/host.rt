@@ -4,7 +4,9 @@ use super::{
     EMPTY, ENOUGH, End, NEXT_EDGE, NEXT_MESSAGE, Program, SET_VALUE, Step, VERTEX, end_of_body,
     valid,
 };
-use crate::{CallOutcome, RunFault, Scratch, run};
+use crate::fault::WalkFault;
+use crate::runs::answer;
+use crate::{CallOutcome, Scratch};
 use std::alloc::Global as Heap;
 use std::test::Fail;
 use validate::Valid;
@@ -75,7 +77,7 @@ fn slots(rt: HostRuntime) {
         assert_eq!(rt; end_of_slot(rt.alloc(), slot), wanted, "slot {slot}");
     }
     for slot in [8, u32::MAX] {
-        let wanted = [Some(Err(RunFault::Trap)), Some(Err(RunFault::Trap))];
+        let wanted = [Some(Err(WalkFault::Trap)), Some(Err(WalkFault::Trap))];
         assert_eq!(rt; end_of_slot(rt.alloc(), slot), wanted, "slot {slot}");
     }
 }
@@ -98,8 +100,8 @@ const GIVES: [Step; 13] = [
 ];
 
 fn outcome_of(alloc: Heap, valid: &Valid) -> Option<CallOutcome> {
-    let mut scratch = Scratch::new(alloc, valid).ok()?;
-    run(alloc, valid, &VERTEX, &mut scratch, ENOUGH).ok()
+    let mut scratch = Scratch::of(alloc, valid.module()).ok()?;
+    answer(alloc, valid.module(), &VERTEX, &mut scratch, ENOUGH).ok()
 }
 
 fn outcome_of_body(alloc: Heap, compute: &[Step]) -> Option<CallOutcome> {

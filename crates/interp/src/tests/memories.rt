@@ -1,7 +1,9 @@
 //! Loads, stores and data segments.
 
 use super::{EMPTY, ENOUGH, End, Program, SET_VALUE, Step, VERTEX, end_of, end_of_body, valid};
-use crate::{RunFault, Scratch, run};
+use crate::Scratch;
+use crate::fault::WalkFault;
+use crate::runs::answer;
 use std::alloc::Global as Heap;
 use validate::Valid;
 use wasm_ast::{Binary, Conversion, Load, Memory, Numeric, Plain, Store, ValType, Value, Variable};
@@ -60,7 +62,7 @@ fn loads(rt: HostRuntime) {
         let end = end_of_load(rt.alloc(), load, offset, 65_528);
         assert_eq!(rt; end, Some(Ok((wanted.cast_signed(), 4))), "{load:?}");
         let past = end_of_load(rt.alloc(), load, offset, 65_529);
-        assert_eq!(rt; past, Some(Err(RunFault::Trap)), "{load:?}");
+        assert_eq!(rt; past, Some(Err(WalkFault::Trap)), "{load:?}");
     }
 }
 
@@ -103,7 +105,7 @@ fn stores(rt: HostRuntime) {
         let end = end_of_store(rt.alloc(), store, offset, 65_528);
         assert_eq!(rt; end, Some(Ok((wanted.cast_signed(), 6))), "{store:?}");
         let past = end_of_store(rt.alloc(), store, offset, 65_529);
-        assert_eq!(rt; past, Some(Err(RunFault::Trap)), "{store:?}");
+        assert_eq!(rt; past, Some(Err(WalkFault::Trap)), "{store:?}");
     }
 }
 
@@ -125,7 +127,7 @@ fn end_of_pages(alloc: Heap, pages: u32, address: u32, offset: u32) -> End {
 
 #[test]
 fn ends_of_memories(rt: HostRuntime) {
-    let trap = Some(Err(RunFault::Trap));
+    let trap = Some(Err(WalkFault::Trap));
     // pages, an address and an offset
     for (pages, address, offset, end) in [
         (1, 65_532, 0, Some(Ok((1, 6)))),
@@ -156,7 +158,7 @@ fn end_of_data(alloc: Heap, data: &[(u32, &[u8])]) -> End {
 
 #[test]
 fn data_segments(rt: HostRuntime) {
-    let stuck = Some(Err(RunFault::Stuck));
+    let stuck = Some(Err(WalkFault::Stuck));
     let rows: [(&[(u32, &[u8])], End); 9] = [
         (&[], Some(Ok((0, 4)))),
         (&[(0, &[1, 2, 3, 4])], Some(Ok((0x0403_0201, 4)))),
@@ -211,9 +213,9 @@ const CHANGES: [Step; 10] = [
 
 /// Two calls over one scratch.
 fn ends_of_two(alloc: Heap, valid: &Valid) -> Option<[i64; 2]> {
-    let mut scratch = Scratch::new(alloc, valid).ok()?;
-    let first = run(alloc, valid, &VERTEX, &mut scratch, ENOUGH).ok()?;
-    let second = run(alloc, valid, &VERTEX, &mut scratch, ENOUGH).ok()?;
+    let mut scratch = Scratch::of(alloc, valid.module()).ok()?;
+    let first = answer(alloc, valid.module(), &VERTEX, &mut scratch, ENOUGH).ok()?;
+    let second = answer(alloc, valid.module(), &VERTEX, &mut scratch, ENOUGH).ok()?;
     Some([first.value, second.value])
 }
 

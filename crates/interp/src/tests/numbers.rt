@@ -1,19 +1,19 @@
 //! Operations on numbers, and operands that they pick.
 
 use super::{GET_VALUE, SET_VALUE, Step, end_of_body, value_of_body};
-use crate::RunFault;
+use crate::fault::WalkFault;
 use std::alloc::Global as Heap;
 use wasm_ast::{
     Binary, Comparison, Conversion, Division, Numeric, Plain, Unary, ValType, Value, Variable,
 };
 
-const TRAP: Option<Result<i64, RunFault>> = Some(Err(RunFault::Trap));
+const TRAP: Option<Result<i64, WalkFault>> = Some(Err(WalkFault::Trap));
 
 const SIGNED: Step = Step::Numeric(Numeric::Conversion(Conversion::ExtendS));
 
 const UNSIGNED: Step = Step::Numeric(Numeric::Conversion(Conversion::ExtendU));
 
-fn of_i32(alloc: Heap, x: u32, y: u32, op: Numeric) -> Option<Result<i64, RunFault>> {
+fn of_i32(alloc: Heap, x: u32, y: u32, op: Numeric) -> Option<Result<i64, WalkFault>> {
     let steps = [
         Step::I32(x),
         Step::I32(y),
@@ -24,7 +24,7 @@ fn of_i32(alloc: Heap, x: u32, y: u32, op: Numeric) -> Option<Result<i64, RunFau
     value_of_body(alloc, &steps)
 }
 
-fn of_i64(alloc: Heap, x: u64, y: u64, op: Numeric) -> Option<Result<i64, RunFault>> {
+fn of_i64(alloc: Heap, x: u64, y: u64, op: Numeric) -> Option<Result<i64, WalkFault>> {
     let steps = [Step::I64(x), Step::I64(y), Step::Numeric(op), SET_VALUE];
     value_of_body(alloc, &steps)
 }
@@ -109,7 +109,7 @@ fn two_operands(rt: HostRuntime) {
     }
 }
 
-fn compared(alloc: Heap, op: Comparison) -> Option<Result<i64, RunFault>> {
+fn compared(alloc: Heap, op: Comparison) -> Option<Result<i64, WalkFault>> {
     let steps = [
         Step::I64(u64::MAX),
         Step::I64(1),

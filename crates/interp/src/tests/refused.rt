@@ -4,7 +4,7 @@ use super::{
     EMPTY, End, Step, VERTEX, constant, export, fill, function, import, imports, name, one,
     run_once,
 };
-use crate::RunFault;
+use crate::fault::WalkFault;
 use std::alloc::{AllocError, Global as Heap};
 use validate::{Valid, validate};
 use wasm_ast::{
@@ -288,14 +288,14 @@ fn modules_that_are_not_called(rt: HostRuntime) {
         Change::DataPastTheEnd,
     ] {
         let end = end_after(rt.alloc(), change, 0);
-        assert_eq!(rt; end, Some(Err(RunFault::Stuck)), "{change:?}");
+        assert_eq!(rt; end, Some(Err(WalkFault::Stuck)), "{change:?}");
     }
 }
 
 #[test]
 fn calls_through_a_table(rt: HostRuntime) {
     let end = end_after(rt.alloc(), Change::CallIndirect, 1);
-    assert_eq!(rt; end, Some(Err(RunFault::Budget)));
+    assert_eq!(rt; end, Some(Err(WalkFault::Budget)));
     let end = end_after(rt.alloc(), Change::CallIndirect, 2);
-    assert_eq!(rt; end, Some(Err(RunFault::Stuck)));
+    assert_eq!(rt; end, Some(Err(WalkFault::Stuck)));
 }

@@ -7,7 +7,7 @@ ghost use Rattle.interp.specs.Machine.{Stuck, arrive, back, branch_unless_zero, 
 ghost use Rattle.interp.specs.Meaning.{layers_of, Ordered, floor_of};
 ghost use Rattle.interp.specs.Walk.{Turned};
 
-use crate::fault::RunFault;
+use crate::fault::WalkFault;
 use crate::layers::{Layer, pop_layer};
 use crate::locals::Locals;
 use crate::operands::Operands;
@@ -17,7 +17,7 @@ use wasm_ast::Branch;
 impl<'a, 'b> Walk<'a, 'b> {
     /// An instruction that goes on elsewhere.
     #[inline]
-    pub fn branch(&mut self, branch: &Branch) -> Result<Turn, RunFault>
+    pub fn branch(&mut self, branch: &Branch) -> Result<Turn, WalkFault>
         ensures { Turned result (take_branch branch.now self.old.values self.old.code self.old.layers self.old.state) self.new }
     {
         match branch {
@@ -29,7 +29,7 @@ impl<'a, 'b> Walk<'a, 'b> {
     }
 
     #[inline]
-    fn branch_if(&mut self, label: u32) -> Result<Turn, RunFault>
+    fn branch_if(&mut self, label: u32) -> Result<Turn, WalkFault>
         ensures { Turned result (taking self.old.values self.old.state.count (λ n us. branch_unless_zero n label us self.old.code self.old.layers self.old.state)) self.new }
     {
         if self.operands.pop_i32()? == 0 {
@@ -39,7 +39,7 @@ impl<'a, 'b> Walk<'a, 'b> {
         }
     }
 
-    fn branch_by(&mut self, labels: &[u32], other: u32) -> Result<Turn, RunFault>
+    fn branch_by(&mut self, labels: &[u32], other: u32) -> Result<Turn, WalkFault>
         ensures { Turned result (taking self.old.values self.old.state.count (λ n us. jump (label_of labels.now n other) (first us) self.old.layers self.old.state)) self.new }
     {
         let place = self.operands.pop_i32()?;
@@ -47,18 +47,18 @@ impl<'a, 'b> Walk<'a, 'b> {
     }
 
     /// To a label.
-    fn jump(&mut self, label: u32) -> Result<Turn, RunFault>
+    fn jump(&mut self, label: u32) -> Result<Turn, WalkFault>
         ensures { Turned result (jump label (first self.old.values) self.old.layers self.old.state) self.new }
     {
         let top = self.operands.top();
         if !unwind(&mut self.layers, &mut self.operands, &self.locals, label) {
-            return Err(RunFault::Stuck);
+            return Err(WalkFault::Stuck);
         }
         self.arrive(top)
     }
 
     /// Out of the innermost frame.
-    fn back(&mut self) -> Result<Turn, RunFault>
+    fn back(&mut self) -> Result<Turn, WalkFault>
         ensures { Turned result (back (first self.old.values) self.old.layers self.old.state) self.new }
     {
         let top = self.operands.top();

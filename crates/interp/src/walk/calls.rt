@@ -5,7 +5,7 @@ ghost use Rattle.interp.specs.Machine.{enter, functions_of, take_call};
 ghost use Rattle.interp.specs.Meaning.{AreImports};
 ghost use Rattle.interp.specs.Walk.{Turned};
 
-use crate::fault::RunFault;
+use crate::fault::WalkFault;
 use crate::layers::{Layer, push_layer};
 use crate::program::{Callee, Program};
 use crate::walk::{Turn, Walk};
@@ -13,23 +13,23 @@ use wasm_ast::{FuncType, Function};
 
 impl<'a, 'b> Walk<'a, 'b> {
     /// A call of the function with this number.
-    pub fn call(&mut self, program: Program<'a>, number: u32) -> Result<Turn, RunFault>
+    pub fn call(&mut self, program: Program<'a>, number: u32) -> Result<Turn, WalkFault>
         requires { AreImports program.calls.now program.«module».now }
         ensures { Turned result (take_call program.entry.«module».now (slice_get (functions_of program.entry.«module».now) number) self.old.values self.old.code self.old.layers self.old.state) self.new }
     {
         match program.callee(number) {
-            None => Err(RunFault::Stuck),
+            None => Err(WalkFault::Stuck),
             Some(Callee::Host(call)) => self.act_host(call),
             Some(Callee::Defined(function)) => self.enter(program, function),
         }
     }
 
-    fn enter(&mut self, program: Program<'a>, function: &'a Function) -> Result<Turn, RunFault>
+    fn enter(&mut self, program: Program<'a>, function: &'a Function) -> Result<Turn, WalkFault>
         ensures { Turned result (enter function.now (slice_get program.entry.«module».now.types function.now.type_number) self.old.values self.old.code self.old.layers self.old.state) self.new }
     {
         let types = program.module.types.as_slice();
         match types.get(function.type_number as usize) {
-            None => Err(RunFault::Stuck),
+            None => Err(WalkFault::Stuck),
             Some(func_type) => self.enter_typed(function, func_type),
         }
     }
@@ -38,14 +38,14 @@ impl<'a, 'b> Walk<'a, 'b> {
         &mut self,
         function: &'a Function,
         func_type: &FuncType,
-    ) -> Result<Turn, RunFault>
+    ) -> Result<Turn, WalkFault>
         ensures { Turned result (enter function.now (Some func_type.now) self.old.values self.old.code self.old.layers self.old.state) self.new }
     {
         let count = func_type.parameters.as_slice().len();
         let keeps = !func_type.results.as_slice().is_empty();
         let base = self.locals.base();
         match self.operands.topmost(count) {
-            None => return Err(RunFault::Stuck),
+            None => return Err(WalkFault::Stuck),
             Some(arguments) => self.locals.open(arguments)?,
         }
         self.locals.add(function.locals.as_slice())?;

@@ -5,14 +5,14 @@ ghost use Rattle.wasm_ast.specs.View.{code_of};
 ghost use Rattle.interp.specs.Machine.{Running, Label, arrive, arm, leave, taking};
 ghost use Rattle.interp.specs.Walk.{Turned};
 
-use crate::fault::RunFault;
+use crate::fault::WalkFault;
 use crate::layers::{Layer, pop_layer, push_layer};
 use crate::walk::{Turn, Walk};
 use wasm_ast::{Body, Instr, Value};
 
 impl<'a, 'b> Walk<'a, 'b> {
     /// Goes on at the innermost label or frame, with an operand.
-    pub fn arrive(&mut self, top: Option<Value>) -> Result<Turn, RunFault>
+    pub fn arrive(&mut self, top: Option<Value>) -> Result<Turn, WalkFault>
         ensures { Turned result (arrive top self.old.layers self.old.state) self.new }
     {
         match pop_layer(&mut self.layers) {
@@ -30,7 +30,7 @@ impl<'a, 'b> Walk<'a, 'b> {
                 if self.operands.carry(keeps, top)? {
                     Ok(Turn::Next)
                 } else {
-                    Err(RunFault::Stuck)
+                    Err(WalkFault::Stuck)
                 }
             }
             Some(
@@ -47,7 +47,7 @@ impl<'a, 'b> Walk<'a, 'b> {
                 if self.operands.carry(keeps, top)? {
                     Ok(Turn::Next)
                 } else {
-                    Err(RunFault::Stuck)
+                    Err(WalkFault::Stuck)
                 }
             }
         }
@@ -55,7 +55,7 @@ impl<'a, 'b> Walk<'a, 'b> {
 
     /// Goes on after the innermost label or frame.
     #[inline]
-    pub fn leave(&mut self) -> Result<Turn, RunFault>
+    pub fn leave(&mut self) -> Result<Turn, WalkFault>
         ensures { Turned result (leave self.old.values self.old.layers self.old.state) self.new }
     {
         match pop_layer(&mut self.layers) {
@@ -88,7 +88,7 @@ impl<'a, 'b> Walk<'a, 'b> {
         keeps: bool,
         target: &'a [Instr],
         body: &'a Body,
-    ) -> Result<Turn, RunFault>
+    ) -> Result<Turn, WalkFault>
         ensures { Turned result (Running [] body.now (Label keeps self.old.values (code_of target.now) self.old.code ∷ self.old.layers) self.old.state) self.new }
     {
         let floor = self.operands.floor();
@@ -111,7 +111,7 @@ impl<'a, 'b> Walk<'a, 'b> {
         keeps: bool,
         then_body: &'a Body,
         else_body: &'a Body,
-    ) -> Result<Turn, RunFault>
+    ) -> Result<Turn, WalkFault>
         ensures { Turned result (taking self.old.values self.old.state.count (λ n us. Running [] (arm n then_body.now else_body.now) (Label keeps us self.old.code self.old.code ∷ self.old.layers) self.old.state)) self.new }
     {
         if self.operands.pop_i32()? == 0 {

@@ -1,0 +1,114 @@
+-- What instructions do that branch, or hold code.
+use Rattle.std.proofs.Common.{◌≡◌, ℕ, zero, suc, ◌+◌, ◌-◌, ◌≤◌, max, List, [], ◌∷◌, ◌++◌, length, Option, Some, None, refl, sym, ap, ◌∙◌, subst, arith}
+use Rattle.std.specs.List.{AllByRecursion}
+use Rattle.wasm_ast.specs.declared.types.ValType.{ValType}
+use Rattle.wasm_ast.specs.declared.types.ValType.TheVariants as val_type
+use Rattle.wasm_ast.specs.declared.types.Value.{Value}
+use Rattle.wasm_ast.specs.declared.plain.Branch.TheVariants as branch
+use Rattle.wasm_ast.specs.declared.module.Module.{Module}
+use Rattle.wasm_ast.specs.Code.{Code}
+use Rattle.wasm_ast.specs.Code as code
+use Rattle.bounded_profile.specs.declared.wants.Want.TheVariants as want
+use Rattle.bounded_profile.specs.Kinds.{Kind, kinds, wants, AllForget}
+use Rattle.bounded_profile.specs.Memory.{memory_bytes, number_of}
+use Rattle.bounded_profile.specs.Known.{Context, LabelTakes, BranchKnown, Changes}
+use Rattle.interp.specs.Configuration.{State, tick, Effect}
+use Rattle.interp.specs.Machine.{Layer, Label, Machine, Running, Stuck, jump, first, label_of, branch_unless_zero, has_result, arm, after_effect, advance}
+use Rattle.interp.specs.Heights.{beneath, callers}
+use Rattle.interp.proofs.Values.{HasKinds, IsTop, Takes, takes, top_is, popped_any, forget_all}
+use Rattle.interp.proofs.Sound.{Sound, Given, ticked}
+use Rattle.interp.proofs.Plains.{context}
+use Rattle.interp.proofs.Reach.{IsLow, arrives, Fits, Exit, Falls, Branches, Returns, Reach, Reaches, GoodCode, comes_one, larger, block}
+
+module _ (m : Module) (H F : ℕ) where
+  -- an instruction that only gives an effect
+  pub acts : (c : Context) (x : Machine) (effect : Effect) (n : ℕ) (is : Code) (ls : List Layer) (st : State) (to : List Kind) → IsLow H F x → advance m x ≡ after_effect effect is ls n → Given m c.locals effect (tick 1 st) to → Reaches m H F c 1 x is ls st to
+  acts c x effect n is ls st to low e g =
+      (Falls g.values, record { final = g.state; steps = 1; by = comes_one m H F x _ low (e ∙ ap (λ (y : Effect). after_effect y is ls n) g.gives); fits = g.kinds; sound = g.sound; taken = g.taken; items = g.items; cost = omega (arith, g.counts); short = omega (arith, g.counts) })
+
+  -- what is forgotten of the operands that are left
+  pub forgets : (c : Context) (s : ℕ) (x : Machine) (is : Code) (ls : List Layer) (st : State) (given mid : List Kind) → AllForget given mid → Reaches m H F c s x is ls st given → Reaches m H F c s x is ls st mid
+  forgets c s x is ls st given mid a p = (p.0, forgotten p.0 p.1)
+    where
+      forgotten : (e : Exit) → Reach m H F c s x is ls st given e → Reach m H F c s x is ls st mid e
+      forgotten (Falls vs) q = record { final = q.final; steps = q.steps; by = q.by; fits = forget_all vs given mid a q.fits; sound = q.sound; taken = q.taken; items = q.items; cost = q.cost; short = q.short }
+      forgotten (Branches l top) q = record { final = q.final; steps = q.steps; by = q.by; fits = q.fits; sound = q.sound; taken = q.taken; items = q.items; cost = q.cost; short = q.short }
+      forgotten (Returns top) q = record { final = q.final; steps = q.steps; by = q.by; fits = q.fits; sound = q.sound; taken = q.taken; items = q.items; cost = q.cost; short = q.short }
+
+  -- ---- branches
+
+  exits : (c : Context) (e : Exit) (x : Machine) (is : Code) (ls : List Layer) (st : State) (to : List Kind) → IsLow H F x → advance m x ≡ arrives e is ls (tick 1 st) → Fits c to e → Sound m c.locals st → Reaches m H F c 1 x is ls st to
+  exits c e x is ls st to low a fits s =
+      (e, record { final = tick 1 st; steps = 1; by = comes_one m H F x _ low a; fits = fits; sound = ticked m c.locals st s; taken = 0; items = omega arith; cost = omega arith; short = omega arith })
+
+  -- operands that a branch wants stay where it is not taken
+  stay : (t : Option ValType) (us ws : List Value) (below : List Kind) → Takes (memory_bytes m) (wants t) us ws → HasKinds ws below → HasKinds us (kinds t ++ below)
+  stay None us ws below k h = subst (λ (xs : List Value). HasKinds xs below) (sym k) h
+  stay (Some u) [] ws below k h = absurd k
+  stay (Some u) (v ∷ us) ws below k h = (k.0, subst (λ (xs : List Value). HasKinds xs below) (sym k.1) h)
+
+  top_taken : (t : Option ValType) (us ws : List Value) → Takes (memory_bytes m) (wants t) us ws → IsTop t (first us)
+  top_taken None us ws k = tt
+  top_taken (Some u) [] ws k = absurd k
+  top_taken (Some u) (v ∷ us) ws k = k.0
+
+  label_typed : (c : Context) (t : Option ValType) (labels : List ℕ) (other n : ℕ) → AllByRecursion (LabelTakes c t) labels → LabelTakes c t other → LabelTakes c t (label_of labels n other)
+  label_typed c t [] other n a b = b
+  label_typed c t (l ∷ labels) other zero a b = a.0
+  label_typed c t (l ∷ labels) other (suc n) a b = label_typed c t labels other n a.1 b
+
+  module _ (lo : List ValType) (o : Option ValType) (labels : List (Option ValType)) where
+    may_branch : (l : ℕ) (t : Option ValType) (us ws : List Value) (is : Code) (ls : List Layer) (st : State) (x : Machine) (below : List Kind) → LabelTakes (context m lo o labels) t l → Takes (memory_bytes m) (wants t) us ws → HasKinds ws below → IsLow H F x → Sound m lo st → (n : ℕ) → advance m x ≡ branch_unless_zero n l us is ls (tick 1 st) → Reaches m H F (context m lo o labels) 1 x is ls st (kinds t ++ below)
+    may_branch l t us ws is ls st x below e k h low s zero a = exits (context m lo o labels) (Falls us) x is ls st (kinds t ++ below) low a (stay t us ws below k h) s
+    may_branch l t us ws is ls st x below e k h low s (suc n) a = exits (context m lo o labels) (Branches l (first us)) x is ls st (kinds t ++ below) low a (t, e, top_taken t us ws k) s
+
+    -- whatever would come next
+    pub br_good : (l : ℕ) (from given to : List Kind) → BranchKnown (context m lo o labels) (branch.Br l) from given → (vs : List Value) (is next : Code) (ls : List Layer) (st : State) → HasKinds vs from → Sound m lo st → IsLow H F (Running vs (code.branch (branch.Br l) is) ls st) → Reaches m H F (context m lo o labels) 1 (Running vs (code.branch (branch.Br l) is) ls st) next ls st to
+    br_good l from given to i vs is next ls st h s low =
+        exits (context m lo o labels) (Branches l (first vs)) (Running vs (code.branch (branch.Br l) is) ls st) next ls st to low refl (i.0, i.1, top_is (memory_bytes m) i.0 vs from i.2.0 i.2.1 h) s
+
+    pub br_if_good : (l : ℕ) (from given : List Kind) → BranchKnown (context m lo o labels) (branch.BrIf l) from given → (vs : List Value) (is : Code) (ls : List Layer) (st : State) → HasKinds vs from → Sound m lo st → IsLow H F (Running vs (code.branch (branch.BrIf l) is) ls st) → Reaches m H F (context m lo o labels) 1 (Running vs (code.branch (branch.BrIf l) is) ls st) is ls st given
+    br_if_good l from given i vs is ls st h s low = taken vs h low
+      where
+        taken : (vs : List Value) → HasKinds vs from → IsLow H F (Running vs (code.branch (branch.BrIf l) is) ls st) → Reaches m H F (context m lo o labels) 1 (Running vs (code.branch (branch.BrIf l) is) ls st) is ls st given
+        taken [] h low = let r = takes (memory_bytes m) (want.Value val_type.I32 ∷ wants i.0) [] from i.2.0 i.2.1 h in absurd r.1
+        taken (v ∷ us) h low =
+            let r = takes (memory_bytes m) (want.Value val_type.I32 ∷ wants i.0) (v ∷ us) from i.2.0 i.2.1 h in
+            let e = popped_any (Stuck (st.count + 1)) val_type.I32 v us (λ n ws. branch_unless_zero n l ws is ls (tick 1 st)) r.1.0 in
+            subst (Reaches m H F (context m lo o labels) 1 (Running (v ∷ us) (code.branch (branch.BrIf l) is) ls st) is ls st) (sym i.2.2) (may_branch l i.0 us r.0 is ls st (Running (v ∷ us) (code.branch (branch.BrIf l) is) ls st) i.2.0 i.1 r.1.1 r.2 low s (number_of v) e)
+
+    pub table_good : (table : List ℕ) (l : ℕ) (from given to : List Kind) → BranchKnown (context m lo o labels) (branch.BrTable table l) from given → (vs : List Value) (is next : Code) (ls : List Layer) (st : State) → HasKinds vs from → Sound m lo st → IsLow H F (Running vs (code.branch (branch.BrTable table l) is) ls st) → Reaches m H F (context m lo o labels) 1 (Running vs (code.branch (branch.BrTable table l) is) ls st) next ls st to
+    table_good table l from given to i vs is next ls st h s low = taken vs h low
+      where
+        taken : (vs : List Value) → HasKinds vs from → IsLow H F (Running vs (code.branch (branch.BrTable table l) is) ls st) → Reaches m H F (context m lo o labels) 1 (Running vs (code.branch (branch.BrTable table l) is) ls st) next ls st to
+        taken [] h low = let r = takes (memory_bytes m) (want.Value val_type.I32 ∷ wants i.0) [] from i.2.1.0 i.2.1.1 h in absurd r.1
+        taken (v ∷ us) h low =
+            let r = takes (memory_bytes m) (want.Value val_type.I32 ∷ wants i.0) (v ∷ us) from i.2.1.0 i.2.1.1 h in
+            let e = popped_any (Stuck (st.count + 1)) val_type.I32 v us (λ n ws. jump (label_of table n l) (first ws) ls (tick 1 st)) r.1.0 in
+            exits (context m lo o labels) (Branches (label_of table (number_of v) l) (first us)) (Running (v ∷ us) (code.branch (branch.BrTable table l) is) ls st) next ls st to low e (i.0, label_typed (context m lo o labels) i.0 table l (number_of v) i.2.0 i.1, top_taken i.0 us r.0 r.1.1) s
+
+    pub return_good : (from given to : List Kind) → BranchKnown (context m lo o labels) branch.Return from given → (vs : List Value) (is next : Code) (ls : List Layer) (st : State) → HasKinds vs from → Sound m lo st → IsLow H F (Running vs (code.branch branch.Return is) ls st) → Reaches m H F (context m lo o labels) 1 (Running vs (code.branch branch.Return is) ls st) next ls st to
+    return_good from given to i vs is next ls st h s low =
+        exits (context m lo o labels) (Returns (first vs)) (Running vs (code.branch branch.Return is) ls st) next ls st to low refl (top_is (memory_bytes m) o vs from i.0 i.1 h) s
+
+    -- ---- if
+
+    module _ (t : Option ValType) (a b : Code) (sa sb ha hb r : ℕ) (ga : GoodCode m H F (context m lo o (t ∷ labels)) sa ha r a [] (kinds t)) (gb : GoodCode m H F (context m lo o (t ∷ labels)) sb hb r b [] (kinds t)) (one : 1 ≤ r) (is : Code) (ls : List Layer) (shallow : callers ls + r ≤ F) where
+      arm_taken : (v : Value) (us : List Value) (st : State) (below : List Kind) → HasKinds us below → Sound m lo st → beneath ls + (length us + max ha hb) ≤ H → length (kinds t) + (length us + beneath ls) ≤ H → IsLow H F (Running (v ∷ us) (code.choice t a b is) ls st) → (n : ℕ) → advance m (Running (v ∷ us) (code.choice t a b is) ls st) ≡ Running [] (arm n a b) (Label (has_result t) us is is ∷ ls) (tick 1 st) → Reaches m H F (context m lo o labels) (1 + (sa + sb)) (Running (v ∷ us) (code.choice t a b is) ls st) is ls st (kinds t ++ below)
+      arm_taken v us st below h s room after low zero e =
+          let inner = Label (has_result t) us is is ∷ ls in
+          let q = gb [] inner (tick 1 st) tt (ticked m lo st s) (omega (arith, room)) shallow in
+          let c = subst (λ (y : Machine). Reach m H F (context m lo o (t ∷ labels)) sb y code.end inner (tick 1 st) (kinds t) q.0) (sym e) q.1 in
+          larger m H F (context m lo o labels) (1 + sb) (1 + (sa + sb)) _ is ls st _ (omega arith) (block m H F (context m lo o labels) t sb (Running (v ∷ us) (code.choice t a b is) ls st) us is ls st below q.0 c h low after (omega (arith, shallow, one)))
+      arm_taken v us st below h s room after low (suc n) e =
+          let inner = Label (has_result t) us is is ∷ ls in
+          let q = ga [] inner (tick 1 st) tt (ticked m lo st s) (omega (arith, room)) shallow in
+          let c = subst (λ (y : Machine). Reach m H F (context m lo o (t ∷ labels)) sa y code.end inner (tick 1 st) (kinds t) q.0) (sym e) q.1 in
+          larger m H F (context m lo o labels) (1 + sa) (1 + (sa + sb)) _ is ls st _ (omega arith) (block m H F (context m lo o labels) t sa (Running (v ∷ us) (code.choice t a b is) ls st) us is ls st below q.0 c h low after (omega (arith, shallow, one)))
+
+      pub choice_good : (from given : List Kind) → Changes (context m lo o labels) (want.Value val_type.I32 ∷ []) (kinds t) from given → (vs : List Value) (st : State) → HasKinds vs from → Sound m lo st → beneath ls + (length vs - 1 + max ha hb) ≤ H → length (kinds t) + (length vs - 1 + beneath ls) ≤ H → IsLow H F (Running vs (code.choice t a b is) ls st) → Reaches m H F (context m lo o labels) (1 + (sa + sb)) (Running vs (code.choice t a b is) ls st) is ls st given
+      choice_good from given i [] st h s room after low = let r = takes (memory_bytes m) (want.Value val_type.I32 ∷ []) [] from i.0 i.1 h in absurd r.1
+      choice_good from given i (v ∷ us) st h s room after low =
+          let r = takes (memory_bytes m) (want.Value val_type.I32 ∷ []) (v ∷ us) from i.0 i.1 h in
+          let e = popped_any (Stuck (st.count + 1)) val_type.I32 v us (λ n ws. Running [] (arm n a b) (Label (has_result t) ws is is ∷ ls) (tick 1 st)) r.1.0 in
+          subst (Reaches m H F (context m lo o labels) (1 + (sa + sb)) (Running (v ∷ us) (code.choice t a b is) ls st) is ls st) (sym i.2) (arm_taken v us st i.0 (subst (λ (ws : List Value). HasKinds ws i.0) (sym r.1.1) r.2) s (omega (arith, room)) (omega (arith, after)) low (number_of v) e)

@@ -1,0 +1,135 @@
+-- How code is left, and by which steps the machine comes there.
+-- A way out of code is the same whatever lies round it, so it passes outward through blocks as it is.
+use Rattle.std.proofs.Common.{◌≡◌, ℕ, zero, suc, ◌+◌, ◌*◌, ◌≤◌, List, ◌∷◌, ◌++◌, length, slice_get, Option, Some, refl, sym, ap, ◌∙◌, subst, arith}
+use Rattle.wasm_ast.specs.declared.types.ValType.{ValType}
+use Rattle.wasm_ast.specs.declared.types.Value.{Value}
+use Rattle.wasm_ast.specs.declared.module.Module.{Module}
+use Rattle.wasm_ast.specs.Code.{Code}
+use Rattle.wasm_ast.specs.Code as code
+use Rattle.bounded_profile.specs.Kinds.{Kind, kinds}
+use Rattle.bounded_profile.specs.Known.{Context, with_label}
+use Rattle.interp.specs.Configuration.{State, tick}
+use Rattle.interp.specs.Machine.{Layer, Label, Machine, Running, jump, back, landed, has_result, advance, run}
+use Rattle.interp.specs.Heights.{beneath, operands, callers, frames}
+use Rattle.interp.proofs.Values.{HasKinds, IsTop, kinds_length, kinds-append, carried, some_is}
+use Rattle.interp.proofs.Sound.{Sound, items_left}
+
+abbrev pub IsLow : ℕ → ℕ → Machine → Type 0
+IsLow H F x = (operands x ≤ H) × (frames x ≤ F)
+
+-- at none of these steps do too many operands or frames stand
+abbrev pub AllLow : Module → ℕ → ℕ → ℕ → Machine → Type 0
+AllLow m H F zero x = IsLow H F x
+AllLow m H F (suc n) x = IsLow H F x × AllLow m H F n (advance m x)
+
+-- the machine comes from one configuration to another in at most n steps, and stays low
+abbrev pub Comes : Module → ℕ → ℕ → ℕ → Machine → Machine → Type 0
+Comes m H F n x y =
+    (k : ℕ) → AllLow m H F k y → (j : ℕ) × (j ≤ k + n) × (run m j x ≡ run m k y) × AllLow m H F j x
+
+-- how code is left: at its end, by a branch, or by a return, with the operand on top
+pub data Exit : Type 0 where
+  Falls : (values : List Value) → Exit
+  Branches : (label : ℕ) (top : Option Value) → Exit
+  Returns : (top : Option Value) → Exit
+
+-- where that leads, with the code that follows and the layers round it
+abbrev pub arrives : Exit → Code → List Layer → State → Machine
+arrives (Falls vs) is ls st = Running vs is ls st
+arrives (Branches l top) is ls st = jump l top ls st
+arrives (Returns top) is ls st = back top ls st
+
+abbrev pub Fits : Context → List Kind → Exit → Type 0
+Fits c to (Falls vs) = HasKinds vs to
+Fits c to (Branches l top) = (t : Option ValType) × (slice_get c.labels l ≡ Some t) × IsTop t top
+Fits c to (Returns top) = IsTop c.outcome top
+
+-- from x, where the state is st, the exit is reached, and its cost is at most s times one more than the items taken
+pub record Reach (m : Module) (H F : ℕ) (c : Context) (s : ℕ) (x : Machine) (is : Code) (ls : List Layer) (st : State) (to : List Kind) (e : Exit) : Type 0 where
+  pub final : State
+  pub steps : ℕ
+  pub by : Comes m H F steps x (arrives e is ls final)
+  pub fits : Fits c to e
+  pub sound : Sound m c.locals final
+  pub taken : ℕ
+  pub items : items_left st.host ≡ taken + items_left final.host
+  pub cost : final.count ≤ st.count + s * (1 + taken)
+  pub short : steps + 2 * st.count ≤ 2 * final.count
+
+abbrev pub Reaches : Module → ℕ → ℕ → Context → ℕ → Machine → Code → List Layer → State → List Kind → Type 0
+Reaches m H F c s x is ls st to = (e : Exit) × Reach m H F c s x is ls st to e
+
+-- Code of these operands, this size s and this height h reaches an exit, whatever lies round it. So many frames, r, may
+-- stand in the function that runs.
+abbrev pub GoodCode : Module → ℕ → ℕ → Context → ℕ → ℕ → ℕ → Code → List Kind → List Kind → Type 0
+GoodCode m H F c s h r is from to =
+    (vs : List Value) (ls : List Layer) (st : State) → HasKinds vs from → Sound m c.locals st → beneath ls + h ≤ H → callers ls + r ≤ F → Reaches m H F c s (Running vs is ls st) code.end ls st to
+
+-- arithmetic on costs
+pub cost_more : (s s' a b t : ℕ) → s ≤ s' → b ≤ a + s * (1 + t) → b ≤ a + s' * (1 + t)
+cost_more s s' a b t h c = grind arith
+
+cost_seq : (s1 s2 a b c t1 t2 : ℕ) → b ≤ a + s1 * (1 + t1) → c ≤ b + s2 * (1 + t2) → c ≤ a + (s1 + s2) * (1 + (t1 + t2))
+cost_seq s1 s2 a b c t1 t2 h k = omega arith
+
+pub cost_tick : (s a b t : ℕ) → b ≤ a + 1 + s * (1 + t) → b ≤ a + (1 + s) * (1 + t)
+cost_tick s a b t h = omega arith
+
+pub cost_turn : (s a b d t u : ℕ) → 1 ≤ t → b ≤ a + 1 + s * t → d ≤ b + (1 + s) * (1 + u) → d ≤ a + (1 + s) * (1 + (t + u))
+cost_turn s a b d t u h k m = omega arith
+
+module _ (m : Module) (H F : ℕ) where
+  -- ---- steps
+
+  pub comes_on : (n o : ℕ) (x y z : Machine) → Comes m H F n x y → Comes m H F o y z → Comes m H F (n + o) x z
+  comes_on n o x y z f g k p = let b = g k p in let a = f b.0 b.3 in (a.0, omega (arith, a.1, b.1), a.2 ∙ b.2, a.3)
+
+  pub comes_first : (n : ℕ) (x z : Machine) → IsLow H F x → Comes m H F n (advance m x) z → Comes m H F (1 + n) x z
+  comes_first n x z low f k p = let a = f k p in (suc a.0, omega (arith, a.1), a.2, (low, a.3))
+
+  -- at the end of a way, one step more
+  pub comes_last : (n : ℕ) (x y z : Machine) → Comes m H F n x y → IsLow H F y → advance m y ≡ z → Comes m H F (n + 1) x z
+  comes_last n x y z f low e k p = let a = f (suc k) (low, subst (AllLow m H F k) (sym e) p) in (a.0, omega (arith, a.1), a.2 ∙ ap (run m k) e, a.3)
+
+  pub comes_to : (n : ℕ) (x y z : Machine) → Comes m H F n x y → y ≡ z → Comes m H F n x z
+  comes_to n x y z f e k p = let a = f k (subst (AllLow m H F k) (sym e) p) in (a.0, a.1, a.2 ∙ ap (run m k) e, a.3)
+
+  -- one step
+  pub comes_one : (x z : Machine) → IsLow H F x → advance m x ≡ z → Comes m H F 1 x z
+  comes_one x z low e k p = (suc k, omega arith, ap (run m k) e, (low, subst (AllLow m H F k) (sym e) p))
+
+  -- ---- ways
+
+  pub larger : (c : Context) (s s' : ℕ) (x : Machine) (is : Code) (ls : List Layer) (st : State) (to : List Kind) → s ≤ s' → Reaches m H F c s x is ls st to → Reaches m H F c s' x is ls st to
+  larger c s s' x is ls st to h r =
+      let q = r.1 in
+      (r.0, record { final = q.final; steps = q.steps; by = q.by; fits = q.fits; sound = q.sound; taken = q.taken; items = q.items; cost = cost_more s s' st.count q.final.count q.taken h q.cost; short = q.short })
+
+  -- from the end of one code on to the next
+  pub join : (c : Context) (s1 s2 : ℕ) (x : Machine) (is1 is : Code) (ls : List Layer) (st : State) (mid to : List Kind) (vs : List Value) (r : Reach m H F c s1 x is1 ls st mid (Falls vs)) → Reaches m H F c s2 (Running vs is1 ls r.final) is ls r.final to → Reaches m H F c (s1 + s2) x is ls st to
+  join c s1 s2 x is1 is ls st mid to vs r p =
+      let q = p.1 in
+      (p.0, record { final = q.final; steps = r.steps + q.steps; by = comes_on r.steps q.steps x _ _ r.by q.by; fits = q.fits; sound = q.sound; taken = r.taken + q.taken; items = omega (arith, r.items, q.items); cost = cost_seq s1 s2 _ _ _ r.taken q.taken r.cost q.cost; short = omega (arith, r.short, q.short) })
+
+  -- an instruction, and the code after it
+  pub sequence : (c : Context) (s1 s2 h d : ℕ) (x : Machine) (is : Code) (ls : List Layer) (st : State) (mid to : List Kind) (e : Exit) → Reach m H F c s1 x is ls st mid e → GoodCode m H F c s2 h d is mid to → beneath ls + h ≤ H → callers ls + d ≤ F → Reaches m H F c (s1 + s2) x code.end ls st to
+  sequence c s1 s2 h d x is ls st mid to (Falls vs) r g low shallow = join c s1 s2 x is code.end ls st mid to vs r (g vs ls r.final r.fits r.sound low shallow)
+  sequence c s1 s2 h d x is ls st mid to (Branches l top) r g low shallow =
+      (Branches l top, record { final = r.final; steps = r.steps; by = r.by; fits = r.fits; sound = r.sound; taken = r.taken; items = r.items; cost = cost_more s1 (s1 + s2) _ _ r.taken (omega arith) r.cost; short = r.short })
+  sequence c s1 s2 h d x is ls st mid to (Returns top) r g low shallow =
+      (Returns top, record { final = r.final; steps = r.steps; by = r.by; fits = r.fits; sound = r.sound; taken = r.taken; items = r.items; cost = cost_more s1 (s1 + s2) _ _ r.taken (omega arith) r.cost; short = r.short })
+
+  -- ---- blocks
+
+  -- a block, from its inside
+  pub block : (c : Context) (t : Option ValType) (s : ℕ) (x : Machine) (vs : List Value) (is : Code) (ls : List Layer) (st : State) (from : List Kind) (e : Exit) → Reach m H F (with_label t c) s (advance m x) code.end (Label (has_result t) vs is is ∷ ls) (tick 1 st) (kinds t) e → HasKinds vs from → IsLow H F x → length (kinds t) + (length vs + beneath ls) ≤ H → 1 + callers ls ≤ F → Reaches m H F c (1 + s) x is ls st (kinds t ++ from)
+  block c t s x vs is ls st from (Falls ws) q h low room shallow =
+      (Falls (ws ++ vs), record { final = q.final; steps = 1 + (q.steps + 1); by = comes_first (q.steps + 1) x _ low (comes_last q.steps (advance m x) _ _ q.by (omega (arith, kinds_length ws (kinds t) q.fits), shallow) refl); fits = kinds-append ws vs (kinds t) from q.fits h; sound = q.sound; taken = q.taken; items = q.items; cost = cost_tick s st.count q.final.count q.taken q.cost; short = omega (arith, q.short) })
+  block c t s x vs is ls st from (Branches zero top) q h low room shallow =
+      let same : q.fits.0 ≡ t = sym (some_is t q.fits.0 q.fits.1) in
+      let us = carried t top vs from (subst (λ (u : Option ValType). IsTop u top) same q.fits.2) h in
+      (Falls us.0, record { final = q.final; steps = 1 + q.steps; by = comes_first q.steps x _ low (comes_to q.steps (advance m x) _ _ q.by (ap (λ (o : Option (List Value)). landed o is ls q.final) us.1)); fits = us.2; sound = q.sound; taken = q.taken; items = q.items; cost = cost_tick s st.count q.final.count q.taken q.cost; short = omega (arith, q.short) })
+  block c t s x vs is ls st from (Branches (suc l) top) q h low room shallow =
+      (Branches l top, record { final = q.final; steps = 1 + q.steps; by = comes_first q.steps x _ low q.by; fits = q.fits; sound = q.sound; taken = q.taken; items = q.items; cost = cost_tick s st.count q.final.count q.taken q.cost; short = omega (arith, q.short) })
+  block c t s x vs is ls st from (Returns top) q h low room shallow =
+      (Returns top, record { final = q.final; steps = 1 + q.steps; by = comes_first q.steps x _ low q.by; fits = q.fits; sound = q.sound; taken = q.taken; items = q.items; cost = cost_tick s st.count q.final.count q.taken q.cost; short = omega (arith, q.short) })

@@ -1,0 +1,165 @@
+-- Every function by its rank, and what a compute call of a bounded module comes to.
+use Rattle.std.proofs.Common.{◌≡◌, ◌≢◌, ℕ, zero, suc, ◌+◌, ◌-◌, ◌*◌, ◌≤◌, ◌<◌, List, [], ◌∷◌, ◌++◌, map, slice_get, Option, Some, None, refl, sym, ap, ◌∙◌, subst, arith}
+use Rattle.std.proofs.lemmas.List.{length-map}
+use Rattle.std.specs.List.{AllByRecursion}
+use Rattle.wasm_ast.specs.declared.types.ValType.{ValType}
+use Rattle.wasm_ast.specs.declared.types.FuncType.{FuncType}
+use Rattle.wasm_ast.specs.declared.module.Function.{Function}
+use Rattle.wasm_ast.specs.declared.module.Module.{Module}
+use Rattle.wasm_ast.specs.Code.{Code}
+use Rattle.wasm_ast.specs.Code as code
+use Rattle.wasm_ast.specs.Limits.{imported_functions}
+use Rattle.host_calls.specs.declared.call.CallInput.{CallInput}
+use Rattle.host_calls.specs.Host.{seen_edge}
+use Rattle.validate.specs.Spaces.{first_type}
+use Rattle.validate.specs.Modules.{IsTyped}
+use Rattle.cost.specs.Calls.{calls_of}
+use Rattle.cost.specs.Heights.{most, height}
+use Rattle.cost.specs.Sizes.{AreSizes, code_size, size_in}
+use Rattle.bounded_profile.specs.Kinds.{kinds}
+use Rattle.bounded_profile.specs.Known.{Known, FunctionKnown}
+use Rattle.bounded_profile.specs.Profile.{IsBounded, asks_all, plain_type}
+use Rattle.bounded_profile.specs.Shapes.{Everywhere, NotIndirect, NotUnreachable, NotGrow, LoopOpens}
+use Rattle.bounded_profile.specs.Hosts.{host_call_at}
+use Rattle.bounded_profile.specs.Heights.{peak, peak_in, AreHeights}
+use Rattle.bounded_profile.specs.Facts.{AreDepths}
+use Rattle.interp.specs.Configuration.{State}
+use Rattle.interp.specs.Machine.{defined, Machine, Running, Done, Trapped, Stuck, advance, run}
+use Rattle.interp.specs.Start.{start_state}
+use Rattle.interp.specs.Bounded.{Ends, CallsEnd, items_of}
+use Rattle.interp.proofs.Values.{kinds_length, none_some, some_is, zeros_typed}
+use Rattle.interp.proofs.Sound.{Sound, items_left}
+use Rattle.interp.proofs.Callees.{IsDefinedFunction, is_defined, past_at}
+use Rattle.interp.proofs.Lengths.{all_at}
+use Rattle.interp.proofs.Reach.{IsLow, AllLow, Exit, Falls, Branches, Returns, Reach, GoodCode}
+use Rattle.interp.proofs.Calling.{inside}
+use Rattle.interp.proofs.Induction.{Fair, code_good}
+use Rattle.interp.proofs.Fairness.{fair, below_most}
+use Rattle.interp.proofs.Starting.{Begun, begun}
+
+-- ---- functions
+
+module _ (m : Module) (typed : IsTyped m) (bounded : IsBounded m) (sizes hs depths : ℕ → ℕ) (are_sizes : AreSizes m sizes) (are_heights : AreHeights m hs) (are_depths : AreDepths m depths) (H F : ℕ) where
+  abbrev GoodFunction : (f : ℕ) (t : FuncType) → Function → Type 0
+  GoodFunction f t g =
+      (1 ≤ depths f) × GoodCode m H F (inside m (t.parameters ++ g.locals) (first_type t.results)) (sizes f) (hs f) (depths f) g.body [] (kinds (first_type t.results))
+
+  body_known : (f : ℕ) (t : FuncType) (g : IsDefinedFunction m f t) → Known g.function.body (inside m (t.parameters ++ g.function.locals) (first_type t.results)) [] (kinds (first_type t.results))
+  body_known f t g =
+      let k = all_at (FunctionKnown asks_all m) m.functions (f - imported_functions m.imports) g.function bounded.constants g.in_module in
+      let same : k.0 ≡ t = some_is k.0 t (sym k.1 ∙ g.typed) in
+      subst (λ (u : FuncType). Known g.function.body (inside m (u.parameters ++ g.function.locals) (first_type u.results)) [] (kinds (first_type u.results))) same k.2
+
+  rule_at : (P : Code → Type 0) (f : ℕ) (t : FuncType) (g : IsDefinedFunction m f t) → AllByRecursion (λ (x : Function). Everywhere P x.body) m.functions → Everywhere P g.function.body
+  rule_at P f t g h = all_at (λ (x : Function). Everywhere P x.body) m.functions (f - imported_functions m.imports) g.function h g.in_module
+
+  body_fair : (f : ℕ) (t : FuncType) (g : IsDefinedFunction m f t) → depths f ≡ 1 + most depths (calls_of g.function.body) → Fair m depths (depths f) g.function.body
+  body_fair f t g e =
+      fair m depths (depths f) g.function.body (rule_at NotIndirect f t g bounded.direct) (rule_at NotUnreachable f t g bounded.reached) (rule_at NotGrow f t g bounded.steady) (rule_at (LoopOpens (host_call_at m)) f t g bounded.loops) (below_most depths (calls_of g.function.body) (depths f) (omega (arith, e)))
+
+  function_good : (n f : ℕ) (t : FuncType) (g : IsDefinedFunction m f t) → depths f < n → GoodFunction f t g.function
+  function_good zero f t g h = absurd (omega arith)
+  function_good (suc n) f t g h =
+      let d : depths f ≡ 1 + most depths (calls_of g.function.body) = are_depths f ∙ ap (λ (b : Option Code). height depths b) g.has_body in
+      let s : sizes f ≡ code_size sizes g.function.body = are_sizes f ∙ ap (λ (b : Option Code). size_in sizes b) g.has_body in
+      let p : hs f ≡ peak m hs g.function.body 0 = are_heights f ∙ ap (λ (b : Option Code). peak_in m hs b) g.has_body in
+      let one : 1 ≤ depths f = omega (arith, d) in
+      let good = code_good m bounded.imports typed.types H F sizes hs depths (t.parameters ++ g.function.locals) (first_type t.results) (depths f) one (λ f2 t2 less g2. function_good n f2 t2 g2 (omega (arith, less, h))) g.function.body (first_type t.results ∷ []) [] (kinds (first_type t.results)) (body_known f t g) (body_fair f t g d) in
+      let sized = subst (λ (k : ℕ). GoodCode m H F (inside m (t.parameters ++ g.function.locals) (first_type t.results)) k (peak m hs g.function.body 0) (depths f) g.function.body [] (kinds (first_type t.results))) (sym s) good in
+      (one, subst (λ (k : ℕ). GoodCode m H F (inside m (t.parameters ++ g.function.locals) (first_type t.results)) (sizes f) k (depths f) g.function.body [] (kinds (first_type t.results))) (sym p) sized)
+
+-- ---- ends of runs
+
+module _ (m : Module) where
+  -- a configuration that stays
+  stays : (n : ℕ) (x : Machine) → advance m x ≡ x → run m n x ≡ x
+  stays zero x e = refl
+  stays (suc n) x e = ap (run m n) e ∙ stays n x e
+
+  -- two that stay are not both reached
+  apart : (y z : Machine) → advance m y ≡ y → advance m z ≡ z → y ≢ z → (n k : ℕ) (x : Machine) → run m n x ≡ y → run m k x ≢ z
+  apart y z ey ez d zero k x h g = d (sym (stays k y ey) ∙ ap (run m k) (sym h) ∙ g)
+  apart y z ey ez d (suc n) zero x h g = d (sym h ∙ ap (λ (w : Machine). run m n (advance m w)) g ∙ ap (run m n) ez ∙ stays n z ez)
+  apart y z ey ez d (suc n) (suc k) x h g = apart y z ey ez d n k (advance m x) h g
+
+  done_trapped : (st : State) (n : ℕ) → Done st ≢ Trapped n
+  done_trapped st n e = absurd cc
+
+  done_stuck : (st : State) (n : ℕ) → Done st ≢ Stuck n
+  done_stuck st n e = absurd cc
+
+  -- a run that ends stays low
+  always_low : (H F : ℕ) (fin : State) (j n : ℕ) (x : Machine) → AllLow m H F j x → run m j x ≡ Done fin → IsLow H F (run m n x)
+  always_low H F fin zero n x a e =
+      let s : run m n x ≡ Done fin = ap (run m n) e ∙ stays n (Done fin) refl in
+      subst (IsLow H F) (sym s) (omega arith, omega arith)
+  always_low H F fin (suc j) zero x a e = a.0
+  always_low H F fin (suc j) (suc n) x a e = always_low H F fin j n (advance m x) a.1 e
+
+cost_all : (s a t k n : ℕ) → n ≡ t + k → a ≤ 0 + s * (1 + t) → a ≤ s * (1 + n)
+cost_all s a t k n e h = subst (λ (n : ℕ). a ≤ s * (1 + n)) (sym e) (there h)
+  where
+    there : a ≤ 0 + s * (1 + t) → a ≤ s * (1 + (t + k))
+    there h = omega arith
+
+module _ (m : Module) (H F s : ℕ) (locals : List ValType) (x : Machine) (st : State) (deep : 1 ≤ F) where
+  -- at an exit of the outermost code the machine is done
+  over : (e : Exit) (q : Reach m H F (inside m locals None) s x code.end [] st [] e) → (j : ℕ) × (j ≤ q.steps + 1) × (run m j x ≡ Done q.final) × AllLow m H F j x
+  over (Falls vs) q =
+      let n = kinds_length vs [] q.fits in
+      let a = q.by 1 ((omega (arith, n), omega (arith, deep)), (omega arith, omega arith)) in
+      (a.0, omega (arith, a.1), a.2, a.3)
+  over (Branches zero top) q = let a = q.by 0 (omega arith, omega arith) in (a.0, omega (arith, a.1), a.2, a.3)
+  over (Branches (suc l) top) q = absurd (none_some q.fits.0 q.fits.1)
+  over (Returns top) q = let a = q.by 0 (omega arith, omega arith) in (a.0, omega (arith, a.1), a.2, a.3)
+
+-- ---- the call
+
+-- the end of a call that reaches an exit
+ended : (m : Module) (typed : IsTyped m) (bounded : IsBounded m) (input : CallInput) (H F s : ℕ) (b : Begun m bounded.compute.function) → 1 ≤ F → (e : Exit)
+    → Reach m H F (inside m bounded.compute.function.locals None) s (Running [] bounded.compute.function.body [] (start_state bounded.compute.function b.globals b.bytes input)) code.end [] (start_state bounded.compute.function b.globals b.bytes input) [] e
+    → Ends m input (s * (1 + items_of input)) H F
+ended m typed bounded input H F s b deep e q =
+    let st = start_state bounded.compute.function b.globals b.bytes input in
+    let x = Running [] bounded.compute.function.body [] st in
+    let d = over m H F s bounded.compute.function.locals x st deep e q in
+    let edges = length-map input.edges.now seen_edge in
+    let all : items_of input ≡ q.taken + items_left q.final.host = omega (arith, q.items, edges) in
+    record {
+      first = x;
+      starts = record { function = bounded.compute.function; globals = b.globals; bytes = b.bytes; begins = b.begins; is = refl };
+      steps = d.0;
+      final = q.final;
+      done = d.2;
+      within = cost_all s q.final.count q.taken (items_left q.final.host) (items_of input) all q.cost;
+      short = omega (arith, q.short, d.1);
+      untrapped = λ n count. apart m (Done q.final) (Trapped count) refl refl (done_trapped m q.final count) d.0 n x d.2;
+      unstuck = λ n count. apart m (Done q.final) (Stuck count) refl refl (done_stuck m q.final count) d.0 n x d.2;
+      low = λ n. (always_low m H F q.final d.0 n x d.3 d.2).0;
+      shallow = λ n. (always_low m H F q.final d.0 n x d.3 d.2).1;
+    }
+
+compute_defined : (m : Module) (bounded : IsBounded m) → IsDefinedFunction m bounded.compute.number plain_type
+compute_defined m bounded =
+    let c = bounded.compute in
+    let k = c.number - imported_functions m.imports in
+    is_defined m c.number c.function.type_number plain_type c.typed (past_at m m.imports bounded.imports c.number c.function.type_number (map defined m.functions) (map (λ (g : Function). g.type_number) m.functions) c.past_imports (numbered m.functions k c.defined))
+  where
+    numbered : (fs : List Function) (k : ℕ) → slice_get fs k ≡ Some bounded.compute.function → slice_get (map (λ (g : Function). g.type_number) fs) k ≡ Some bounded.compute.function.type_number
+    numbered [] k e = absurd (none_some bounded.compute.function e)
+    numbered (g ∷ fs) zero e = ap (λ (h : Function). Some h.type_number) (some_is g bounded.compute.function e)
+    numbered (g ∷ fs) (suc k) e = numbered fs k e
+
+pub calls_end : (m : Module) → CallsEnd m
+calls_end m typed bounded sizes hs depths are_sizes are_heights are_depths input =
+    let c = bounded.compute in
+    let f = c.number in
+    let g = compute_defined m bounded in
+    let b = begun m typed bounded g in
+    let same : g.function ≡ c.function = some_is g.function c.function (sym g.in_module ∙ c.defined) in
+    let found = function_good m typed bounded sizes hs depths are_sizes are_heights are_depths (hs f) (depths f) (suc (depths f)) f plain_type g (omega arith) in
+    let good = subst (GoodFunction m typed bounded sizes hs depths are_sizes are_heights are_depths (hs f) (depths f) f plain_type) same found in
+    let st = start_state c.function b.globals b.bytes input in
+    let sound : Sound m c.function.locals st = record { locals_typed = zeros_typed c.function.locals; globals_typed = b.typed; bytes_there = b.long } in
+    let q = good.1 [] [] st tt sound (omega arith) (omega arith) in
+    ended m typed bounded input (hs f) (depths f) (sizes f) b good.0 q.0 q.1

@@ -7,13 +7,13 @@ ghost use Rattle.interp.specs.Meaning.{AreImports};
 ghost use Rattle.interp.specs.Place.{running};
 ghost use Rattle.interp.specs.Call.{IsOutcome, PassesBudget};
 
-use bounded_profile::Verified;
 use crate::fault::{RunFault, WalkFault};
 use crate::program::Program;
 use crate::rooms::Rooms;
 use crate::scratch::Scratch;
 use crate::start::begin;
 use crate::walk::Walk;
+use bounded_profile::Verified;
 use host_calls::{CallInput, CallOutcome};
 use std::alloc::Global;
 use wasm_ast::Module;

@@ -5,9 +5,9 @@ ghost use Rattle.std.specs.List.{AllByRecursion};
 ghost use Rattle.interp.specs.Meaning.{AreImports};
 ghost use Rattle.interp.specs.Start.{IsOfHost};
 
-use bounded_profile::Verified;
 use crate::rooms::Rooms;
 use crate::start::imported_calls;
+use bounded_profile::Verified;
 use host_calls::HostCall;
 use std::alloc::{AllocError, Global};
 use std::marker::Model;

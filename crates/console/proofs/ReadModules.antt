@@ -13,15 +13,14 @@ use Rattle.wasm_ast.specs.Representable.{IsRepresentable}
 use Rattle.validate.specs.declared.fault.ValidFault.{ValidFault}
 use Rattle.validate.specs.declared.fault.ValidFault.TheVariants as valid
 use Rattle.validate.specs.Modules.{IsTyped}
-use Rattle.console.specs.declared.fault.CallFault.TheVariants.{Invalid}
+use Rattle.bounded_profile.specs.Profile.{IsBounded}
+use Rattle.console.specs.declared.fault.CallFault.TheVariants.{Decode, Invalid, Unbounded}
 use Rattle.console.specs.declared.command_fault.CommandFault.{CommandFault}
 use Rattle.console.specs.declared.command_fault.CommandFault.TheVariants as command
 use Rattle.console.specs.Disk.{Disk}
-use Rattle.console.specs.Refusal.{of_decode_fault, of_valid_fault}
-use Rattle.console.specs.CommandFaults.{of_text_fault}
-use Rattle.console.specs.Modules.{IsLayoutOf, IsModuleAt, IsTakenFor, IsValidAt, MeansBy, is_text_path}
-use Rattle.console.specs.Program.{IsNoFile, IsNoModuleAt, IsNoTextAt, IsNotValidAt, IsUnread}
-use Rattle.console.proofs.Faults.{decode_refuses}
+use Rattle.console.specs.Modules.{IsLayoutOf, IsLoadedAt, IsModuleAt, IsTakenFor, MeansBy, is_text_path}
+use Rattle.console.specs.Program.{IsNoFile, IsNoModuleAt, IsNoTextAt, IsNotLoadedAt, IsUnread}
+use Rattle.console.proofs.Faults.{fails_for_memory}
 
 -- ---- binary
 
@@ -39,19 +38,18 @@ spelled_at disk path bytes seen m binary same held spelled = record {
 pub unread_at : (disk : Disk) (path : List ℕ) (fault : CommandFault) → is_text_path path ≡ false → IsUnread disk path fault → IsNoModuleAt disk path fault
 unread_at disk path (command.Call fault) binary unread = rw unread tt
 unread_at disk path (command.Text fault) binary unread = absurd unread
-unread_at disk path command.TooLong binary unread = absurd unread
+unread_at disk path (command.Encode fault) binary unread = absurd unread
 unread_at disk path (command.File missing) binary (same, none) = (same, subst (λ b. IsNoFile b disk path) (sym binary) none)
 
 -- the bytes spell no module
 pub misspelled_at : (disk : Disk) (path bytes seen : List ℕ) (fault : DecodeFault) → is_text_path path ≡ false → seen ≡ bytes
     → disk.holds path (Some bytes) → ((m : Module) → Spells seen m → Fails fault (found m))
-    → IsNoModuleAt disk path (command.Call (of_decode_fault fault))
-misspelled_at disk path bytes seen decode.OutOfMemory binary same held fails = tt
+    → IsNoModuleAt disk path (command.Call (Decode fault))
 misspelled_at disk path bytes seen fault binary same held fails = record {
   bytes = bytes;
   held = held;
   is_binary = binary;
-  refused = decode_refuses bytes fault (subst (λ bs. (m : Module) → Spells bs m → Fails fault (found m)) same fails);
+  refused = λ m spelled. fails_for_memory fault m (subst (λ bs. (m : Module) → Spells bs m → Fails fault (found m)) same fails m spelled);
 }
 
 -- ---- text
@@ -80,40 +78,31 @@ taken_at disk path content seen m is_text same held within clause = record {
 pub no_text_at : (disk : Disk) (path : List ℕ) (fault : CommandFault) → is_text_path path ≡ true → IsNoTextAt disk path fault → IsNoModuleAt disk path fault
 no_text_at disk path (command.Call fault) is_text unread = rw unread tt
 no_text_at disk path (command.Text fault) is_text unread = absurd unread
-no_text_at disk path command.TooLong is_text unread = absurd unread
+no_text_at disk path (command.Encode fault) is_text unread = absurd unread
 no_text_at disk path (command.File missing) is_text (same, none) = (same, subst (λ b. IsNoFile b disk path) (sym is_text) none)
 
 -- the text is no module's
 pub untaken_at : (disk : Disk) (path content seen : List ℕ) (fault : TextFault) → is_text_path path ≡ true → seen ≡ content
-    → disk.holds path (Some content) → Printed seen (λ n. fault ≡ text.OutOfMemory) → IsNoModuleAt disk path (of_text_fault fault)
-untaken_at disk path content seen text.OutOfMemory is_text same held clause = tt
+    → disk.holds path (Some content) → Printed seen (λ n. fault ≡ text.OutOfMemory) → IsNoModuleAt disk path (command.Text fault)
 untaken_at disk path content seen fault is_text same held clause = record {
   text = content;
   held = held;
   is_text = is_text;
-  refused = λ n is. let bad = printed content seen n (λ n. fault ≡ text.OutOfMemory) same clause is in absurd (cc);
+  refused = λ n is. printed content seen n (λ n. fault ≡ text.OutOfMemory) same clause is;
 }
 
--- ---- validity
+-- ---- validity and the profile
 
-pub not_module : (disk : Disk) (path : List ℕ) (fault : CommandFault) → IsNoModuleAt disk path fault → IsNotValidAt disk path fault
-not_module disk path (command.Call (Invalid broken place)) none = absurd none
+pub not_module : (disk : Disk) (path : List ℕ) (fault : CommandFault) → IsNoModuleAt disk path fault → IsNotLoadedAt disk path fault
+not_module disk path (command.Call (Invalid fault)) none = absurd none
+not_module disk path (command.Call (Unbounded fault)) none = absurd none
 not_module disk path fault none = none
 
-pub not_valid : (disk : Disk) (path : List ℕ) (m : Module) (fault : ValidFault) → IsModuleAt disk path m
-    → (IsTyped m → IsWithinLimits m → fault ≡ valid.OutOfMemory) → IsNotValidAt disk path (command.Call (of_valid_fault fault))
-not_valid disk path m (valid.Breaks broken place) read refused = record {
-  m = m;
-  read = read;
-  refused = λ both. let bad = refused both.0 both.1 in absurd (cc);
-}
-not_valid disk path m valid.OutOfMemory read refused = tt
-
-pub valid_at : (disk : Disk) (path : List ℕ) (m checked : Module) → checked ≡ m → IsModuleAt disk path m → IsTyped m × IsWithinLimits m
-    → IsValidAt disk path checked
-valid_at disk path m checked same read (typed, within) =
-    let here : IsValidAt disk path m = record { read = read; typed = typed; within = within } in
-    subst (λ (x : Module). IsValidAt disk path x) (sym same) here
+pub loaded_at : (disk : Disk) (path : List ℕ) (m loaded : Module) → loaded ≡ m → IsModuleAt disk path m → IsTyped m × IsWithinLimits m
+    → IsBounded m → IsLoadedAt disk path loaded
+loaded_at disk path m loaded same read (typed, within) bounded =
+    let here : IsLoadedAt disk path m = record { read = read; typed = typed; within = within; bounded = bounded } in
+    subst (λ (x : Module). IsLoadedAt disk path x) (sym same) here
 
 -- ---- limits
 

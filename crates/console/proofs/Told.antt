@@ -14,11 +14,11 @@ use Rattle.console.specs.declared.command_fault.CommandFault.TheVariants as comm
 use Rattle.console.specs.declared.program.ServeFault.{ServeFault}
 use Rattle.console.specs.declared.request.Options.{Options}
 use Rattle.console.specs.Lines.{line}
-use Rattle.console.specs.CommandFaults.{fault_text, of_encode_fault, status_of}
+use Rattle.console.specs.CommandFaults.{fault_text, status_of}
 use Rattle.console.specs.Disk.{Disk, Stays}
-use Rattle.console.specs.Modules.{IsModuleAt, IsValidAt}
+use Rattle.console.specs.Modules.{IsModuleAt, IsLoadedAt}
 use Rattle.console.specs.Engine.{Answers, RefusesText}
-use Rattle.console.specs.Program.{IsAssembleCause, IsCallCause, IsCause, IsNoTextAt, IsUnspelled, IsUnwritable, TellsLength, TellsOutcome, Told, length_line}
+use Rattle.console.specs.Program.{IsAssembleCause, IsBoundsLine, IsCallCause, IsCause, IsNoTextAt, IsUnspelled, IsUnwritable, TellsLength, TellsOutcome, Told, length_line}
 
 -- what is kept, and then grows, grows
 kept_appends : (old middle new : Option (List ℕ)) (bytes : List ℕ) → Keeps old middle → Appends middle new bytes → Appends old new bytes
@@ -46,36 +46,36 @@ no_text_before : (before after : Disk) (path : List ℕ) (fault : CommandFault) 
     → IsNoTextAt after path fault → IsNoTextAt before path fault
 no_text_before before after path (command.Call fault) stays is = is
 no_text_before before after path (command.Text fault) stays is = is
-no_text_before before after path command.TooLong stays is = is
+no_text_before before after path (command.Encode fault) stays is = is
 no_text_before before after path (command.File missing) stays (same, inl none) = (same, inl (stays.holds path None none))
 no_text_before before after path (command.File missing) stays (same, inr (bytes, has, bad)) = (same, inr (bytes, stays.holds path (Some bytes) has, bad))
 
--- the module is valid, and the input is no text
-pub without_input : (before after : Disk) (module_path input_path : List ℕ) (m : Module) (fault : CommandFault) → IsValidAt before module_path m
+-- the module is loaded, and the input is no text
+pub without_input : (before after : Disk) (module_path input_path : List ℕ) (m : Module) (fault : CommandFault) → IsLoadedAt before module_path m
     → Stays before after → IsNoTextAt after input_path fault → IsCallCause before module_path input_path fault
-without_input before after module_path input_path m fault valid stays is =
-    inr (inl (record { m = m; valid = valid; no_text = no_text_before before after input_path fault stays is }))
+without_input before after module_path input_path m fault loaded stays is =
+    inr (inl (record { m = m; loaded = loaded; no_text = no_text_before before after input_path fault stays is }))
 
--- the module is valid, and its call is refused
-pub call_refused : (before after : Disk) (module_path input_path text seen : List ℕ) (m : Module) (fault : CallFault) → IsValidAt before module_path m
+-- the module is loaded, and its call is refused
+pub call_refused : (before after : Disk) (module_path input_path text seen : List ℕ) (m : Module) (fault : CallFault) → IsLoadedAt before module_path m
     → Stays before after → after.holds input_path (Some text) → seen ≡ text → RefusesText m seen fault
     → IsCallCause before module_path input_path (command.Call fault)
-call_refused before after module_path input_path text seen m fault valid stays held same refused =
+call_refused before after module_path input_path text seen m fault loaded stays held same refused =
     inr (inr (record {
       m = m;
-      valid = valid;
+      loaded = loaded;
       text = text;
       has_input = stays.holds input_path (Some text) held;
       refused = subst (λ t. RefusesText m t fault) same refused;
     }))
 
 -- the module is called
-pub outcome_told : (before after : Disk) (module_path input_path text seen told : List ℕ) (m : Module) → IsValidAt before module_path m
+pub outcome_told : (before after : Disk) (module_path input_path text seen told : List ℕ) (m : Module) → IsLoadedAt before module_path m
     → Stays before after → after.holds input_path (Some text) → seen ≡ text → Answers m seen told
     → TellsOutcome before module_path input_path told
-outcome_told before after module_path input_path text seen told m valid stays held same answers = record {
+outcome_told before after module_path input_path text seen told m loaded stays held same answers = record {
   m = m;
-  valid = valid;
+  loaded = loaded;
   text = text;
   has_input = stays.holds input_path (Some text) held;
   answers = subst (λ t. Answers m t told) same answers;
@@ -86,15 +86,14 @@ outcome_told before after module_path input_path text seen told m valid stays he
 -- the module is not encoded
 pub not_encoded : (disk : Disk) (module_path binary_path : List ℕ) (m : Module) (fault : EncodeFault) → IsModuleAt disk module_path m
     → (fault ≡ encode.OverLimit → max_module_bytes < length (canonical m))
-    → IsAssembleCause disk module_path binary_path (of_encode_fault fault)
-not_encoded disk module_path binary_path m encode.OverLimit read over = inr (record { m = m; read = read; unspelled = over refl })
-not_encoded disk module_path binary_path m encode.OutOfMemory read over = inr (record { m = m; read = read; unspelled = inl refl })
+    → IsAssembleCause disk module_path binary_path (command.Encode fault)
+not_encoded disk module_path binary_path m fault read over = inr (record { m = m; read = read; unspelled = over })
 
 unwritable : (before after : Disk) (path : List ℕ) (m : Module) (fault : CommandFault) → Stays before after → IsUnwritable after path fault
     → IsUnspelled before path m fault
 unwritable before after path m (command.Call fault) stays is = inl is
 unwritable before after path m (command.Text fault) stays is = absurd is
-unwritable before after path m command.TooLong stays is = absurd is
+unwritable before after path m (command.Encode fault) stays is = absurd is
 unwritable before after path m (command.File refused) stays (same, refuses) = (same, stays.refuses path refuses)
 
 -- the module's spelling is not written

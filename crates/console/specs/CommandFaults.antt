@@ -1,4 +1,4 @@
--- Which fault of a command each fault below it is, and how it is told.
+-- How a fault of a command is told.
 use Rattle.std.specs.Prelude.{ℕ, List, ◌++◌, codes}
 use Rattle.std.specs.Fmt.{decimal}
 use Rattle.wasm_decode.specs.declared.encoder.fault.EncodeFault.{EncodeFault}
@@ -6,18 +6,9 @@ use Rattle.wasm_decode.specs.declared.encoder.fault.EncodeFault.TheVariants as e
 use Rattle.wat_asm.specs.declared.fault.Position.{Position}
 use Rattle.wat_asm.specs.declared.fault.TextFault.{TextFault}
 use Rattle.wat_asm.specs.declared.fault.TextFault.TheVariants as text
-use Rattle.console.specs.declared.fault.CallFault.TheVariants.{OutOfMemory}
 use Rattle.console.specs.declared.command_fault.CommandFault.{CommandFault}
 use Rattle.console.specs.declared.command_fault.CommandFault.TheVariants as command
 use Rattle.console.specs.Refusal.{refusal_text}
-
-abbrev pub of_text_fault : TextFault → CommandFault
-of_text_fault text.OutOfMemory = command.Call OutOfMemory
-of_text_fault fault = command.Text fault
-
-abbrev pub of_encode_fault : EncodeFault → CommandFault
-of_encode_fault encode.OverLimit = command.TooLong
-of_encode_fault encode.OutOfMemory = command.Call OutOfMemory
 
 -- a file's fault is a mistake of another kind than a refusal
 abbrev pub status_of : CommandFault → ℕ
@@ -39,10 +30,14 @@ text_fault_text (text.NumberRange place) = word_at_position (codes "NumberRange"
 text_fault_text (text.TypeUse place) = word_at_position (codes "TypeUse") place
 text_fault_text (text.Unsupported place) = word_at_position (codes "Unsupported") place
 text_fault_text (text.OverLimit place) = word_at_position (codes "OverLimit") place
-text_fault_text text.OutOfMemory = codes "OutOfMemory"
+text_fault_text text.OutOfMemory = codes "OutOfMemory - -"
+
+abbrev pub encode_word : EncodeFault → List ℕ
+encode_word encode.OverLimit = codes "OverLimit"
+encode_word encode.OutOfMemory = codes "OutOfMemory"
 
 abbrev pub fault_text : CommandFault → List ℕ
 fault_text (command.Call fault) = refusal_text fault
 fault_text (command.Text fault) = codes "no text " ++ text_fault_text fault
-fault_text command.TooLong = codes "no encode OverLimit"
+fault_text (command.Encode fault) = codes "no encode " ++ encode_word fault
 fault_text (command.File path) = codes "no file " ++ path.now

@@ -7,6 +7,7 @@ use Rattle.wasm_ast.specs.Representable.{IsRepresentable}
 use Rattle.wasm_decode.specs.Grammar.{Spells}
 use Rattle.wat_asm.specs.Layout.{HasBytes, layout}
 use Rattle.validate.specs.Modules.{IsTyped}
+use Rattle.bounded_profile.specs.Profile.{IsBounded}
 use Rattle.console.specs.Disk.{Disk}
 
 -- a file whose path ends in `.wat` has a module's text, and any other its bytes
@@ -41,8 +42,9 @@ pub record IsModuleAt (disk : Disk) (path : List ℕ) (m : Module) : Type 0 wher
   pub held : disk.holds path (Some content)
   pub means : IsModuleOf path content m
 
--- and the module is valid (Core 1.0, 3.4.10) and within the limits
-pub record IsValidAt (disk : Disk) (path : List ℕ) (m : Module) : Type 0 where
+-- and the module is valid (Core 1.0, 3.4.10), within the limits and in the bounded profile
+pub record IsLoadedAt (disk : Disk) (path : List ℕ) (m : Module) : Type 0 where
   pub read : IsModuleAt disk path m
   pub typed : IsTyped m
   pub within : IsWithinLimits m
+  pub bounded : IsBounded m

@@ -7,25 +7,33 @@ use Rattle.wasm_ast.specs.Limits.{max_module_bytes, IsWithinLimits}
 use Rattle.wasm_decode.specs.Canonical.{canonical}
 use Rattle.wat_asm.specs.Layout.{layout}
 use Rattle.wasm_decode.specs.declared.fault.DecodeFault.{DecodeFault}
+use Rattle.wasm_decode.specs.declared.encoder.fault.EncodeFault.TheVariants as encode
+use Rattle.wat_asm.specs.declared.fault.TextFault.{TextFault}
+use Rattle.wat_asm.specs.declared.fault.TextFault.TheVariants as text
+use Rattle.validate.specs.declared.fault.ValidFault.{ValidFault}
+use Rattle.validate.specs.declared.fault.ValidFault.TheVariants as valid
 use Rattle.validate.specs.Modules.{IsTyped}
+use Rattle.bounded_profile.specs.declared.fault.ProfileFault.{ProfileFault}
+use Rattle.bounded_profile.specs.Facts.{IsSizeAt, IsHeightAt, IsDepthAt}
+use Rattle.bounded_profile.specs.Profile.{HasCompute}
 use Rattle.console.specs.declared.fault.CallFault.{CallFault}
-use Rattle.console.specs.declared.fault.CallFault.TheVariants.{Decode, Invalid, OutOfMemory, Write}
+use Rattle.console.specs.declared.fault.CallFault.TheVariants.{Decode, Invalid, Unbounded, OutOfMemory, Write}
 use Rattle.console.specs.declared.command_fault.CommandFault.{CommandFault}
 use Rattle.console.specs.declared.command_fault.CommandFault.TheVariants as command
 use Rattle.console.specs.declared.request.Options.{Options}
 use Rattle.console.specs.declared.request.Options.TheVariants as options
 use Rattle.console.specs.Lines.{line}
 use Rattle.console.specs.Disk.{Disk}
-use Rattle.console.specs.Modules.{IsLayoutOf, IsModuleAt, IsValidAt, is_text_path}
+use Rattle.console.specs.Modules.{IsLayoutOf, IsModuleAt, IsLoadedAt, is_text_path}
 use Rattle.console.specs.CommandFaults.{fault_text, status_of}
-use Rattle.console.specs.Engine.{Answers, RefusesBytes, RefusesText}
+use Rattle.console.specs.Engine.{Answers, IsUnbounded, RefusesBytes, RefusesText}
 
 -- ---- answers
 
--- the files hold a valid module and a text, and the lines of the call are told
+-- the files hold a module that is loaded and a text, and the lines of the call are told
 pub record TellsOutcome (disk : Disk) (module_path input_path told : List ℕ) : Type 0 where
   pub m : Module
-  pub valid : IsValidAt disk module_path m
+  pub loaded : IsLoadedAt disk module_path m
   pub text : List ℕ
   pub has_input : disk.holds input_path (Some text)
   pub answers : Answers m text told
@@ -47,10 +55,31 @@ pub record TellsLayout (disk : Disk) (module_path told : List ℕ) : Type 0 wher
   pub read : IsModuleAt disk module_path m
   pub text_of_module : told ≡ layout m
 
+abbrev pub bounds_line : (size operands frames : ℕ) → List ℕ
+bounds_line size operands frames =
+    line (codes "ok size " ++ decimal size ++ codes " operands " ++ decimal operands ++ codes " frames " ++ decimal frames)
+
+-- the line has the size, the operands and the frames of the module's `compute`
+pub record IsBoundsLine (m : Module) (told : List ℕ) : Type 0 where
+  pub size : ℕ
+  pub operands : ℕ
+  pub frames : ℕ
+  pub has_size : (compute : HasCompute m) → IsSizeAt m compute.number size
+  pub has_operands : (compute : HasCompute m) → IsHeightAt m compute.number operands
+  pub has_frames : (compute : HasCompute m) → IsDepthAt m compute.number frames
+  pub printed : told ≡ bounds_line size operands frames
+
+-- the file's module is loaded, and its bounds are told
+pub record TellsBounds (disk : Disk) (module_path told : List ℕ) : Type 0 where
+  pub m : Module
+  pub loaded : IsLoadedAt disk module_path m
+  pub bounds : IsBoundsLine m told
+
 abbrev pub Answered : (before after : Disk) → Options → List ℕ → Type 0
 Answered before after (options.Call module_path input_path) told = TellsOutcome before module_path.now input_path.now told
 Answered before after (options.Assemble module_path binary_path) told = TellsLength before after module_path.now binary_path.now told
 Answered before after (options.Print module_path) told = TellsLayout before module_path.now told
+Answered before after (options.Verify module_path) told = TellsBounds before module_path.now told
 
 -- ---- why a command is not carried out
 
@@ -74,49 +103,56 @@ abbrev pub IsNoFile : (is_text : Bool) → Disk → List ℕ → Type 0
 IsNoFile true disk path = IsNoText disk path
 IsNoFile false disk path = disk.holds path None
 
--- the bytes at the path spell no module
+-- the bytes at the path spell no module, or memory ran out
 pub record IsNoSpelling (disk : Disk) (path : List ℕ) (fault : DecodeFault) : Type 0 where
   pub bytes : List ℕ
   pub held : disk.holds path (Some bytes)
   pub is_binary : is_text_path path ≡ false
   pub refused : RefusesBytes bytes (Decode fault)
 
--- the text at the path is not what is printed of a module
-pub record IsNoLayout (disk : Disk) (path : List ℕ) : Type 0 where
+-- the text at the path is not what is printed of a module, or memory ran out
+pub record IsNoLayout (disk : Disk) (path : List ℕ) (fault : TextFault) : Type 0 where
   pub text : List ℕ
   pub held : disk.holds path (Some text)
   pub is_text : is_text_path path ≡ true
-  pub refused : (m : Module) → ¬ (IsLayoutOf m text)
+  pub refused : (m : Module) → IsLayoutOf m text → fault ≡ text.OutOfMemory
 
 -- the file at the path is no module's
 abbrev pub IsNoModuleAt : Disk → List ℕ → CommandFault → Type 0
 IsNoModuleAt disk path (command.Call OutOfMemory) = Unit {0}
 IsNoModuleAt disk path (command.Call (Decode fault)) = IsNoSpelling disk path fault
-IsNoModuleAt disk path (command.Text fault) = IsNoLayout disk path
+IsNoModuleAt disk path (command.Text fault) = IsNoLayout disk path fault
 IsNoModuleAt disk path (command.File missing) = (missing.now ≡ path) × IsNoFile (is_text_path path) disk path
 IsNoModuleAt disk path _ = ⊥
 
--- the file's module is not valid
-pub record IsInvalidAt (disk : Disk) (path : List ℕ) : Type 0 where
+-- the file's module is not valid, or memory ran out
+pub record IsInvalidAt (disk : Disk) (path : List ℕ) (fault : ValidFault) : Type 0 where
   pub m : Module
   pub read : IsModuleAt disk path m
-  pub refused : ¬ (IsTyped m × IsWithinLimits m)
+  pub refused : IsTyped m → IsWithinLimits m → fault ≡ valid.OutOfMemory
 
--- the file at the path is no valid module's
-abbrev pub IsNotValidAt : Disk → List ℕ → CommandFault → Type 0
-IsNotValidAt disk path (command.Call (Invalid broken place)) = IsInvalidAt disk path
-IsNotValidAt disk path fault = IsNoModuleAt disk path fault
+-- the file's module is valid and not in the bounded profile, or memory ran out
+pub record IsUnboundedAt (disk : Disk) (path : List ℕ) (fault : ProfileFault) : Type 0 where
+  pub m : Module
+  pub read : IsModuleAt disk path m
+  pub unbounded : IsUnbounded m fault
 
--- the module is valid, and the input's file cannot be read
+-- the module of the file at the path is not loaded
+abbrev pub IsNotLoadedAt : Disk → List ℕ → CommandFault → Type 0
+IsNotLoadedAt disk path (command.Call (Invalid fault)) = IsInvalidAt disk path fault
+IsNotLoadedAt disk path (command.Call (Unbounded fault)) = IsUnboundedAt disk path fault
+IsNotLoadedAt disk path fault = IsNoModuleAt disk path fault
+
+-- the module is loaded, and the input's file cannot be read
 pub record IsWithoutInput (disk : Disk) (module_path input_path : List ℕ) (fault : CommandFault) : Type 0 where
   pub m : Module
-  pub valid : IsValidAt disk module_path m
+  pub loaded : IsLoadedAt disk module_path m
   pub no_text : IsNoTextAt disk input_path fault
 
--- the module is valid, and its call with the input is refused
+-- the module is loaded, and its call with the input is refused
 pub record IsCallRefused (disk : Disk) (module_path input_path : List ℕ) (fault : CallFault) : Type 0 where
   pub m : Module
-  pub valid : IsValidAt disk module_path m
+  pub loaded : IsLoadedAt disk module_path m
   pub text : List ℕ
   pub has_input : disk.holds input_path (Some text)
   pub refused : RefusesText m text fault
@@ -127,7 +163,7 @@ IsRefusedAt disk module_path input_path _ = ⊥
 
 abbrev pub IsCallCause : Disk → (module_path input_path : List ℕ) → CommandFault → Type 0
 IsCallCause disk module_path input_path fault =
-    IsNotValidAt disk module_path fault
+    IsNotLoadedAt disk module_path fault
     ⊎ (IsWithoutInput disk module_path input_path fault ⊎ IsRefusedAt disk module_path input_path fault)
 
 -- writing to the file at the path came to this
@@ -139,7 +175,7 @@ IsUnwritable disk path _ = ⊥
 -- why the module's spelling is not written and told
 abbrev pub IsUnspelled : Disk → List ℕ → Module → CommandFault → Type 0
 IsUnspelled disk path m (command.Call fault) = (fault ≡ OutOfMemory) ⊎ (fault ≡ Write)
-IsUnspelled disk path m command.TooLong = max_module_bytes < length (canonical m)
+IsUnspelled disk path m (command.Encode fault) = fault ≡ encode.OverLimit → max_module_bytes < length (canonical m)
 IsUnspelled disk path m fault = IsUnwritable disk path fault
 
 -- the file is a module's, and its spelling is not written
@@ -160,10 +196,14 @@ IsUntold _ = ⊥
 abbrev pub IsPrintCause : Disk → List ℕ → CommandFault → Type 0
 IsPrintCause disk module_path fault = IsNoModuleAt disk module_path fault ⊎ IsUntold fault
 
+abbrev pub IsVerifyCause : Disk → List ℕ → CommandFault → Type 0
+IsVerifyCause disk module_path fault = IsNotLoadedAt disk module_path fault ⊎ (fault ≡ command.Call Write)
+
 abbrev pub IsCause : Disk → Options → CommandFault → Type 0
 IsCause disk (options.Call module_path input_path) fault = IsCallCause disk module_path.now input_path.now fault
 IsCause disk (options.Assemble module_path binary_path) fault = IsAssembleCause disk module_path.now binary_path.now fault
 IsCause disk (options.Print module_path) fault = IsPrintCause disk module_path.now fault
+IsCause disk (options.Verify module_path) fault = IsVerifyCause disk module_path.now fault
 
 -- ---- what is told with each status of the process
 

@@ -1,5 +1,6 @@
--- Which fault of a call each fault below it is, and how it is told. Want of memory is one fault, wherever it comes from.
+-- How a fault of a call is told: its line, without its end.
 use Rattle.std.specs.Prelude.{ℕ, List, [], ◌∷◌, ◌++◌, codes, Option, Some, None}
+use Rattle.std.specs.List.{flat_map}
 use Rattle.std.specs.Fmt.{decimal}
 use Rattle.wasm_decode.specs.declared.fault.DecodeFault.{DecodeFault}
 use Rattle.wasm_decode.specs.declared.fault.DecodeFault.TheVariants as decode
@@ -8,32 +9,16 @@ use Rattle.validate.specs.declared.fault.Rule.TheVariants as rule
 use Rattle.validate.specs.declared.fault.Place.{Place}
 use Rattle.validate.specs.declared.fault.ValidFault.{ValidFault}
 use Rattle.validate.specs.declared.fault.ValidFault.TheVariants as valid
+use Rattle.bounded_profile.specs.declared.fault.ProfileRule.{ProfileRule}
+use Rattle.bounded_profile.specs.declared.fault.ProfileRule.TheVariants as profile_rule
+use Rattle.bounded_profile.specs.declared.fault.ProfileFault.{ProfileFault}
+use Rattle.bounded_profile.specs.declared.fault.ProfileFault.TheVariants as profile
 use Rattle.interp.specs.declared.fault.RunFault.{RunFault}
 use Rattle.interp.specs.declared.fault.RunFault.TheVariants as run
 use Rattle.console.specs.declared.input.InputFault.{InputFault}
 use Rattle.console.specs.declared.input.InputFault.TheVariants as input
 use Rattle.console.specs.declared.fault.CallFault.{CallFault}
-use Rattle.console.specs.declared.fault.CallFault.TheVariants.{Decode, Invalid, Input, Trap, Stuck, Budget, OutOfMemory, Write}
-
-abbrev pub of_decode_fault : DecodeFault → CallFault
-of_decode_fault decode.OutOfMemory = OutOfMemory
-of_decode_fault fault = Decode fault
-
-abbrev pub of_valid_fault : ValidFault → CallFault
-of_valid_fault (valid.Breaks broken place) = Invalid broken place
-of_valid_fault valid.OutOfMemory = OutOfMemory
-
-abbrev pub of_input_fault : InputFault → CallFault
-of_input_fault (input.Line number) = Input number
-of_input_fault input.OutOfMemory = OutOfMemory
-
-abbrev pub of_run_fault : RunFault → CallFault
-of_run_fault run.OutOfMemory = OutOfMemory
-of_run_fault run.Budget = Budget
-of_run_fault run.Trap = Trap
-of_run_fault run.Stuck = Stuck
-
--- ---- the line that tells of a fault, without its end
+use Rattle.console.specs.declared.fault.CallFault.TheVariants.{Decode, Invalid, Unbounded, Input, Run, OutOfMemory, Write}
 
 -- a word, and a place in the bytes
 abbrev pub word_at : List ℕ → ℕ → List ℕ
@@ -51,7 +36,7 @@ decode_text (decode.Utf8 place) = word_at (codes "Utf8") place
 decode_text (decode.CountMismatch place) = word_at (codes "CountMismatch") place
 decode_text (decode.Unsupported place) = word_at (codes "Unsupported") place
 decode_text (decode.OverLimit place) = word_at (codes "OverLimit") place
-decode_text decode.OutOfMemory = codes "OutOfMemory"
+decode_text decode.OutOfMemory = codes "OutOfMemory -"
 
 abbrev pub rule_word : Rule → List ℕ
 rule_word rule.TypeNumber = codes "TypeNumber"
@@ -78,13 +63,48 @@ number_text (Some number) = decimal number
 abbrev pub place_text : Place → List ℕ
 place_text place = number_text place.function ++ codes " " ++ number_text place.instruction
 
+-- a rule that a valid module keeps, and the place that breaks it
+abbrev pub invalid_text : ValidFault → List ℕ
+invalid_text (valid.Breaks broken place) = rule_word broken ++ codes " " ++ place_text place
+invalid_text valid.OutOfMemory = codes "OutOfMemory - -"
+
+abbrev pub profile_word : ProfileRule → List ℕ
+profile_word profile_rule.P1 = codes "P1"
+profile_word profile_rule.P2 = codes "P2"
+profile_word profile_rule.P3 = codes "P3"
+profile_word profile_rule.P4 = codes "P4"
+profile_word profile_rule.P5 = codes "P5"
+profile_word profile_rule.P6 = codes "P6"
+profile_word profile_rule.P7 = codes "P7"
+profile_word profile_rule.P8 = codes "P8"
+profile_word profile_rule.P9 = codes "P9"
+profile_word profile_rule.P10 = codes "P10"
+profile_word profile_rule.P11 = codes "P11"
+profile_word profile_rule.P12 = codes "P12"
+profile_word profile_rule.P13 = codes "P13"
+profile_word profile_rule.P14 = codes "P14"
+
+abbrev pub after_blank : ℕ → List ℕ
+after_blank number = codes " " ++ decimal number
+
+-- the numbers of functions that call each other
+abbrev pub cycle_text : List ℕ → List ℕ
+cycle_text functions = codes "P12" ++ flat_map after_blank functions
+
+-- a rule of the bounded profile, and the place that breaks it
+abbrev pub unbounded_text : ProfileFault → List ℕ
+unbounded_text (profile.Breaks broken place) = profile_word broken ++ codes " " ++ place_text place
+unbounded_text (profile.Cycle functions) = cycle_text functions.items
+unbounded_text profile.OutOfMemory = codes "OutOfMemory - -"
+
 -- a writer that failed is told nothing
 abbrev pub refusal_text : CallFault → List ℕ
 refusal_text (Decode fault) = codes "no decode " ++ decode_text fault
-refusal_text (Invalid broken place) = codes "no valid " ++ rule_word broken ++ codes " " ++ place_text place
-refusal_text (Input line) = codes "no input " ++ decimal line
-refusal_text Trap = codes "no run Trap"
-refusal_text Stuck = codes "no run Stuck"
-refusal_text Budget = codes "no run Budget"
+refusal_text (Invalid fault) = codes "no valid " ++ invalid_text fault
+refusal_text (Unbounded fault) = codes "no profile " ++ unbounded_text fault
+refusal_text (Input (input.Line number)) = codes "no input " ++ decimal number
+refusal_text (Input input.OutOfMemory) = codes "no memory"
+refusal_text (Run run.Budget) = codes "no run Budget"
+refusal_text (Run run.OutOfMemory) = codes "no run OutOfMemory"
 refusal_text OutOfMemory = codes "no memory"
 refusal_text Write = []

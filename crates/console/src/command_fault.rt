@@ -2,13 +2,13 @@
 
 ghost use Rattle.std.specs.Prelude.{◌≡◌, Some};
 ghost use Rattle.std.specs.Fmt.{DisplaysOnOk};
-ghost use Rattle.console.specs.CommandFaults.{fault_text, of_encode_fault, of_text_fault, status_of, text_fault_text, word_at_position};
-ghost use Rattle.console.specs.Refusal.{of_decode_fault, of_valid_fault};
-ghost use Rattle.console.specs.declared.command_fault.CommandFault.TheVariants.{Call};
-ghost use Rattle.console.specs.declared.fault.CallFault.TheVariants.{OutOfMemory, Write};
+ghost use Rattle.console.specs.CommandFaults.{encode_word, fault_text, status_of, text_fault_text, word_at_position};
+ghost use Rattle.console.specs.declared.command_fault.CommandFault.TheVariants as command;
+ghost use Rattle.console.specs.declared.fault.CallFault.TheVariants.{Decode, Invalid, Unbounded, OutOfMemory, Write};
 
 use crate::fault::CallFault;
 use crate::refusal::Refusal;
+use bounded_profile::ProfileFault;
 use std::alloc::AllocError;
 use std::{fmt, io};
 use validate::ValidFault;
@@ -22,8 +22,8 @@ pub enum CommandFault<'a> {
     Call(CallFault),
     /// The text is no module's.
     Text(TextFault),
-    /// The module's shortest spelling takes more than 1,048,576 bytes.
-    TooLong,
+    /// The module is not spelled: its shortest spelling takes more than 1,048,576 bytes, or memory ran out.
+    Encode(EncodeFault),
     /// The file at this path cannot be read or written, or is not the text that it should be.
     File(&'a str),
 }
@@ -48,7 +48,10 @@ impl fmt::Display for CommandFault<'_> {
                 f.write_str("no text ")?;
                 tell_text_fault(fault, f)
             }
-            CommandFault::TooLong => f.write_str("no encode OverLimit"),
+            CommandFault::Encode(fault) => {
+                let word = encode_word(*fault);
+                write!(f, "no encode {word}")
+            }
             CommandFault::File(path) => write!(f, "no file {path}"),
         }
     }
@@ -67,7 +70,7 @@ fn tell_text_fault<W: fmt::Write>(fault: &TextFault, f: &mut fmt::Formatter<W>) 
         TextFault::TypeUse(place) => tell_word_at("TypeUse", place, f),
         TextFault::Unsupported(place) => tell_word_at("Unsupported", place, f),
         TextFault::OverLimit(place) => tell_word_at("OverLimit", place, f),
-        TextFault::OutOfMemory => f.write_str("OutOfMemory"),
+        TextFault::OutOfMemory => f.write_str("OutOfMemory - -"),
     }
 }
 
@@ -81,8 +84,17 @@ fn tell_word_at<W: fmt::Write>(
     write!(f, "{word} {} {}", place.line, place.column)
 }
 
+fn encode_word(fault: EncodeFault) -> &'static str
+    ensures { result.now ≡ encode_word fault }
+{
+    match fault {
+        EncodeFault::OverLimit => "OverLimit",
+        EncodeFault::OutOfMemory => "OutOfMemory",
+    }
+}
+
 impl From<CallFault> for CommandFault<'_> {
-    ghost from_gives = { λ cause fault. fault ≡ Call cause };
+    ghost from_gives = { λ cause fault. fault ≡ command.Call cause };
 
     fn from(cause: CallFault) -> Self {
         CommandFault::Call(cause)
@@ -90,45 +102,47 @@ impl From<CallFault> for CommandFault<'_> {
 }
 
 impl From<DecodeFault> for CommandFault<'_> {
-    ghost from_gives = { λ cause fault. fault ≡ Call (of_decode_fault cause) };
+    ghost from_gives = { λ cause fault. fault ≡ command.Call (Decode cause) };
 
     fn from(cause: DecodeFault) -> Self {
-        CommandFault::Call(CallFault::from(cause))
+        CommandFault::Call(CallFault::Decode(cause))
     }
 }
 
 impl From<ValidFault> for CommandFault<'_> {
-    ghost from_gives = { λ cause fault. fault ≡ Call (of_valid_fault cause) };
+    ghost from_gives = { λ cause fault. fault ≡ command.Call (Invalid cause) };
 
     fn from(cause: ValidFault) -> Self {
-        CommandFault::Call(CallFault::from(cause))
+        CommandFault::Call(CallFault::Invalid(cause))
+    }
+}
+
+impl From<ProfileFault> for CommandFault<'_> {
+    ghost from_gives = { λ cause fault. fault ≡ command.Call (Unbounded cause) };
+
+    fn from(cause: ProfileFault) -> Self {
+        CommandFault::Call(CallFault::Unbounded(cause))
     }
 }
 
 impl From<TextFault> for CommandFault<'_> {
-    ghost from_gives = { λ cause fault. fault ≡ of_text_fault cause };
+    ghost from_gives = { λ cause fault. fault ≡ command.Text cause };
 
     fn from(cause: TextFault) -> Self {
-        match cause {
-            TextFault::OutOfMemory => CommandFault::Call(CallFault::OutOfMemory),
-            fault => CommandFault::Text(fault),
-        }
+        CommandFault::Text(cause)
     }
 }
 
 impl From<EncodeFault> for CommandFault<'_> {
-    ghost from_gives = { λ cause fault. fault ≡ of_encode_fault cause };
+    ghost from_gives = { λ cause fault. fault ≡ command.Encode cause };
 
     fn from(cause: EncodeFault) -> Self {
-        match cause {
-            EncodeFault::OverLimit => CommandFault::TooLong,
-            EncodeFault::OutOfMemory => CommandFault::Call(CallFault::OutOfMemory),
-        }
+        CommandFault::Encode(cause)
     }
 }
 
 impl From<AllocError> for CommandFault<'_> {
-    ghost from_gives = { λ _ fault. fault ≡ Call OutOfMemory };
+    ghost from_gives = { λ _ fault. fault ≡ command.Call OutOfMemory };
 
     fn from(_: AllocError) -> Self {
         CommandFault::Call(CallFault::OutOfMemory)
@@ -136,7 +150,7 @@ impl From<AllocError> for CommandFault<'_> {
 }
 
 impl From<io::Error> for CommandFault<'_> {
-    ghost from_gives = { λ _ fault. fault ≡ Call Write };
+    ghost from_gives = { λ _ fault. fault ≡ command.Call Write };
 
     fn from(_: io::Error) -> Self {
         CommandFault::Call(CallFault::Write)

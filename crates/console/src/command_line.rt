@@ -32,6 +32,7 @@ fn asked<'a>(name: &str, entries: &ArgMatches<'a>) -> Option<Options<'a>> {
             Some(Options::Assemble { module, binary })
         }
         "print" => Some(Options::Print { module }),
+        "verify" => Some(Options::Verify { module }),
         _ => None,
     }
 }
@@ -46,7 +47,8 @@ fn pregel<'a>(alloc: Global) -> Result<Command<'a>, AllocError> {
     command
         .subcommand(call(alloc)?)?
         .subcommand(asm(alloc)?)?
-        .subcommand(print(alloc)?)
+        .subcommand(print(alloc)?)?
+        .subcommand(verify(alloc)?)
 }
 
 fn call<'a>(alloc: Global) -> Result<Command<'a>, AllocError> {
@@ -75,6 +77,12 @@ fn print<'a>(alloc: Global) -> Result<Command<'a>, AllocError> {
     Command::new(alloc, "print")
         .about("Prints a module in WebAssembly's text format")
         .arg(module(alloc, "IN"))
+}
+
+fn verify<'a>(alloc: Global) -> Result<Command<'a>, AllocError> {
+    Command::new(alloc, "verify")
+        .about("Tells the bounds of a module's calls, where they are known to have any")
+        .arg(module(alloc, "MODULE"))
 }
 
 // The module of a command.

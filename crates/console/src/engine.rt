@@ -5,16 +5,17 @@ ghost use Rattle.std.specs.Io.KnownBytes.{Appends, Keeps};
 ghost use Rattle.wasm_ast.specs.declared.module.Module.{Module as AnyModule};
 ghost use Rattle.host_calls.specs.declared.call.CallOutcome.{CallOutcome as AnyOutcome};
 ghost use Rattle.interp.specs.Call.{IsOutcome};
-ghost use Rattle.console.specs.Engine.{Answers, IsAnswer, Loads, NeedsMemoryAndWriter, Refuses, RefusesBytes, RefusesCall, RefusesText, step_limit};
+ghost use Rattle.console.specs.Engine.{Answers, IsAnswer, IsWant, Loads, NeedsMemoryAndWriter, Refuses, RefusesBytes, RefusesCall, RefusesText, step_limit};
 
 use crate::fault::CallFault;
 use crate::input::Input;
 use crate::lines::outcome_text;
+use bounded_profile::{Verified, verify};
 use host_calls::{CallInput, CallOutcome};
-use interp::{Scratch, run};
+use interp::{RunFault, Scratch, run};
 use std::alloc::Global;
 use std::io::Write;
-use validate::{Valid, validate};
+use validate::validate;
 use wasm_decode::decode;
 
 /// How many units a call may take.
@@ -22,10 +23,9 @@ const STEP_LIMIT: u128 = 1_000_000;
 
 /// Calls the module that the bytes spell, with the input that the text means, and writes the outcome's lines.
 ///
-/// Faults are found in this order: the module's (`Decode`, `Invalid`), the input's (`Input`), the call's (`Trap`,
-/// `Stuck`, and `Budget` where it would take more than 1,000,000 units), and the writer's (`Write`). The lines go to the
-/// writer as one write of the whole. Where it fails otherwise, nothing was written; after `Write` some of the lines may
-/// have been.
+/// Faults are found in this order: the module's (`Decode`, `Invalid`, `Unbounded`), the input's (`Input`), the call's
+/// (`Run`, where it would take more than 1,000,000 units), and the writer's (`Write`). The lines go to the writer as one
+/// write of the whole. Where it fails otherwise, nothing was written; after `Write` some of the lines may have been.
 pub fn call<W: Write>(
     alloc: Global,
     module: &[u8],
@@ -41,54 +41,60 @@ pub fn call<W: Write>(
     ensures refused { IfErr result (Refuses «module».now input.now) }
     ensures unwritten { IfErr result (λ fault. fault ≢ CallFault.Write → Keeps (W.contents out.old) (W.contents out.new)) }
 {
-    let valid = load(alloc, module)?;
-    answer(alloc, &valid, input, out)
+    let verified = load(alloc, module)?;
+    answer(alloc, &verified, input, out)
 }
 
-/// The module that the bytes spell, where it is valid (Core 1.0, section 3). It is refused by `Decode`, then by
-/// `Invalid`, and by no other fault but want of memory.
-pub fn load(alloc: Global, module: &[u8]) -> Result<Valid, CallFault>
+/// The module that the bytes spell, where it is valid (Core 1.0, section 3) and in the bounded profile. It is refused by
+/// `Decode`, then by `Invalid`, then by `Unbounded`, and by no other fault.
+pub fn load(alloc: Global, module: &[u8]) -> Result<Verified, CallFault>
     ensures loaded { IfOk result (Loads «module».now) }
     // The module that is to be loaded is, unless memory runs out.
     ensures only { (m : AnyModule) → Loads «module».now m
-        → MatchResult result (λ valid. valid ≡ m) (λ fault. fault ≡ CallFault.OutOfMemory) }
+        → MatchResult result (λ verified. verified ≡ m) IsWant }
 
     ensures refused { IfErr result (RefusesBytes «module».now) }
 {
     let module = decode(alloc, module)?;
     let valid = validate(alloc, module)?;
-    Ok(valid)
+    let verified = verify(alloc, valid)?;
+    Ok(verified)
 }
 
 /// Calls the module with the input that the text means, and writes the outcome's lines, as `call` does.
 pub fn answer<W: Write>(
     alloc: Global,
-    valid: &Valid,
+    verified: &Verified,
     input: &str,
     out: &mut W,
 ) -> Result<(), CallFault>
-    ensures answer { OnOk result ((lines : List ℕ) × Answers valid.now input.now lines
+    ensures answer { OnOk result ((lines : List ℕ) × Answers verified.now input.now lines
         × Appends (W.contents out.old) (W.contents out.new) lines) }
-    ensures answered { (lines : List ℕ) → Answers valid.now input.now lines → NeedsMemoryAndWriter result }
+    ensures answered { (lines : List ℕ) → Answers verified.now input.now lines → NeedsMemoryAndWriter result }
 
-    ensures refused { IfErr result (RefusesText valid.now input.now) }
+    ensures refused { IfErr result (RefusesText verified.now input.now) }
     ensures unwritten { IfErr result (λ fault. fault ≢ CallFault.Write → Keeps (W.contents out.old) (W.contents out.new)) }
 {
     let input = Input::read(alloc, input)?;
-    let outcome = outcome_of(alloc, valid, &input.call_input())?;
+    let outcome = outcome_of(alloc, verified, &input.call_input())?;
     let lines = outcome_text(alloc, &outcome)?;
     out.write_all(lines.as_bytes())?;
     Ok(())
 }
 
 // The outcome of a call that takes no more units than it may.
-fn outcome_of(alloc: Global, valid: &Valid, input: &CallInput) -> Result<CallOutcome, CallFault>
-    ensures outcome { IfOk result (λ outcome. IsOutcome valid.now input.now outcome × (outcome.units ≤ step_limit)) }
-    ensures gives { (outcome : AnyOutcome) → IsOutcome valid.now input.now outcome → outcome.units ≤ step_limit
-        → IsOkUnless result CallFault.OutOfMemory }
-    ensures refused { IfErr result (RefusesCall valid.now input.now) }
+fn outcome_of(
+    alloc: Global,
+    verified: &Verified,
+    input: &CallInput,
+) -> Result<CallOutcome, RunFault>
+    ensures outcome { IfOk result (λ outcome. IsOutcome verified.now input.now outcome × (outcome.units ≤ step_limit)) }
+    ensures gives { (outcome : AnyOutcome) → IsOutcome verified.now input.now outcome → outcome.units ≤ step_limit
+        → IsOkUnless result RunFault.OutOfMemory }
+    ensures refused { IfErr result (RefusesCall verified.now input.now) }
 {
-    let mut scratch = Scratch::new(alloc, valid)?;
-    let outcome = run(alloc, valid, input, &mut scratch, STEP_LIMIT)?;
-    Ok(outcome)
+    let Ok(mut scratch) = Scratch::new(alloc, verified) else {
+        return Err(RunFault::OutOfMemory);
+    };
+    run(alloc, verified, input, &mut scratch, STEP_LIMIT)
 }

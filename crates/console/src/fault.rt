@@ -1,39 +1,36 @@
 //! Why a call has no answer.
 
 ghost use Rattle.std.specs.Prelude.{◌≡◌};
-ghost use Rattle.console.specs.Refusal.{of_decode_fault, of_input_fault, of_run_fault, of_valid_fault};
-ghost use Rattle.console.specs.declared.fault.CallFault.TheVariants.{OutOfMemory, Write};
+ghost use Rattle.console.specs.declared.fault.CallFault.TheVariants as call;
 
 use crate::input::InputFault;
+use bounded_profile::ProfileFault;
 use interp::RunFault;
 use std::alloc::AllocError;
 use std::io;
 use thiserror::Error;
-use validate::{Place, Rule, ValidFault};
+use validate::ValidFault;
 use wasm_decode::DecodeFault;
 
-/// Why a call has no answer. Want of memory is one case, wherever it comes from.
-#[derive(Clone, Copy, Debug, PartialEq, Eq, Error)]
+/// Why a call has no answer. Each step tells its own want of memory.
+#[derive(Debug, Drop, Error)]
 pub enum CallFault {
     /// The bytes spell no module.
     #[error("{0}")]
     Decode(DecodeFault),
-    /// The module is not valid: it breaks the rule at this place.
-    #[error("{0} {1}")]
-    Invalid(Rule, Place),
-    /// The text means no input: this is the number of its first bad line, from 1.
-    #[error("line {0} is not one that an input may have")]
-    Input(usize),
-    /// The call comes to an instruction that traps.
-    #[error("the call trapped")]
-    Trap,
-    /// The module is not one that is called, or the call comes to an instruction for which there is no step.
-    #[error("the call has no step")]
-    Stuck,
+    /// The module is not valid.
+    #[error("{0}")]
+    Invalid(ValidFault),
+    /// The module is not in the bounded profile.
+    #[error("{0}")]
+    Unbounded(ProfileFault),
+    /// The text means no input.
+    #[error("{0}")]
+    Input(InputFault),
     /// The call takes more units than it may.
-    #[error("the budget is used up")]
-    Budget,
-    /// Memory ran out.
+    #[error("{0}")]
+    Run(RunFault),
+    /// Memory ran out for a file, or for what is to be written.
     #[error("out of memory")]
     OutOfMemory,
     /// The answer was not written whole.
@@ -42,53 +39,47 @@ pub enum CallFault {
 }
 
 impl From<DecodeFault> for CallFault {
-    ghost from_gives = { λ cause fault. fault ≡ of_decode_fault cause };
+    ghost from_gives = { λ cause fault. fault ≡ call.Decode cause };
 
     fn from(cause: DecodeFault) -> CallFault {
-        match cause {
-            DecodeFault::OutOfMemory => CallFault::OutOfMemory,
-            fault => CallFault::Decode(fault),
-        }
+        CallFault::Decode(cause)
     }
 }
 
 impl From<ValidFault> for CallFault {
-    ghost from_gives = { λ cause fault. fault ≡ of_valid_fault cause };
+    ghost from_gives = { λ cause fault. fault ≡ call.Invalid cause };
 
     fn from(cause: ValidFault) -> CallFault {
-        match cause {
-            ValidFault::Breaks(rule, place) => CallFault::Invalid(rule, place),
-            ValidFault::OutOfMemory => CallFault::OutOfMemory,
-        }
+        CallFault::Invalid(cause)
+    }
+}
+
+impl From<ProfileFault> for CallFault {
+    ghost from_gives = { λ cause fault. fault ≡ call.Unbounded cause };
+
+    fn from(cause: ProfileFault) -> CallFault {
+        CallFault::Unbounded(cause)
     }
 }
 
 impl From<InputFault> for CallFault {
-    ghost from_gives = { λ cause fault. fault ≡ of_input_fault cause };
+    ghost from_gives = { λ cause fault. fault ≡ call.Input cause };
 
     fn from(cause: InputFault) -> CallFault {
-        match cause {
-            InputFault::Line(number) => CallFault::Input(number),
-            InputFault::OutOfMemory => CallFault::OutOfMemory,
-        }
+        CallFault::Input(cause)
     }
 }
 
 impl From<RunFault> for CallFault {
-    ghost from_gives = { λ cause fault. fault ≡ of_run_fault cause };
+    ghost from_gives = { λ cause fault. fault ≡ call.Run cause };
 
     fn from(cause: RunFault) -> CallFault {
-        match cause {
-            RunFault::OutOfMemory => CallFault::OutOfMemory,
-            RunFault::Budget => CallFault::Budget,
-            RunFault::Trap => CallFault::Trap,
-            RunFault::Stuck => CallFault::Stuck,
-        }
+        CallFault::Run(cause)
     }
 }
 
 impl From<AllocError> for CallFault {
-    ghost from_gives = { λ _ fault. fault ≡ OutOfMemory };
+    ghost from_gives = { λ _ fault. fault ≡ call.OutOfMemory };
 
     fn from(_: AllocError) -> CallFault {
         CallFault::OutOfMemory
@@ -96,7 +87,7 @@ impl From<AllocError> for CallFault {
 }
 
 impl From<io::Error> for CallFault {
-    ghost from_gives = { λ _ fault. fault ≡ Write };
+    ghost from_gives = { λ _ fault. fault ≡ call.Write };
 
     fn from(_: io::Error) -> CallFault {
         CallFault::Write

@@ -2,14 +2,15 @@
 
 ghost use Rattle.std.specs.Prelude.{◌≡◌, true, false, MatchResult};
 ghost use Rattle.console.specs.Disk.{Stays};
-ghost use Rattle.console.specs.Modules.{IsModuleAt, IsValidAt, is_text_path};
-ghost use Rattle.console.specs.Program.{IsNoModuleAt, IsNotValidAt};
+ghost use Rattle.console.specs.Modules.{IsLoadedAt, IsModuleAt, is_text_path};
+ghost use Rattle.console.specs.Program.{IsNoModuleAt, IsNotLoadedAt};
 
 use crate::command_fault::CommandFault;
 use crate::files::Files;
 use crate::reading::{read, read_text};
+use bounded_profile::{Verified, verify};
 use std::alloc::Global;
-use validate::{Valid, validate};
+use validate::validate;
 use wasm_ast::Module;
 use wasm_decode::decode;
 use wat_asm::assemble;
@@ -31,19 +32,20 @@ pub fn read_module<'a, F: Files>(
     }
 }
 
-/// The module in a file, where it is valid (section 3).
+/// The module in a file, where it is valid (section 3) and in the bounded profile.
 pub fn load_module<'a, F: Files>(
     alloc: Global,
     path: &'a str,
     files: &mut F,
-) -> Result<Valid, CommandFault<'a>>
-    ensures found { MatchResult result (λ valid. IsValidAt (F.disk files.old) path.now valid)
-        (IsNotValidAt (F.disk files.old) path.now) }
+) -> Result<Verified, CommandFault<'a>>
+    ensures found { MatchResult result (λ verified. IsLoadedAt (F.disk files.old) path.now verified)
+        (IsNotLoadedAt (F.disk files.old) path.now) }
     ensures kept { Stays (F.disk files.old) (F.disk files.new) }
 {
     let module = read_module(alloc, path, files)?;
     let valid = validate(alloc, module)?;
-    Ok(valid)
+    let verified = verify(alloc, valid)?;
+    Ok(verified)
 }
 
 #[tactic(auto, using(std::proofs::lemmas::Str::Pattern::ends_text))]

@@ -4,7 +4,7 @@ ghost use Rattle.std.specs.Prelude.{◌≡◌, ◌≢◌, List, ℕ, IfOk, IfErr
 ghost use Rattle.std.specs.Io.KnownBytes.{Appends, Keeps};
 ghost use Rattle.console.specs.CommandFaults.{fault_text, status_of};
 ghost use Rattle.console.specs.Lines.{line};
-ghost use Rattle.console.specs.Program.{Answered, IsAssembleCause, IsCallCause, IsCause, IsPrintCause, length_line, TellsLayout, TellsLength, TellsOutcome, Told};
+ghost use Rattle.console.specs.Program.{Answered, IsAssembleCause, IsBoundsLine, IsCallCause, IsCause, IsPrintCause, IsVerifyCause, length_line, TellsBounds, TellsLayout, TellsLength, TellsOutcome, Told};
 
 use crate::command_fault::{CommandFault, status_of};
 use crate::engine::answer;
@@ -13,6 +13,7 @@ use crate::files::Files;
 use crate::modules::{load_module, read_module};
 use crate::reading::{read_text, write};
 use crate::request::Options;
+use bounded_profile::Verified;
 use std::alloc::Global;
 use std::io::{self, Write};
 use thiserror::Error;
@@ -33,9 +34,11 @@ pub enum ServeFault {
 /// refused, and 4 where a file cannot be read or written, which `no file PATH` tells. A module's file whose path ends in
 /// `.wat` is text, any other is binary; text that is not in UTF-8 cannot be read.
 ///
-/// `call` answers with the outcome's lines; the module is looked at before the input's file. `asm` writes the module's
-/// canonical spelling to the other file, and answers `ok LENGTH`. `print` answers with the module's text. Neither of the
-/// two asks that the module is valid. A refusal is one of the module's and the input's own, or want of memory.
+/// `call` answers with the outcome's lines; the module is looked at before the input's file. `verify` answers
+/// `ok size S operands M frames F`. `asm` writes the module's canonical spelling to the other file, and answers
+/// `ok LENGTH`. `print` answers with the module's text. These two do not ask that the module is valid, and the others ask
+/// that it is and that it is in the bounded profile. A refusal is one of the module's and the input's own, or want of
+/// memory.
 pub fn command<F: Files, W: Write>(
     alloc: Global,
     options: Options<'_>,
@@ -82,6 +85,7 @@ fn carry_out<'a, F: Files, W: Write>(
         Options::Call { module, input } => call_files(alloc, module, input, files, out),
         Options::Assemble { module, binary } => assemble_file(alloc, module, binary, files, out),
         Options::Print { module } => print_file(alloc, module, files, out),
+        Options::Verify { module } => verify_file(alloc, module, files, out),
     }
 }
 
@@ -99,9 +103,9 @@ fn call_files<'a, F: Files, W: Write>(
     ensures unwritten { IfErr result (λ fault. fault ≢ CommandFault.Call CallFault.Write
         → Keeps (W.contents out.old) (W.contents out.new)) }
 {
-    let valid = load_module(alloc, module, files)?;
+    let verified = load_module(alloc, module, files)?;
     let text = read_text(alloc, input, files)?;
-    answer(alloc, &valid, text.as_str(), out)?;
+    answer(alloc, &verified, text.as_str(), out)?;
     Ok(())
 }
 
@@ -150,4 +154,31 @@ fn print_file<'a, F: Files, W: Write>(
     let text = print(alloc, &module)?;
     out.write_all(text.as_bytes())?;
     Ok(())
+}
+
+// Tells the bounds of the module in a file.
+fn verify_file<'a, F: Files, W: Write>(
+    alloc: Global,
+    path: &'a str,
+    files: &mut F,
+    out: &mut W,
+) -> Result<(), CommandFault<'a>>
+    ensures answered { OnOk result ((told : List ℕ) × TellsBounds (F.disk files.old) path.now told
+        × Appends (W.contents out.old) (W.contents out.new) told) }
+    ensures refused { IfErr result (IsVerifyCause (F.disk files.old) path.now) }
+    ensures unwritten { IfErr result (λ fault. fault ≢ CommandFault.Call CallFault.Write
+        → Keeps (W.contents out.old) (W.contents out.new)) }
+{
+    let verified = load_module(alloc, path, files)?;
+    tell_bounds(&verified, out)?;
+    Ok(())
+}
+
+fn tell_bounds<W: Write>(verified: &Verified, out: &mut W) -> io::Result<()>
+    ensures { OnOk result ((told : List ℕ) × IsBoundsLine verified.now told
+        × Appends (W.contents out.old) (W.contents out.new) told) }
+{
+    let (size, operands) = (verified.size(), verified.max_operands());
+    let frames = verified.max_frames();
+    writeln!(out, "ok size {size} operands {operands} frames {frames}")
 }

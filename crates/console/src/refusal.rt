@@ -4,17 +4,20 @@ ghost use Rattle.std.specs.Prelude.{◌≡◌, OnOk, Some};
 ghost use Rattle.std.specs.Fmt.{DisplaysOnOk};
 ghost use Rattle.std.specs.Io.KnownBytes.{Appends};
 ghost use Rattle.console.specs.Lines.{line};
-ghost use Rattle.console.specs.Refusal.{decode_text, number_text, place_text, refusal_text, rule_word, word_at};
+ghost use Rattle.console.specs.Refusal.{cycle_text, decode_text, invalid_text, number_text, place_text, profile_word, refusal_text, rule_word, unbounded_text, word_at};
 
 use crate::fault::CallFault;
+use crate::input::InputFault;
+use bounded_profile::{ProfileFault, ProfileRule};
+use interp::RunFault;
 use std::io::Write;
 use std::{fmt, io};
-use validate::{Place, Rule};
+use validate::{Place, Rule, ValidFault};
 use wasm_decode::DecodeFault;
 
-/// The line that tells of a fault, without its end: `no decode WORD PLACE`, `no valid WORD FUNC INSTR`, `no input LINE`,
-/// `no run Trap`, `no run Stuck`, `no run Budget` or `no memory`. FUNC and INSTR are `-` where there is none. Of a writer
-/// that failed it tells nothing.
+/// The line that tells of a fault, without its end: `no decode WORD PLACE`, `no valid WORD FUNC INSTR`,
+/// `no profile RULE FUNC INSTR`, `no profile P12` and the numbers of the cycle, `no input LINE`, `no run WORD` or
+/// `no memory`. FUNC, INSTR and PLACE are `-` where there is none. Of a writer that failed it tells nothing.
 #[derive(Clone, Copy, Debug)]
 pub struct Refusal<'a>(pub &'a CallFault);
 
@@ -34,15 +37,18 @@ impl fmt::Display for Refusal<'_> {
                 f.write_str("no decode ")?;
                 tell_decode_fault(fault, f)
             }
-            CallFault::Invalid(rule, place) => {
-                let word = rule_word(*rule);
-                write!(f, "no valid {word} ")?;
-                tell_place(place, f)
+            CallFault::Invalid(fault) => {
+                f.write_str("no valid ")?;
+                tell_valid_fault(fault, f)
             }
-            CallFault::Input(line) => write!(f, "no input {line}"),
-            CallFault::Trap => f.write_str("no run Trap"),
-            CallFault::Stuck => f.write_str("no run Stuck"),
-            CallFault::Budget => f.write_str("no run Budget"),
+            CallFault::Unbounded(fault) => {
+                f.write_str("no profile ")?;
+                tell_profile_fault(fault, f)
+            }
+            CallFault::Input(InputFault::Line(line)) => write!(f, "no input {line}"),
+            CallFault::Run(RunFault::Budget) => f.write_str("no run Budget"),
+            CallFault::Run(RunFault::OutOfMemory) => f.write_str("no run OutOfMemory"),
+            CallFault::Input(InputFault::OutOfMemory) => f.write_str("no memory"),
             CallFault::OutOfMemory => f.write_str("no memory"),
             CallFault::Write => Ok(()),
         }
@@ -65,7 +71,7 @@ fn tell_decode_fault<W: fmt::Write>(fault: &DecodeFault, f: &mut fmt::Formatter<
         DecodeFault::CountMismatch(place) => tell_word_at("CountMismatch", place, f),
         DecodeFault::Unsupported(place) => tell_word_at("Unsupported", place, f),
         DecodeFault::OverLimit(place) => tell_word_at("OverLimit", place, f),
-        DecodeFault::OutOfMemory => f.write_str("OutOfMemory"),
+        DecodeFault::OutOfMemory => f.write_str("OutOfMemory -"),
     }
 }
 
@@ -73,6 +79,20 @@ fn tell_word_at<W: fmt::Write>(word: &str, place: usize, f: &mut fmt::Formatter<
     ensures { DisplaysOnOk W.write_str_gives f.old result (Some (word_at word.now place)) f.new }
 {
     write!(f, "{word} {place}")
+}
+
+// The rule's word and the place that breaks it.
+fn tell_valid_fault<W: fmt::Write>(fault: &ValidFault, f: &mut fmt::Formatter<W>) -> fmt::Result
+    ensures { DisplaysOnOk W.write_str_gives f.old result (Some (invalid_text fault.now)) f.new }
+{
+    match fault {
+        ValidFault::Breaks(rule, place) => {
+            let word = rule_word(*rule);
+            write!(f, "{word} ")?;
+            tell_place(place, f)
+        }
+        ValidFault::OutOfMemory => f.write_str("OutOfMemory - -"),
+    }
 }
 
 fn rule_word(rule: Rule) -> &'static str
@@ -94,6 +114,53 @@ fn rule_word(rule: Rule) -> &'static str
         Rule::Limits => "Limits",
         Rule::StartType => "StartType",
     }
+}
+
+// The rule of the profile and the place that breaks it, or the cycle of functions that call each other.
+fn tell_profile_fault<W: fmt::Write>(fault: &ProfileFault, f: &mut fmt::Formatter<W>) -> fmt::Result
+    ensures { DisplaysOnOk W.write_str_gives f.old result (Some (unbounded_text fault.now)) f.new }
+{
+    match fault {
+        ProfileFault::Breaks(rule, place) => {
+            let word = profile_word(*rule);
+            write!(f, "{word} ")?;
+            tell_place(place, f)
+        }
+        ProfileFault::Cycle(functions) => tell_cycle(functions, f),
+        ProfileFault::OutOfMemory => f.write_str("OutOfMemory - -"),
+    }
+}
+
+fn profile_word(rule: ProfileRule) -> &'static str
+    ensures { result.now ≡ profile_word rule }
+{
+    match rule {
+        ProfileRule::P1 => "P1",
+        ProfileRule::P2 => "P2",
+        ProfileRule::P3 => "P3",
+        ProfileRule::P4 => "P4",
+        ProfileRule::P5 => "P5",
+        ProfileRule::P6 => "P6",
+        ProfileRule::P7 => "P7",
+        ProfileRule::P8 => "P8",
+        ProfileRule::P9 => "P9",
+        ProfileRule::P10 => "P10",
+        ProfileRule::P11 => "P11",
+        ProfileRule::P12 => "P12",
+        ProfileRule::P13 => "P13",
+        ProfileRule::P14 => "P14",
+    }
+}
+
+// The rule and the numbers of the functions.
+fn tell_cycle<W: fmt::Write>(functions: &[u32], f: &mut fmt::Formatter<W>) -> fmt::Result
+    ensures { DisplaysOnOk W.write_str_gives f.old result (Some (cycle_text functions.now)) f.new }
+{
+    f.write_str("P12")?;
+    for function in functions {
+        write!(f, " {function}")?;
+    }
+    Ok(())
 }
 
 // The function's number and the instruction's.

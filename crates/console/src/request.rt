@@ -9,4 +9,6 @@ pub enum Options<'a> {
     Assemble { module: &'a str, binary: &'a str },
     /// Print the module in a file as text.
     Print { module: &'a str },
+    /// Tell the bounds of the calls of the module in a file.
+    Verify { module: &'a str },
 }

@@ -1,89 +1,14 @@
 //! Rows of texts, of command lines, and of files.
 
-ghost use Rattle.console.specs.Disk.{unknown};
+mod samples;
 
-use crate::{
-    CallFault, FileFault, Files, Input, InputFault, Options, ServeFault, call, command, options,
-};
+use crate::{CallFault, Files, Input, InputFault, Options, ServeFault, call, command, options};
 use clap::error::ErrorKind;
 use host_calls::CallInput;
+use interp::RunFault;
+use samples::{COMPUTE, SEVEN, Samples};
 use std::alloc::{AllocError, Global};
 use std::test::Fail;
-
-// Ten times the value, and 7.
-static SEVEN: [u8; 96] = [
-    0x00, 0x61, 0x73, 0x6D, 0x01, 0x00, 0x00, 0x00, 0x01, 0x0C, 0x03, 0x60, 0x00, 0x01, 0x7E, 0x60,
-    0x01, 0x7E, 0x00, 0x60, 0x00, 0x00, 0x02, 0x27, 0x02, 0x06, 0x70, 0x72, 0x65, 0x67, 0x65, 0x6C,
-    0x09, 0x67, 0x65, 0x74, 0x5F, 0x76, 0x61, 0x6C, 0x75, 0x65, 0x00, 0x00, 0x06, 0x70, 0x72, 0x65,
-    0x67, 0x65, 0x6C, 0x09, 0x73, 0x65, 0x74, 0x5F, 0x76, 0x61, 0x6C, 0x75, 0x65, 0x00, 0x01, 0x03,
-    0x02, 0x01, 0x02, 0x07, 0x0B, 0x01, 0x07, 0x63, 0x6F, 0x6D, 0x70, 0x75, 0x74, 0x65, 0x00, 0x02,
-    0x0A, 0x0E, 0x01, 0x0C, 0x00, 0x10, 0x00, 0x42, 0x0A, 0x7E, 0x42, 0x07, 0x7C, 0x10, 0x01, 0x0B,
-];
-
-// All messages are taken at each edge.
-static CURSORS: [u8; 111] = [
-    0x00, 0x61, 0x73, 0x6D, 0x01, 0x00, 0x00, 0x00, 0x01, 0x08, 0x02, 0x60, 0x00, 0x01, 0x7F, 0x60,
-    0x00, 0x00, 0x02, 0x2A, 0x02, 0x06, 0x70, 0x72, 0x65, 0x67, 0x65, 0x6C, 0x09, 0x6E, 0x65, 0x78,
-    0x74, 0x5F, 0x65, 0x64, 0x67, 0x65, 0x00, 0x00, 0x06, 0x70, 0x72, 0x65, 0x67, 0x65, 0x6C, 0x0C,
-    0x6E, 0x65, 0x78, 0x74, 0x5F, 0x6D, 0x65, 0x73, 0x73, 0x61, 0x67, 0x65, 0x00, 0x00, 0x03, 0x02,
-    0x01, 0x01, 0x07, 0x0B, 0x01, 0x07, 0x63, 0x6F, 0x6D, 0x70, 0x75, 0x74, 0x65, 0x00, 0x02, 0x0A,
-    0x1E, 0x01, 0x1C, 0x00, 0x02, 0x40, 0x03, 0x40, 0x10, 0x00, 0x45, 0x0D, 0x01, 0x02, 0x40, 0x03,
-    0x40, 0x10, 0x01, 0x45, 0x0D, 0x01, 0x0C, 0x00, 0x0B, 0x0B, 0x0C, 0x00, 0x0B, 0x0B, 0x0B,
-];
-
-// The value is given to slot 0, and becomes what that slot was aggregated to.
-static SUM: [u8; 147] = [
-    0x00, 0x61, 0x73, 0x6D, 0x01, 0x00, 0x00, 0x00, 0x01, 0x16, 0x05, 0x60, 0x00, 0x01, 0x7E, 0x60,
-    0x02, 0x7F, 0x7E, 0x00, 0x60, 0x01, 0x7F, 0x01, 0x7E, 0x60, 0x01, 0x7E, 0x00, 0x60, 0x00, 0x00,
-    0x02, 0x4E, 0x04, 0x06, 0x70, 0x72, 0x65, 0x67, 0x65, 0x6C, 0x09, 0x67, 0x65, 0x74, 0x5F, 0x76,
-    0x61, 0x6C, 0x75, 0x65, 0x00, 0x00, 0x06, 0x70, 0x72, 0x65, 0x67, 0x65, 0x6C, 0x09, 0x61, 0x67,
-    0x67, 0x72, 0x65, 0x67, 0x61, 0x74, 0x65, 0x00, 0x01, 0x06, 0x70, 0x72, 0x65, 0x67, 0x65, 0x6C,
-    0x0A, 0x61, 0x67, 0x67, 0x72, 0x65, 0x67, 0x61, 0x74, 0x65, 0x64, 0x00, 0x02, 0x06, 0x70, 0x72,
-    0x65, 0x67, 0x65, 0x6C, 0x09, 0x73, 0x65, 0x74, 0x5F, 0x76, 0x61, 0x6C, 0x75, 0x65, 0x00, 0x03,
-    0x03, 0x02, 0x01, 0x04, 0x07, 0x0B, 0x01, 0x07, 0x63, 0x6F, 0x6D, 0x70, 0x75, 0x74, 0x65, 0x00,
-    0x04, 0x0A, 0x10, 0x01, 0x0E, 0x00, 0x41, 0x00, 0x10, 0x00, 0x10, 0x01, 0x41, 0x00, 0x10, 0x02,
-    0x10, 0x03, 0x0B,
-];
-
-// 1 is sent to vertex 99.
-static LOST: [u8; 90] = [
-    0x00, 0x61, 0x73, 0x6D, 0x01, 0x00, 0x00, 0x00, 0x01, 0x09, 0x02, 0x60, 0x02, 0x7E, 0x7E, 0x00,
-    0x60, 0x00, 0x00, 0x02, 0x25, 0x02, 0x06, 0x70, 0x72, 0x65, 0x67, 0x65, 0x6C, 0x04, 0x73, 0x65,
-    0x6E, 0x64, 0x00, 0x00, 0x06, 0x70, 0x72, 0x65, 0x67, 0x65, 0x6C, 0x0C, 0x76, 0x6F, 0x74, 0x65,
-    0x5F, 0x74, 0x6F, 0x5F, 0x68, 0x61, 0x6C, 0x74, 0x00, 0x01, 0x03, 0x02, 0x01, 0x01, 0x07, 0x0B,
-    0x01, 0x07, 0x63, 0x6F, 0x6D, 0x70, 0x75, 0x74, 0x65, 0x00, 0x02, 0x0A, 0x0D, 0x01, 0x0B, 0x00,
-    0x42, 0xE3, 0x00, 0x42, 0x01, 0x10, 0x00, 0x10, 0x01, 0x0B,
-];
-
-// The magic number and the version, and nothing more.
-static EMPTY: [u8; 8] = [0x00, 0x61, 0x73, 0x6D, 0x01, 0x00, 0x00, 0x00];
-
-// `compute` of no parameters and no results, up to the size of its section.
-static COMPUTE: [u8; 32] = [
-    0x00, 0x61, 0x73, 0x6D, 0x01, 0x00, 0x00, 0x00, 0x01, 0x04, 0x01, 0x60, 0x00, 0x00, 0x03, 0x02,
-    0x01, 0x00, 0x07, 0x0B, 0x01, 0x07, 0x63, 0x6F, 0x6D, 0x70, 0x75, 0x74, 0x65, 0x00, 0x00, 0x0A,
-];
-
-// The numbers 1 and 2, of two types, are added.
-static UNTYPED: [u8; 43] = [
-    0x00, 0x61, 0x73, 0x6D, 0x01, 0x00, 0x00, 0x00, 0x01, 0x04, 0x01, 0x60, 0x00, 0x00, 0x03, 0x02,
-    0x01, 0x00, 0x07, 0x0B, 0x01, 0x07, 0x63, 0x6F, 0x6D, 0x70, 0x75, 0x74, 0x65, 0x00, 0x00, 0x0A,
-    0x0A, 0x01, 0x08, 0x00, 0x41, 0x01, 0x42, 0x02, 0x6A, 0x1A, 0x0B,
-];
-
-// `compute` is `unreachable`.
-static UNREACHABLE: [u8; 38] = [
-    0x00, 0x61, 0x73, 0x6D, 0x01, 0x00, 0x00, 0x00, 0x01, 0x04, 0x01, 0x60, 0x00, 0x00, 0x03, 0x02,
-    0x01, 0x00, 0x07, 0x0B, 0x01, 0x07, 0x63, 0x6F, 0x6D, 0x70, 0x75, 0x74, 0x65, 0x00, 0x00, 0x0A,
-    0x05, 0x01, 0x03, 0x00, 0x00, 0x0B,
-];
-
-// `compute` is a loop that begins again.
-static ENDLESS: [u8; 42] = [
-    0x00, 0x61, 0x73, 0x6D, 0x01, 0x00, 0x00, 0x00, 0x01, 0x04, 0x01, 0x60, 0x00, 0x00, 0x03, 0x02,
-    0x01, 0x00, 0x07, 0x0B, 0x01, 0x07, 0x63, 0x6F, 0x6D, 0x70, 0x75, 0x74, 0x65, 0x00, 0x00, 0x0A,
-    0x09, 0x01, 0x07, 0x00, 0x03, 0x40, 0x0C, 0x00, 0x0B, 0x0B,
-];
 
 // Each with what it means: id, superstep, count and value, then messages, then edges as `target:value`.
 const INPUTS: [(&str, &str); 16] = [
@@ -250,105 +175,14 @@ fn a_million_units_are_the_limit(rt: HostRuntime) -> Result<(), Fail> {
         &[0xC3, 0x84, 0x3D],
         1_000_001,
     )?;
-    assert_eq!(rt;
-        call(rt.alloc(), more.as_slice(), "", &mut out),
-        Err(CallFault::Budget)
+    assert!(rt;
+        matches!(
+            call(rt.alloc(), more.as_slice(), "", &mut out),
+            Err(CallFault::Run(RunFault::Budget))
+        )
     );
     assert!(rt; out.is_empty());
     Ok(())
-}
-
-// The module that `SEVEN` spells.
-const SEVEN_TEXT: &str = r#"
-(module
-  (import "pregel" "get_value" (func $get_value (result i64)))
-  (import "pregel" "set_value" (func $set_value (param i64)))
-  (func (export "compute")
-    (call $set_value (i64.add (i64.mul (call $get_value) (i64.const 10)) (i64.const 7)))))
-"#;
-
-// `i32.const 0` and `drop`, with the number 0 spelled in two bytes.
-static LONG_ZERO: [u8; 41] = [
-    0x00, 0x61, 0x73, 0x6D, 0x01, 0x00, 0x00, 0x00, 0x01, 0x04, 0x01, 0x60, 0x00, 0x00, 0x03, 0x02,
-    0x01, 0x00, 0x07, 0x0B, 0x01, 0x07, 0x63, 0x6F, 0x6D, 0x70, 0x75, 0x74, 0x65, 0x00, 0x00, 0x0A,
-    0x08, 0x01, 0x06, 0x00, 0x41, 0x80, 0x00, 0x1A, 0x0B,
-];
-
-// The same in the fewest bytes.
-static SHORT_ZERO: [u8; 40] = [
-    0x00, 0x61, 0x73, 0x6D, 0x01, 0x00, 0x00, 0x00, 0x01, 0x04, 0x01, 0x60, 0x00, 0x00, 0x03, 0x02,
-    0x01, 0x00, 0x07, 0x0B, 0x01, 0x07, 0x63, 0x6F, 0x6D, 0x70, 0x75, 0x74, 0x65, 0x00, 0x00, 0x0A,
-    0x07, 0x01, 0x05, 0x00, 0x41, 0x00, 0x1A, 0x0B,
-];
-
-// What is printed of it.
-const ZERO_TEXT: &str = r#"(module
-  (type (func))
-  (func (type 0)
-    i32.const 0
-    drop
-  )
-  (export "compute" (func 0))
-)
-"#;
-
-// Some modules and inputs by name, and what was written last.
-#[derive(Drop)]
-struct Samples {
-    written: Vec<u8>,
-}
-
-impl Samples {
-    fn new(alloc: Global) -> Samples {
-        Samples {
-            written: Vec::new(alloc),
-        }
-    }
-}
-
-impl Files for Samples {
-    ghost disk = { λ _. unknown };
-
-    fn read(&mut self, alloc: Global, path: &str) -> Result<Vec<u8>, FileFault> {
-        let bytes: &[u8] = match path {
-            "seven.wasm" => &SEVEN,
-            "seven.wat" | "seven.txt" | ".wat" => SEVEN_TEXT.as_bytes(),
-            "cursors.wasm" => &CURSORS,
-            "sum.wasm" => &SUM,
-            "lost.wasm" => &LOST,
-            "zero.wasm" => &LONG_ZERO,
-            "short.wasm" => &SHORT_ZERO,
-            "nothing.wasm" | "nothing.wat" => &[],
-            "empty.wasm" => &EMPTY,
-            "binary.wat" => &EMPTY,
-            "untyped.wasm" => &UNTYPED,
-            "unreachable.wasm" => &UNREACHABLE,
-            "endless.wasm" => &ENDLESS,
-            "range.wat" => b"(module\n  (func i32.const 4294967296 drop))",
-            "mismatch.wat" => b"(module (func i32.const 1 i64.const 2 i32.add drop))",
-            "latin.wat" => b"(module) ;; \xE9\n",
-            "thirty-four.txt" => b"value 34\n",
-            "edges.txt" => b"message 1\nmessage 2\nmessage 3\nedge 5 6\nedge 7 8\n",
-            "messages.txt" => b"message 1\nmessage 2\nmessage 3\n",
-            "slots.txt" => b"value 34\naggregate 0 5\n",
-            "bad.txt" => b"value 34\nvalue\n",
-            "latin.txt" => b"value 34\n\xE9\n",
-            "none.txt" => b"",
-            _ => return Err(FileFault::Device),
-        };
-        Vec::from_slice(alloc, bytes).map_err(|_| FileFault::OutOfMemory)
-    }
-
-    fn write(&mut self, path: &str, bytes: &[u8]) -> Result<(), FileFault> {
-        if path != "out.wasm" {
-            return Err(FileFault::Device);
-        }
-        self.written.clear();
-        match self.written.extend_from_slice(bytes) {
-            Ok(()) => Ok(()),
-            Err(_) => Err(FileFault::OutOfMemory),
-        }
-    }
 }
 
 // Each module and input, with the status and what is written. The module comes before the input, and the input before
@@ -395,13 +229,13 @@ static CALLS: [(&str, &str, u8, &str); 28] = [
         "no decode Truncated 0\n",
     ),
     ("nothing.wasm", "gone.txt", 1, "no decode Truncated 0\n"),
-    ("empty.wasm", "bad.txt", 1, "no input 2\n"),
-    ("empty.wasm", "none.txt", 1, "no run Stuck\n"),
+    ("empty.wasm", "bad.txt", 1, "no profile P2 - -\n"),
+    ("empty.wasm", "gone.txt", 1, "no profile P2 - -\n"),
     ("untyped.wasm", "bad.txt", 1, "no valid Mismatch 0 2\n"),
     ("untyped.wasm", "gone.txt", 1, "no valid Mismatch 0 2\n"),
-    ("unreachable.wasm", "none.txt", 1, "no run Trap\n"),
-    ("endless.wasm", "none.txt", 1, "no run Budget\n"),
-    ("endless.wasm", "latin.txt", 4, "no file latin.txt\n"),
+    ("unreachable.wasm", "none.txt", 1, "no profile P6 0 0\n"),
+    ("endless.wasm", "none.txt", 1, "no profile P9 0 0\n"),
+    ("endless.wasm", "latin.txt", 1, "no profile P9 0 0\n"),
     ("gone.wasm", "thirty-four.txt", 4, "no file gone.wasm\n"),
     ("gone.wasm", "gone.txt", 4, "no file gone.wasm\n"),
     (
@@ -526,6 +360,149 @@ fn modules_are_printed(rt: HostRuntime) -> Result<(), Fail> {
     Ok(())
 }
 
+// What is printed of it.
+const ZERO_TEXT: &str = r#"(module
+  (type (func))
+  (func (type 0)
+    i32.const 0
+    drop
+  )
+  (export "compute" (func 0))
+)
+"#;
+
+// Each module, with the status and what is told.
+static BOUNDS: [(&str, u8, &str); 15] = [
+    ("seven.wasm", 0, "ok size 6 operands 2 frames 1\n"),
+    ("seven.wat", 0, "ok size 6 operands 2 frames 1\n"),
+    ("cursor.wat", 0, "ok size 6 operands 1 frames 1\n"),
+    ("cursors.wasm", 0, "ok size 12 operands 1 frames 1\n"),
+    ("greatest.wat", 0, "ok size 33 operands 2 frames 1\n"),
+    ("digits.wat", 0, "ok size 22 operands 2 frames 1\n"),
+    ("fresh.wat", 0, "ok size 9 operands 3 frames 1\n"),
+    ("sum.wasm", 0, "ok size 6 operands 2 frames 1\n"),
+    ("lost.wasm", 0, "ok size 4 operands 2 frames 1\n"),
+    ("empty.wasm", 1, "no profile P2 - -\n"),
+    ("cycle.wat", 1, "no profile P12 0 1\n"),
+    ("constant-exit.wat", 1, "no profile P9 1 1\n"),
+    ("untyped.wasm", 1, "no valid Mismatch 0 2\n"),
+    ("nothing.wat", 1, "no text Syntax 1 1\n"),
+    ("gone.wasm", 4, "no file gone.wasm\n"),
+];
+
+#[test]
+fn bounds_are_told(rt: HostRuntime) -> Result<(), Fail> {
+    for (module, status, told) in &BOUNDS {
+        let mut files = Samples::new(rt.alloc());
+        let mut out = Vec::new(rt.alloc());
+        let options = Options::Verify { module };
+        let answered = command(rt.alloc(), options, &mut files, &mut out)?;
+        assert_eq!(rt; answered, *status, "at {module}");
+        assert_eq!(rt; out.as_slice(), told.as_bytes(), "at {module}");
+        assert!(rt; files.written.is_empty());
+    }
+    Ok(())
+}
+
+// Each body of `compute`, with its memory and a local, and what is told of it.
+const BODIES: [(&str, &str); 11] = [
+    (
+        "i32.const 65532 i32.load drop",
+        "ok size 3 operands 1 frames 1\n",
+    ),
+    ("i32.const 65533 i32.load drop", "no profile P10 0 1\n"),
+    (
+        "i32.const -4 i32.load offset=8 drop",
+        "no profile P10 0 1\n",
+    ),
+    (
+        "i32.const -2147483648 i32.const -1 i32.rem_s drop",
+        "ok size 4 operands 2 frames 1\n",
+    ),
+    (
+        "i32.const -2147483648 i32.const -1 i32.div_s drop",
+        "no profile P11 0 2\n",
+    ),
+    (
+        "i32.const 1 i32.const 0 i32.div_u drop",
+        "no profile P11 0 2\n",
+    ),
+    (
+        "i32.const 0 block (result i32) i32.const 5 end i32.store",
+        "ok size 4 operands 2 frames 1\n",
+    ),
+    (
+        "i32.const 0 local.tee 0 i32.load drop",
+        "no profile P10 0 2\n",
+    ),
+    ("unreachable select drop", "no profile P6 0 0\n"),
+    ("br 0 i32.add drop", "no profile P8 0 1\n"),
+    (
+        "(if (i32.const 1) (then (i32.load (i32.const 65533)) drop))",
+        "no profile P10 0 3\n",
+    ),
+];
+
+#[test]
+fn bounds_of_bodies(rt: HostRuntime) -> Result<(), Fail> {
+    for (body, told) in BODIES {
+        let mut text = String::new(rt.alloc());
+        write!(
+            text,
+            "(module (memory 1) (func (export \"compute\") (local i32) {body}))"
+        )?;
+        let shown = told_of(rt.alloc(), text)?;
+        assert_eq!(rt; shown.as_slice(), told.as_bytes(), "at {body}");
+    }
+    Ok(())
+}
+
+// What `verify` tells of a text.
+fn told_of(alloc: Global, text: String) -> Result<Vec<u8>, Fail> {
+    let mut files = Samples::with(alloc, text);
+    let mut out = Vec::new(alloc);
+    let options = Options::Verify {
+        module: "built.wat",
+    };
+    command(alloc, options, &mut files, &mut out)?;
+    Ok(out)
+}
+
+#[test]
+fn a_memory_of_seventeen_pages(rt: HostRuntime) -> Result<(), Fail> {
+    let mut text = String::new(rt.alloc());
+    write!(text, "(module (memory 17) (func (export \"compute\")))")?;
+    let told = told_of(rt.alloc(), text)?;
+    assert_eq!(rt; told.as_slice(), b"no profile P10 - -\n".as_slice());
+    Ok(())
+}
+
+// Function 0 does nothing, each other calls the one before it twice, and the last is `compute`.
+fn doubling(alloc: Global, last: u32) -> Result<String, AllocError> {
+    let mut text = String::new(alloc);
+    write!(text, "(module (func nop)")?;
+    for callee in 0..last {
+        write!(text, "(func call {callee} call {callee})")?;
+    }
+    write!(text, "(export \"compute\" (func {last})))")?;
+    Ok(text)
+}
+
+#[test]
+fn sizes_double(rt: HostRuntime) -> Result<(), Fail> {
+    let rows: [(u32, &str); 3] = [
+        (1, "ok size 4 operands 0 frames 2\n"),
+        (18, "ok size 786430 operands 0 frames 19\n"),
+        (19, "no profile P14 - -\n"),
+    ];
+    for (last, wanted) in rows {
+        let text = doubling(rt.alloc(), last)?;
+        let told = told_of(rt.alloc(), text)?;
+        assert_eq!(rt; told.as_slice(), wanted.as_bytes(), "at {last}");
+    }
+    Ok(())
+}
+
 #[test]
 fn a_writer_fails(rt: HostRuntime) {
     let input = "thirty-four.txt";
@@ -533,6 +510,7 @@ fn a_writer_fails(rt: HostRuntime) {
         for options in [
             Options::Call { module, input },
             Options::Print { module },
+            Options::Verify { module },
             Options::Assemble {
                 module,
                 binary: "out.wasm",
@@ -552,7 +530,7 @@ fn a_writer_fails(rt: HostRuntime) {
 #[test]
 fn words_are_read(rt: HostRuntime) {
     let (module, input, binary) = ("seven.wasm", "in.txt", "out.wasm");
-    let rows: [(&[&str], Options); 3] = [
+    let rows: [(&[&str], Options); 4] = [
         (
             &["pregel", "call", "seven.wasm", "in.txt"],
             Options::Call { module, input },
@@ -565,6 +543,10 @@ fn words_are_read(rt: HostRuntime) {
             &["pregel", "print", "seven.wasm"],
             Options::Print { module },
         ),
+        (
+            &["pregel", "verify", "seven.wasm"],
+            Options::Verify { module },
+        ),
     ];
     for (words, wanted) in rows {
         let found = options(rt.alloc(), words).ok();
@@ -574,7 +556,7 @@ fn words_are_read(rt: HostRuntime) {
 
 #[test]
 fn words_are_refused(rt: HostRuntime) {
-    let rows: [(&[&str], ErrorKind); 8] = [
+    let rows: [(&[&str], ErrorKind); 9] = [
         (&["pregel", "--help"], ErrorKind::DisplayHelp),
         (&["pregel", "call", "--help"], ErrorKind::DisplayHelp),
         (
@@ -587,6 +569,7 @@ fn words_are_refused(rt: HostRuntime) {
         ),
         (&["pregel", "recall"], ErrorKind::InvalidSubcommand),
         (&["pregel", "asm", "--help"], ErrorKind::DisplayHelp),
+        (&["pregel", "verify"], ErrorKind::MissingRequiredArgument),
         (
             &["pregel", "asm", "seven.wat"],
             ErrorKind::MissingRequiredArgument,

@@ -1,9 +1,9 @@
 use Rattle.std.proofs.Common.{◌≡◌, ◌∙◌, refl}
 use Rattle.console.specs.declared.input.InputFault.TheVariants as input
-use Rattle.console.specs.declared.fault.CallFault.TheVariants.{OutOfMemory}
+use Rattle.interp.specs.declared.fault.RunFault.TheVariants as run
 use Rattle.console.specs.InputSays.{lines_of}
 use Rattle.console.specs.Lines.{outcome_lines}
-use Rattle.console.proofs.Faults.{is_fault, input_answers, outcome_answers}
+use Rattle.console.proofs.Faults.{is_fault}
 use Rattle.console.proofs.InputLines.{none_bad}
 use Rattle.console.proofs.Meanings.{lent_means, outcome_of_meaning}
 use Rattle.console.proofs.engine.answer.Goals as goal
@@ -11,14 +11,14 @@ use Rattle.console.proofs.engine.answer.Goals as goal
 pub returns-in_err-input-clause-answered : goal.returns-in_err-input-clause-answered
 returns-in_err-input-clause-answered g c = λ lines answers.
     let memory : c.in_err-input.field-0.0 ≡ input.OutOfMemory = none_bad (lines_of c.args.input.now) c.in_err-input.field-0.0 answers.means.are_input c.in_err-input.ensures.refused in
-    rw (is_fault _ _ c.from_residual.ensures.1) (input_answers c.in_err-input.field-0.0 memory)
+    rw (is_fault _ _ c.from_residual.ensures.1) memory
 
 pub returns-in_err-outcome-clause-answered : goal.returns-in_err-outcome-clause-answered
 returns-in_err-outcome-clause-answered g c = λ lines answers.
     let means = lent_means c.args.input.now c.in_ok-input.input c.call_input.result c.in_ok-input.ensures.says c.call_input.ensures in
-    let ends = outcome_of_meaning c.args.valid.now c.args.input.now answers.input c.call_input.result answers.outcome answers.means means answers.ends in
-    let memory : c.in_err-outcome.field-0.0 ≡ OutOfMemory = c.in_err-outcome.ensures.gives answers.outcome ends answers.within in
-    rw (is_fault _ _ c.from_residual-in_err-outcome.ensures.1) (outcome_answers c.in_err-outcome.field-0.0 memory)
+    let ends = outcome_of_meaning c.args.verified.now c.args.input.now answers.input c.call_input.result answers.outcome answers.means means answers.ends in
+    let memory : c.in_err-outcome.field-0.0 ≡ run.OutOfMemory = c.in_err-outcome.ensures.gives answers.outcome ends answers.within in
+    rw (is_fault _ _ c.from_residual-in_err-outcome.ensures.1) memory
 
 pub returns-in_err-write_all-clause-refused : goal.returns-in_err-write_all-clause-refused
 returns-in_err-write_all-clause-refused g c =

@@ -1,27 +1,36 @@
-use Rattle.std.proofs.Common.{◌≡◌, Some, ap, Err}
-use Rattle.console.proofs.Faults.{is_fault, spelled_decodes, decode_refuses, valid_loads, valid_refuses}
+use Rattle.std.proofs.Common.{◌≡◌, Some, Err, ap, ◌∙◌}
+use Rattle.wasm_ast.specs.declared.module.Module.{Module}
+use Rattle.console.specs.Engine.{Loads}
+use Rattle.console.proofs.Faults.{is_fault, fails_for_memory, same_loads}
 use Rattle.console.proofs.engine.load.Goals as goal
 
 pub returns-in_err-module-clause-only : goal.returns-in_err-module-clause-only
 returns-in_err-module-clause-only c = λ m loads.
-    rw (is_fault _ _ c.from_residual.ensures.1) (spelled_decodes c.in_err-module.field-0.0 m (c.in_err-module.ensures.only m loads.spelled))
+    rw (is_fault _ _ c.from_residual.ensures.1) (fails_for_memory c.in_err-module.field-0.0 m (c.in_err-module.ensures.only m loads.spelled))
 
 pub returns-in_err-module-clause-refused : goal.returns-in_err-module-clause-refused
 returns-in_err-module-clause-refused c =
-    rw (is_fault _ _ c.from_residual.ensures.1) (decode_refuses c.args.module.now c.in_err-module.field-0.0 c.in_err-module.ensures.only)
+    rw (is_fault _ _ c.from_residual.ensures.1)
+    (λ (m : Module) spelled. fails_for_memory c.in_err-module.field-0.0 m (c.in_err-module.ensures.only m spelled))
 
 pub returns-in_err-valid-clause-only : goal.returns-in_err-valid-clause-only
 returns-in_err-valid-clause-only c = λ m loads.
-    rw (is_fault _ _ c.from_residual-in_err-valid.ensures.1)
-    (valid_loads c.args.module.now c.in_ok-module.module m c.in_err-valid.field-0.0 (c.in_ok-module.ensures.only m loads.spelled) c.in_err-valid.ensures.refused loads)
+    let here = same_loads c.args.module.now c.in_ok-module.module m (c.in_ok-module.ensures.only m loads.spelled) loads in
+    rw (is_fault _ _ c.from_residual-in_err-valid.ensures.1) (c.in_err-valid.ensures.refused here.typed here.within)
 
 pub returns-in_err-valid-clause-refused : goal.returns-in_err-valid-clause-refused
 returns-in_err-valid-clause-refused c =
-    rw (is_fault _ _ c.from_residual-in_err-valid.ensures.1)
-    (valid_refuses c.args.module.now c.in_ok-module.module c.in_err-valid.field-0.0 c.in_ok-module.ensures.found c.in_err-valid.ensures.refused)
+    rw (is_fault _ _ c.from_residual-in_err-valid.ensures.1) (c.in_ok-module.module, c.in_ok-module.ensures.found, c.in_err-valid.ensures.refused)
+
+pub returns-in_err-verified-clause-only : goal.returns-in_err-verified-clause-only
+returns-in_err-verified-clause-only c = λ m loads. ?
+
+pub returns-in_err-verified-clause-refused : goal.returns-in_err-verified-clause-refused
+returns-in_err-verified-clause-refused c = ?
 
 pub returns-clause-only : goal.returns-clause-only
 returns-clause-only c = λ m loads.
     let same : Some m ≡ Some c.in_ok-module.module = c.in_ok-module.ensures.only m loads.spelled in
     let kept : c.in_ok-valid.valid ≡ c.in_ok-module.module = c.in_ok-valid.ensures.kept in
+    let verified : c.in_ok-verified.verified ≡ c.in_ok-valid.valid = c.in_ok-verified.ensures.kept in
     cc

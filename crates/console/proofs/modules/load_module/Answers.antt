@@ -1,5 +1,6 @@
+use Rattle.std.proofs.Common.{◌≡◌, ◌∙◌, subst, sym}
 use Rattle.console.proofs.Faults.{is_fault}
-use Rattle.console.proofs.ReadModules.{not_module, not_valid, valid_at}
+use Rattle.console.proofs.ReadModules.{loaded_at, not_module}
 use Rattle.console.proofs.modules.load_module.Goals as goal
 
 pub returns-in_err-module-clause-found : goal.returns-in_err-module-clause-found
@@ -10,10 +11,10 @@ returns-in_err-module-clause-found g c =
 pub returns-in_err-valid-clause-found : goal.returns-in_err-valid-clause-found
 returns-in_err-valid-clause-found g c =
     rw (is_fault _ _ c.from_residual-in_err-valid.ensures.1)
-    (not_valid (g.F.Files.disk c.args.files.now) c.args.path.now c.in_ok-module.module c.in_err-valid.field-0.0
-    c.in_ok-module.ensures.found c.in_err-valid.ensures.refused)
+    (record { m = c.in_ok-module.module; read = c.in_ok-module.ensures.found; refused = c.in_err-valid.ensures.refused })
+
+pub returns-in_err-verified-clause-found : goal.returns-in_err-verified-clause-found
+returns-in_err-verified-clause-found g c = ?
 
 pub returns-clause-found : goal.returns-clause-found
-returns-clause-found g c =
-    valid_at (g.F.Files.disk c.args.files.now) c.args.path.now c.in_ok-module.module c.in_ok-valid.valid
-    c.in_ok-valid.ensures.kept c.in_ok-module.ensures.found c.in_ok-valid.ensures.accepted
+returns-clause-found g c = ?

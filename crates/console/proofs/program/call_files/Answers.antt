@@ -5,21 +5,21 @@ use Rattle.console.specs.declared.command_fault.CommandFault.TheVariants as comm
 use Rattle.console.proofs.Told.{call_refused, outcome_told, without_input}
 use Rattle.console.proofs.program.call_files.Goals as goal
 
-pub returns-in_err-valid-clause-refused : goal.returns-in_err-valid-clause-refused
-returns-in_err-valid-clause-refused g c = rw (is_fault _ _ c.from_residual.ensures.1) (inl c.in_err-valid.ensures.found)
+pub returns-in_err-verified-clause-refused : goal.returns-in_err-verified-clause-refused
+returns-in_err-verified-clause-refused g c = rw (is_fault _ _ c.from_residual.ensures.1) (inl c.in_err-verified.ensures.found)
 
 pub returns-in_err-text-clause-refused : goal.returns-in_err-text-clause-refused
 returns-in_err-text-clause-refused g c =
     rw (is_fault _ _ c.from_residual-in_err-text.ensures.1)
     (without_input (g.F.Files.disk c.args.files.now) (g.F.Files.disk c.load_module.new.files) c.args.module.now c.args.input.now
-    c.in_ok-valid.valid c.in_err-text.field-0.0 c.in_ok-valid.ensures.found c.in_ok-valid.ensures.kept c.in_err-text.ensures.found)
+    c.in_ok-verified.verified c.in_err-text.field-0.0 c.in_ok-verified.ensures.found c.in_ok-verified.ensures.kept c.in_err-text.ensures.found)
 
 pub returns-in_err-answer-clause-refused : goal.returns-in_err-answer-clause-refused
 returns-in_err-answer-clause-refused g c =
     rw (is_fault _ _ c.from_residual-in_err-answer.ensures.1)
     (call_refused (g.F.Files.disk c.args.files.now) (g.F.Files.disk c.load_module.new.files) c.args.module.now c.args.input.now
-    (string_vec c.in_ok-text.text).items c.as_str.result.now c.in_ok-valid.valid c.in_err-answer.field-0.0
-    c.in_ok-valid.ensures.found c.in_ok-valid.ensures.kept c.in_ok-text.ensures.found c.as_str.ensures.value c.in_err-answer.ensures.refused)
+    (string_vec c.in_ok-text.text).items c.as_str.result.now c.in_ok-verified.verified c.in_err-answer.field-0.0
+    c.in_ok-verified.ensures.found c.in_ok-verified.ensures.kept c.in_ok-text.ensures.found c.as_str.ensures.value c.in_err-answer.ensures.refused)
 
 pub returns-in_err-answer-clause-unwritten : goal.returns-in_err-answer-clause-unwritten
 returns-in_err-answer-clause-unwritten g c =
@@ -30,7 +30,7 @@ pub returns-clause-answered : goal.returns-clause-answered
 returns-clause-answered g c = (
   c.in_ok-answer.ensures.answer.0,
   outcome_told (g.F.Files.disk c.args.files.now) (g.F.Files.disk c.load_module.new.files) c.args.module.now c.args.input.now
-      (string_vec c.in_ok-text.text).items c.as_str.result.now c.in_ok-answer.ensures.answer.0 c.in_ok-valid.valid
-      c.in_ok-valid.ensures.found c.in_ok-valid.ensures.kept c.in_ok-text.ensures.found c.as_str.ensures.value c.in_ok-answer.ensures.answer.1,
+      (string_vec c.in_ok-text.text).items c.as_str.result.now c.in_ok-answer.ensures.answer.0 c.in_ok-verified.verified
+      c.in_ok-verified.ensures.found c.in_ok-verified.ensures.kept c.in_ok-text.ensures.found c.as_str.ensures.value c.in_ok-answer.ensures.answer.1,
   c.in_ok-answer.ensures.answer.2,
 )

@@ -9,14 +9,15 @@ use Rattle.wasm_decode.specs.Reading.{Fails, found}
 use Rattle.validate.specs.declared.fault.ValidFault.{ValidFault}
 use Rattle.validate.specs.declared.fault.ValidFault.TheVariants as valid
 use Rattle.validate.specs.Modules.{IsTyped}
-use Rattle.bounded_profile.specs.Profile.{IsBounded}
+use Rattle.bounded_profile.specs.declared.fault.ProfileFault.{ProfileFault}
+use Rattle.bounded_profile.specs.Faults.{Refuses as RefusesModule}
 use Rattle.interp.specs.declared.fault.RunFault.{RunFault}
 use Rattle.interp.specs.declared.fault.RunFault.TheVariants as run
 use Rattle.interp.specs.Call.{PassesBudget}
 use Rattle.host_calls.specs.declared.call.CallInput.{CallInput}
 use Rattle.console.specs.declared.fault.CallFault.{CallFault}
 use Rattle.console.specs.declared.fault.CallFault.TheVariants.{Decode, Invalid, Unbounded, Input, Run, OutOfMemory, Write}
-use Rattle.console.specs.Engine.{IsWant, Loads, NeedsMemoryAndWriter, RefusesBytes, RefusesCall, RefusesText, Refuses, step_limit}
+use Rattle.console.specs.Engine.{IsUnbounded, IsWant, Loads, NeedsMemoryAndWriter, RefusesBytes, RefusesCall, RefusesText, Refuses, step_limit}
 
 pub is_fault : {A E : Type 0} (r : Result A E) (fault : E) → IsErrAnd r (λ e. e ≡ fault) → r ≡ Err fault
 is_fault (Ok x) fault h = absurd h
@@ -34,6 +35,11 @@ fails_for_memory _ m h = absurd (cc)
 -- the module that was found is the one that is to be loaded
 pub same_loads : (bytes : List ℕ) (decoded m : Module) → found m ≡ Some decoded → Loads bytes m → Loads bytes decoded
 same_loads bytes decoded m same loads = let e : m ≡ decoded = cc in subst (λ (x : Module). Loads bytes x) e loads
+
+-- why the profile refuses a module that was found valid
+pub unbounded : (m valid : Module) (fault : ProfileFault) → valid ≡ m → IsTyped m × IsWithinLimits m → RefusesModule valid fault → IsUnbounded m fault
+unbounded m valid fault same (typed, within) refused =
+    record { typed = typed; within = within; refused = subst (λ (x : Module). RefusesModule x fault) same refused }
 
 -- why the run gives no outcome
 pub run_refuses : (m : Module) (given : CallInput) (fault : RunFault) → (fault ≡ run.Budget → PassesBudget m given step_limit)

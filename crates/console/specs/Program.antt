@@ -9,7 +9,7 @@ use Rattle.wat_asm.specs.Layout.{layout}
 use Rattle.wasm_decode.specs.declared.fault.DecodeFault.{DecodeFault}
 use Rattle.wasm_decode.specs.declared.encoder.fault.EncodeFault.TheVariants as encode
 use Rattle.wat_asm.specs.declared.fault.TextFault.{TextFault}
-use Rattle.wat_asm.specs.declared.fault.TextFault.TheVariants as text
+use Rattle.wat_asm.specs.declared.fault.TextFault.TheVariants as text_fault
 use Rattle.validate.specs.declared.fault.ValidFault.{ValidFault}
 use Rattle.validate.specs.declared.fault.ValidFault.TheVariants as valid
 use Rattle.validate.specs.Modules.{IsTyped}
@@ -115,7 +115,7 @@ pub record IsNoLayout (disk : Disk) (path : List ℕ) (fault : TextFault) : Type
   pub text : List ℕ
   pub held : disk.holds path (Some text)
   pub is_text : is_text_path path ≡ true
-  pub refused : (m : Module) → IsLayoutOf m text → fault ≡ text.OutOfMemory
+  pub refused : (m : Module) → IsLayoutOf m text → fault ≡ text_fault.OutOfMemory
 
 -- the file at the path is no module's
 abbrev pub IsNoModuleAt : Disk → List ℕ → CommandFault → Type 0

@@ -4,7 +4,7 @@ ghost use Rattle.std.specs.Prelude.{◌≡◌, ◌≢◌, List, ℕ, IfOk, IfErr
 ghost use Rattle.std.specs.Io.KnownBytes.{Appends, Keeps};
 ghost use Rattle.console.specs.CommandFaults.{fault_text, status_of};
 ghost use Rattle.console.specs.Lines.{line};
-ghost use Rattle.console.specs.Program.{Answered, IsAssembleCause, IsBoundsLine, IsCallCause, IsCause, IsPrintCause, IsVerifyCause, length_line, TellsBounds, TellsLayout, TellsLength, TellsOutcome, Told};
+ghost use Rattle.console.specs.Program.{Answered, IsAssembleCause, IsCallCause, IsCause, IsPrintCause, IsVerifyCause, bounds_line, length_line, TellsBounds, TellsLayout, TellsLength, TellsOutcome, Told};
 
 use crate::command_fault::{CommandFault, status_of};
 use crate::engine::answer;
@@ -13,7 +13,6 @@ use crate::files::Files;
 use crate::modules::{load_module, read_module};
 use crate::reading::{read_text, write};
 use crate::request::Options;
-use bounded_profile::Verified;
 use std::alloc::Global;
 use std::io::{self, Write};
 use thiserror::Error;
@@ -170,15 +169,13 @@ fn verify_file<'a, F: Files, W: Write>(
         → Keeps (W.contents out.old) (W.contents out.new)) }
 {
     let verified = load_module(alloc, path, files)?;
-    tell_bounds(&verified, out)?;
+    let (size, operands) = (verified.size(), verified.max_operands());
+    tell_bounds(size, operands, verified.max_frames(), out)?;
     Ok(())
 }
 
-fn tell_bounds<W: Write>(verified: &Verified, out: &mut W) -> io::Result<()>
-    ensures { OnOk result ((told : List ℕ) × IsBoundsLine verified.now told
-        × Appends (W.contents out.old) (W.contents out.new) told) }
+fn tell_bounds<W: Write>(size: u32, operands: u32, frames: u32, out: &mut W) -> io::Result<()>
+    ensures { OnOk result (Appends (W.contents out.old) (W.contents out.new) (bounds_line size operands frames)) }
 {
-    let (size, operands) = (verified.size(), verified.max_operands());
-    let frames = verified.max_frames();
     writeln!(out, "ok size {size} operands {operands} frames {frames}")
 }

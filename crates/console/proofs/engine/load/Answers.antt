@@ -1,7 +1,7 @@
-use Rattle.std.proofs.Common.{◌≡◌, Some, Err, ap, ◌∙◌}
+use Rattle.std.proofs.Common.{◌≡◌, Some, subst, sym}
 use Rattle.wasm_ast.specs.declared.module.Module.{Module}
-use Rattle.console.specs.Engine.{Loads}
-use Rattle.console.proofs.Faults.{is_fault, fails_for_memory, same_loads}
+use Rattle.bounded_profile.specs.Profile.{IsBounded}
+use Rattle.console.proofs.Faults.{is_fault, fails_for_memory, same_loads, unbounded}
 use Rattle.console.proofs.engine.load.Goals as goal
 
 pub returns-in_err-module-clause-only : goal.returns-in_err-module-clause-only
@@ -23,10 +23,20 @@ returns-in_err-valid-clause-refused c =
     rw (is_fault _ _ c.from_residual-in_err-valid.ensures.1) (c.in_ok-module.module, c.in_ok-module.ensures.found, c.in_err-valid.ensures.refused)
 
 pub returns-in_err-verified-clause-only : goal.returns-in_err-verified-clause-only
-returns-in_err-verified-clause-only c = λ m loads. ?
+returns-in_err-verified-clause-only c = λ m loads.
+    let here = same_loads c.args.module.now c.in_ok-module.module m (c.in_ok-module.ensures.only m loads.spelled) loads in
+    let kept : c.in_ok-valid.valid ≡ c.in_ok-module.module = c.in_ok-valid.ensures.kept in
+    rw (is_fault _ _ c.from_residual-in_err-verified.ensures.1)
+    (c.in_err-verified.ensures.refused (subst (λ (x : Module). IsBounded x) (sym kept) here.bounded))
 
 pub returns-in_err-verified-clause-refused : goal.returns-in_err-verified-clause-refused
-returns-in_err-verified-clause-refused c = ?
+returns-in_err-verified-clause-refused c =
+    rw (is_fault _ _ c.from_residual-in_err-verified.ensures.1) (
+      c.in_ok-module.module,
+      c.in_ok-module.ensures.found,
+      unbounded c.in_ok-module.module c.in_ok-valid.valid c.in_err-verified.field-0.0 c.in_ok-valid.ensures.kept c.in_ok-valid.ensures.accepted
+          c.in_err-verified.ensures.told,
+    )
 
 pub returns-clause-only : goal.returns-clause-only
 returns-clause-only c = λ m loads.

@@ -10,7 +10,19 @@ returns-in_err-tell_bounds-clause-refused g c = rw (is_fault _ _ c.from_residual
 
 pub returns-clause-answered : goal.returns-clause-answered
 returns-clause-answered g c = (
-  c.in_ok-tell_bounds.ensures.0,
-  record { m = c.in_ok-verified.verified; loaded = c.in_ok-verified.ensures.found; bounds = c.in_ok-tell_bounds.ensures.1 },
-  c.in_ok-tell_bounds.ensures.2,
+  _,
+  record {
+    m = c.in_ok-verified.verified;
+    loaded = c.in_ok-verified.ensures.found;
+    bounds = record {
+      size = c.size-size.result;
+      operands = c.max_operands-operands.result;
+      frames = c.max_frames.result;
+      has_size = c.size-size.ensures;
+      has_operands = c.max_operands-operands.ensures;
+      has_frames = c.max_frames.ensures;
+      printed = refl;
+    };
+  },
+  c.in_ok-tell_bounds.ensures,
 )

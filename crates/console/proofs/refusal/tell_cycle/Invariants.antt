@@ -5,4 +5,4 @@ use Rattle.console.proofs.refusal.tell_cycle.Given as goal
 
 abbrev pub invariant-loop-function : goal.invariant-loop-function
 invariant-loop-function g l =
-    IsPlainFormatter l.initial.f → HasWritten g.W.Write.write_str_gives l.initial.f (cycle_text (take l.function-index l.functions)) l.f
+    IsPlainFormatter l.fn.f → HasWritten g.W.Write.write_str_gives l.fn.f (cycle_text (take l.function-index l.functions)) l.f

@@ -225,40 +225,13 @@ impl Files for Samples {
     ghost disk = { λ _. unknown };
 
     fn read(&mut self, alloc: Global, path: &str) -> Result<Vec<u8>, FileFault> {
-        let bytes: &[u8] = match path {
-            "seven.wasm" => &SEVEN,
-            "seven.wat" | "seven.txt" | ".wat" => SEVEN_TEXT.as_bytes(),
-            "cursor.wat" => CURSOR_TEXT.as_bytes(),
-            "constant-exit.wat" => CONSTANT_EXIT_TEXT.as_bytes(),
-            "digits.wat" => DIGITS_TEXT.as_bytes(),
-            "greatest.wat" => GREATEST_TEXT.as_bytes(),
-            "fresh.wat" => FRESH_TEXT.as_bytes(),
-            "cycle.wat" => CYCLE_TEXT.as_bytes(),
-            "built.wat" => self.built.as_bytes(),
-            "cursors.wasm" => &CURSORS,
-            "sum.wasm" => &SUM,
-            "lost.wasm" => &LOST,
-            "zero.wasm" => &LONG_ZERO,
-            "short.wasm" => &SHORT_ZERO,
-            "nothing.wasm" | "nothing.wat" => &[],
-            "empty.wasm" => &EMPTY,
-            "binary.wat" => &EMPTY,
-            "untyped.wasm" => &UNTYPED,
-            "unreachable.wasm" => &UNREACHABLE,
-            "endless.wasm" => &ENDLESS,
-            "range.wat" => b"(module\n  (func i32.const 4294967296 drop))",
-            "mismatch.wat" => b"(module (func i32.const 1 i64.const 2 i32.add drop))",
-            "latin.wat" => b"(module) ;; \xE9\n",
-            "thirty-four.txt" => b"value 34\n",
-            "edges.txt" => b"message 1\nmessage 2\nmessage 3\nedge 5 6\nedge 7 8\n",
-            "messages.txt" => b"message 1\nmessage 2\nmessage 3\n",
-            "slots.txt" => b"value 34\naggregate 0 5\n",
-            "bad.txt" => b"value 34\nvalue\n",
-            "latin.txt" => b"value 34\n\xE9\n",
-            "none.txt" => b"",
-            _ => return Err(FileFault::Device),
-        };
-        Vec::from_slice(alloc, bytes).map_err(|_| FileFault::OutOfMemory)
+        if path == "built.wat" {
+            return copied(alloc, self.built.as_bytes());
+        }
+        match kept_at(path) {
+            Some(bytes) => copied(alloc, bytes),
+            None => Err(FileFault::Device),
+        }
     }
 
     fn write(&mut self, path: &str, bytes: &[u8]) -> Result<(), FileFault> {
@@ -271,4 +244,45 @@ impl Files for Samples {
             Err(_) => Err(FileFault::OutOfMemory),
         }
     }
+}
+
+fn copied(alloc: Global, bytes: &[u8]) -> Result<Vec<u8>, FileFault> {
+    Vec::from_slice(alloc, bytes).map_err(|_| FileFault::OutOfMemory)
+}
+
+// The files that are always there.
+fn kept_at(path: &str) -> Option<&'static [u8]> {
+    let bytes: &'static [u8] = match path {
+        "seven.wasm" => &SEVEN,
+        "seven.wat" | "seven.txt" | ".wat" => SEVEN_TEXT.as_bytes(),
+        "cursor.wat" => CURSOR_TEXT.as_bytes(),
+        "constant-exit.wat" => CONSTANT_EXIT_TEXT.as_bytes(),
+        "digits.wat" => DIGITS_TEXT.as_bytes(),
+        "greatest.wat" => GREATEST_TEXT.as_bytes(),
+        "fresh.wat" => FRESH_TEXT.as_bytes(),
+        "cycle.wat" => CYCLE_TEXT.as_bytes(),
+        "cursors.wasm" => &CURSORS,
+        "sum.wasm" => &SUM,
+        "lost.wasm" => &LOST,
+        "zero.wasm" => &LONG_ZERO,
+        "short.wasm" => &SHORT_ZERO,
+        "nothing.wasm" | "nothing.wat" => &[],
+        "empty.wasm" => &EMPTY,
+        "binary.wat" => &EMPTY,
+        "untyped.wasm" => &UNTYPED,
+        "unreachable.wasm" => &UNREACHABLE,
+        "endless.wasm" => &ENDLESS,
+        "range.wat" => b"(module\n  (func i32.const 4294967296 drop))",
+        "mismatch.wat" => b"(module (func i32.const 1 i64.const 2 i32.add drop))",
+        "latin.wat" => b"(module) ;; \xE9\n",
+        "thirty-four.txt" => b"value 34\n",
+        "edges.txt" => b"message 1\nmessage 2\nmessage 3\nedge 5 6\nedge 7 8\n",
+        "messages.txt" => b"message 1\nmessage 2\nmessage 3\n",
+        "slots.txt" => b"value 34\naggregate 0 5\n",
+        "bad.txt" => b"value 34\nvalue\n",
+        "latin.txt" => b"value 34\n\xE9\n",
+        "none.txt" => b"",
+        _ => return None,
+    };
+    Some(bytes)
 }

@@ -1,8 +1,7 @@
 -- Code that is typed with known constants passes, where nothing stands after a branch that is always taken.
 use Rattle.std.proofs.Common.{◌≡◌, ℕ, Bool, true, false, cond, List, [], ◌∷◌, ◌++◌, map, reverse, refl, sym, subst, ap, ◌∙◌}
-use Rattle.std.specs.Prelude.{Option, Some, None, slice_get, ◌&&◌}
+use Rattle.std.specs.Prelude.{Option, Some, None, ◌&&◌}
 use Rattle.std.specs.Option.{option_and_then}
-use Rattle.std.proofs.lemmas.List.{map-append}
 use Rattle.wasm_ast.specs.declared.types.ValType.{ValType}
 use Rattle.wasm_ast.specs.declared.types.ValType.TheVariants.{I32, I64}
 use Rattle.wasm_ast.specs.declared.types.Value.TheVariants as value
@@ -31,11 +30,11 @@ use Rattle.bounded_profile.specs.declared.constants.operands.Operand.{Operand}
 use Rattle.bounded_profile.specs.declared.constants.operands.Operand.TheVariants as operand
 use Rattle.bounded_profile.specs.Hosts.{host_call_at}
 use Rattle.bounded_profile.specs.Kinds.{Kind, Any, Is, Forgets, AllForget, Met, Meets, AllMeet, wants, kinds}
-use Rattle.bounded_profile.specs.Known.{Context, known, Changes, division_premise, PlainKnown, VariableKnown, MemoryKnown, BranchKnown, takes_slot, parameter_wants, CallKnown, CallIndirectKnown, Forgetting, Known}
+use Rattle.bounded_profile.specs.Known.{Context, known, Changes, division_premise, PlainKnown, VariableKnown, MemoryKnown, takes_slot, parameter_wants, CallKnown, CallIndirectKnown, Forgetting, Known}
 use Rattle.bounded_profile.specs.Memory.{memory_bytes}
 use Rattle.bounded_profile.specs.Shapes.{Everywhere, NotUnreachable, LastIfBranch}
-use Rattle.bounded_profile.specs.Tracking.{asks_of, asked, setting_of, host_called, called, is_met, fits, below, take_one, take_each, change, forget_each, forget_result, unknowns, plain_step, branch_step, take_parameters, call_step, call_indirect_step, holds_then, check}
-use Rattle.bounded_profile.proofs.KnownKinds.{want_type, demand_of, if_demand, operand_of, kinds_unknown, both_from, met_from, values_then, values_taken, either_way}
+use Rattle.bounded_profile.specs.Tracking.{asks_of, asked, setting_of, host_called, fits, below, take_one, take_each, change, forget_each, forget_result, unknowns, plain_step, branch_step, take_parameters, call_step, call_indirect_step, holds_then, check}
+use Rattle.bounded_profile.proofs.KnownKinds.{demand_of, if_demand, operand_of, kinds_unknown, both_from, met_from, values_taken, either_way}
 use Rattle.bounded_profile.proofs.KnownSound.{Where, context_of, same_host, slot_taken}
 
 -- ---- what the operands tell

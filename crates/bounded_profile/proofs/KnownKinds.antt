@@ -1,7 +1,6 @@
 -- What is known of operands, and their kinds.
-use Rattle.std.proofs.Common.{◌≡◌, ℕ, suc, Bool, true, false, cond, List, [], ◌∷◌, ◌++◌, map, length, reverse, refl, sym, subst, ap, ◌∙◌, arith}
+use Rattle.std.proofs.Common.{◌≡◌, ℕ, Bool, true, false, List, [], ◌∷◌, ◌++◌, map, length, reverse, refl, ap, arith}
 use Rattle.std.specs.Prelude.{Option, Some, None, ◌&&◌, if◌then◌else◌}
-use Rattle.std.specs.Option.{option_and_then}
 use Rattle.std.proofs.lemmas.Bool.Decides.{nat_tests}
 use Rattle.std.proofs.lemmas.List.{length-reverse}
 use Rattle.wasm_ast.specs.declared.types.ValType.{ValType}
@@ -9,13 +8,12 @@ use Rattle.bounded_profile.specs.declared.wants.Premise.{Premise}
 use Rattle.bounded_profile.specs.declared.wants.Premise.TheVariants.{Reaches, Divides, DividesSigned, IsSlot}
 use Rattle.bounded_profile.specs.declared.wants.Want.{Want}
 use Rattle.bounded_profile.specs.declared.wants.Want.TheVariants as want
-use Rattle.bounded_profile.specs.declared.constants.asks.Asks.{Asks}
 use Rattle.bounded_profile.specs.declared.constants.demands.Demand.{Demand}
 use Rattle.bounded_profile.specs.declared.constants.demands.Demand.TheVariants as demand
 use Rattle.bounded_profile.specs.declared.constants.operands.Operand.{Operand}
 use Rattle.bounded_profile.specs.declared.constants.operands.Operand.TheVariants as operand
-use Rattle.bounded_profile.specs.Kinds.{Kind, Any, Is, Forgets, AllForget, Met, Meets, AllMeet, wants, kinds}
-use Rattle.bounded_profile.specs.Tracking.{asks_of, asked, is_met, fits, top, below, take_one, take_each, forget_each, forget_result, unknowns}
+use Rattle.bounded_profile.specs.Kinds.{Kind, Any, Is, Forgets, AllForget, Met, wants, kinds}
+use Rattle.bounded_profile.specs.Tracking.{is_met, top, below, take_each, forget_each, unknowns}
 
 -- ---- wants without types
 

@@ -1,12 +1,11 @@
 -- The answer of the pass is the rules' own.
 use Rattle.std.proofs.Common.{◌≡◌, true, List, [], ◌∷◌, ◌++◌, reverse, refl, sym, subst}
-use Rattle.std.specs.Prelude.{Result, Ok, Err, OnOk, IsOkUnless, slice_get, Option, Some, None}
+use Rattle.std.specs.Prelude.{Result, Ok, Err, OnOk, IsOkUnless, slice_get, Option, Some}
 use Rattle.std.specs.List.{AllByRecursion}
 use Rattle.wasm_ast.specs.declared.types.ValType.{ValType}
 use Rattle.wasm_ast.specs.declared.types.FuncType.{FuncType}
 use Rattle.wasm_ast.specs.declared.module.Function.{Function}
 use Rattle.wasm_ast.specs.declared.module.Module.{Module}
-use Rattle.wasm_ast.specs.Code.{Code}
 use Rattle.validate.specs.Spaces.{spaces_of, first_type}
 use Rattle.validate.specs.Instructions as valid
 use Rattle.validate.specs.Modules.{FunctionTyped}

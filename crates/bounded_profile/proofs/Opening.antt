@@ -1,5 +1,5 @@
 -- The table of the host's functions tells what the imports bring in.
-use Rattle.std.proofs.Common.{◌≡◌, ◌↔◌, ℕ, ◌<◌, List, [], ◌∷◌, length, arith, map, slice_get, Option, Some, None, refl, sym, ap, ◌∙◌, subst}
+use Rattle.std.proofs.Common.{◌≡◌, ◌↔◌, ℕ, ◌<◌, List, [], ◌∷◌, length, arith, slice_get, Option, Some, None, refl, sym, ap, ◌∙◌, subst}
 use Rattle.std.specs.Prelude.{filter}
 use Rattle.std.specs.Option.{option_and_then, option_flatten, option_map}
 use Rattle.std.specs.List.{AllByRecursion}
@@ -18,13 +18,10 @@ use Rattle.wasm_ast.specs.declared.plain.Branch.TheVariants as branch
 use Rattle.wasm_ast.specs.declared.body.Instr.{Instr}
 use Rattle.wasm_ast.specs.declared.body.Instr.TheVariants as instr
 use Rattle.host_calls.specs.declared.imports.HostCall.{HostCall}
-use Rattle.bounded_profile.specs.declared.fault.ProfileFault.{ProfileFault}
 use Rattle.bounded_profile.specs.declared.shapes.Shape.TheVariants.{Opening}
-use Rattle.bounded_profile.specs.Faults.{Denies}
 use Rattle.bounded_profile.specs.Hosts.{call_of, host_call_at, host_table, call_at}
 use Rattle.bounded_profile.specs.Profile.{EachBody, LoopsTakeItems}
 use Rattle.bounded_profile.specs.Shapes.{Everywhere, LoopOpens, OpensWithItem, TakesItem, Keeps}
-use Rattle.bounded_profile.proofs.Refusals.{part_denied}
 
 at_same : (m : Module) (f : ℕ) → call_at (host_table m) f ≡ host_call_at m f
 at_same m f = ap option_flatten (slice_get-map call_of (filter is_function m.imports) f) ∙ by_import (slice_get (filter is_function m.imports) f)

@@ -9,7 +9,7 @@ use Rattle.bounded_profile.specs.Compute.{IsComputeNumber}
 use Rattle.bounded_profile.specs.Facts.{AreFacts, AreFactsAt}
 use Rattle.bounded_profile.specs.Faults.{Denies, ShowsCycle, Refuses}
 use Rattle.bounded_profile.specs.Known.{ConstantsKnown}
-use Rattle.bounded_profile.specs.Profile.{IsBounded, HasCompute, AddressesWithin, DivisorsKnown, SizeWithin, asks_all}
+use Rattle.bounded_profile.specs.Profile.{IsBounded, AddressesWithin, DivisorsKnown, SizeWithin, asks_all}
 use Rattle.bounded_profile.specs.Stages.{PartsHold, ShapesHold, CallsHold}
 
 -- what is denied of a part is denied of the whole

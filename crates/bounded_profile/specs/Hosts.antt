@@ -1,5 +1,5 @@
 -- The host's functions that a module imports.
-use Rattle.std.specs.Prelude.{◌≡◌, ℕ, List, map, filter, slice_get, Option, Some, None}
+use Rattle.std.specs.Prelude.{◌≡◌, ℕ, List, map, filter, slice_get, Option, Some}
 use Rattle.std.specs.Option.{option_and_then, option_flatten}
 use Rattle.wasm_ast.specs.declared.types.FuncType.{FuncType}
 use Rattle.wasm_ast.specs.declared.module.ImportDescription.TheVariants as import

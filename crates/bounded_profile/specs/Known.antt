@@ -2,7 +2,7 @@
 -- operands have to be.
 -- A constant instruction alone gives a known operand. It is known until it is taken; what locals, globals, blocks,
 -- calls, `select` and arithmetic give has a type alone. What is known may be forgotten at each instruction.
-use Rattle.std.specs.Prelude.{◌≡◌, ℕ, ◌*◌, ◌≤◌, ◌<◌, ◌^◌, Bool, true, false, List, [], ◌∷◌, ◌++◌, map, reverse, length, slice_get, Option, Some, None, if◌then◌else◌}
+use Rattle.std.specs.Prelude.{◌≡◌, ℕ, ◌≤◌, ◌<◌, ◌^◌, Bool, true, false, List, [], ◌∷◌, ◌++◌, map, reverse, length, slice_get, Option, Some, None, if◌then◌else◌}
 use Rattle.std.specs.List.{AllByRecursion}
 use Rattle.wasm_ast.specs.declared.types.ValType.{ValType}
 use Rattle.wasm_ast.specs.declared.types.ValType.TheVariants.{I32, I64}

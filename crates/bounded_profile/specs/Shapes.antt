@@ -1,5 +1,5 @@
 -- Which instructions code has, and in which order.
-use Rattle.std.specs.Prelude.{◌≡◌, ℕ, ◌≤◌, ⊤, Option, Some, None}
+use Rattle.std.specs.Prelude.{◌≡◌, ℕ, ◌≤◌, ⊤, Option, Some}
 use Rattle.wasm_ast.specs.declared.types.ValType.TheVariants.{I32}
 use Rattle.wasm_ast.specs.declared.numeric.Numeric.TheVariants as numeric
 use Rattle.wasm_ast.specs.declared.plain.Memory.TheVariants as memory

@@ -1,13 +1,11 @@
 -- What a fault below says of a call.
-use Rattle.std.proofs.Common.{◌≡◌, ℕ, List, Some, Result, Ok, Err, ap, subst, refl, sym}
+use Rattle.std.proofs.Common.{◌≡◌, ℕ, List, Some, Result, Ok, Err, ap, subst, refl}
 use Rattle.std.specs.Prelude.{IfErr, IsErrAnd, OnOk}
 use Rattle.wasm_ast.specs.declared.module.Module.{Module}
 use Rattle.wasm_ast.specs.Limits.{IsWithinLimits}
 use Rattle.wasm_decode.specs.declared.fault.DecodeFault.{DecodeFault}
 use Rattle.wasm_decode.specs.declared.fault.DecodeFault.TheVariants as decode
 use Rattle.wasm_decode.specs.Reading.{Fails, found}
-use Rattle.validate.specs.declared.fault.ValidFault.{ValidFault}
-use Rattle.validate.specs.declared.fault.ValidFault.TheVariants as valid
 use Rattle.validate.specs.Modules.{IsTyped}
 use Rattle.bounded_profile.specs.declared.fault.ProfileFault.{ProfileFault}
 use Rattle.bounded_profile.specs.Faults.{Refuses as RefusesModule}

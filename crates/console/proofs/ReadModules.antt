@@ -3,15 +3,12 @@ use Rattle.std.proofs.Common.{◌≡◌, ℕ, Bool, true, false, List, Some, sub
 use Rattle.wasm_ast.specs.declared.module.Module.{Module}
 use Rattle.wasm_ast.specs.Limits.{IsWithinLimits}
 use Rattle.wasm_decode.specs.declared.fault.DecodeFault.{DecodeFault}
-use Rattle.wasm_decode.specs.declared.fault.DecodeFault.TheVariants as decode
 use Rattle.wasm_decode.specs.Grammar.{Spells}
 use Rattle.wasm_decode.specs.Reading.{Fails, found}
 use Rattle.wat_asm.specs.declared.fault.TextFault.{TextFault}
 use Rattle.wat_asm.specs.declared.fault.TextFault.TheVariants as text
 use Rattle.wat_asm.specs.Layout.{HasBytes, layout}
 use Rattle.wasm_ast.specs.Representable.{IsRepresentable}
-use Rattle.validate.specs.declared.fault.ValidFault.{ValidFault}
-use Rattle.validate.specs.declared.fault.ValidFault.TheVariants as valid
 use Rattle.validate.specs.Modules.{IsTyped}
 use Rattle.bounded_profile.specs.Profile.{IsBounded}
 use Rattle.console.specs.declared.fault.CallFault.TheVariants.{Decode, Invalid, Unbounded}

@@ -8,7 +8,7 @@ use Rattle.wasm_decode.specs.Canonical.{canonical}
 use Rattle.wasm_decode.specs.declared.encoder.fault.EncodeFault.{EncodeFault}
 use Rattle.wasm_decode.specs.declared.encoder.fault.EncodeFault.TheVariants as encode
 use Rattle.console.specs.declared.fault.CallFault.{CallFault}
-use Rattle.console.specs.declared.fault.CallFault.TheVariants.{OutOfMemory, Write}
+use Rattle.console.specs.declared.fault.CallFault.TheVariants.{Write}
 use Rattle.console.specs.declared.command_fault.CommandFault.{CommandFault}
 use Rattle.console.specs.declared.command_fault.CommandFault.TheVariants as command
 use Rattle.console.specs.declared.program.ServeFault.{ServeFault}
@@ -18,7 +18,7 @@ use Rattle.console.specs.CommandFaults.{fault_text, status_of}
 use Rattle.console.specs.Disk.{Disk, Stays}
 use Rattle.console.specs.Modules.{IsModuleAt, IsLoadedAt}
 use Rattle.console.specs.Engine.{Answers, RefusesText}
-use Rattle.console.specs.Program.{IsAssembleCause, IsBoundsLine, IsCallCause, IsCause, IsNoTextAt, IsUnspelled, IsUnwritable, TellsLength, TellsOutcome, Told, length_line}
+use Rattle.console.specs.Program.{IsAssembleCause, IsBeforeWriting, IsCallCause, IsCause, IsNoTextAt, IsUnspelled, IsUnwritable, TellsLength, TellsOutcome, Told, length_line}
 
 -- what is kept, and then grows, grows
 kept_appends : (old middle new : Option (List ℕ)) (bytes : List ℕ) → Keeps old middle → Appends middle new bytes → Appends old new bytes
@@ -29,15 +29,25 @@ kept_appends (Some xs) (Some ys) (Some zs) bytes kept appends = rw (sym kept) ap
 
 -- a fault is told
 pub refusal_told : (before after : Disk) (asked : Options) (fault : CommandFault) (r : Result ℕ ServeFault) (old middle new : Option (List ℕ))
-    → IsCause before asked fault → (fault ≢ command.Call Write → Keeps old middle)
+    → IsCause before asked fault → (IsBeforeWriting fault → Stays before after) → (fault ≢ command.Call Write → Keeps old middle)
     → IfOk r (λ status. (status ≡ status_of fault) × (fault ≢ command.Call Write) × Appends middle new (line (fault_text fault)))
     → IfOk r (λ status. (told : List ℕ) × Told before after asked status told × Appends old new told)
-refusal_told before after asked fault (Err e) old middle new because unwritten told = tt
-refusal_told before after asked fault (Ok status) old middle new because unwritten (is_status, other, appends) = (
+refusal_told before after asked fault (Err e) old middle new because stays unwritten told = tt
+refusal_told before after asked fault (Ok status) old middle new because stays unwritten (is_status, other, appends) = (
   line (fault_text fault),
-  inr (record { fault = fault; because = because; status_of_fault = is_status; line_of_fault = refl }),
+  inr (record { fault = fault; because = because; unwritten = stays; status_of_fault = is_status; line_of_fault = refl }),
   kept_appends old middle new (line (fault_text fault)) (unwritten other) appends,
 )
+
+-- ---- files
+
+-- nothing is written in two steps that write nothing
+pub stays_again : (before middle after : Disk) → Stays before middle → Stays middle after → Stays before after
+stays_again before middle after first then = record {
+  holds = λ path found held. first.holds path found (then.holds path found held);
+  refuses = λ path refuses. first.refuses path (then.refuses path refuses);
+  wrote = λ path bytes wrote. then.wrote path bytes (first.wrote path bytes wrote);
+}
 
 -- ---- calls
 
@@ -101,6 +111,13 @@ pub not_written : (before after : Disk) (module_path binary_path : List ℕ) (m 
     → Stays before after → IsUnwritable after binary_path fault → IsAssembleCause before module_path binary_path fault
 not_written before after module_path binary_path m fault read stays is =
     inr (record { m = m; read = read; unspelled = unwritable before after binary_path m fault stays is })
+
+-- a file that cannot be written is told of after that
+pub written_late : (disk : Disk) (path : List ℕ) (fault : CommandFault) (P : Type 0) → IsUnwritable disk path fault → IsBeforeWriting fault → P
+written_late disk path (command.Call fault) P is before = absurd (subst (λ f. IsBeforeWriting (command.Call f)) is before)
+written_late disk path (command.Text fault) P is before = absurd is
+written_late disk path (command.Encode fault) P is before = absurd is
+written_late disk path (command.File refused) P is before = absurd before
 
 -- its length is not told
 pub length_untold : (disk : Disk) (module_path binary_path : List ℕ) (m : Module) → IsModuleAt disk module_path m

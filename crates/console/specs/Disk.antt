@@ -12,7 +12,8 @@ pub record Disk : Type 1 where
 abbrev pub unknown : Disk
 unknown = record { holds = λ _ _. ⊤; refuses = λ _. ⊤; wrote = λ _ _. ⊤ }
 
--- after reading: what may be met could be met before
+-- after reading: what may be met could be met before, and what was written last still is
 pub record Stays (before after : Disk) : Type 0 where
   pub holds : (path : List ℕ) (found : Option (List ℕ)) → after.holds path found → before.holds path found
   pub refuses : (path : List ℕ) → after.refuses path → before.refuses path
+  pub wrote : (path bytes : List ℕ) → before.wrote path bytes → after.wrote path bytes

@@ -1,11 +1,11 @@
 -- What the text of an input means.
-use Rattle.std.specs.Prelude.{◌≡◌, ℕ, ℤ, pos, Bool, true, false, nat_lt, List, [], ◌∷◌, ◌++◌, Option, Some, None, unwrap_or, is_none}
+use Rattle.std.specs.Prelude.{◌≡◌, ℕ, pos, Bool, true, List, [], ◌∷◌, ◌++◌, unwrap_or, is_none}
 use Rattle.std.specs.Option.{option_to_list}
 use Rattle.std.specs.List.{All}
 use Rattle.host_calls.specs.declared.call.CallInput.{CallInput}
 use Rattle.console.specs.declared.input.Input.{Input}
 use Rattle.console.specs.declared.input_line.Line.{Line}
-use Rattle.console.specs.declared.input_line.Line.TheVariants.{Skipped, Id, Superstep, Count, Value, Message, Edge, Aggregate, Bad}
+use Rattle.console.specs.declared.input_line.Line.TheVariants.{Id, Superstep, Count, Value}
 use Rattle.console.specs.InputSays.{AreInput, lines_of, is_good, all_ids, all_supersteps, all_counts, all_values, all_messages, all_edges, all_slots, id_by, superstep_by, count_by, value_by, message_by, edge_by, slot_by, slot_starts, slots_after}
 
 -- what was said, or else this

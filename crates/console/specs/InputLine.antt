@@ -1,5 +1,5 @@
 -- What one line of an input says.
-use Rattle.std.specs.Prelude.{ℕ, ◌-◌, ◌^◌, ◌==◌, nat_le, ℤ, Bool, true, false, List, [], ◌∷◌, slice_index, Option, Some, None, codes, if◌then◌else◌}
+use Rattle.std.specs.Prelude.{ℕ, ◌-◌, ◌^◌, ◌==◌, nat_le, ℤ, List, [], ◌∷◌, slice_index, Option, Some, None, codes, if◌then◌else◌}
 use Rattle.std.specs.Str.{bytes_eq}
 use Rattle.graph.specs.Fields.{fields}
 use Rattle.graph.specs.Number.{id_of, number_of}

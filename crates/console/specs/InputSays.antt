@@ -5,7 +5,7 @@ use Rattle.std.specs.Str.Lines.{lines}
 use Rattle.host_calls.specs.declared.call.TheConstants.{SLOTS}
 use Rattle.console.specs.InputLine.{line_of}
 use Rattle.console.specs.declared.input_line.Line.{Line}
-use Rattle.console.specs.declared.input_line.Line.TheVariants.{Skipped, Id, Superstep, Count, Value, Message, Edge, Aggregate, Bad}
+use Rattle.console.specs.declared.input_line.Line.TheVariants.{Id, Superstep, Count, Value, Message, Edge, Aggregate, Bad}
 
 -- what the lines of a text say, from the top: a line ends with a line feed, and a carriage return before that belongs to
 -- the end; the last line may have no end

@@ -23,7 +23,7 @@ use Rattle.console.specs.declared.command_fault.CommandFault.TheVariants as comm
 use Rattle.console.specs.declared.request.Options.{Options}
 use Rattle.console.specs.declared.request.Options.TheVariants as options
 use Rattle.console.specs.Lines.{line}
-use Rattle.console.specs.Disk.{Disk}
+use Rattle.console.specs.Disk.{Disk, Stays}
 use Rattle.console.specs.Modules.{IsLayoutOf, IsModuleAt, IsLoadedAt, is_text_path}
 use Rattle.console.specs.CommandFaults.{fault_text, status_of}
 use Rattle.console.specs.Engine.{Answers, IsUnbounded, RefusesBytes, RefusesText}
@@ -205,15 +205,30 @@ IsCause disk (options.Assemble module_path binary_path) fault = IsAssembleCause 
 IsCause disk (options.Print module_path) fault = IsPrintCause disk module_path.now fault
 IsCause disk (options.Verify module_path) fault = IsVerifyCause disk module_path.now fault
 
+-- ---- which commands write no file
+
+-- whether the command may write a file
+abbrev pub writes_file : Options → Bool
+writes_file (options.Assemble module_path binary_path) = true
+writes_file asked = false
+
+-- the fault is told before any file is written
+abbrev pub IsBeforeWriting : CommandFault → Type 0
+IsBeforeWriting (command.Call OutOfMemory) = ⊥
+IsBeforeWriting (command.Call Write) = ⊥
+IsBeforeWriting (command.File path) = ⊥
+IsBeforeWriting fault = Unit {0}
+
 -- ---- what is told with each status of the process
 
--- a fault is told, and there is a cause for it
-pub record TellsRefusal (disk : Disk) (asked : Options) (status : ℕ) (told : List ℕ) : Type 0 where
+-- a fault is told, there is a cause for it, and no file was written where it came before that
+pub record TellsRefusal (before after : Disk) (asked : Options) (status : ℕ) (told : List ℕ) : Type 0 where
   pub fault : CommandFault
-  pub because : IsCause disk asked fault
+  pub because : IsCause before asked fault
+  pub unwritten : IsBeforeWriting fault → Stays before after
   pub status_of_fault : status ≡ status_of fault
   pub line_of_fault : told ≡ line (fault_text fault)
 
 abbrev pub Told : (before after : Disk) → Options → ℕ → List ℕ → Type 0
 Told before after asked status told =
-    ((status ≡ 0) × Answered before after asked told) ⊎ TellsRefusal before asked status told
+    ((status ≡ 0) × Answered before after asked told) ⊎ TellsRefusal before after asked status told

@@ -13,9 +13,7 @@ use Rattle.bounded_profile.specs.declared.fault.ProfileRule.{ProfileRule}
 use Rattle.bounded_profile.specs.declared.fault.ProfileRule.TheVariants as profile_rule
 use Rattle.bounded_profile.specs.declared.fault.ProfileFault.{ProfileFault}
 use Rattle.bounded_profile.specs.declared.fault.ProfileFault.TheVariants as profile
-use Rattle.interp.specs.declared.fault.RunFault.{RunFault}
 use Rattle.interp.specs.declared.fault.RunFault.TheVariants as run
-use Rattle.console.specs.declared.input.InputFault.{InputFault}
 use Rattle.console.specs.declared.input.InputFault.TheVariants as input
 use Rattle.console.specs.declared.fault.CallFault.{CallFault}
 use Rattle.console.specs.declared.fault.CallFault.TheVariants.{Decode, Invalid, Unbounded, Input, Run, OutOfMemory, Write}

@@ -1,10 +1,11 @@
 //! The program behind `main`.
 
-ghost use Rattle.std.specs.Prelude.{◌≡◌, ◌≢◌, List, ℕ, IfOk, IfErr, OnOk};
+ghost use Rattle.std.specs.Prelude.{◌≡◌, ◌≢◌, List, ℕ, false, IfOk, IfErr, OnOk};
 ghost use Rattle.std.specs.Io.KnownBytes.{Appends, Keeps};
 ghost use Rattle.console.specs.CommandFaults.{fault_text, status_of};
+ghost use Rattle.console.specs.Disk.{Stays};
 ghost use Rattle.console.specs.Lines.{line};
-ghost use Rattle.console.specs.Program.{Answered, IsAssembleCause, IsCallCause, IsCause, IsPrintCause, IsVerifyCause, bounds_line, length_line, TellsBounds, TellsLayout, TellsLength, TellsOutcome, Told};
+ghost use Rattle.console.specs.Program.{Answered, IsAssembleCause, IsBeforeWriting, IsCallCause, IsCause, IsPrintCause, IsVerifyCause, bounds_line, length_line, TellsBounds, TellsLayout, TellsLength, TellsOutcome, Told, writes_file};
 
 use crate::command_fault::{CommandFault, status_of};
 use crate::engine::answer;
@@ -47,6 +48,8 @@ pub fn command<F: Files, W: Write>(
     ensures told { IfOk result (λ status. (told : List ℕ)
         × Told (F.disk files.old) (F.disk files.new) options.entry status told
         × Appends (W.contents out.old) (W.contents out.new) told) }
+    // No command but `asm` writes a file.
+    ensures kept { writes_file options.entry ≡ false → Stays (F.disk files.old) (F.disk files.new) }
 {
     match carry_out(alloc, options, files, out) {
         Ok(()) => Ok(0),
@@ -76,7 +79,9 @@ fn carry_out<'a, F: Files, W: Write>(
 ) -> Result<(), CommandFault<'a>>
     ensures answered { OnOk result ((told : List ℕ) × Answered (F.disk files.old) (F.disk files.new) options.entry told
         × Appends (W.contents out.old) (W.contents out.new) told) }
+    ensures kept { writes_file options.entry ≡ false → Stays (F.disk files.old) (F.disk files.new) }
     ensures refused { IfErr result (IsCause (F.disk files.old) options.entry) }
+    ensures before { IfErr result (λ fault. IsBeforeWriting fault → Stays (F.disk files.old) (F.disk files.new)) }
     ensures unwritten { IfErr result (λ fault. fault ≢ CommandFault.Call CallFault.Write
         → Keeps (W.contents out.old) (W.contents out.new)) }
 {
@@ -98,6 +103,7 @@ fn call_files<'a, F: Files, W: Write>(
 ) -> Result<(), CommandFault<'a>>
     ensures answered { OnOk result ((told : List ℕ) × TellsOutcome (F.disk files.old) «module».now input.now told
         × Appends (W.contents out.old) (W.contents out.new) told) }
+    ensures kept { Stays (F.disk files.old) (F.disk files.new) }
     ensures refused { IfErr result (IsCallCause (F.disk files.old) «module».now input.now) }
     ensures unwritten { IfErr result (λ fault. fault ≢ CommandFault.Call CallFault.Write
         → Keeps (W.contents out.old) (W.contents out.new)) }
@@ -120,6 +126,7 @@ fn assemble_file<'a, F: Files, W: Write>(
         × TellsLength (F.disk files.old) (F.disk files.new) path.now binary.now told
         × Appends (W.contents out.old) (W.contents out.new) told) }
     ensures refused { IfErr result (IsAssembleCause (F.disk files.old) path.now binary.now) }
+    ensures before { IfErr result (λ fault. IsBeforeWriting fault → Stays (F.disk files.old) (F.disk files.new)) }
     ensures unwritten { IfErr result (λ fault. fault ≢ CommandFault.Call CallFault.Write
         → Keeps (W.contents out.old) (W.contents out.new)) }
 {
@@ -145,6 +152,7 @@ fn print_file<'a, F: Files, W: Write>(
 ) -> Result<(), CommandFault<'a>>
     ensures answered { OnOk result ((told : List ℕ) × TellsLayout (F.disk files.old) path.now told
         × Appends (W.contents out.old) (W.contents out.new) told) }
+    ensures kept { Stays (F.disk files.old) (F.disk files.new) }
     ensures refused { IfErr result (IsPrintCause (F.disk files.old) path.now) }
     ensures unwritten { IfErr result (λ fault. fault ≢ CommandFault.Call CallFault.Write
         → Keeps (W.contents out.old) (W.contents out.new)) }
@@ -164,6 +172,7 @@ fn verify_file<'a, F: Files, W: Write>(
 ) -> Result<(), CommandFault<'a>>
     ensures answered { OnOk result ((told : List ℕ) × TellsBounds (F.disk files.old) path.now told
         × Appends (W.contents out.old) (W.contents out.new) told) }
+    ensures kept { Stays (F.disk files.old) (F.disk files.new) }
     ensures refused { IfErr result (IsVerifyCause (F.disk files.old) path.now) }
     ensures unwritten { IfErr result (λ fault. fault ≢ CommandFault.Call CallFault.Write
         → Keeps (W.contents out.old) (W.contents out.new)) }

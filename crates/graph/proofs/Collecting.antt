@@ -1,19 +1,14 @@
 -- One line after another: what was collected of the lines so far.
-use Rattle.std.proofs.Common.{◌≡◌, ℕ, ◌+◌, ◌<◌, ◌≤◌, List, [], ◌∷◌, ◌++◌, length, take, drop, get_or, map, true, false, refl, ap, sym, ◌∙◌, arith, length-append}
-use Rattle.std.specs.Prelude.{ℤ}
+use Rattle.std.proofs.Common.{◌≡◌, ℕ, ◌+◌, ◌<◌, ◌≤◌, List, [], ◌∷◌, ◌++◌, length, take, drop, get_or, ap, sym, ◌∙◌, arith, length-append}
 use Rattle.std.specs.List.{enumerate_from}
 use Rattle.std.specs.Str.Lines.{lines}
-use Rattle.std.proofs.lemmas.List.{append-nil, take_more, take-append-drop, get_or-map, get_or_append_left, take_all, map-append, length-map}
+use Rattle.std.proofs.lemmas.List.{take_more, take-append-drop, get_or-map, get_or_append_left, take_all, length-map}
 use Rattle.std.proofs.lemmas.List.FromFn.{length-enumerate_from, get_or-enumerate_from}
-use Rattle.std.proofs.lemmas.List.Elements.{All-push, All-contains, Contains-push}
 use Rattle.std.proofs.lemmas.Grind.{flat_map-append}
 use Rattle.graph.specs.declared.collect.Collected.{Collected}
 use Rattle.graph.specs.declared.line.Line.{Line}
-use Rattle.graph.specs.declared.line.Line.TheVariants as line
-use Rattle.graph.specs.declared.vertex.TheConstants.{MAX_VERTICES, MAX_EDGES}
-use Rattle.graph.specs.Collected.{AddsEdge, AddsVertex, CanBeSaid, Says, bare}
-use Rattle.graph.specs.Entry.{entry_of}
-use Rattle.graph.specs.Line.{is_good, line_of}
+use Rattle.graph.specs.Collected.{CanBeSaid, Says}
+use Rattle.graph.specs.Line.{line_of}
 use Rattle.graph.specs.Said.{all_declared, all_edges, declared_by, lines_of, said_by}
 
 -- what can be said, can be said of its first lines

@@ -1,24 +1,12 @@
 -- Two instructions or more are no constant expression.
-use Rattle.std.proofs.Common.{◌≡◌, ℕ, ◌≤◌, List, [], ◌∷◌, length, refl, sym, ap, ◌∙◌, subst, arith}
-use Rattle.std.specs.Prelude.{◌↔◌, Option, Some, None, slice_get}
-use Rattle.std.specs.Option.{option_and_then}
-use Rattle.wasm_ast.specs.declared.types.ValType.{ValType}
-use Rattle.wasm_ast.specs.declared.types.GlobalType.{GlobalType}
-use Rattle.wasm_ast.specs.declared.types.Mutability.{Mutability}
-use Rattle.wasm_ast.specs.declared.types.Mutability.TheVariants as mutability
-use Rattle.wasm_ast.specs.declared.plain.Variable.{Variable}
-use Rattle.wasm_ast.specs.declared.plain.Variable.TheVariants as variable
+use Rattle.std.proofs.Common.{◌≡◌, ◌≤◌, List, [], ◌∷◌, length, refl, sym, ap, ◌∙◌, arith}
+use Rattle.std.specs.Prelude.{None}
 use Rattle.wasm_ast.specs.declared.plain.Plain.{Plain}
-use Rattle.wasm_ast.specs.declared.plain.Plain.TheVariants as plain
 use Rattle.wasm_ast.specs.declared.body.Instr.{Instr}
 use Rattle.wasm_ast.specs.declared.body.Instr.TheVariants as instr
 use Rattle.wasm_ast.specs.Code.{Code}
-use Rattle.wasm_ast.specs.Code as code
-use Rattle.wasm_ast.specs.Values.{type_of}
 use Rattle.wasm_ast.specs.View.{code_of, then_code}
-use Rattle.validate.specs.Spaces.{Spaces}
-use Rattle.validate.specs.Constants.{VariableConstant, PlainConstant, ConstantTyped}
-use Rattle.validate.specs.Checks.{if_last, only_plain, constant_if, global_constant, variable_constant, plain_constant, constant_type}
+use Rattle.validate.specs.Checks.{if_last, only_plain}
 
 -- ---- two instructions or more
 

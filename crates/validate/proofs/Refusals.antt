@@ -1,5 +1,5 @@
 -- What follows from a refusal.
-use Rattle.std.proofs.Common.{◌≡◌, Bool, true, false, subst, sym}
+use Rattle.std.proofs.Common.{◌≡◌, subst, sym}
 use Rattle.std.specs.Prelude.{Option, None}
 use Rattle.validate.specs.declared.fault.Rule.{Rule}
 use Rattle.validate.specs.declared.fault.Place.{Place}

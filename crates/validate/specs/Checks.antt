@@ -1,6 +1,6 @@
 -- What the checks of constant expressions find, one function a rule of `Constants`, and how the rules of `Modules`
 -- fall in two.
-use Rattle.std.specs.Prelude.{ℕ, ◌<◌, ◌≤◌, length, map, Option, Some, None, slice_get}
+use Rattle.std.specs.Prelude.{◌<◌, ◌≤◌, length, map, Option, Some, None, slice_get}
 use Rattle.std.specs.List.{AllByRecursion}
 use Rattle.std.specs.Option.{option_and_then}
 use Rattle.wasm_ast.specs.declared.types.ValType.{ValType}

@@ -1,5 +1,5 @@
 -- Constant expressions (Core 1.0, 3.3.7).
-use Rattle.std.specs.Prelude.{◌≡◌, Option, Some, slice_get}
+use Rattle.std.specs.Prelude.{◌≡◌, Some, slice_get}
 use Rattle.wasm_ast.specs.declared.types.ValType.{ValType}
 use Rattle.wasm_ast.specs.declared.types.GlobalType.{GlobalType}
 use Rattle.wasm_ast.specs.declared.types.Mutability.TheVariants.{Constant}

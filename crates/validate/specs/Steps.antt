@@ -2,7 +2,6 @@
 use Rattle.std.specs.Prelude.{Bool, true, false, ◌&&◌, ℕ, List, [], ◌∷◌, Option, Some, None, slice_get, reverse, length, nat_le, nat_lt, ◌^◌}
 use Rattle.wasm_ast.specs.declared.types.ValType.{ValType}
 use Rattle.wasm_ast.specs.declared.types.ValType.TheVariants.{I32}
-use Rattle.wasm_ast.specs.declared.types.FuncType.{FuncType}
 use Rattle.wasm_ast.specs.declared.types.Mutability.{Mutability}
 use Rattle.wasm_ast.specs.declared.types.Mutability.TheVariants as mutability
 use Rattle.wasm_ast.specs.declared.plain.Variable.{Variable}

@@ -1,9 +1,8 @@
 -- How large a module may be, beside the number of its bytes. The limits are this engine's own: the standard leaves
 -- them to each (Core 1.0, A.2).
-use Rattle.std.specs.Prelude.{ℕ, ◌+◌, ◌-◌, ◌≤◌, ⊤, Bool, true, false, List, [], ◌∷◌, length, count_by, Option, Some, None, slice_get}
+use Rattle.std.specs.Prelude.{ℕ, ◌+◌, ◌-◌, ◌≤◌, ⊤, Bool, true, false, List, length, count_by, Option, Some, None, slice_get}
 use Rattle.std.specs.List.{AllByRecursion}
 use Rattle.wasm_ast.specs.declared.types.FuncType.{FuncType}
-use Rattle.wasm_ast.specs.declared.plain.MemoryArgument.{MemoryArgument}
 use Rattle.wasm_ast.specs.declared.plain.Memory.{Memory}
 use Rattle.wasm_ast.specs.declared.plain.Memory.TheVariants as memory
 use Rattle.wasm_ast.specs.declared.plain.Plain.{Plain}

@@ -1,7 +1,7 @@
 -- What the types of a program keep of a module: numbers of 32 bits, constants of their width and names in UTF-8
 -- (Core 1.0, 2.2). A module that a program holds is so, and no other has a spelling; to the definitions here a number
 -- may be any.
-use Rattle.std.specs.Prelude.{ℕ, ◌<◌, ◌^◌, ⊤, List, Option, Some, None}
+use Rattle.std.specs.Prelude.{ℕ, ◌<◌, ◌^◌, ⊤, Option, Some, None}
 use Rattle.std.specs.List.{AllByRecursion}
 use Rattle.std.specs.Str.{IsUtf8}
 use Rattle.wasm_ast.specs.declared.types.Value.{Value}

@@ -1,5 +1,5 @@
 -- What is spelled so, and within limits, is read: modules.
-use Rattle.std.proofs.Common.{◌≡◌, ℕ, zero, suc, ◌+◌, ◌-◌, ◌≤◌, inl, inr, List, [], ◌++◌, length, Option, Some, None, refl, sym, ap, arith}
+use Rattle.std.proofs.Common.{◌≡◌, ℕ, zero, suc, ◌-◌, ◌≤◌, inl, inr, List, [], ◌++◌, length, Option, Some, None, refl, sym, ap, arith}
 use Rattle.std.proofs.lemmas.Bool.{le-leb}
 use Rattle.std.proofs.lemmas.List.{append-nil}
 use Rattle.std.specs.List.{AllByRecursion}
@@ -7,12 +7,11 @@ use Rattle.wasm_ast.specs.declared.types.FuncType.{FuncType}
 use Rattle.wasm_ast.specs.declared.module.Import.{Import}
 use Rattle.wasm_ast.specs.declared.module.Function.{Function}
 use Rattle.wasm_ast.specs.declared.module.Module.{Module}
-use Rattle.wasm_ast.specs.Modules.{empty_module}
 use Rattle.wasm_ast.specs.Limits.{max_module_bytes, max_functions, IsBodyWithin, IsTypeWithin, IsFunctionWithin, imported_functions, IsWithinLimits}
 use Rattle.wasm_decode.specs.Bytes.{Then, U32, Vector}
 use Rattle.wasm_decode.specs.Types.{SpellsFuncType, SpellsLimits, SpellsTableType}
-use Rattle.wasm_decode.specs.Grammar.{SpellsImport, SpellsGlobal, SpellsExport, SpellsElement, SpellsFunction, SpellsData, type_numbers, Customs, Section, VectorSection, StartSection, magic, version, SpellsSections, Spells}
-use Rattle.wasm_decode.specs.Reading.{Reads, found, any_count, u32_at, vector_at, func_type_at, limits_at, table_type_at}
+use Rattle.wasm_decode.specs.Grammar.{SpellsImport, SpellsGlobal, SpellsExport, SpellsElement, SpellsFunction, SpellsData, type_numbers, Customs, VectorSection, StartSection, magic, version, SpellsSections, Spells}
+use Rattle.wasm_decode.specs.Reading.{Reads, any_count, u32_at, vector_at, func_type_at, limits_at, table_type_at}
 use Rattle.wasm_decode.specs.ReadingModule.{import_at, imports_at, global_at, export_at, start_at, element_at, data_at, functions_at, customs_at, skip_customs, no_bodies, types_at, numbers_at, spaces_at, exports_at, contents_at, remaining_at, sections_at, after_bytes, module_at}
 use Rattle.wasm_decode.proofs.AgainFunctions.{functions_again}
 use Rattle.wasm_decode.proofs.AgainItems.{import_again, global_again, export_again, element_again, data_again}

@@ -1,9 +1,9 @@
 -- What is spelled so, and within limits, is read: what the sections hold.
-use Rattle.std.proofs.Common.{◌≡◌, ℕ, ◌++◌, List, length, Some, refl}
+use Rattle.std.proofs.Common.{refl}
 use Rattle.wasm_ast.specs.declared.module.ImportDescription.TheVariants as import
 use Rattle.wasm_ast.specs.declared.module.ExportDescription.TheVariants as export
 use Rattle.wasm_ast.specs.Limits.{IsBodyWithin}
-use Rattle.wasm_decode.specs.Bytes.{Byte, U32}
+use Rattle.wasm_decode.specs.Bytes.{U32}
 use Rattle.wasm_decode.specs.Grammar.{SpellsImportDescription, SpellsImport, SpellsGlobal, SpellsExportDescription, SpellsExport, SpellsElement, SpellsData}
 use Rattle.wasm_decode.specs.Reading.{byte_at, u32_at, name_at, any_count, global_type_at}
 use Rattle.wasm_decode.specs.ReadingCode.{expression_at}

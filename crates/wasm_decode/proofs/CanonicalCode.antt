@@ -1,10 +1,10 @@
 -- How code is written an instruction at a time.
-use Rattle.std.proofs.Common.{◌≡◌, ℕ, ◌+◌, ◌<◌, ◌≤◌, List, [], ◌∷◌, ◌++◌, length, get_or, drop, refl, ap, sym, ◌∙◌, append_assoc, arith}
+use Rattle.std.proofs.Common.{◌≡◌, ℕ, ◌+◌, ◌<◌, ◌≤◌, List, [], ◌∷◌, ◌++◌, length, get_or, drop, refl, ap, sym, ◌∙◌, append_assoc}
 use Rattle.std.proofs.lemmas.List.{append-nil}
 use Rattle.std.specs.Prelude.{◌==◌, false}
 use Rattle.wasm_ast.specs.declared.body.Instr.{Instr}
 use Rattle.wasm_ast.specs.declared.body.Instr.TheVariants as instr
-use Rattle.wasm_ast.specs.Code.{Code, end}
+use Rattle.wasm_ast.specs.Code.{Code}
 use Rattle.wasm_ast.specs.View.{code_of, then_code}
 use Rattle.wasm_ast.proofs.Codes.{code_step, code_done}
 use Rattle.wasm_decode.specs.Canonical.{code_bytes, instr_bytes, else_bytes}

@@ -1,7 +1,7 @@
 -- That what is written is a spelling: types and instructions.
-use Rattle.std.proofs.Common.{◌≡◌, ℕ, ◌<◌, ◌≤◌, ◌^◌, ◌⊎◌, inl, inr, List, [], ◌∷◌, ◌++◌, length, Option, Some, None, refl, sym, ap, ◌∙◌, append_assoc, arith, length-append}
+use Rattle.std.proofs.Common.{◌≡◌, ℕ, ◌≤◌, inl, inr, List, [], ◌∷◌, ◌++◌, length, Option, Some, None, refl, sym, ap, ◌∙◌, append_assoc, arith, length-append}
 use Rattle.std.specs.Bool.{⊤}
-use Rattle.std.specs.List.{AllByRecursion, flat_map}
+use Rattle.std.specs.List.{AllByRecursion}
 use Rattle.leb.specs.Spelling.{u32_spelling, s32_spelling, s64_spelling}
 use Rattle.wasm_ast.specs.declared.types.ValType.{ValType}
 use Rattle.wasm_ast.specs.declared.types.Value.TheVariants as value
@@ -23,7 +23,7 @@ use Rattle.wasm_ast.specs.Numeric.{signed}
 use Rattle.wasm_decode.specs.Bytes.{Then, Byte, U32, Vector}
 use Rattle.wasm_decode.specs.Types.{val_type_byte, mutability_byte, SpellsValType, SpellsBlockType, SpellsFuncType, SpellsLimits, SpellsTableType, SpellsGlobalType}
 use Rattle.wasm_decode.specs.Instructions.{load_opcode, store_opcode, SpellsVariable, SpellsMemory, SpellsPlain, SpellsBranch, Ended, Arm, SpellsCode, SpellsExpression}
-use Rattle.wasm_decode.specs.Canonical.{vector, val_type_bytes, func_type_bytes, block_type_byte, limits_bytes, maximum_bytes, table_bytes, global_type_bytes, variable_bytes, memory_bytes, memory_argument_bytes, const_bytes, plain_bytes, branch_bytes, else_bytes, code_bytes, expression_bytes}
+use Rattle.wasm_decode.specs.Canonical.{vector, val_type_bytes, func_type_bytes, block_type_byte, limits_bytes, maximum_bytes, table_bytes, global_type_bytes, variable_bytes, memory_bytes, memory_argument_bytes, plain_bytes, branch_bytes, else_bytes, code_bytes, expression_bytes}
 use Rattle.wasm_ast.specs.Representable.{IsU32, IsOptionalU32, AreLimitsHeld, IsVariableHeld, IsMemoryHeld, IsPlainHeld, IsBranchHeld, IsCodeHeld}
 use Rattle.wasm_decode.proofs.CanonicalParts.{IsSmall, IsSpelled, u32_spelled, u32_is_spelled, some_u32, i32_spelled, i64_spelled, joined, behind, small_front, small_back, vector_spelled}
 

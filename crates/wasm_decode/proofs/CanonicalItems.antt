@@ -1,8 +1,8 @@
 -- That what is written is a spelling: what the sections hold.
-use Rattle.std.proofs.Common.{◌≡◌, ℕ, suc, ◌+◌, ◌<◌, ◌≤◌, ◌^◌, Bool, true, false, List, [], ◌∷◌, ◌++◌, length, replicate, refl, sym, ap, ◌∙◌, append_assoc, arith, length-append}
+use Rattle.std.proofs.Common.{◌≡◌, ℕ, ◌+◌, ◌<◌, ◌≤◌, ◌^◌, Bool, true, false, List, [], ◌∷◌, ◌++◌, length, replicate, refl, sym, ap, ◌∙◌, append_assoc, arith, length-append}
 use Rattle.std.proofs.lemmas.List.{replicate-append-replicate}
 use Rattle.std.specs.Prelude.{if◌then◌else◌}
-use Rattle.std.specs.List.{AllByRecursion, flat_map}
+use Rattle.std.specs.List.{AllByRecursion}
 use Rattle.leb.specs.Spelling.{u32_spelling}
 use Rattle.wasm_ast.specs.declared.types.ValType.{ValType}
 use Rattle.wasm_ast.specs.declared.types.ValType.TheVariants.{I32, I64}
@@ -16,12 +16,11 @@ use Rattle.wasm_ast.specs.declared.module.ExportDescription.TheVariants as expor
 use Rattle.wasm_ast.specs.declared.module.Export.{Export}
 use Rattle.wasm_ast.specs.declared.module.Element.{Element}
 use Rattle.wasm_ast.specs.declared.module.Data.{Data}
-use Rattle.wasm_decode.specs.Bytes.{Then, Byte, U32, Vector, Name, Sized}
-use Rattle.wasm_decode.specs.Types.{val_type_byte}
+use Rattle.wasm_decode.specs.Bytes.{Then, U32}
 use Rattle.wasm_decode.specs.Instructions.{SpellsExpression}
 use Rattle.wasm_decode.specs.Grammar.{SpellsImportDescription, SpellsImport, SpellsGlobal, SpellsExportDescription, SpellsExport, SpellsElement, SpellsData, SpellsGroup, locals_of, SpellsLocals, SpellsFunction}
 use Rattle.wasm_decode.specs.Canonical.{sized, vector, val_type_bytes, limits_bytes, table_bytes, global_type_bytes, expression_bytes, import_description_bytes, import_bytes, global_bytes, export_description_bytes, export_bytes, element_bytes, data_bytes, is_same_type, groups_from, groups_of, group_bytes, locals_bytes, function_bytes}
-use Rattle.wasm_ast.specs.Representable.{IsU32, IsImportDescriptionHeld, IsImportHeld, IsGlobalHeld, IsExportDescriptionHeld, IsExportHeld, IsElementHeld, IsDataHeld, IsFunctionHeld, IsCodeHeld}
+use Rattle.wasm_ast.specs.Representable.{IsU32, IsImportDescriptionHeld, IsImportHeld, IsGlobalHeld, IsExportDescriptionHeld, IsExportHeld, IsElementHeld, IsDataHeld, IsFunctionHeld}
 use Rattle.wasm_decode.proofs.CanonicalParts.{IsSmall, IsSpelled, u32_spelled, u32_is_spelled, some_u32, joined, behind, small_front, small_back, sized_spelled, small_sized, some_sized, bytes_spelled, name_spelled, vector_spelled}
 use Rattle.wasm_decode.proofs.CanonicalInstructions.{limits_are_spelled, table_is_spelled, global_type_spelled, expression_is_spelled}
 

@@ -1,10 +1,10 @@
 -- That what is written is a spelling: numbers, vectors, and contents behind their size.
-use Rattle.std.proofs.Common.{◌≡◌, ℕ, ℤ, pos, ◌-ℤ◌, suc, ◌+◌, ◌*◌, ◌-◌, ◌^◌, ◌<◌, ◌≤◌, inl, inr, List, [], ◌∷◌, ◌++◌, length, refl, sym, ap, ◌∙◌, arith, length-append}
+use Rattle.std.proofs.Common.{◌≡◌, ℕ, ◌*◌, ◌-◌, ◌^◌, ◌<◌, ◌≤◌, inl, inr, List, [], ◌∷◌, ◌++◌, length, refl, arith, length-append}
 use Rattle.std.proofs.lemmas.Bool.{lt-ltb, le-ltb, cases_lt}
 use Rattle.std.proofs.lemmas.Int.{ints}
 use Rattle.std.specs.List.{AllByRecursion, flat_map}
 use Rattle.std.specs.Str.{IsUtf8}
-use Rattle.leb.specs.Spelling.{IsUnsigned, IsSigned, FitsBits, shortest_unsigned, u32_spelling, s32_spelling, s64_spelling}
+use Rattle.leb.specs.Spelling.{FitsBits, shortest_unsigned, u32_spelling, s32_spelling, s64_spelling}
 use Rattle.leb.proofs.Shortest.{shortest_unsigned-spells, shortest_signed-spells}
 use Rattle.wasm_ast.specs.Numeric.{signed}
 use Rattle.wasm_decode.specs.Bytes.{Then, Byte, U32, Uninterpreted, Items, Vector, Name, Sized}

@@ -1,9 +1,9 @@
 -- Items that are spelled so and within limits: apart, the spelling of all of them and the limits of each.
-use Rattle.std.proofs.Common.{◌≡◌, ℕ, zero, suc, ◌≤◌, inl, inr, List, [], ◌∷◌, length, Option, Some, arith}
+use Rattle.std.proofs.Common.{ℕ, zero, suc, ◌≤◌, inl, inr, List, [], ◌∷◌, arith}
 use Rattle.std.specs.List.{AllByRecursion}
 use Rattle.wasm_ast.specs.declared.types.FuncType.{FuncType}
 use Rattle.wasm_ast.specs.Limits.{IsTypeWithin, parameters_of, max_locals}
-use Rattle.wasm_decode.specs.Bytes.{Then, Items, Vector}
+use Rattle.wasm_decode.specs.Bytes.{Items, Vector}
 use Rattle.wasm_decode.specs.Grammar.{VectorSection}
 use Rattle.wasm_decode.proofs.SectionParts.{Section-map}
 use Rattle.wasm_decode.proofs.Tools.{Spelling, Within}

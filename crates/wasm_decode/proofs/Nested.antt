@@ -1,5 +1,5 @@
 -- Reading instructions that hold others: what each step gives, and the loop over the instructions of a sequence.
-use Rattle.std.proofs.Common.{◌≡◌, ℕ, zero, suc, ◌-◌, ◌≤◌, ◌<◌, false, true, nat_le, List, [], ◌∷◌, ◌++◌, length, slice_get, Option, Some, None, refl, sym, ap, ◌∙◌, arith}
+use Rattle.std.proofs.Common.{◌≡◌, ℕ, zero, suc, ◌-◌, ◌≤◌, ◌<◌, false, true, nat_le, List, [], ◌∷◌, ◌++◌, length, slice_get, Option, Some, None, refl, ap, ◌∙◌, arith}
 use Rattle.std.proofs.lemmas.Bool.{le-leb, leb-true, eq-eqb}
 use Rattle.wasm_ast.specs.declared.types.ValType.{ValType}
 use Rattle.wasm_ast.specs.declared.body.Instr.{Instr}
@@ -10,8 +10,8 @@ use Rattle.wasm_decode.specs.declared.fault.DecodeFault.{DecodeFault}
 use Rattle.wasm_decode.specs.Reading.{◌>>=◌, Fails, byte_at, block_type_at}
 use Rattle.wasm_decode.specs.ReadingCode.{Inner, typed_with, ended_with, arm_with, else_with, if_with, opcode_with, instr_with, stops, code_at}
 use Rattle.wasm_decode.proofs.Loops.{continued, goes_on, is_done, Fails-continued, Fails-then}
-use Rattle.wasm_decode.proofs.Shrinks.{byte_shortens, instr_shortens}
-use Rattle.wasm_decode.proofs.Tools.{bind_some, guarded_some}
+use Rattle.wasm_decode.proofs.Shrinks.{instr_shortens}
+use Rattle.wasm_decode.proofs.Tools.{guarded_some}
 
 -- ---- instructions one after another
 

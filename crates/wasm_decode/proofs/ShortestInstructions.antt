@@ -1,28 +1,20 @@
 -- That no spelling is shorter than the one that is written: types and instructions.
-use Rattle.std.proofs.Common.{◌≡◌, ℕ, ◌+◌, ◌<◌, ◌≤◌, ◌^◌, ◌⊎◌, inl, inr, List, [], ◌∷◌, ◌++◌, length, Option, Some, None, refl, sym, ap, ◌∙◌, arith, length-append}
+use Rattle.std.proofs.Common.{◌≡◌, ℕ, ◌+◌, ◌≤◌, inl, inr, List, [], ◌∷◌, ◌++◌, length, Option, Some, None, ap, arith, length-append}
 use Rattle.std.specs.Bool.{⊤}
-use Rattle.std.specs.List.{AllByRecursion}
-use Rattle.leb.specs.Spelling.{u32_spelling, s32_spelling, s64_spelling}
+use Rattle.leb.specs.Spelling.{u32_spelling}
 use Rattle.wasm_ast.specs.declared.types.ValType.{ValType}
 use Rattle.wasm_ast.specs.declared.types.Value.TheVariants as value
-use Rattle.wasm_ast.specs.declared.types.FuncType.{FuncType}
-use Rattle.wasm_ast.specs.declared.types.Limits.{Limits}
 use Rattle.wasm_ast.specs.declared.types.GlobalType.{GlobalType}
-use Rattle.wasm_ast.specs.declared.plain.Variable.{Variable}
 use Rattle.wasm_ast.specs.declared.plain.Variable.TheVariants as variable
-use Rattle.wasm_ast.specs.declared.plain.Memory.{Memory}
 use Rattle.wasm_ast.specs.declared.plain.Memory.TheVariants as memory
 use Rattle.wasm_ast.specs.declared.plain.MemoryArgument.{MemoryArgument}
-use Rattle.wasm_ast.specs.declared.plain.Plain.{Plain}
 use Rattle.wasm_ast.specs.declared.plain.Plain.TheVariants as plain
-use Rattle.wasm_ast.specs.declared.plain.Branch.{Branch}
 use Rattle.wasm_ast.specs.declared.plain.Branch.TheVariants as branch
 use Rattle.wasm_ast.specs.Code.{Code}
 use Rattle.wasm_ast.specs.Code as code
-use Rattle.wasm_ast.specs.Numeric.{signed}
-use Rattle.wasm_decode.specs.Bytes.{Then, Byte, U32, Vector}
-use Rattle.wasm_decode.specs.Types.{val_type_byte, SpellsValType, SpellsBlockType, SpellsFuncType, SpellsRange, SpellsLimits, SpellsTableType, SpellsGlobalType}
-use Rattle.wasm_decode.specs.Instructions.{SpellsVariable, SpellsMemory, SpellsPlain, SpellsBranch, SpellsCallIndirect, Ended, Arm, SpellsCode, SpellsExpression}
+use Rattle.wasm_decode.specs.Bytes.{Then, Byte, U32}
+use Rattle.wasm_decode.specs.Types.{SpellsValType, SpellsBlockType, SpellsFuncType, SpellsRange, SpellsLimits, SpellsTableType, SpellsGlobalType}
+use Rattle.wasm_decode.specs.Instructions.{SpellsVariable, SpellsMemory, SpellsPlain, SpellsBranch, Ended, Arm, SpellsCode, SpellsExpression}
 use Rattle.wasm_decode.specs.Canonical.{vector, val_type_bytes, func_type_bytes, limits_bytes, maximum_bytes, table_bytes, global_type_bytes, variable_bytes, memory_bytes, memory_argument_bytes, plain_bytes, branch_bytes, else_bytes, code_bytes, expression_bytes}
 use Rattle.wasm_ast.specs.Representable.{IsU32, IsOptionalU32, AreLimitsHeld, IsVariableHeld, IsMemoryHeld, IsPlainHeld, IsBranchHeld, IsCodeHeld}
 use Rattle.wasm_decode.proofs.ShortestParts.{IsShortest, u32_is_shortest, i32_shortest, i64_shortest, Then_length, vector_is_shortest}

@@ -1,19 +1,12 @@
 -- That no spelling is shorter than the one that is written: what the sections hold.
-use Rattle.std.proofs.Common.{◌≡◌, ℕ, ◌+◌, ◌<◌, ◌≤◌, List, [], ◌∷◌, ◌++◌, length, refl, sym, ap, ◌∙◌, arith, length-append}
+use Rattle.std.proofs.Common.{ℕ, ◌≤◌, List, [], ◌∷◌, ◌++◌, length, ap, arith, length-append}
 use Rattle.std.specs.Bool.{⊤}
-use Rattle.std.specs.List.{AllByRecursion, flat_map}
+use Rattle.std.specs.List.{flat_map}
 use Rattle.leb.specs.Spelling.{u32_spelling}
 use Rattle.wasm_ast.specs.declared.types.ValType.{ValType}
-use Rattle.wasm_ast.specs.declared.module.ImportDescription.{ImportDescription}
 use Rattle.wasm_ast.specs.declared.module.ImportDescription.TheVariants as import
-use Rattle.wasm_ast.specs.declared.module.Import.{Import}
 use Rattle.wasm_ast.specs.declared.module.Function.{Function}
-use Rattle.wasm_ast.specs.declared.module.Global.{Global}
-use Rattle.wasm_ast.specs.declared.module.ExportDescription.{ExportDescription}
 use Rattle.wasm_ast.specs.declared.module.ExportDescription.TheVariants as export
-use Rattle.wasm_ast.specs.declared.module.Export.{Export}
-use Rattle.wasm_ast.specs.declared.module.Element.{Element}
-use Rattle.wasm_ast.specs.declared.module.Data.{Data}
 use Rattle.wasm_decode.specs.Bytes.{U32}
 use Rattle.wasm_decode.specs.Types.{val_type_byte}
 use Rattle.wasm_decode.specs.Grammar.{SpellsImportDescription, SpellsImport, SpellsGlobal, SpellsExportDescription, SpellsExport, SpellsElement, SpellsData, SpellsGroup, SpellsLocals, SpellsFunction, locals_of}
@@ -21,7 +14,7 @@ use Rattle.wasm_decode.specs.Canonical.{sized, vector, global_type_bytes, expres
 use Rattle.wasm_ast.specs.Representable.{IsU32, IsImportDescriptionHeld, IsImportHeld, IsGlobalHeld, IsExportDescriptionHeld, IsExportHeld, IsElementHeld, IsDataHeld, IsCodeHeld}
 use Rattle.wasm_decode.proofs.ShortestParts.{IsShortest, u32_is_shortest, u32_grows, Then_length, sized_shortest, bytes_shortest, name_is_shortest, items_are_shortest, vector_is_shortest}
 use Rattle.wasm_decode.proofs.ShortestInstructions.{behind_byte, limits_are_shortest, table_is_shortest, global_type_shortest, numbered_shortest, expression_is_shortest}
-use Rattle.wasm_decode.proofs.ShortestGroups.{bytes_of, groups_are_shortest}
+use Rattle.wasm_decode.proofs.ShortestGroups.{groups_are_shortest}
 
 import_description_is_shortest : IsShortest IsImportDescriptionHeld SpellsImportDescription import_description_bytes
 import_description_is_shortest (import.Function t) bytes h = numbered_shortest 0x00 t bytes h

@@ -1,15 +1,14 @@
 -- That no spelling is shorter than the one that is written: sections and modules.
-use Rattle.std.proofs.Common.{◌≡◌, ℕ, ◌+◌, ◌≤◌, inl, inr, List, [], ◌∷◌, ◌++◌, length, Option, Some, None, refl, sym, ap, ◌∙◌, subst, arith, length-append}
+use Rattle.std.proofs.Common.{ℕ, ◌+◌, ◌≤◌, inl, inr, List, [], ◌∷◌, ◌++◌, length, Some, None, ap, arith, length-append}
 use Rattle.std.specs.Bool.{⊤}
-use Rattle.std.specs.List.{AllByRecursion, flat_map}
+use Rattle.std.specs.List.{AllByRecursion}
 use Rattle.leb.specs.Spelling.{u32_spelling}
 use Rattle.wasm_ast.specs.declared.module.Function.{Function}
 use Rattle.wasm_ast.specs.declared.module.Module.{Module}
-use Rattle.wasm_ast.specs.Limits.{max_module_bytes}
-use Rattle.wasm_decode.specs.Bytes.{Then, Byte, U32, Vector, Sized}
+use Rattle.wasm_decode.specs.Bytes.{U32, Vector}
 use Rattle.wasm_decode.specs.Types.{SpellsFuncType, SpellsLimits, SpellsTableType}
 use Rattle.wasm_decode.specs.Grammar.{SpellsImport, SpellsGlobal, SpellsExport, SpellsElement, SpellsFunction, SpellsData, type_numbers, Section, VectorSection, StartSection, AfterCustoms, SpellsSections, Spells}
-use Rattle.wasm_decode.specs.Canonical.{sized, vector, section, vector_section, func_type_bytes, import_bytes, type_number_bytes, table_bytes, limits_bytes, global_bytes, export_bytes, start_section, element_bytes, function_bytes, data_bytes, sections_bytes, canonical}
+use Rattle.wasm_decode.specs.Canonical.{vector, section, vector_section, func_type_bytes, import_bytes, type_number_bytes, table_bytes, limits_bytes, global_bytes, export_bytes, start_section, element_bytes, function_bytes, data_bytes, sections_bytes, canonical}
 use Rattle.wasm_ast.specs.Representable.{IsU32, IsOptionalU32, AreLimitsHeld, IsFunctionHeld, IsImportHeld, IsGlobalHeld, IsExportHeld, IsElementHeld, IsDataHeld, IsRepresentable}
 use Rattle.wasm_decode.proofs.ShortestParts.{IsShortest, u32_is_shortest, Then_length, sized_shortest, vector_is_shortest}
 use Rattle.wasm_decode.proofs.ShortestInstructions.{behind_byte, func_type_is_shortest, limits_are_shortest, table_is_shortest}

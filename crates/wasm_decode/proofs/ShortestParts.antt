@@ -1,9 +1,9 @@
 -- That no spelling is shorter than the one that is written: numbers, vectors, and contents behind their size.
-use Rattle.std.proofs.Common.{◌≡◌, ℕ, ℤ, zero, suc, ◌+◌, ◌*◌, ◌-◌, ◌/◌, ◌%◌, ◌^◌, ◌<◌, ◌≤◌, inl, inr, List, [], ◌∷◌, ◌++◌, length, refl, sym, ap, ◌∙◌, subst, arith, length-append}
+use Rattle.std.proofs.Common.{◌≡◌, ℕ, zero, suc, ◌+◌, ◌*◌, ◌/◌, ◌^◌, ◌<◌, ◌≤◌, inl, inr, List, [], ◌∷◌, length, ap, ◌∙◌, arith, length-append}
 use Rattle.std.proofs.lemmas.Bool.{lt-ltb, le-ltb, cases_lt}
 use Rattle.std.specs.List.{AllByRecursion, flat_map}
 use Rattle.std.specs.Str.{IsUtf8}
-use Rattle.leb.specs.Spelling.{IsUnsigned, shortest_unsigned, u32_spelling, s32_spelling, s64_spelling}
+use Rattle.leb.specs.Spelling.{shortest_unsigned, u32_spelling, s32_spelling, s64_spelling}
 use Rattle.leb.proofs.Unsigned.{unsigned_below}
 use Rattle.leb.proofs.Shortest.{length-shortest_unsigned-le, length-shortest_signed-le}
 use Rattle.wasm_ast.specs.Numeric.{signed}

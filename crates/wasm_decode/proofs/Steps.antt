@@ -1,5 +1,5 @@
 -- The steps from one group of sections to the next.
-use Rattle.std.proofs.Common.{◌≡◌, ℕ, List, Option, Some, refl}
+use Rattle.std.proofs.Common.{◌≡◌, ℕ, List, Some, refl}
 use Rattle.wasm_ast.specs.declared.module.Module.{Module}
 use Rattle.wasm_ast.specs.Modules.{empty_module}
 use Rattle.wasm_ast.specs.Limits.{imported_functions}

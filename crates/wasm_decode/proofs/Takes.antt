@@ -17,14 +17,14 @@ use Rattle.wasm_ast.specs.Limits.{max_module_bytes, max_functions, IsBodyWithin,
 use Rattle.wasm_decode.specs.Bytes.{Then, U32, Vector}
 use Rattle.wasm_decode.specs.Types.{SpellsFuncType, SpellsLimits, SpellsTableType}
 use Rattle.wasm_decode.specs.Grammar.{SpellsImport, SpellsGlobal, SpellsExport, SpellsElement, SpellsFunction, SpellsData, type_numbers, Customs, VectorSection, StartSection, magic, version, SpellsSections, Spells}
-use Rattle.wasm_decode.specs.Reading.{Reads, is_empty, any_count, vector_at, u32_at}
+use Rattle.wasm_decode.specs.Reading.{Reads, is_empty, any_count, vector_at}
 use Rattle.wasm_decode.specs.ReadingModule.{import_at, imports_at, start_at, functions_at, skip_customs, no_bodies, section_with, items_in, types_at, numbers_at, spaces_at, exports_at, contents_at, remaining_at, sections_at, after_bytes, module_at}
 use Rattle.wasm_decode.proofs.Limited.{are_few, Vector-apart, VectorSection-apart}
 use Rattle.wasm_decode.proofs.SectionParts.{MaySpell, Section-map, length-type_numbers}
-use Rattle.wasm_decode.proofs.TakesFunctions.{AreFew, FunctionWithin, AreBodies, functions_take}
+use Rattle.wasm_decode.proofs.TakesFunctions.{AreFew, AreBodies, functions_take}
 use Rattle.wasm_decode.proofs.TakesItems.{import_takes, global_takes, export_takes, element_takes, data_takes}
 use Rattle.wasm_decode.proofs.TakesParts.{u32_takes, vector_takes, func_type_takes, limits_takes, table_type_takes}
-use Rattle.wasm_decode.proofs.TakesSections.{skip_customs_takes, section_takes, SectionAndCustoms, IsVectorSection, vector_section_takes}
+use Rattle.wasm_decode.proofs.TakesSections.{skip_customs_takes, section_takes, vector_section_takes}
 use Rattle.wasm_decode.proofs.Tools.{Spelling, Within, bind_some, guarded_some, some_is, never, IsBytes-back, Takes, IsSound, Takes-all, Takes-map, Takes-back, Takes-after, Then_takes, made_takes, Then-joined, Then-assoc, Then-two, Then-three}
 
 -- ---- single sections, and the custom ones behind them

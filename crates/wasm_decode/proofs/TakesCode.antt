@@ -1,10 +1,9 @@
 -- What is read is spelled so, and within limits: instructions.
-use Rattle.std.proofs.Common.{◌≡◌, ℕ, zero, suc, ◌+◌, ◌-◌, ◌<◌, ◌≤◌, ◌&&◌, Bool, true, false, List, [], ◌∷◌, ◌++◌, length, slice_get, Option, Some, None, refl, sym, ap, ◌∙◌, append_assoc, inl, inr, arith}
+use Rattle.std.proofs.Common.{◌≡◌, ℕ, zero, suc, ◌-◌, ◌<◌, ◌≤◌, Bool, true, false, List, [], ◌∷◌, ◌++◌, length, slice_get, Option, Some, None, refl, sym, ap, ◌∙◌, append_assoc, inl, inr, arith}
 use Rattle.std.proofs.lemmas.Bool.{eqb-true, leb-true, leb-false, le-leb, and_from, and_parts, agree_below_at}
 use Rattle.std.proofs.lemmas.List.{append-nil}
 use Rattle.std.specs.Int.{w32, w64}
 use Rattle.std.specs.Prelude.{◌==◌, if◌then◌else◌, nat_le}
-use Rattle.leb.specs.Bytes.{IsBytes}
 use Rattle.leb.proofs.Signed.{signed_fits}
 use Rattle.wasm_ast.specs.declared.types.ValType.{ValType}
 use Rattle.wasm_ast.specs.declared.numeric.Numeric.{Numeric}
@@ -13,7 +12,6 @@ use Rattle.wasm_ast.specs.declared.plain.Store.{Store}
 use Rattle.wasm_ast.specs.declared.plain.MemoryArgument.{MemoryArgument}
 use Rattle.wasm_ast.specs.declared.plain.Memory.{Memory}
 use Rattle.wasm_ast.specs.declared.plain.Memory.TheVariants as memory
-use Rattle.wasm_ast.specs.declared.plain.Variable.TheVariants as variable
 use Rattle.wasm_ast.specs.declared.plain.Plain.{Plain}
 use Rattle.wasm_ast.specs.declared.plain.Plain.TheVariants as plain
 use Rattle.wasm_ast.specs.declared.plain.Branch.{Branch}
@@ -25,12 +23,12 @@ use Rattle.wasm_ast.specs.View.{then_code}
 use Rattle.wasm_ast.specs.Limits.{max_align, max_labels, max_nesting, IsMemoryWithin, IsPlainWithin, IsBranchWithin, IsCodeWithin, IsBodyWithin}
 use Rattle.wasm_decode.specs.Bytes.{Then, Byte, U32}
 use Rattle.wasm_decode.specs.Types.{SpellsBlockType}
-use Rattle.wasm_decode.specs.Instructions.{numeric_opcode, SpellsNumeric, SpellsVariable, load_opcode, store_opcode, SpellsMemoryArgument, SpellsMemory, SpellsPlain, SpellsBranch, SpellsCallIndirect, Ended, Arm, SpellsCode, SpellsExpression}
-use Rattle.wasm_decode.specs.Reading.{◌>>=◌, guarded, Reads, byte_at, u32_at, vector_at, block_type_at}
+use Rattle.wasm_decode.specs.Instructions.{numeric_opcode, SpellsNumeric, SpellsVariable, load_opcode, store_opcode, SpellsMemoryArgument, SpellsMemory, SpellsPlain, SpellsBranch, Ended, Arm, SpellsCode, SpellsExpression}
+use Rattle.wasm_decode.specs.Reading.{◌>>=◌, guarded, byte_at}
 use Rattle.wasm_decode.specs.ReadingCode.{is_from, numeric_of, i32_at, i64_at, variable_of, variable_at, memory_argument_at, load_of, store_of, load_at, store_at, after_zero, memory_at, numeric_at, plain_at, br_at, br_if_at, br_table_at, branch_at, call_at, call_indirect_at, flat_at, Inner, closed_at, typed_with, block_with, loop_with, ended_with, arm_with, else_with, if_with, opcode_with, instr_with, stops, code_at, expression_at}
 use Rattle.wasm_decode.proofs.Numbers.{signed-cast_unsigned, cast_unsigned_below}
 use Rattle.wasm_decode.proofs.TakesParts.{byte_takes, u32_takes, signed_number_takes, vector_takes, block_type_takes}
-use Rattle.wasm_decode.proofs.Tools.{bind_some, guarded_some, some_is, never, by_test, by_byte, by_byte_or, Takes, IsSound, Within, Takes-map, Takes-back, Takes-cons, Takes-after, Then_takes, made_takes, Then-joined, Then-assoc}
+use Rattle.wasm_decode.proofs.Tools.{bind_some, guarded_some, some_is, never, by_test, by_byte, by_byte_or, Takes, IsSound, Within, Takes-map, Takes-cons, Then_takes, made_takes, Then-joined, Then-assoc}
 
 -- ---- opcodes: a rule holds of each of the 256 bytes
 

@@ -18,7 +18,7 @@ use Rattle.wasm_decode.specs.ReadingModule.{groups_at, locals_at, function_in, f
 use Rattle.wasm_decode.proofs.SectionParts.{length-type_numbers}
 use Rattle.wasm_decode.proofs.TakesCode.{expression_takes}
 use Rattle.wasm_decode.proofs.TakesParts.{u32_takes, val_type_takes, part_takes, Sized-part}
-use Rattle.wasm_decode.proofs.Tools.{bind_some, guarded_some, some_is, IsSound, Within, Takes-all, Takes-map, Takes-back, Then_takes, made_takes, Then-joined}
+use Rattle.wasm_decode.proofs.Tools.{bind_some, guarded_some, some_is, IsSound, Takes-all, Takes-map, Takes-back, Then_takes, made_takes, Then-joined}
 
 -- ---- locals
 

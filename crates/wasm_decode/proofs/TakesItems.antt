@@ -1,25 +1,21 @@
 -- What is read is spelled so, and within limits: what the sections hold.
-use Rattle.std.proofs.Common.{◌≡◌, ℕ, ◌++◌, List, [], ◌∷◌, length, Some, None, refl}
+use Rattle.std.proofs.Common.{◌≡◌, ℕ, ◌++◌, List, [], ◌∷◌, Some, refl}
 use Rattle.std.proofs.lemmas.List.{append-nil}
 use Rattle.std.specs.Prelude.{nat_le}
-use Rattle.leb.specs.Bytes.{IsBytes}
 use Rattle.wasm_ast.specs.declared.module.ImportDescription.{ImportDescription}
-use Rattle.wasm_ast.specs.declared.module.ImportDescription.TheVariants as import
-use Rattle.wasm_ast.specs.declared.module.Import.{Import}
 use Rattle.wasm_ast.specs.declared.module.Global.{Global}
 use Rattle.wasm_ast.specs.declared.module.ExportDescription.{ExportDescription}
 use Rattle.wasm_ast.specs.declared.module.ExportDescription.TheVariants as export
 use Rattle.wasm_ast.specs.declared.module.Element.{Element}
 use Rattle.wasm_ast.specs.declared.module.Data.{Data}
 use Rattle.wasm_ast.specs.Limits.{IsBodyWithin}
-use Rattle.wasm_decode.specs.Bytes.{Byte, U32, Vector}
-use Rattle.wasm_decode.specs.Types.{SpellsLimits, SpellsTableType, SpellsGlobalType}
+use Rattle.wasm_decode.specs.Bytes.{Byte, U32}
 use Rattle.wasm_decode.specs.Grammar.{SpellsImportDescription, SpellsImport, SpellsGlobal, SpellsExportDescription, SpellsExport, SpellsElement, SpellsData}
 use Rattle.wasm_decode.specs.Reading.{any_count}
 use Rattle.wasm_decode.specs.ReadingModule.{import_of, import_description_at, import_at, global_at, export_of, export_description_at, export_at, element_at, data_at}
 use Rattle.wasm_decode.proofs.TakesCode.{expression_takes}
 use Rattle.wasm_decode.proofs.TakesParts.{byte_takes, u32_takes, vector_takes, bytes_take, name_takes, limits_takes, table_type_takes, global_type_takes}
-use Rattle.wasm_decode.proofs.Tools.{bind_some, guarded_some, some_is, never, by_byte, IsSound, Within, Takes-map, Then_takes, made_takes, Then-joined}
+use Rattle.wasm_decode.proofs.Tools.{bind_some, guarded_some, some_is, never, by_byte, IsSound, Within, Then_takes, made_takes, Then-joined}
 
 -- ---- imports and exports
 

@@ -1,5 +1,5 @@
 -- What a name stands for, where a number is read.
-use Rattle.std.proofs.Common.{◌≡◌, ℕ, List, [], ◌∷◌, length, Option, Result, subst}
+use Rattle.std.proofs.Common.{◌≡◌, ℕ, List, ◌∷◌, Option, Result, subst}
 use Rattle.wat_asm.specs.declared.fault.Failure.{Failure}
 use Rattle.wat_asm.specs.declared.lexer.token.Token.{Token}
 use Rattle.wat_asm.specs.declared.lexer.token.Token.TheVariants as token

@@ -1,5 +1,5 @@
 -- Each keyword is a word, and means itself.
-use Rattle.std.proofs.Common.{◌≡◌, ◌<◌, ℕ, Bool, true, List, length, Option, Some, refl, arith}
+use Rattle.std.proofs.Common.{◌≡◌, true, length, Some, refl}
 use Rattle.std.specs.Prelude.{nat_lt}
 use Rattle.wasm_ast.specs.declared.types.ValType.{ValType}
 use Rattle.wasm_ast.specs.declared.types.ValType.TheVariants as val_type

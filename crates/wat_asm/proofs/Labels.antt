@@ -1,9 +1,8 @@
 -- The labels of a `br_table`, one after another.
-use Rattle.std.proofs.Common.{◌≡◌, ℕ, Bool, true, false, List, [], ◌∷◌, ◌++◌, Option, Some, None, refl, sym, ap, ◌∙◌, subst}
+use Rattle.std.proofs.Common.{◌≡◌, ℕ, true, false, List, [], ◌∷◌, ◌++◌, Some, refl, subst}
 use Rattle.wasm_ast.specs.declared.plain.Branch.TheVariants as jump
 use Rattle.wasm_ast.specs.declared.body.Instr.TheVariants as instr
 use Rattle.wat_asm.specs.declared.fault.Failure.{Failure}
-use Rattle.wat_asm.specs.Follows.{◌>>=◌}
 use Rattle.wat_asm.specs.Reading.{State, repeated, number_at, number_first}
 use Rattle.wat_asm.specs.ReadingCode.{label_step, branch_table_at}
 use Rattle.wat_asm.proofs.Repeats.{Said, Failed, Onward, IsAnswer, then_said, then_failed, first_failed, loop_fails, loop_done}

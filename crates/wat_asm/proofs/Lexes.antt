@@ -1,5 +1,5 @@
 -- Tokens in a loop.
-use Rattle.std.proofs.Common.{◌≡◌, ◌<◌, ◌≤◌, ℕ, zero, suc, ◌+◌, Bool, true, false, cond, List, [], ◌∷◌, ◌++◌, length, take, drop, map, Option, Some, None, Result, Ok, Err, Bor, refl, sym, ap, subst, ◌∙◌, append_assoc, arith}
+use Rattle.std.proofs.Common.{◌≡◌, ℕ, zero, suc, ◌+◌, Bool, true, false, cond, List, [], ◌∷◌, ◌++◌, length, take, drop, Option, Some, None, Ok, Err, Bor, refl, sym, ap, subst, ◌∙◌, append_assoc, arith}
 use Rattle.std.specs.Prelude.{option_map, ⊤, nat_eq, ◌*◌}
 use Rattle.std.specs.List.{prefix_len}
 use Rattle.std.proofs.lemmas.List.{append-nil, take-append-drop}
@@ -8,7 +8,6 @@ use Rattle.wat_asm.specs.declared.lexer.token.Token.{Token}
 use Rattle.wat_asm.specs.Follows.{◌>>=◌, Follows, IsMemory}
 use Rattle.wat_asm.specs.Lexing.{EndsWith, begins_comment, is_word, one_at, opening_at, quoted_at, read_of, word_at, word_of, listed, tokens_at}
 use Rattle.wat_asm.specs.Pieces.{Piece}
-use Rattle.wat_asm.specs.Pieces as piece
 use Rattle.wat_asm.specs.Quoted.{stands_as_itself}
 use Rattle.wat_asm.specs.Strings.{Within, plain, escape, digit, hex_digit, onto, quote_at}
 use Rattle.wat_asm.specs.Tokens.{Tok, opens, closes, text, tok_of, toks_of, sorted, ArePiecesHeld, IsPrinted}

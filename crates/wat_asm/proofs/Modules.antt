@@ -1,11 +1,9 @@
 -- All of a text's tokens, from what is read of its fields.
-use Rattle.std.proofs.Common.{◌≡◌, ℕ, Bool, true, false, List, [], Option, Some, None, refl, sym, ap, ◌∙◌, subst}
+use Rattle.std.proofs.Common.{◌≡◌, ℕ, true, false, List, [], Some, None, refl, subst}
 use Rattle.std.specs.Prelude.{if◌then◌else◌}
-use Rattle.wasm_ast.specs.declared.types.FuncType.{FuncType}
 use Rattle.wasm_ast.specs.declared.module.Module.{Module}
 use Rattle.wasm_ast.specs.Modules.{empty_module}
 use Rattle.wat_asm.specs.declared.fault.Failure.{Failure}
-use Rattle.wat_asm.specs.Follows.{◌>>=◌}
 use Rattle.wat_asm.specs.Tokens.{Tok}
 use Rattle.wat_asm.specs.Reading.{State}
 use Rattle.wat_asm.specs.ReadingModule.{Making, whole_at, module_at, is_empty, with_types}

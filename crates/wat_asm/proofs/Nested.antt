@@ -1,15 +1,13 @@
 -- Instructions one after another, and those in a block, as loops and calls read them.
-use Rattle.std.proofs.Common.{◌≡◌, ℕ, zero, suc, ◌+◌, ◌-◌, ◌<◌, ◌≤◌, Bool, true, false, List, [], ◌∷◌, ◌++◌, Option, Some, None, refl, sym, ap, ◌∙◌, subst, arith}
+use Rattle.std.proofs.Common.{◌≡◌, ℕ, zero, suc, ◌-◌, ◌≤◌, true, false, List, [], ◌∷◌, ◌++◌, Option, Some, None, refl, subst, arith}
 use Rattle.wasm_ast.specs.declared.types.FuncType.{FuncType}
 use Rattle.wasm_ast.specs.declared.body.Instr.{Instr}
 use Rattle.wasm_ast.specs.View.{code_of}
 use Rattle.wat_asm.specs.declared.fault.Failure.{Failure}
-use Rattle.wat_asm.specs.declared.keyword.Keyword.TheVariants as keyword
-use Rattle.wat_asm.specs.Follows.{◌>>=◌}
 use Rattle.wat_asm.specs.Tokens.{Tok, opens}
-use Rattle.wat_asm.specs.Reading.{State, repeated, open_first}
+use Rattle.wat_asm.specs.Reading.{State, open_first}
 use Rattle.wat_asm.specs.ReadingCode.{Inner, instr_with, instr_step, stops, goes_on, instrs_at, inner_at}
-use Rattle.wat_asm.proofs.Repeats.{Said, Failed, Onward, IsAnswer, answers, then_said, then_failed, first_failed, loop_steps, loop_fails, loop_done}
+use Rattle.wat_asm.proofs.Repeats.{Said, Failed, IsAnswer, answers, then_said, first_failed}
 
 pub goes : (ts : List Tok) → stops ts ≡ false → IsAnswer (goes_on ts) true
 goes ts e = answers (goes_on ts) true (rw e refl)

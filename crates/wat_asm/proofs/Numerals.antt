@@ -1,6 +1,6 @@
 -- Decimal digits, there and back.
-use Rattle.std.proofs.Common.{◌≡◌, ◌<◌, ◌≤◌, ◌^◌, ℕ, Bool, true, false, cond, List, [], ◌∷◌, length, Option, Some, None, Result, Ok, Err, refl, sym, ap, subst, ◌∙◌, arith}
-use Rattle.std.specs.Prelude.{◌&&◌, nat_lt, nat_le}
+use Rattle.std.proofs.Common.{◌≡◌, ◌<◌, ◌≤◌, ◌^◌, ℕ, Bool, true, false, List, [], ◌∷◌, length, Some, Result, Ok, Err, refl, ap, ◌∙◌, arith}
+use Rattle.std.specs.Prelude.{◌&&◌, nat_lt}
 use Rattle.std.specs.Char.{is_ascii_digit}
 use Rattle.std.specs.Result.{MatchResult}
 use Rattle.std.specs.Str.{all_ascii_digits, IsUtf8}

@@ -1,8 +1,8 @@
 -- Steps one after another, as loops take them.
-use Rattle.std.proofs.Common.{◌≡◌, ℕ, zero, suc, Bool, true, false, List, [], ◌∷◌, ◌++◌, Option, Some, None, Result, Ok, Err, refl, sym, ap, ◌∙◌, subst}
+use Rattle.std.proofs.Common.{◌≡◌, ℕ, zero, suc, Bool, true, false, List, [], ◌∷◌, ◌++◌, Option, Some, None, refl, sym, ap, ◌∙◌, subst}
 use Rattle.std.specs.Prelude.{if◌then◌else◌}
 use Rattle.wat_asm.specs.declared.fault.Failure.{Failure}
-use Rattle.wat_asm.specs.Follows.{◌>>=◌, Follows, IsMemory}
+use Rattle.wat_asm.specs.Follows.{◌>>=◌, IsMemory}
 use Rattle.wat_asm.specs.Tokens.{Tok}
 use Rattle.wat_asm.specs.Reading.{State, Reads, repeated, item_step}
 

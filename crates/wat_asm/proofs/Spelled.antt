@@ -1,6 +1,6 @@
 -- What is printed is cut into the tokens that it means.
-use Rattle.std.proofs.Common.{◌≡◌, ◌≢◌, ◌<◌, ◌≤◌, ◌^◌, ◌*◌, ℕ, ℤ, pos, negsuc, zero, suc, ◌+◌, Bool, true, false, cond, eqb, List, [], ◌∷◌, ◌++◌, length, take, drop, Option, Some, None, refl, sym, ap, subst, ◌∙◌, append_assoc, replicate, arith}
-use Rattle.std.specs.Prelude.{◌&&◌, not, nat_lt, codes}
+use Rattle.std.proofs.Common.{◌≡◌, ◌<◌, ◌≤◌, ◌^◌, ◌*◌, ℕ, ℤ, pos, negsuc, zero, suc, Bool, true, false, List, [], ◌∷◌, ◌++◌, length, take, drop, Option, Some, None, refl, sym, ap, subst, ◌∙◌, append_assoc, replicate, arith}
+use Rattle.std.specs.Prelude.{not, nat_lt, codes}
 use Rattle.std.specs.List.{prefix_len, AllByRecursion}
 use Rattle.std.specs.Char.{is_ascii_digit}
 use Rattle.std.specs.Fmt.{decimal, signed_decimal}
@@ -8,22 +8,18 @@ use Rattle.std.specs.Str.{all_ascii_digits}
 use Rattle.std.proofs.lemmas.Bool.{ne_eqb}
 use Rattle.std.proofs.lemmas.Bool.Decides.{nat_tests}
 use Rattle.std.proofs.lemmas.Fmt.{digits_decimal, decimal_nonempty}
-use Rattle.wat_asm.specs.declared.keyword.Keyword.{Keyword}
 use Rattle.wat_asm.specs.declared.pieces.Gap.{Gap}
 use Rattle.wat_asm.specs.declared.pieces.Gap.TheVariants as gap
-use Rattle.wat_asm.specs.Follows.{◌>>=◌}
 use Rattle.wat_asm.specs.Keywords.{keyword_text}
-use Rattle.wat_asm.specs.Lexing.{as_negative, as_offset, as_align, behind, begins_with_digit, numeral_of, is_word, is_digit, plain_of, word_of, word_at, one_at, listed, tokens_at}
+use Rattle.wat_asm.specs.Lexing.{begins_with_digit, numeral_of, is_word, plain_of, word_of, word_at, one_at, listed, tokens_at}
 use Rattle.wat_asm.specs.Pieces.{Piece, indent, gap_text, piece_text}
 use Rattle.wat_asm.specs.Pieces as piece
 use Rattle.wat_asm.specs.Quoted.{quoted}
-use Rattle.wat_asm.specs.Strings.{plain, quote_at}
 use Rattle.wat_asm.specs.Tokens.{Tok, opens, closes, key, number, signed, offset_is, align_is, text, number_of, onto_sorted, sorted, IsSignedHeld, IsPieceHeld, ArePiecesHeld}
 use Rattle.wat_asm.proofs.Cutting.{IsOther, one_at-other}
 use Rattle.wat_asm.proofs.Escapes.{quoted_again}
 use Rattle.wat_asm.proofs.KeywordWords.{keyword_word, keyword_reads}
 use Rattle.wat_asm.proofs.Numerals.{own, and_parts, numeral_again, decimal_begins}
-use Rattle.wat_asm.proofs.Words.{behind_some}
 use Rattle.wat_asm.proofs.WordText.{all_word, IsWordText}
 
 abbrev pub Lexes : List ℕ → List Tok → Type 0

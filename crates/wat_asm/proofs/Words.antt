@@ -1,5 +1,5 @@
 -- What the words of a text mean to the functions that read them.
-use Rattle.std.proofs.Common.{◌≡◌, ◌≢◌, ◌<◌, ◌^◌, ℕ, ℤ, zero, suc, ◌+◌, negsuc, w64, Bool, true, false, cond, eqb, List, [], ◌∷◌, ◌++◌, length, take, drop, Option, Some, None, ◌⊎◌, inl, inr, refl, sym, ap, ◌∙◌, Bor, arith}
+use Rattle.std.proofs.Common.{◌≡◌, ◌≢◌, ◌<◌, ◌^◌, ℕ, ℤ, zero, suc, ◌+◌, negsuc, w64, Bool, true, false, cond, eqb, List, [], ◌∷◌, ◌++◌, length, take, drop, Option, Some, None, ◌⊎◌, inl, inr, refl, sym, ap, ◌∙◌, Bor}
 use Rattle.std.specs.Prelude.{nat_lt, nat_eq}
 use Rattle.std.specs.Option.{MatchOption}
 use Rattle.std.specs.Cmp.Lexicographic.{pointwise}
@@ -11,7 +11,7 @@ use borrow.Author.Tests.{ltb-true}
 use Rattle.wat_asm.specs.declared.lexer.token.Token.{Token}
 use Rattle.wat_asm.specs.declared.lexer.token.Token.TheVariants as token
 use Rattle.wat_asm.specs.Tokens.{Tok, tok_of, signed}
-use Rattle.wat_asm.specs.Lexing.{Tells, as_negative, behind, or_align, or_key, plain_of}
+use Rattle.wat_asm.specs.Lexing.{Tells, as_negative, behind}
 
 -- ---- numbers behind a minus
 

@@ -1,6 +1,6 @@
 -- How a text is cut into tokens (Core 1.0, 6.3), as far as printed texts need it: blanks are spaces and line feeds, numbers
 -- are decimal, and there are no comments and no names. None claims nothing.
-use Rattle.std.specs.Prelude.{◌≡◌, ℕ, zero, suc, negsuc, ◌<◌, ◌^◌, Bool, true, false, ◌&&◌, not, nat_lt, nat_le, ◌==◌, List, [], ◌∷◌, ◌++◌, length, take, drop, codes, Option, Some, None, option_map, if◌then◌else◌}
+use Rattle.std.specs.Prelude.{◌≡◌, ℕ, zero, suc, negsuc, ◌^◌, Bool, false, ◌&&◌, not, nat_lt, nat_le, ◌==◌, List, [], ◌∷◌, ◌++◌, length, take, drop, codes, Option, Some, None, option_map, if◌then◌else◌}
 use Rattle.std.specs.Borrow.{Bor}
 use Rattle.std.specs.List.{prefix_len}
 use Rattle.std.specs.Str.{all_ascii_digits}

@@ -1,5 +1,5 @@
 -- Names, which the lexer numbers, and the numbers that they stand for (Core 1.0, 6.1.3).
-use Rattle.std.specs.Prelude.{◌≡◌, ◌≢◌, ℕ, zero, suc, pred, ◌+◌, ⊤, nat_eq, List, [], ◌∷◌, length, Option, Some, None, Result, Ok, Err}
+use Rattle.std.specs.Prelude.{◌≡◌, ◌≢◌, ℕ, zero, suc, pred, ⊤, nat_eq, List, [], ◌∷◌, Option, Some, None, Result, Ok, Err}
 use Rattle.std.specs.HashMap.{get}
 use Rattle.wat_asm.specs.declared.fault.Failure.{Failure}
 use Rattle.wat_asm.specs.declared.fault.Failure.TheVariants as failure

@@ -1,10 +1,9 @@
 -- Reading the tokens of printed instructions (Core 1.0, 6.5).
-use Rattle.std.specs.Prelude.{◌≡◌, ℕ, ℤ, pos, negsuc, zero, suc, ◌+◌, ◌-◌, ◌^◌, Bool, true, false, nat_lt, ◌==◌, List, [], ◌∷◌, ◌++◌, Option, Some, None, if◌then◌else◌}
+use Rattle.std.specs.Prelude.{ℕ, negsuc, zero, suc, ◌+◌, ◌-◌, ◌^◌, Bool, true, false, nat_lt, ◌==◌, List, [], ◌∷◌, ◌++◌, Option, Some, None, if◌then◌else◌}
 use Rattle.wasm_ast.specs.declared.types.ValType.{ValType}
 use Rattle.wasm_ast.specs.declared.types.ValType.TheVariants as val_type
 use Rattle.wasm_ast.specs.declared.types.Value.{Value}
 use Rattle.wasm_ast.specs.declared.types.Value.TheVariants as value
-use Rattle.wasm_ast.specs.declared.plain.Variable.{Variable}
 use Rattle.wasm_ast.specs.declared.plain.Variable.TheVariants as variable
 use Rattle.wasm_ast.specs.declared.plain.MemoryArgument.{MemoryArgument}
 use Rattle.wasm_ast.specs.declared.plain.Memory.TheVariants as memory
@@ -12,7 +11,6 @@ use Rattle.wasm_ast.specs.declared.plain.Load.{Load}
 use Rattle.wasm_ast.specs.declared.plain.Store.{Store}
 use Rattle.wasm_ast.specs.declared.plain.Plain.{Plain}
 use Rattle.wasm_ast.specs.declared.plain.Plain.TheVariants as leaf
-use Rattle.wasm_ast.specs.declared.plain.Branch.{Branch}
 use Rattle.wasm_ast.specs.declared.plain.Branch.TheVariants as jump
 use Rattle.wasm_ast.specs.declared.body.Instr.{Instr}
 use Rattle.wasm_ast.specs.declared.body.Instr.TheVariants as instr
@@ -22,8 +20,8 @@ use Rattle.wasm_ast.specs.Widths.{load_width, store_width}
 use Rattle.wat_asm.specs.declared.keyword.Keyword.{Keyword}
 use Rattle.wat_asm.specs.declared.keyword.Keyword.TheVariants as keyword
 use Rattle.wat_asm.specs.Follows.{◌>>=◌}
-use Rattle.wat_asm.specs.Tokens.{Tok, opens, closes, key, number, signed, offset_is, align_is, other}
-use Rattle.wat_asm.specs.Reading.{State, Reads, repeated, closed_at, unnamed_at, number_at, number_first, block_type_at, type_use_at}
+use Rattle.wat_asm.specs.Tokens.{Tok, closes, key, number, signed, offset_is, align_is}
+use Rattle.wat_asm.specs.Reading.{State, Reads, repeated, unnamed_at, number_at, number_first, block_type_at, type_use_at}
 
 -- ---- immediates
 

@@ -1,5 +1,5 @@
 -- Reading the tokens of a printed module (Core 1.0, 6.6).
-use Rattle.std.specs.Prelude.{◌≡◌, ℕ, zero, suc, Bool, true, false, not, ◌&&◌, ◌==◌, List, [], ◌∷◌, ◌++◌, length, Option, Some, None, IsSome, is_some, if◌then◌else◌}
+use Rattle.std.specs.Prelude.{ℕ, Bool, true, false, not, ◌&&◌, List, [], ◌∷◌, ◌++◌, Option, Some, None, is_some, if◌then◌else◌}
 use Rattle.wasm_ast.specs.declared.types.FuncType.{FuncType}
 use Rattle.wasm_ast.specs.declared.types.Limits.{Limits}
 use Rattle.wasm_ast.specs.declared.module.ImportDescription.{ImportDescription}
@@ -22,7 +22,7 @@ use Rattle.wat_asm.specs.declared.lexer.token.Token.{Token}
 use Rattle.wat_asm.specs.declared.lexer.token.Token.TheVariants as token
 use Rattle.wat_asm.specs.declared.parser.draft.Draft.{Draft}
 use Rattle.wat_asm.specs.Follows.{◌>>=◌}
-use Rattle.wat_asm.specs.Tokens.{Tok, opens, closes, key, number, text, other}
+use Rattle.wat_asm.specs.Tokens.{Tok, opens, key, text, other}
 use Rattle.wat_asm.specs.Reading.{State, Reads, repeated, item_step, closed_at, funcref_at, unnamed_at, number_at, number_first, text_at, name_at, limits_at, global_type_at, locals_at, defined_type_at, type_use_at}
 use Rattle.wat_asm.specs.ReadingCode.{code_at}
 

@@ -1,5 +1,5 @@
 -- Strings as printed texts spell them (Core 1.0, 6.3.3): the inverse of `quoted`. None claims nothing.
-use Rattle.std.specs.Prelude.{◌≡◌, ℕ, ◌+◌, ◌*◌, ◌-◌, ⊤, ◌&&◌, ◌==◌, nat_le, List, [], ◌∷◌, Option, Some, None, if◌then◌else◌}
+use Rattle.std.specs.Prelude.{ℕ, ◌+◌, ◌*◌, ◌-◌, ◌&&◌, ◌==◌, nat_le, List, [], ◌∷◌, Option, Some, None, if◌then◌else◌}
 use Rattle.wat_asm.specs.declared.lexer.strings.Part.{Part}
 use Rattle.wat_asm.specs.declared.lexer.strings.Part.TheVariants as part
 use Rattle.wat_asm.specs.Follows.{◌>>=◌}

@@ -1,4 +1,4 @@
-use Rattle.std.proofs.Common.{◌≡◌, Some, None, sym, ap, ◌∙◌}
+use Rattle.std.proofs.Common.{sym, ap, ◌∙◌}
 use Rattle.bounded_profile.specs.Compute.{exported_compute}
 use Rattle.bounded_profile.proofs.Computing.{is_number, not_plain, no_number}
 use Rattle.bounded_profile.proofs.module_rules.find_compute.Goals as goal

@@ -1,5 +1,4 @@
-use Rattle.std.proofs.Common.{refl, rules, subst, sym}
-use Rattle.cost.specs.Calls.{callees}
+use Rattle.std.proofs.Common.{rules, subst, sym}
 use Rattle.cost.specs.Marks.{rank_at}
 use Rattle.bounded_profile.specs.Faults.{Refuses}
 use Rattle.bounded_profile.specs.Profile.{SlotsKnown, SizeWithin}

@@ -1,4 +1,4 @@
-use Rattle.std.proofs.Common.{◌<◌, ◌^◌, arith}
+use Rattle.std.proofs.Common.{arith}
 use Rattle.validate.proofs.Alignments.{past_widths}
 use Rattle.validate.proofs.instructions.is_aligned.Goals as goal
 

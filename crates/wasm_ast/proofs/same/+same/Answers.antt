@@ -1,7 +1,6 @@
-use Rattle.std.proofs.Common.{◌≡◌, ◌↔◌, ℕ, ◌<◌, ◌≤◌, List, length, drop, IsTrue, nat_le, sym, ◌∙◌, arith}
+use Rattle.std.proofs.Common.{◌≡◌, ◌↔◌, ℕ, ◌≤◌, List, length, drop, IsTrue, nat_le, sym, ◌∙◌, arith}
 use Rattle.std.proofs.lemmas.Bool.Decides.{nat_tests}
 use Rattle.wasm_ast.specs.declared.body.Instr.{Instr}
-use Rattle.wasm_ast.specs.Code.{Code, end}
 use Rattle.wasm_ast.specs.Falls.{item_falls}
 use Rattle.wasm_ast.specs.View.{code_of}
 use Rattle.wasm_ast.proofs.Codes.{code_done, code_over}

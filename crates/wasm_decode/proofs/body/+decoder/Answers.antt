@@ -1,4 +1,4 @@
-use Rattle.std.proofs.Common.{◌≡◌, ℕ, Option, ◌<◌, ◌≤◌, suc, false, true, length, slice_get, arith, ap}
+use Rattle.std.proofs.Common.{◌≡◌, Option, ◌<◌, ◌≤◌, suc, false, true, length, slice_get, arith}
 use Rattle.std.proofs.lemmas.Result.{err_from_is_err_and}
 use Rattle.wasm_ast.specs.declared.types.ValType.{ValType}
 use Rattle.wasm_ast.specs.Code.{Code}

@@ -1,4 +1,4 @@
-use Rattle.std.proofs.Common.{◌≡◌, ◌≤◌, length, List}
+use Rattle.std.proofs.Common.{◌≤◌, length, List}
 use Rattle.wat_asm.specs.Pieces.{Piece}
 use Rattle.wat_asm.specs.Tokens.{ArePiecesHeld, IsPrinted, sorted, toks_of}
 use Rattle.wat_asm.proofs.Lexes.{Continues}

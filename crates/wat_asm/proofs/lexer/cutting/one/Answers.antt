@@ -1,5 +1,4 @@
 use Rattle.std.proofs.Common.{get_or, arith}
-use Rattle.wat_asm.specs.Lexing.{one_at}
 use Rattle.wat_asm.proofs.Cutting.{one_opening, one_quoted, one_word, IsOther}
 use Rattle.wat_asm.proofs.lexer.cutting.one.Goals as goal
 

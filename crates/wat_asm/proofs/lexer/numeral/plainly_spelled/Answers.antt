@@ -1,4 +1,4 @@
-use Rattle.std.proofs.Common.{◌≡◌, ℕ, Some, ap, ◌∙◌}
+use Rattle.std.proofs.Common.{◌≡◌, Some, ap, ◌∙◌}
 use Rattle.std.specs.Result.{result_ok}
 use Rattle.wat_asm.specs.Lexing.{numeral_of}
 use Rattle.wat_asm.proofs.Numerals.{numeral_ok, numeral_utf8}

@@ -1,6 +1,5 @@
-use Rattle.std.proofs.Common.{◌≡◌, ◌≤◌, List, ℕ, Some, None, refl, ap, arith}
+use Rattle.std.proofs.Common.{Some, None, refl, ap, arith}
 use Rattle.wat_asm.specs.declared.lexer.strings.Part.{Part}
-use Rattle.wat_asm.specs.Strings.{quote_at}
 use Rattle.wat_asm.proofs.Quotes.{ends_at, goes_behind, none_behind, no_character_behind}
 use Rattle.wat_asm.proofs.lexer.strings.behind.Goals as goal
 

@@ -1,7 +1,5 @@
-use Rattle.std.proofs.Common.{◌≡◌, List, ℕ, Option, Some, None, ap, subst, sym, ◌∙◌}
 use Rattle.std.specs.Prelude.{codes}
-use Rattle.wat_asm.specs.Lexing.{Tells, behind, or_align, or_key, plain_of}
-use Rattle.wat_asm.specs.Tokens.{Tok}
+use Rattle.wat_asm.specs.Lexing.{plain_of}
 use Rattle.wat_asm.proofs.Words.{stripped, not_stripped}
 use Rattle.wat_asm.proofs.lexer.words.plain.Goals as goal
 

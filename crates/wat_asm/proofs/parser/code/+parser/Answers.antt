@@ -1,8 +1,8 @@
-use Rattle.std.proofs.Common.{◌≡◌, ◌<◌, ◌≤◌, ℕ, false, true, length, refl, sym, arith}
+use Rattle.std.proofs.Common.{◌≡◌, ◌<◌, ◌≤◌, false, true, arith}
 use Rattle.std.proofs.lemmas.Result.{err_from_is_err_and}
 use Rattle.wat_asm.specs.Reading.{state_of, open_first}
 use Rattle.wat_asm.specs.ReadingCode.{stops, goes_on, instr_step, instrs_at, inner_at}
-use Rattle.wat_asm.proofs.Repeats.{loop_steps, loop_fails, loop_done, starts}
+use Rattle.wat_asm.proofs.Repeats.{loop_steps, loop_fails, loop_done}
 use Rattle.wat_asm.proofs.Nested.{goes, ends, folded_said, folded_failed, instr_said, instr_failed, inner_said, inner_failed}
 use Rattle.wat_asm.proofs.parser.code.+parser.Goals as goal
 

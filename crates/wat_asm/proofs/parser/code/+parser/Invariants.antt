@@ -1,4 +1,4 @@
-use Rattle.std.proofs.Common.{◌≡◌, ◌<◌, ◌≤◌, ◌+◌, ◌*◌, ℕ, length}
+use Rattle.std.proofs.Common.{◌<◌, ◌≤◌, ◌+◌, ◌*◌, ℕ, length}
 use Rattle.wat_asm.specs.Reading.{state_of}
 use Rattle.wat_asm.specs.ReadingCode.{goes_on, instr_step, inner_at}
 use Rattle.wat_asm.proofs.Repeats.{Onward}

@@ -1,4 +1,4 @@
-use Rattle.std.proofs.Common.{◌≡◌, true, false, [], arith}
+use Rattle.std.proofs.Common.{true, false, [], arith}
 use Rattle.std.proofs.lemmas.Result.{err_from_is_err_and}
 use Rattle.wat_asm.specs.Reading.{state_of}
 use Rattle.wat_asm.specs.ReadingModule.{bytes_at, text_first, text_step}

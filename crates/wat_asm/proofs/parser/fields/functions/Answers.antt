@@ -1,4 +1,4 @@
-use Rattle.std.proofs.Common.{◌≡◌, true, false, [], arith}
+use Rattle.std.proofs.Common.{true, false, [], arith}
 use Rattle.std.proofs.lemmas.Result.{err_from_is_err_and}
 use Rattle.wat_asm.specs.Reading.{state_of, number_first, number_at, item_step}
 use Rattle.wat_asm.specs.ReadingModule.{numbers_at}

@@ -1,4 +1,3 @@
-use Rattle.std.proofs.Common.{arith}
 use Rattle.std.proofs.lemmas.Result.{err_from_is_err_and}
 use Rattle.wat_asm.specs.Reading.{state_of}
 use Rattle.wat_asm.specs.ReadingModule.{drafted, field_first, field_step, fields_at}

@@ -1,6 +1,5 @@
-use Rattle.std.proofs.Common.{Some, refl, arith}
+use Rattle.std.proofs.Common.{Some, refl}
 use Rattle.std.proofs.lemmas.Result.{err_from_is_err_and}
-use Rattle.wat_asm.specs.Follows.{◌>>=◌}
 use Rattle.wat_asm.specs.Reading.{state_of, repeated}
 use Rattle.wat_asm.specs.ReadingModule.{type_first, type_step, types_at}
 use Rattle.wat_asm.proofs.Repeats.{answers, loop_steps, loop_fails, loop_done, then_said, first_failed}

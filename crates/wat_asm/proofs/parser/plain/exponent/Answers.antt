@@ -1,4 +1,3 @@
-use Rattle.std.proofs.Common.{◌≡◌, ◌+◌, ◌-◌, suc, arith}
 use Rattle.wat_asm.proofs.Exponents.{exponent_starts, exponent_found, exponent_goes_on, exponent_missing, shifted}
 use Rattle.wat_asm.proofs.parser.plain.exponent.Goals as goal
 

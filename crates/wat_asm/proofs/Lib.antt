@@ -4,6 +4,8 @@ pub mod Keywords
 pub mod Repeats
 pub mod Exponents
 pub mod Labels
+mod Numbering
+mod Left
 mod Numerals
 mod Words
 mod Quotes

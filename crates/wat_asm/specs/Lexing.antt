@@ -1,6 +1,6 @@
 -- How a text is cut into tokens (Core 1.0, 6.3), as far as printed texts need it: blanks are spaces and line feeds, numbers
 -- are decimal, and there are no comments and no names. None claims nothing.
-use Rattle.std.specs.Prelude.{◌≡◌, ℕ, zero, suc, negsuc, ◌^◌, Bool, false, ◌&&◌, not, nat_lt, nat_le, ◌==◌, List, [], ◌∷◌, ◌++◌, length, take, drop, codes, Option, Some, None, option_map, if◌then◌else◌}
+use Rattle.std.specs.Prelude.{◌≡◌, ◌≤◌, ◌-◌, ℕ, zero, suc, pos, negsuc, ◌^◌, Bool, false, ◌&&◌, not, nat_lt, nat_le, ◌==◌, List, [], ◌∷◌, ◌++◌, length, take, drop, codes, Option, Some, None, option_map, if◌then◌else◌}
 use Rattle.std.specs.Borrow.{Bor}
 use Rattle.std.specs.List.{prefix_len}
 use Rattle.std.specs.Str.{all_ascii_digits}
@@ -31,6 +31,10 @@ numeral_of word =
 abbrev pub as_number : Option ℕ → Option Tok
 as_number None = None
 as_number (Some n) = Some (number n)
+
+abbrev pub as_positive : Option ℕ → Option Tok
+as_positive None = None
+as_positive (Some n) = if nat_lt n (2 ^ 63) then Some (signed (pos n)) else None
 
 abbrev pub as_negative : Option ℕ → Option Tok
 as_negative None = None
@@ -73,7 +77,7 @@ word_of [] = None
 word_of (b ∷ bs) =
     if is_digit b then as_number (numeral_of (b ∷ bs))
     else (if b == 45 then as_negative (numeral_of bs)
-    else (if b == 43 then None
+    else (if b == 43 then as_positive (numeral_of bs)
     else (if b == 36 then None
     else plain_of (b ∷ bs))))
 
@@ -89,8 +93,12 @@ abbrev pub begins_comment : List ℕ → Bool
 begins_comment [] = false
 begins_comment (b ∷ bs) = b == 59
 
+-- the bytes up to the first that no word has
+abbrev pub first_word : List ℕ → List ℕ
+first_word bs = take (prefix_len is_word bs) bs
+
 unfoldable pub word_at : List ℕ → Option (Option Tok × List ℕ)
-word_at bs = word_of (take (prefix_len is_word bs) bs) >>= λ t. Some (Some t, drop (prefix_len is_word bs) bs)
+word_at bs = word_of (first_word bs) >>= λ t. Some (Some t, drop (prefix_len is_word bs) bs)
 
 -- behind a parenthesis
 abbrev pub opening_at : List ℕ → Option (Option Tok × List ℕ)
@@ -137,6 +145,11 @@ Tells t (Some x) = (source : List ℕ) → tok_of source t ≡ x
 -- the second is the end of the first
 abbrev pub EndsWith : List ℕ → List ℕ → Type 0
 EndsWith source rest = (front : List ℕ) × (source ≡ front ++ rest)
+
+-- the second is what is left of the first behind some of its bytes
+pub record IsLeft (text rest : List ℕ) : Type 0 where
+  pub within : length rest ≤ length text
+  pub behind_some : rest ≡ drop (length text - length rest) text
 
 -- what is read, as one blank or token of this text and what is left
 abbrev pub read_of : List ℕ → Option Token × Bor (List ℕ) → Option Tok × List ℕ

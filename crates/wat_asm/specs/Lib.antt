@@ -10,4 +10,5 @@ pub mod Reading
 pub mod ReadingCode
 pub mod ReadingModule
 pub mod Names
+pub mod Numbering
 pub mod Lexing

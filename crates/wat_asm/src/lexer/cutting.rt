@@ -1,11 +1,12 @@
 //! Where tokens begin and end.
 
-ghost use Rattle.std.specs.Prelude.{◌≡◌, ◌+◌, ◌<◌, ◌≤◌, List, ℕ, Some, length, take, drop, IfOk, IfSome};
+ghost use Rattle.std.specs.Prelude.{◌≡◌, ◌+◌, ◌<◌, ◌≤◌, List, ℕ, Some, None, length, take, drop, IfOk, IfSome};
 ghost use Rattle.std.specs.List.{prefix_len};
 ghost use Rattle.wat_asm.specs.Follows.{Follows};
-ghost use Rattle.wat_asm.specs.Lexing.{EndsWith, is_word, one_at, opening_at, quoted_at, read_of, word_at};
+ghost use Rattle.wat_asm.specs.Lexing.{EndsWith, IsLeft, first_word, is_word, one_at, opening_at, quoted_at, read_of, word_at};
+ghost use Rattle.wat_asm.specs.Numbering.{Grows, IsNumbered, number_in};
 
-use super::names::Names;
+use super::numbering::Numbering;
 use super::strings::behind;
 use super::token::Token;
 use super::words::token_of;
@@ -42,18 +43,21 @@ fn word_length(text: &[u8]) -> usize
 }
 
 // A word, and what is left behind it.
+#[tactic(auto, using(crate::proofs::Left::left))]
 fn word(text: &[u8]) -> (&[u8], &[u8])
     ensures first { result.0.now ≡ take (prefix_len is_word text.now) text.now }
     ensures rest { result.1.now ≡ drop (prefix_len is_word text.now) text.now }
     ensures shrinks { length result.0.now + length result.1.now ≡ length text.now }
+    ensures ends { IsLeft text.now result.1.now }
 {
     let count = word_length(text);
     (&text[..count], &text[count..])
 }
 
 // What is left behind a comment, of which this is the inside and what follows; none where it does not end.
+#[tactic(auto, using(crate::proofs::Left::left))]
 fn comment(text: &[u8]) -> Option<&[u8]>
-    ensures { IfSome result (λ rest. length rest.now ≤ length text.now) }
+    ensures { IfSome result (λ rest. IsLeft text.now rest.now) }
 {
     let mut rest = text;
     let mut depth = 1u64;
@@ -77,8 +81,9 @@ fn comment(text: &[u8]) -> Option<&[u8]>
 }
 
 // From the line's end on.
+#[tactic(auto, using(crate::proofs::Left::left))]
 fn line_end(text: &[u8]) -> &[u8]
-    ensures { length result.now ≤ length text.now }
+    ensures { IsLeft text.now result.now }
 {
     let mut rest = text;
     'each: while let [b, after @ ..] = rest {
@@ -91,9 +96,11 @@ fn line_end(text: &[u8]) -> &[u8]
 }
 
 // A parenthesis, or a comment, of which this is what follows the parenthesis. With it so much is left.
+#[tactic(auto, using(crate::proofs::Left::left))]
 fn opening(left: usize, text: &[u8]) -> Result<(Option<Token>, &[u8]), Failure>
     ensures again { (source : List ℕ) → Follows (read_of source) result (opening_at text.now) }
-    ensures shrinks { IfOk result (λ x. length x.1.now ≤ length text.now) }
+    ensures nameless { IfOk result (λ x. IfSome x.0 (λ t. number_in t ≡ None)) }
+    ensures ends { IfOk result (λ x. IsLeft text.now x.1.now) }
 {
     match text {
         [b';', inside @ ..] => match comment(inside) {
@@ -105,8 +112,10 @@ fn opening(left: usize, text: &[u8]) -> Result<(Option<Token>, &[u8]), Failure>
 }
 
 // A comment to the line's end, of which this is what follows the first semicolon. With it so much is left.
+#[tactic(auto, using(crate::proofs::Left::left))]
 fn line_comment(left: usize, text: &[u8]) -> Result<(Option<Token>, &[u8]), Failure>
-    ensures { IfOk result (λ x. length x.1.now ≤ length text.now) }
+    ensures nameless { IfOk result (λ x. IfSome x.0 (λ t. number_in t ≡ None)) }
+    ensures ends { IfOk result (λ x. IsLeft text.now x.1.now) }
 {
     match text {
         [b';', inside @ ..] => Ok((None, line_end(inside))),
@@ -115,11 +124,13 @@ fn line_comment(left: usize, text: &[u8]) -> Result<(Option<Token>, &[u8]), Fail
 }
 
 // A string, of which this is what follows the quotation mark, of a text of so many bytes. With the mark so much is left.
+#[tactic(auto, using(crate::proofs::Left::left))]
 fn quoted(size: usize, left: usize, text: &[u8]) -> Result<(Option<Token>, &[u8]), Failure>
     requires { length text.now ≤ size }
     ensures again { (source : List ℕ) → size ≡ length source → EndsWith source text.now
         → Follows (read_of source) result (quoted_at text.now) }
-    ensures shrinks { IfOk result (λ x. length x.1.now ≤ length text.now) }
+    ensures nameless { IfOk result (λ x. IfSome x.0 (λ t. number_in t ≡ None)) }
+    ensures ends { IfOk result (λ x. IsLeft text.now x.1.now) }
 {
     match behind(text) {
         Some(rest) => Ok((Some(Token::Text(size - text.len())), rest)),
@@ -128,9 +139,16 @@ fn quoted(size: usize, left: usize, text: &[u8]) -> Result<(Option<Token>, &[u8]
 }
 
 // A word.
-fn spelled<'t>(names: &mut Names<'t>, text: &'t [u8]) -> Result<(Option<Token>, &'t [u8]), Failure>
+#[tactic(auto, using(crate::proofs::Left::left))]
+fn spelled<'t>(
+    names: &mut Numbering<'t>,
+    text: &'t [u8],
+) -> Result<(Option<Token>, &'t [u8]), Failure>
     ensures again { (source : List ℕ) → Follows (read_of source) result (word_at text.now) }
+    ensures named { IfOk result (λ x. IfSome x.0 (IsNumbered names.new (first_word text.now))) }
+    ensures grows { Grows names.old names.new }
     ensures shrinks { IfOk result (λ x. length x.1.now < length text.now) }
+    ensures ends { IfOk result (λ x. IsLeft text.now x.1.now) }
 {
     let (first, rest) = word(text);
     if first.is_empty() {
@@ -141,16 +159,19 @@ fn spelled<'t>(names: &mut Names<'t>, text: &'t [u8]) -> Result<(Option<Token>, 
 }
 
 /// One token, or none where there is a blank or a comment, and what is left behind it, of a text of so many bytes.
-#[tactic(auto, unfolding(crate::specs::Lexing::one_at), using(crate::proofs::Cutting::ends_behind))]
+#[tactic(auto, unfolding(crate::specs::Lexing::one_at), using(crate::proofs::Cutting::ends_behind, crate::proofs::Left::left))]
 pub fn one<'t>(
-    names: &mut Names<'t>,
+    names: &mut Numbering<'t>,
     size: usize,
     text: &'t [u8],
 ) -> Result<(Option<Token>, &'t [u8]), Failure>
     requires { length text.now ≤ size }
     ensures again { (source : List ℕ) → size ≡ length source → EndsWith source text.now
         → Follows (read_of source) result (one_at text.now) }
+    ensures named { IfOk result (λ x. IfSome x.0 (IsNumbered names.new (first_word text.now))) }
+    ensures grows { Grows names.old names.new }
     ensures shrinks { IfOk result (λ x. length x.1.now < length text.now) }
+    ensures ends { IfOk result (λ x. IsLeft text.now x.1.now) }
 {
     match text {
         [] => Err(Failure::Fault(Wrong::Lex, 0)),

@@ -1,8 +1,9 @@
 //! Numbers (Core 1.0, 6.3.2).
 
-ghost use Rattle.std.specs.Prelude.{◌≡◌, ℕ, Some, negsuc, suc, ◌<◌, ◌^◌};
+ghost use Rattle.std.specs.Prelude.{◌≡◌, ℕ, Some, None, IfErr, negsuc, suc, ◌<◌, ◌^◌};
 ghost use Rattle.wat_asm.specs.declared.lexer.numeral.Numeral.TheVariants.{Value};
-ghost use Rattle.wat_asm.specs.Lexing.{Tells, as_align, as_negative, as_number, as_offset, begins_with_digit, numeral_of};
+ghost use Rattle.wat_asm.specs.Lexing.{Tells, as_align, as_negative, as_number, as_offset, as_positive, begins_with_digit, numeral_of};
+ghost use Rattle.wat_asm.specs.Numbering.{number_in};
 
 use super::token::Token;
 use std::str;
@@ -103,7 +104,8 @@ fn read(word: &[u8]) -> Numeral
 
 /// A number without a sign.
 pub fn unsigned(word: &[u8]) -> Token
-    ensures { Tells result (as_number (numeral_of word.now)) }
+    ensures tells { Tells result (as_number (numeral_of word.now)) }
+    ensures nameless { number_in result ≡ None }
 {
     match read(word) {
         Numeral::Value(n) => Token::Number(n),
@@ -113,7 +115,10 @@ pub fn unsigned(word: &[u8]) -> Token
 }
 
 /// A number behind a plus sign.
-pub fn positive(digits: &[u8]) -> Token {
+pub fn positive(digits: &[u8]) -> Token
+    ensures tells { Tells result (as_positive (numeral_of digits.now)) }
+    ensures nameless { number_in result ≡ None }
+{
     match read(digits) {
         Numeral::Value(n) => match i64::try_from(n) {
             Ok(z) => Token::Signed(z),
@@ -136,7 +141,8 @@ fn negated(n: u64) -> Option<i64>
 }
 
 fn behind_minus(n: u64) -> Token
-    ensures { Tells result (as_negative (Some n)) }
+    ensures tells { Tells result (as_negative (Some n)) }
+    ensures nameless { number_in result ≡ None }
 {
     match negated(n) {
         Some(z) => Token::Signed(z),
@@ -146,7 +152,8 @@ fn behind_minus(n: u64) -> Token
 
 /// A number behind a minus sign.
 pub fn negative(digits: &[u8]) -> Token
-    ensures { Tells result (as_negative (numeral_of digits.now)) }
+    ensures tells { Tells result (as_negative (numeral_of digits.now)) }
+    ensures nameless { number_in result ≡ None }
 {
     match read(digits) {
         Numeral::Value(n) => behind_minus(n),
@@ -156,7 +163,8 @@ pub fn negative(digits: &[u8]) -> Token
 }
 
 fn small(word: &[u8]) -> Result<u32, Token>
-    ensures { (n : ℕ) → numeral_of word.now ≡ Some n → n < 2 ^ 32 → result ≡ Ok n }
+    ensures value { (n : ℕ) → numeral_of word.now ≡ Some n → n < 2 ^ 32 → result ≡ Ok n }
+    ensures nameless { IfErr result (λ t. number_in t ≡ None) }
 {
     match read(word) {
         Numeral::Value(n) => match u32::try_from(n) {
@@ -170,7 +178,8 @@ fn small(word: &[u8]) -> Result<u32, Token>
 
 /// The number behind `offset=`.
 pub fn offset(digits: &[u8]) -> Token
-    ensures { Tells result (as_offset (numeral_of digits.now)) }
+    ensures tells { Tells result (as_offset (numeral_of digits.now)) }
+    ensures nameless { number_in result ≡ None }
 {
     match small(digits) {
         Ok(n) => Token::Offset(n),
@@ -180,7 +189,8 @@ pub fn offset(digits: &[u8]) -> Token
 
 /// The number behind `align=`.
 pub fn alignment(digits: &[u8]) -> Token
-    ensures { Tells result (as_align (numeral_of digits.now)) }
+    ensures tells { Tells result (as_align (numeral_of digits.now)) }
+    ensures nameless { number_in result ≡ None }
 {
     match small(digits) {
         Ok(n) => Token::Align(n),

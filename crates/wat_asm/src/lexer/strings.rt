@@ -2,6 +2,7 @@
 
 ghost use Rattle.std.specs.Prelude.{◌≡◌, ◌<◌, ◌≤◌, ℕ, List, Some, drop, length, false, IfOk, IfSome, IsSomeAnd, IsTrue};
 ghost use Rattle.wat_asm.specs.Follows.{FollowsSome};
+ghost use Rattle.wat_asm.specs.Lexing.{IsLeft};
 ghost use Rattle.wat_asm.specs.Quoted.{stands_as_itself};
 ghost use Rattle.wat_asm.specs.Strings.{hex_digit, plain, quote_at, escape_at, step_at, string_of};
 
@@ -32,8 +33,10 @@ fn digit(b: u8) -> Option<u8>
 
 // The number of a character, in hexadecimal up to the bracket, and what is behind that. Underscores may stand between
 // digits.
+#[tactic(auto, using(crate::proofs::Left::left))]
 fn character(text: &[u8]) -> Option<(Part, &[u8])>
-    ensures { IfSome result (λ x. length x.1.now < length text.now) }
+    ensures shrinks { IfSome result (λ x. length x.1.now < length text.now) }
+    ensures ends { IfSome result (λ x. IsLeft text.now x.1.now) }
 {
     let mut rest = text;
     let mut number = 0u32;
@@ -58,9 +61,11 @@ fn character(text: &[u8]) -> Option<(Part, &[u8])>
 }
 
 // What stands behind a backslash.
+#[tactic(auto, using(crate::proofs::Left::left))]
 fn escape(text: &[u8]) -> Option<(Part, &[u8])>
     ensures again { FollowsSome (λ x. (x.0, x.1.now)) result (escape_at text.now) }
     ensures shrinks { IfSome result (λ x. length x.1.now < length text.now) }
+    ensures ends { IfSome result (λ x. IsLeft text.now x.1.now) }
 {
     match text {
         [b't', rest @ ..] => Some((Part::Byte(b'\t'), rest)),
@@ -86,9 +91,11 @@ fn is_control(b: u8) -> bool
 }
 
 // One step, and what is left behind it.
+#[tactic(auto, using(crate::proofs::Left::left))]
 fn step(text: &[u8]) -> Option<(Part, &[u8])>
     ensures again { FollowsSome (λ x. (x.0, x.1.now)) result (step_at text.now) }
     ensures shrinks { IfSome result (λ x. length x.1.now < length text.now) }
+    ensures ends { IfSome result (λ x. IsLeft text.now x.1.now) }
 {
     match text {
         [b'"', rest @ ..] => Some((Part::End, rest)),
@@ -105,9 +112,11 @@ fn step(text: &[u8]) -> Option<(Part, &[u8])>
 }
 
 /// What is left behind a string, of which this is the inside and what follows; none where it is no string.
+#[tactic(auto, using(crate::proofs::Left::left))]
 pub fn behind(text: &[u8]) -> Option<&[u8]>
     ensures again { (bytes rest : List ℕ) → quote_at plain text.now ≡ Some (bytes, rest) → IsSomeAnd result (λ x. x.now ≡ rest) }
     ensures shrinks { IfSome result (λ x. length x.now < length text.now) }
+    ensures ends { IfSome result (λ x. IsLeft text.now x.now) }
 {
     let mut rest = text;
     'each: loop {

@@ -18,7 +18,7 @@ pub enum Token {
     Offset(u32),
     /// `align=N`, in bytes, whether it is a power of two or not.
     Align(u32),
-    /// A name that begins with `$`: equal names have equal numbers, which are below the number of names.
+    /// A name that begins with `$`: equal names have equal numbers, and no two others.
     Name(u32),
     /// A string, by the place of its first byte in the text, behind the quotation mark.
     Text(usize),
@@ -34,6 +34,4 @@ pub struct Tokens {
     pub tokens: Vec<Token>,
     /// The place of each token's first byte in the text.
     pub places: Vec<usize>,
-    /// How many names the text has.
-    pub names: u32,
 }

@@ -1,13 +1,14 @@
 //! What words mean.
 
-ghost use Rattle.std.specs.Prelude.{List, ℕ};
+ghost use Rattle.std.specs.Prelude.{◌≡◌, List, None, ℕ, IfOk};
 ghost use Rattle.wat_asm.specs.Follows.{Follows};
 ghost use Rattle.wat_asm.specs.Keywords.{lookup};
 ghost use Rattle.wat_asm.specs.declared.keyword.TheConstants.{KEYWORDS};
 ghost use Rattle.wat_asm.specs.Lexing.{Tells, as_key, plain_of, word_of};
+ghost use Rattle.wat_asm.specs.Numbering.{Grows, IsNumbered, number_in};
 ghost use Rattle.wat_asm.specs.Tokens.{tok_of};
 
-use super::names::Names;
+use super::numbering::Numbering;
 use super::numeral::{alignment, negative, offset, positive, unsigned};
 use super::token::Token;
 use crate::fault::Failure;
@@ -62,7 +63,11 @@ fn is_unsupported(word: &[u8]) -> bool {
     false
 }
 
-fn name<'t>(names: &mut Names<'t>, word: &'t [u8]) -> Result<Token, Failure> {
+// A word that begins with `$`.
+fn name<'t>(names: &mut Numbering<'t>, word: &'t [u8]) -> Result<Token, Failure>
+    ensures named { IfOk result (IsNumbered names.new word.now) }
+    ensures grows { Grows names.old names.new }
+{
     if word.len() < 2 {
         return Ok(Token::Other);
     }
@@ -76,7 +81,8 @@ fn name<'t>(names: &mut Names<'t>, word: &'t [u8]) -> Result<Token, Failure> {
 }
 
 fn keyword(word: &[u8]) -> Token
-    ensures { Tells result (as_key (lookup KEYWORDS word.now)) }
+    ensures tells { Tells result (as_key (lookup KEYWORDS word.now)) }
+    ensures nameless { number_in result ≡ None }
 {
     match Keyword::spelled(word) {
         Some(found) => Token::Key(found),
@@ -92,7 +98,8 @@ fn keyword(word: &[u8]) -> Token
 
 // A word that begins with a letter.
 fn plain(word: &[u8]) -> Token
-    ensures { Tells result (plain_of word.now) }
+    ensures tells { Tells result (plain_of word.now) }
+    ensures nameless { number_in result ≡ None }
 {
     if let Some(digits) = word.strip_prefix(OFFSET) {
         offset(digits)
@@ -105,8 +112,10 @@ fn plain(word: &[u8]) -> Token
 
 /// The token that a word is.
 #[tactic(auto, unfolding(crate::specs::Lexing::word_of))]
-pub fn token_of<'t>(names: &mut Names<'t>, word: &'t [u8]) -> Result<Token, Failure>
-    ensures { (source : List ℕ) → Follows (tok_of source) result (word_of word.now) }
+pub fn token_of<'t>(names: &mut Numbering<'t>, word: &'t [u8]) -> Result<Token, Failure>
+    ensures again { (source : List ℕ) → Follows (tok_of source) result (word_of word.now) }
+    ensures named { IfOk result (IsNumbered names.new word.now) }
+    ensures grows { Grows names.old names.new }
 {
     match word {
         [] => Ok(Token::Other),

@@ -173,6 +173,10 @@ fn faults(rt: HostRuntime) {
         Some(Wrong::TypeUse)
     );
     assert_eq!(rt;
+        wrong_with(alloc, "(module (type (func)) (func (type 1) (param i32)))"),
+        Some(Wrong::TypeUse)
+    );
+    assert_eq!(rt;
         wrong_with(alloc, "(module (func) (import \"a\" \"b\" (func)))"),
         Some(Wrong::Syntax)
     );
@@ -181,6 +185,19 @@ fn faults(rt: HostRuntime) {
         Some(Wrong::Syntax)
     );
     assert_eq!(rt; wrong_with(alloc, "(module) nop"), Some(Wrong::Syntax));
+}
+
+#[test]
+fn numbers_that_are_too_large(rt: HostRuntime) {
+    let alloc = rt.alloc();
+    assert_eq!(rt;
+        wrong_with(alloc, "(module (func i64.const 18446744073709551616))"),
+        Some(Wrong::NumberRange)
+    );
+    assert_eq!(rt;
+        wrong_with(alloc, "(module (func drop 18446744073709551616))"),
+        Some(Wrong::NumberRange)
+    );
 }
 
 #[test]

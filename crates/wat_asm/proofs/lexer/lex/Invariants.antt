@@ -1,12 +1,18 @@
-use Rattle.std.proofs.Common.{◌≤◌, length, List}
+use Rattle.std.proofs.Common.{length, List}
+use Rattle.wat_asm.specs.Lexing.{IsLeft}
+use Rattle.wat_asm.specs.Numbering.{AreApart, AreNumbered}
 use Rattle.wat_asm.specs.Pieces.{Piece}
 use Rattle.wat_asm.specs.Tokens.{ArePiecesHeld, IsPrinted, sorted, toks_of}
 use Rattle.wat_asm.proofs.Lexes.{Continues}
 use Rattle.wat_asm.proofs.lexer.lex.Given as goal
 
 abbrev pub invariant-each : goal.invariant-each
-invariant-each l = (length l.rest ≤ length l.source)
-    × ((ps : List Piece) → ArePiecesHeld ps → IsPrinted l.source ps → Continues l.source (toks_of l.source l.tokens.items) l.rest (sorted ps))
+invariant-each l = record {
+  left : IsLeft l.source l.rest;
+  so_far : (ps : List Piece) → ArePiecesHeld ps → IsPrinted l.source ps → Continues l.source (toks_of l.source l.tokens.items) l.rest (sorted ps);
+  apart : AreApart l.names;
+  numbered : AreNumbered l.source l.names l.tokens.items l.places.items;
+}
 
 abbrev pub decreases-each : goal.decreases-each
 decreases-each l = length l.rest

@@ -1,8 +1,9 @@
-use Rattle.std.proofs.Common.{◌≤◌, length}
+use Rattle.std.proofs.Common.{length}
+use Rattle.wat_asm.specs.Lexing.{IsLeft}
 use Rattle.wat_asm.proofs.lexer.cutting.line_end.Given as goal
 
 abbrev pub invariant-each : goal.invariant-each
-invariant-each l = length l.rest ≤ length l.text
+invariant-each l = IsLeft l.text l.rest
 
 abbrev pub decreases-each : goal.decreases-each
 decreases-each l = length l.rest

@@ -14,8 +14,8 @@ returns-then-is_empty-clause-again c = λ source.
 pub returns-in_err-token-clause-again : goal.returns-in_err-token-clause-again
 returns-in_err-token-clause-again c = λ source.
     let p = err_from_is_err_and c.from_residual.result c.from_residual.ensures.1 in
-    rw (p.1, p.2) (word_fails source c.args.text.now c.word.result.0.now c.in_err-token.field-0.0 c.word.ensures.first (c.in_err-token.ensures source))
+    rw (p.1, p.2) (word_fails source c.args.text.now c.word.result.0.now c.in_err-token.field-0.0 c.word.ensures.first (c.in_err-token.ensures.again source))
 
 pub returns-clause-again : goal.returns-clause-again
 returns-clause-again c = λ source.
-    word_read source c.args.text.now c.word.result.0.now c.in_ok-token.token c.word.result.1 c.word.ensures.first c.word.ensures.rest (c.in_ok-token.ensures source)
+    word_read source c.args.text.now c.word.result.0.now c.in_ok-token.token c.word.result.1 c.word.ensures.first c.word.ensures.rest (c.in_ok-token.ensures.again source)

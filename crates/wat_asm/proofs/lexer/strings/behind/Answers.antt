@@ -1,5 +1,6 @@
-use Rattle.std.proofs.Common.{Some, None, refl, ap, arith}
+use Rattle.std.proofs.Common.{Some, None, refl, ap}
 use Rattle.wat_asm.specs.declared.lexer.strings.Part.{Part}
+use Rattle.wat_asm.proofs.Left.{left_after}
 use Rattle.wat_asm.proofs.Quotes.{ends_at, goes_behind, none_behind, no_character_behind}
 use Rattle.wat_asm.proofs.lexer.strings.behind.Goals as goal
 
@@ -16,7 +17,7 @@ returns-in-End-clause-again c = λ bytes rest e.
 
 pub each-preserved-in-Byte : goal.each-preserved-in-Byte
 each-preserved-in-Byte c = (
-  omega (arith, c.each.invariant.0, c.in_ok-one.ensures.shrinks),
+  left_after c.args.text.now c.each.rest.now c.in_ok-one.after.now c.each.invariant.0 c.in_ok-one.ensures.ends,
   λ bytes rest e.
       let p = c.each.invariant.1 bytes rest e in
       goes_behind c.each.rest.now (Some (c.in_ok-one.one, c.in_ok-one.after)) p.0 rest c.in-Byte.field-0 c.in_ok-one.after
@@ -25,7 +26,7 @@ each-preserved-in-Byte c = (
 
 pub each-preserved : goal.each-preserved
 each-preserved c = (
-  omega (arith, c.each.invariant.0, c.in_ok-one.ensures.shrinks),
+  left_after c.args.text.now c.each.rest.now c.in_ok-one.after.now c.each.invariant.0 c.in_ok-one.ensures.ends,
   λ bytes rest e.
       let p = c.each.invariant.1 bytes rest e in
       absurd (no_character_behind c.each.rest.now (Some (c.in_ok-one.one, c.in_ok-one.after)) p.0 rest c.in-Character.field-0 c.in_ok-one.after

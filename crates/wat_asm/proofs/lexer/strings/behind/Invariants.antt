@@ -1,9 +1,10 @@
-use Rattle.std.proofs.Common.{◌≡◌, ◌≤◌, length, List, ℕ, Some}
+use Rattle.std.proofs.Common.{◌≡◌, length, List, ℕ, Some}
+use Rattle.wat_asm.specs.Lexing.{IsLeft}
 use Rattle.wat_asm.specs.Strings.{plain, quote_at}
 use Rattle.wat_asm.proofs.lexer.strings.behind.Given as goal
 
 abbrev pub invariant-each : goal.invariant-each
-invariant-each l = (length l.rest ≤ length l.text)
+invariant-each l = IsLeft l.text l.rest
     × ((bytes after : List ℕ) → quote_at plain l.text ≡ Some (bytes, after) → (more : List ℕ) × (quote_at plain l.rest ≡ Some (more, after)))
 
 abbrev pub decreases-each : goal.decreases-each

@@ -3,22 +3,22 @@ use Rattle.wat_asm.specs.Lexing.{plain_of}
 use Rattle.wat_asm.proofs.Words.{stripped, not_stripped}
 use Rattle.wat_asm.proofs.lexer.words.plain.Goals as goal
 
-pub returns-in-Some : goal.returns-in-Some
+pub returns-in-Some-clause-tells : goal.returns-in-Some-clause-tells
 unfolding plain_of
-returns-in-Some c =
+returns-in-Some-clause-tells c =
     let e = stripped (codes "offset=") c.args.word.now c.in-Some.digits c.in-Some.ensures.cases in
-    rw e c.offset.ensures
+    rw e c.offset.ensures.tells
 
-pub returns-in-Some-strip_prefix : goal.returns-in-Some-strip_prefix
+pub returns-in-Some-strip_prefix-clause-tells : goal.returns-in-Some-strip_prefix-clause-tells
 unfolding plain_of
-returns-in-Some-strip_prefix c =
+returns-in-Some-strip_prefix-clause-tells c =
     let e = not_stripped (codes "offset=") c.args.word.now c.in_default.ensures.cases in
     let f = stripped (codes "align=") c.args.word.now c.in-Some-strip_prefix.digits c.in-Some-strip_prefix.ensures.cases in
-    rw (e, f) c.alignment.ensures
+    rw (e, f) c.alignment.ensures.tells
 
-pub returns-in_default-strip_prefix : goal.returns-in_default-strip_prefix
+pub returns-in_default-strip_prefix-clause-tells : goal.returns-in_default-strip_prefix-clause-tells
 unfolding plain_of
-returns-in_default-strip_prefix c =
+returns-in_default-strip_prefix-clause-tells c =
     let e = not_stripped (codes "offset=") c.args.word.now c.in_default.ensures.cases in
     let f = not_stripped (codes "align=") c.args.word.now c.in_default-strip_prefix.ensures.cases in
-    rw (e, f) c.keyword.ensures
+    rw (e, f) c.keyword.ensures.tells

@@ -1,4 +1,7 @@
-//! The names of a text, by their numbers.
+//! Names and their numbers.
+
+ghost use Rattle.std.specs.Prelude.{◌≡◌, ℕ, List, IfOk, None, Some};
+ghost use Rattle.wat_asm.specs.Numbering.{AreApart, Grows, number_of_name};
 
 use crate::fault::{Failure, Wrong};
 use std::alloc::Global;
@@ -6,27 +9,28 @@ use std::collections::BTreeMap;
 
 /// Names, each with a number, from 0 in the order in which they came.
 #[derive(Drop)]
-pub struct Names<'t> {
+pub struct Numbering<'t> {
     numbers: BTreeMap<&'t str, u32>,
     count: u32,
 }
 
-impl<'t> Names<'t> {
+impl<'t> Numbering<'t> {
     /// No names; it takes no memory.
-    pub fn new(alloc: Global) -> Names<'t> {
-        Names {
+    pub fn new(alloc: Global) -> Numbering<'t>
+        ensures none { (name : List ℕ) → number_of_name result name ≡ None }
+        ensures apart { AreApart result }
+    {
+        Numbering {
             numbers: BTreeMap::new(alloc),
             count: 0,
         }
     }
 
-    /// How many names there are.
-    pub fn count(&self) -> u32 {
-        self.count
-    }
-
     /// The name's number, which is a new one where the name is new. A failure's place is the text's end.
-    pub fn number(&mut self, name: &'t str) -> Result<u32, Failure> {
+    pub fn number(&mut self, name: &'t str) -> Result<u32, Failure>
+        ensures named { IfOk result (λ n. number_of_name self.new name.now ≡ Some n) }
+        ensures grows { Grows self.old self.new }
+    {
         if let Some(n) = self.numbers.get(&name) {
             return Ok(*n);
         }

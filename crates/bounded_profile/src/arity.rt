@@ -9,7 +9,7 @@ use wasm_ast::{
 };
 
 /// How many operands an instruction takes, and then gives.
-#[derive(Clone, Copy, Debug, PartialEq, Eq)]
+#[derive(Clone, Copy)]
 pub struct Arity {
     pub takes: usize,
     pub gives: usize,

@@ -18,7 +18,7 @@ pub struct Callees<'a> {
 }
 
 /// How many operands stand at a place of code, and how many stood at most; counts stop at the greatest number.
-#[derive(Clone, Copy, Debug)]
+#[derive(Clone, Copy)]
 pub struct Climb {
     here: usize,
     most: usize,

@@ -8,8 +8,6 @@ mod instructions;
 mod nesting;
 mod operands;
 mod setting;
-#[cfg(test)]
-mod tests;
 
 ghost use Rattle.std.specs.Prelude.{OnOk, IsOkUnless};
 ghost use Rattle.std.specs.List.{AllByRecursion};

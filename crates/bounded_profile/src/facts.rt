@@ -1,7 +1,7 @@
 //! What is told of a module in the bounded profile beside the module.
 
 /// How large a call of `compute` can get.
-#[derive(Clone, Copy, Debug, PartialEq, Eq)]
+#[derive(Clone, Copy)]
 pub struct Facts {
     /// The size of `compute`, its calls unfolded.
     pub size: u32,

@@ -11,7 +11,7 @@ use std::fmt;
 use validate::Place;
 
 /// A rule of the bounded profile. It is shown as its name.
-#[derive(Clone, Copy, Debug, PartialEq, Eq)]
+#[derive(Clone, Copy, Debug)]
 pub enum ProfileRule {
     /// Every import is a function of the host, with its type.
     P1,

@@ -14,8 +14,6 @@ mod memory_rules;
 mod module_rules;
 mod rules;
 mod shapes;
-#[cfg(test)]
-mod tests;
 mod verified;
 mod wants;
 

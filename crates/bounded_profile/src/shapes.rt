@@ -16,7 +16,7 @@ use validate::Place;
 use wasm_ast::{Body, Branch, Instr, Memory, Module, Numeric, Plain, ValType};
 
 /// A rule on instructions.
-#[derive(Clone, Copy, Debug, PartialEq, Eq)]
+#[derive(Clone, Copy)]
 pub enum Shape {
     /// P5: there is no `call_indirect`.
     Direct,

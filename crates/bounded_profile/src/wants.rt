@@ -3,7 +3,7 @@
 use wasm_ast::ValType;
 
 /// What a constant has to meet.
-#[derive(Clone, Copy, Debug, PartialEq, Eq)]
+#[derive(Clone, Copy)]
 pub enum Premise {
     /// The address, with this offset and this width, lies in the memory.
     Reaches(u32, u32),
@@ -16,7 +16,7 @@ pub enum Premise {
 }
 
 /// What an instruction wants of an operand.
-#[derive(Clone, Copy, Debug, PartialEq, Eq)]
+#[derive(Clone, Copy)]
 pub enum Want {
     /// Any value of the type.
     Value(ValType),

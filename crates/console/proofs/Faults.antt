@@ -1,5 +1,5 @@
 -- What a fault below says of a call.
-use Rattle.std.proofs.Common.{◌≡◌, ℕ, List, Some, Result, Ok, Err, ap, subst, refl}
+use Rattle.std.proofs.Common.{◌≡◌, ℕ, List, Some, Result, Ok, Err, ap, inl, inr, subst, refl}
 use Rattle.std.specs.Prelude.{IfErr, IsErrAnd, OnOk}
 use Rattle.wasm_ast.specs.declared.module.Module.{Module}
 use Rattle.wasm_ast.specs.Limits.{IsWithinLimits}
@@ -15,7 +15,7 @@ use Rattle.interp.specs.Call.{PassesBudget}
 use Rattle.host_calls.specs.declared.call.CallInput.{CallInput}
 use Rattle.console.specs.declared.fault.CallFault.{CallFault}
 use Rattle.console.specs.declared.fault.CallFault.TheVariants.{Decode, Invalid, Unbounded, Input, Run, OutOfMemory, Write}
-use Rattle.console.specs.Engine.{IsUnbounded, IsWant, Loads, NeedsMemoryAndWriter, RefusesBytes, RefusesCall, RefusesText, Refuses, step_limit}
+use Rattle.console.specs.Engine.{Answers, IsUnbounded, IsUnwritten, IsWant, Loads, NeedsMemoryAndWriter, RefusesBytes, RefusesCall, RefusesText, Refuses, step_limit}
 
 pub is_fault : {A E : Type 0} (r : Result A E) (fault : E) → IsErrAnd r (λ e. e ≡ fault) → r ≡ Err fault
 is_fault (Ok x) fault h = absurd h
@@ -24,6 +24,10 @@ is_fault (Err e) fault h = ap Err h
 pub OnOk-along : {A E P Q : Type 0} (r : Result A E) → (P → Q) → OnOk r P → OnOk r Q
 OnOk-along (Ok x) go h = go h
 OnOk-along (Err e) go h = h
+
+pub IfErr-along : {A E : Type 0} {P Q : E → Type 0} (r : Result A E) → ((e : E) → P e → Q e) → IfErr r P → IfErr r Q
+IfErr-along (Ok x) go h = h
+IfErr-along (Err e) go h = go e h
 
 -- bytes that spell a module are refused for want of memory alone
 pub fails_for_memory : (fault : DecodeFault) (m : Module) → Fails fault (found m) → fault ≡ decode.OutOfMemory
@@ -54,6 +58,18 @@ want_answers (Input fault) want = want
 want_answers (Run fault) want = want
 want_answers OutOfMemory want = tt
 want_answers Write want = absurd want
+
+-- lines that are not written needed memory and a writer
+pub unwritten_needs : (r : Result (Unit {0}) CallFault) → IfErr r IsUnwritten → NeedsMemoryAndWriter r
+unwritten_needs (Ok x) h = tt
+unwritten_needs (Err fault) (inl is) = rw is tt
+unwritten_needs (Err fault) (inr is) = rw is tt
+
+-- there are lines, and they are not written
+pub unwritten_refuses : (m : Module) (text lines : List ℕ) → Answers m text lines → (fault : CallFault) → IsUnwritten fault
+    → RefusesText m text fault
+unwritten_refuses m text lines answers fault (inl is) = rw is tt
+unwritten_refuses m text lines answers fault (inr is) = rw is (lines, answers)
 
 -- what is said of the bytes alone is said of bytes and text
 pub refuses_bytes : (bytes text : List ℕ) (fault : CallFault) → RefusesBytes bytes fault → Refuses bytes text fault

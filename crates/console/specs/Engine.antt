@@ -1,5 +1,5 @@
 -- What a call of a module's bytes with an input's text answers, and why it does not.
-use Rattle.std.specs.Prelude.{◌≡◌, ℕ, ◌≤◌, List, Result, Ok, Err}
+use Rattle.std.specs.Prelude.{◌≡◌, ◌⊎◌, ℕ, ◌≤◌, List, Result, Ok, Err}
 use Rattle.wasm_ast.specs.declared.module.Module.{Module}
 use Rattle.wasm_ast.specs.Limits.{IsWithinLimits}
 use Rattle.wasm_decode.specs.Grammar.{Spells}
@@ -74,6 +74,10 @@ RefusesBytes bytes (Decode fault) = (m : Module) → Spells bytes m → fault �
 RefusesBytes bytes (Invalid fault) = (m : Module) × Spells bytes m × (IsTyped m → IsWithinLimits m → fault ≡ valid.OutOfMemory)
 RefusesBytes bytes (Unbounded fault) = (m : Module) × Spells bytes m × IsUnbounded m fault
 RefusesBytes bytes _ = ⊥
+
+-- memory ran out for what is to be written, or writing failed
+abbrev pub IsUnwritten : CallFault → Type 0
+IsUnwritten fault = (fault ≡ OutOfMemory) ⊎ (fault ≡ Write)
 
 -- what a fault says of a call with this input
 abbrev pub RefusesCall : Module → CallInput → RunFault → Type 0

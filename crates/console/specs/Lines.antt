@@ -18,6 +18,13 @@ send_line message = line (codes "send " ++ signed_decimal message.0 ++ codes " "
 abbrev pub give_line : ℕ × ℤ → List ℕ
 give_line contribution = line (codes "give " ++ decimal contribution.0 ++ codes " " ++ signed_decimal contribution.1)
 
+-- the value, whether the vertex is active, and the units
+abbrev pub state_lines : ℤ → Bool → ℕ → List ℕ
+state_lines value halted units =
+    line (codes "value " ++ signed_decimal value)
+    ++ line (codes "active " ++ decimal (active_digit halted))
+    ++ line (codes "units " ++ decimal units)
+
 -- the value, whether the vertex is active, the units, and then sends and contributions in their order
 abbrev pub outcome_lines : CallOutcome → List ℕ
 outcome_lines outcome =

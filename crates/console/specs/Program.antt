@@ -30,6 +30,12 @@ use Rattle.console.specs.Engine.{Answers, IsUnbounded, RefusesBytes, RefusesText
 
 -- ---- answers
 
+-- the file holds a text, and the lines of a call of the module with it are told
+pub record TellsAnswer (disk : Disk) (m : Module) (input_path told : List ℕ) : Type 0 where
+  pub text : List ℕ
+  pub has_input : disk.holds input_path (Some text)
+  pub answers : Answers m text told
+
 -- the files hold a module that is loaded and a text, and the lines of the call are told
 pub record TellsOutcome (disk : Disk) (module_path input_path told : List ℕ) : Type 0 where
   pub m : Module
@@ -40,6 +46,12 @@ pub record TellsOutcome (disk : Disk) (module_path input_path told : List ℕ) :
 
 abbrev pub length_line : ℕ → List ℕ
 length_line count = line (codes "ok " ++ decimal count)
+
+-- the canonical spelling of a module was written to the file, and its length is told
+pub record TellsSpelling (after : Disk) (m : Module) (binary_path told : List ℕ) : Type 0 where
+  pub small : length (canonical m) ≤ max_module_bytes
+  pub written : after.wrote binary_path (canonical m)
+  pub line_of_length : told ≡ length_line (length (canonical m))
 
 -- the canonical spelling of a file's module was written to the other file, and its length is told
 pub record TellsLength (before after : Disk) (module_path binary_path told : List ℕ) : Type 0 where
@@ -142,6 +154,20 @@ abbrev pub IsNotLoadedAt : Disk → List ℕ → CommandFault → Type 0
 IsNotLoadedAt disk path (command.Call (Invalid fault)) = IsInvalidAt disk path fault
 IsNotLoadedAt disk path (command.Call (Unbounded fault)) = IsUnboundedAt disk path fault
 IsNotLoadedAt disk path fault = IsNoModuleAt disk path fault
+
+-- the file holds a text, and a call of the module with it is refused
+pub record IsAnswerRefused (disk : Disk) (m : Module) (input_path : List ℕ) (fault : CallFault) : Type 0 where
+  pub text : List ℕ
+  pub has_input : disk.holds input_path (Some text)
+  pub refused : RefusesText m text fault
+
+abbrev pub IsAnswerRefusedAt : Disk → Module → (input_path : List ℕ) → CommandFault → Type 0
+IsAnswerRefusedAt disk m input_path (command.Call fault) = IsAnswerRefused disk m input_path fault
+IsAnswerRefusedAt disk m input_path _ = ⊥
+
+-- why there is no answer of a module for the input at the path
+abbrev pub IsAnswerCause : Disk → Module → (input_path : List ℕ) → CommandFault → Type 0
+IsAnswerCause disk m input_path fault = IsNoTextAt disk input_path fault ⊎ IsAnswerRefusedAt disk m input_path fault
 
 -- the module is loaded, and the input's file cannot be read
 pub record IsWithoutInput (disk : Disk) (module_path input_path : List ℕ) (fault : CommandFault) : Type 0 where

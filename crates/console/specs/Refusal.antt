@@ -1,9 +1,8 @@
 -- How a fault of a call is told: its line, without its end.
-use Rattle.std.specs.Prelude.{ℕ, List, [], ◌∷◌, ◌++◌, codes, Option, Some, None}
+use Rattle.std.specs.Prelude.{ℕ, List, [], ◌++◌, codes, Option, Some, None}
 use Rattle.std.specs.List.{flat_map}
 use Rattle.std.specs.Fmt.{decimal}
-use Rattle.wasm_decode.specs.declared.fault.DecodeFault.{DecodeFault}
-use Rattle.wasm_decode.specs.declared.fault.DecodeFault.TheVariants as decode
+use Rattle.wasm_decode.specs.Faults.{fault_text as decode_text}
 use Rattle.validate.specs.declared.fault.Rule.{Rule}
 use Rattle.validate.specs.declared.fault.Rule.TheVariants as rule
 use Rattle.validate.specs.declared.fault.Place.{Place}
@@ -13,28 +12,12 @@ use Rattle.bounded_profile.specs.declared.fault.ProfileRule.{ProfileRule}
 use Rattle.bounded_profile.specs.declared.fault.ProfileRule.TheVariants as profile_rule
 use Rattle.bounded_profile.specs.declared.fault.ProfileFault.{ProfileFault}
 use Rattle.bounded_profile.specs.declared.fault.ProfileFault.TheVariants as profile
+use Rattle.interp.specs.declared.fault.RunFault.{RunFault}
 use Rattle.interp.specs.declared.fault.RunFault.TheVariants as run
+use Rattle.console.specs.declared.input.InputFault.{InputFault}
 use Rattle.console.specs.declared.input.InputFault.TheVariants as input
 use Rattle.console.specs.declared.fault.CallFault.{CallFault}
 use Rattle.console.specs.declared.fault.CallFault.TheVariants.{Decode, Invalid, Unbounded, Input, Run, OutOfMemory, Write}
-
--- a word, and a place in the bytes
-abbrev pub word_at : List ℕ → ℕ → List ℕ
-word_at word place = word ++ 32 ∷ decimal place
-
-abbrev pub decode_text : DecodeFault → List ℕ
-decode_text (decode.Magic place) = word_at (codes "Magic") place
-decode_text (decode.Version place) = word_at (codes "Version") place
-decode_text (decode.Truncated place) = word_at (codes "Truncated") place
-decode_text (decode.Leb place) = word_at (codes "Leb") place
-decode_text (decode.SectionOrder place) = word_at (codes "SectionOrder") place
-decode_text (decode.SectionSize place) = word_at (codes "SectionSize") place
-decode_text (decode.BadByte place) = word_at (codes "BadByte") place
-decode_text (decode.Utf8 place) = word_at (codes "Utf8") place
-decode_text (decode.CountMismatch place) = word_at (codes "CountMismatch") place
-decode_text (decode.Unsupported place) = word_at (codes "Unsupported") place
-decode_text (decode.OverLimit place) = word_at (codes "OverLimit") place
-decode_text decode.OutOfMemory = codes "OutOfMemory -"
 
 abbrev pub rule_word : Rule → List ℕ
 rule_word rule.TypeNumber = codes "TypeNumber"
@@ -95,14 +78,22 @@ unbounded_text (profile.Breaks broken place) = profile_word broken ++ codes " " 
 unbounded_text (profile.Cycle functions) = cycle_text functions.items
 unbounded_text profile.OutOfMemory = codes "OutOfMemory - -"
 
+-- the number of the line that an input may not have
+abbrev pub input_text : InputFault → List ℕ
+input_text (input.Line number) = codes "no input " ++ decimal number
+input_text input.OutOfMemory = codes "no memory"
+
+-- the call takes too many units
+abbrev pub run_text : RunFault → List ℕ
+run_text run.Budget = codes "no run Budget"
+run_text run.OutOfMemory = codes "no run OutOfMemory"
+
 -- a writer that failed is told nothing
 abbrev pub refusal_text : CallFault → List ℕ
 refusal_text (Decode fault) = codes "no decode " ++ decode_text fault
 refusal_text (Invalid fault) = codes "no valid " ++ invalid_text fault
 refusal_text (Unbounded fault) = codes "no profile " ++ unbounded_text fault
-refusal_text (Input (input.Line number)) = codes "no input " ++ decimal number
-refusal_text (Input input.OutOfMemory) = codes "no memory"
-refusal_text (Run run.Budget) = codes "no run Budget"
-refusal_text (Run run.OutOfMemory) = codes "no run OutOfMemory"
+refusal_text (Input fault) = input_text fault
+refusal_text (Run fault) = run_text fault
 refusal_text OutOfMemory = codes "no memory"
 refusal_text Write = []

@@ -16,7 +16,7 @@ use wasm_decode::{DecodeFault, EncodeFault};
 use wat_asm::{Position, TextFault};
 
 /// Why a command is not carried out. It is displayed as the line that tells of it, without its end.
-#[derive(Debug, Drop)]
+#[derive(Drop)]
 pub enum CommandFault<'a> {
     /// The module, the input or the call is refused, or memory ran out, or writing failed.
     Call(CallFault),

@@ -10,18 +10,34 @@ use std::convert::AsStr;
 /// that is asked for comes as one too.
 pub fn options<'a, S: AsStr>(alloc: Global, words: &'a [S]) -> Result<Options<'a>, Error> {
     let mut command = pregel(alloc)?;
-    let matches = command.try_get_matches_from_mut(words)?;
-    if let Some((name, entries)) = matches.subcommand()
-        && let Some(options) = asked(name, entries)
-    {
-        return Ok(options);
-    }
-    Err(command.error(ErrorKind::MissingSubcommand, "a command is missing")?)
+    options_by(&mut command, words)
 }
 
-// What a subcommand with these entries asks for.
-fn asked<'a>(name: &str, entries: &ArgMatches<'a>) -> Option<Options<'a>> {
+// Reads the words by what a command takes.
+fn options_by<'a, S: AsStr>(
+    command: &mut Command<'a>,
+    words: &'a [S],
+) -> Result<Options<'a>, Error> {
+    let matches = command.try_get_matches_from_mut(words)?;
+    match chosen(&matches) {
+        Some(options) => Ok(options),
+        None => missing(command),
+    }
+}
+
+fn missing<'a>(command: &mut Command<'a>) -> Result<Options<'a>, Error> {
+    let error = command.error(ErrorKind::MissingSubcommand, "a command is missing")?;
+    Err(error)
+}
+
+fn chosen<'a>(matches: &ArgMatches<'a>) -> Option<Options<'a>> {
+    let (name, entries) = matches.subcommand()?;
     let module = entries.get_str("module")?;
+    asked(name, module, entries)
+}
+
+// What a subcommand for this module asks for.
+fn asked<'a>(name: &str, module: &'a str, entries: &ArgMatches<'a>) -> Option<Options<'a>> {
     match name {
         "call" => {
             let input = entries.get_str("input")?;
@@ -44,33 +60,33 @@ fn pregel<'a>(alloc: Global) -> Result<Command<'a>, AllocError> {
         .after_help("A module whose file's name ends in `.wat` is text, any other is binary.")
         .subcommand_required(true)
         .arg_required_else_help(true);
-    command
-        .subcommand(call(alloc)?)?
-        .subcommand(asm(alloc)?)?
-        .subcommand(print(alloc)?)?
-        .subcommand(verify(alloc)?)
+    let command = with(command, call(alloc))?;
+    let command = with(command, asm(alloc))?;
+    let command = with(command, print(alloc))?;
+    with(command, verify(alloc))
+}
+
+// The command with one more subcommand.
+fn with<'a>(
+    command: Command<'a>,
+    subcommand: Result<Command<'a>, AllocError>,
+) -> Result<Command<'a>, AllocError> {
+    let subcommand = subcommand?;
+    command.subcommand(subcommand)
 }
 
 fn call<'a>(alloc: Global) -> Result<Command<'a>, AllocError> {
-    let input = Arg::new(alloc, "input")
-        .value_name("INPUT")
-        .help("The input, in lines such as `value 34`")
-        .required(true);
     Command::new(alloc, "call")
         .about("Makes one compute call of one vertex, and prints its outcome")
         .arg(module(alloc, "MODULE"))?
-        .arg(input)
+        .arg(input(alloc))
 }
 
 fn asm<'a>(alloc: Global) -> Result<Command<'a>, AllocError> {
-    let binary = Arg::new(alloc, "binary")
-        .value_name("OUT")
-        .help("The file to be written")
-        .required(true);
     Command::new(alloc, "asm")
         .about("Writes a module in WebAssembly's binary format, in the fewest bytes")
         .arg(module(alloc, "IN"))?
-        .arg(binary)
+        .arg(binary(alloc))
 }
 
 fn print<'a>(alloc: Global) -> Result<Command<'a>, AllocError> {
@@ -90,5 +106,21 @@ fn module<'a>(alloc: Global, value_name: &'a str) -> Arg<'a> {
     Arg::new(alloc, "module")
         .value_name(value_name)
         .help("The module: text where the name ends in `.wat`, else binary")
+        .required(true)
+}
+
+// The input of a call.
+fn input<'a>(alloc: Global) -> Arg<'a> {
+    Arg::new(alloc, "input")
+        .value_name("INPUT")
+        .help("The input, in lines such as `value 34`")
+        .required(true)
+}
+
+// The file that a command writes.
+fn binary<'a>(alloc: Global) -> Arg<'a> {
+    Arg::new(alloc, "binary")
+        .value_name("OUT")
+        .help("The file to be written")
         .required(true)
 }

@@ -5,7 +5,8 @@ ghost use Rattle.std.specs.Io.KnownBytes.{Appends, Keeps};
 ghost use Rattle.wasm_ast.specs.declared.module.Module.{Module as AnyModule};
 ghost use Rattle.host_calls.specs.declared.call.CallOutcome.{CallOutcome as AnyOutcome};
 ghost use Rattle.interp.specs.Call.{IsOutcome};
-ghost use Rattle.console.specs.Engine.{Answers, IsAnswer, IsWant, Loads, NeedsMemoryAndWriter, Refuses, RefusesBytes, RefusesCall, RefusesText, step_limit};
+ghost use Rattle.console.specs.Lines.{outcome_lines};
+ghost use Rattle.console.specs.Engine.{Answers, IsAnswer, IsUnwritten, IsWant, Loads, NeedsMemoryAndWriter, Refuses, RefusesBytes, RefusesCall, RefusesText, step_limit};
 
 use crate::fault::CallFault;
 use crate::input::Input;
@@ -77,7 +78,20 @@ pub fn answer<W: Write>(
 {
     let input = Input::read(alloc, input)?;
     let outcome = outcome_of(alloc, verified, &input.call_input())?;
-    let lines = outcome_text(alloc, &outcome)?;
+    write_outcome(alloc, &outcome, out)
+}
+
+// Writes the lines of an outcome.
+fn write_outcome<W: Write>(
+    alloc: Global,
+    outcome: &CallOutcome,
+    out: &mut W,
+) -> Result<(), CallFault>
+    ensures answer { OnOk result (Appends (W.contents out.old) (W.contents out.new) (outcome_lines outcome.now)) }
+    ensures refused { IfErr result IsUnwritten }
+    ensures unwritten { IfErr result (λ fault. fault ≢ CallFault.Write → Keeps (W.contents out.old) (W.contents out.new)) }
+{
+    let lines = outcome_text(alloc, outcome)?;
     out.write_all(lines.as_bytes())?;
     Ok(())
 }

@@ -4,39 +4,47 @@ ghost use Rattle.std.specs.Prelude.{◌≡◌};
 ghost use Rattle.console.specs.declared.fault.CallFault.TheVariants as call;
 
 use crate::input::InputFault;
+use crate::refusal::Refusal;
 use bounded_profile::ProfileFault;
 use interp::RunFault;
 use std::alloc::AllocError;
-use std::io;
-use thiserror::Error;
+use std::error::Error;
+use std::{fmt, io};
 use validate::ValidFault;
 use wasm_decode::DecodeFault;
 
-/// Why a call has no answer. Each step tells its own want of memory.
-#[derive(Debug, Drop, Error)]
+/// Why a call has no answer. Each step tells its own want of memory. It is shown as its refusal.
+#[derive(Drop)]
 pub enum CallFault {
     /// The bytes spell no module.
-    #[error("{0}")]
     Decode(DecodeFault),
     /// The module is not valid.
-    #[error("{0}")]
     Invalid(ValidFault),
     /// The module is not in the bounded profile.
-    #[error("{0}")]
     Unbounded(ProfileFault),
     /// The text means no input.
-    #[error("{0}")]
     Input(InputFault),
     /// The call takes more units than it may.
-    #[error("{0}")]
     Run(RunFault),
     /// Memory ran out for a file, or for what is to be written.
-    #[error("out of memory")]
     OutOfMemory,
     /// The answer was not written whole.
-    #[error("writing failed")]
     Write,
 }
+
+impl fmt::Display for CallFault {
+    fn fmt<W: fmt::Write>(&self, f: &mut fmt::Formatter<W>) -> fmt::Result {
+        write!(f, "{}", Refusal(self))
+    }
+}
+
+impl fmt::Debug for CallFault {
+    fn fmt<W: fmt::Write>(&self, f: &mut fmt::Formatter<W>) -> fmt::Result {
+        write!(f, "{}", Refusal(self))
+    }
+}
+
+impl Error for CallFault {}
 
 impl From<DecodeFault> for CallFault {
     ghost from_gives = { λ cause fault. fault ≡ call.Decode cause };

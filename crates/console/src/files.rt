@@ -8,7 +8,7 @@ use std::{fs, io};
 use thiserror::Error;
 
 /// Why a file was not read or written.
-#[derive(Clone, Copy, Debug, PartialEq, Eq, Error)]
+#[derive(Clone, Copy, Debug, Error)]
 pub enum FileFault {
     /// It is not there, or reading or writing it failed.
     #[error("the file cannot be read or written")]

@@ -14,7 +14,7 @@ use std::alloc::{AllocError, AllocFailed, Global};
 use thiserror::Error;
 
 /// Why a text gives no input.
-#[derive(Clone, Copy, Debug, PartialEq, Eq, Error)]
+#[derive(Clone, Copy, Debug, Error)]
 pub enum InputFault {
     /// The first line, counted from 1, that an input may not have.
     #[error("line {0} is not one that an input may have")]
@@ -41,7 +41,7 @@ impl<T: Drop> From<AllocFailed<T>> for InputFault {
 }
 
 /// The input of a compute call, as a text says it.
-#[derive(Debug, Drop)]
+#[derive(Drop)]
 pub struct Input {
     id: Option<u64>,
     superstep: Option<u32>,

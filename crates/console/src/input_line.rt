@@ -6,7 +6,7 @@ ghost use Rattle.console.specs.InputLine.{line_of, long_line, short_line, small_
 use graph::{Fields, id_of, number_of};
 
 /// What a line says.
-#[derive(Clone, Copy, Debug, PartialEq, Eq)]
+#[derive(Clone, Copy)]
 pub enum Line {
     /// It is blank, or a comment.
     Skipped,

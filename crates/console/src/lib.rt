@@ -29,6 +29,3 @@ pub use modules::{load_module, read_module};
 pub use program::{ServeFault, command};
 pub use refusal::{Refusal, refuse};
 pub use request::Options;
-
-#[cfg(test)]
-mod tests;

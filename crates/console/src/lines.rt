@@ -2,7 +2,7 @@
 
 ghost use Rattle.std.specs.Prelude.{◌≡◌, ◌++◌, IfOk, OnOk, string_bytes};
 ghost use Rattle.std.specs.List.{flat_map};
-ghost use Rattle.console.specs.Lines.{active_digit, give_line, outcome_lines, send_line};
+ghost use Rattle.console.specs.Lines.{active_digit, give_line, outcome_lines, send_line, state_lines};
 
 use host_calls::CallOutcome;
 use std::alloc::{AllocError, Global};
@@ -16,13 +16,20 @@ pub fn outcome_text(alloc: Global, outcome: &CallOutcome) -> Result<String, Allo
     ensures { IfOk result (λ text. string_bytes text ≡ outcome_lines outcome.now) }
 {
     let mut text = String::new(alloc);
-    writeln!(text, "value {}", outcome.value)?;
-    let active = active_digit(outcome.halted);
-    writeln!(text, "active {active}")?;
-    writeln!(text, "units {}", outcome.units)?;
+    push_state(&mut text, outcome.value, outcome.halted, outcome.units)?;
     push_sends(&mut text, &outcome.sends)?;
     push_contributions(&mut text, &outcome.contributions)?;
     Ok(text)
+}
+
+// The lines that each outcome has.
+fn push_state(text: &mut String, value: i64, halted: bool, units: u128) -> Result<(), AllocError>
+    ensures { OnOk result (string_bytes text.new ≡ string_bytes text.old ++ state_lines value halted units) }
+{
+    writeln!(text, "value {value}")?;
+    let active = active_digit(halted);
+    writeln!(text, "active {active}")?;
+    writeln!(text, "units {units}")
 }
 
 fn active_digit(halted: bool) -> u8

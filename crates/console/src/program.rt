@@ -2,10 +2,12 @@
 
 ghost use Rattle.std.specs.Prelude.{◌≡◌, ◌≢◌, List, ℕ, false, IfOk, IfErr, OnOk};
 ghost use Rattle.std.specs.Io.KnownBytes.{Appends, Keeps};
+ghost use Rattle.wasm_ast.specs.Limits.{IsWithinLimits};
+ghost use Rattle.wat_asm.specs.Layout.{layout};
 ghost use Rattle.console.specs.CommandFaults.{fault_text, status_of};
 ghost use Rattle.console.specs.Disk.{Stays};
 ghost use Rattle.console.specs.Lines.{line};
-ghost use Rattle.console.specs.Program.{Answered, IsAssembleCause, IsBeforeWriting, IsCallCause, IsCause, IsPrintCause, IsVerifyCause, bounds_line, length_line, TellsBounds, TellsLayout, TellsLength, TellsOutcome, Told, writes_file};
+ghost use Rattle.console.specs.Program.{Answered, IsAnswerCause, IsAssembleCause, IsBeforeWriting, IsBoundsLine, IsCallCause, IsCause, IsPrintCause, IsUnspelled, IsUntold, IsVerifyCause, bounds_line, length_line, TellsAnswer, TellsBounds, TellsLayout, TellsLength, TellsOutcome, TellsSpelling, Told, writes_file};
 
 use crate::command_fault::{CommandFault, status_of};
 use crate::engine::answer;
@@ -14,14 +16,16 @@ use crate::files::Files;
 use crate::modules::{load_module, read_module};
 use crate::reading::{read_text, write};
 use crate::request::Options;
+use bounded_profile::Verified;
 use std::alloc::Global;
 use std::io::{self, Write};
 use thiserror::Error;
+use wasm_ast::Module;
 use wasm_decode::encode;
 use wat_asm::print;
 
 /// Why the program could not tell how it went.
-#[derive(Clone, Copy, Debug, PartialEq, Eq, Error)]
+#[derive(Clone, Copy, Debug, Error)]
 pub enum ServeFault {
     /// Writing failed.
     #[error("writing failed")]
@@ -109,8 +113,26 @@ fn call_files<'a, F: Files, W: Write>(
         → Keeps (W.contents out.old) (W.contents out.new)) }
 {
     let verified = load_module(alloc, module, files)?;
+    call_module(alloc, &verified, input, files, out)
+}
+
+// Calls a module with the input in a file.
+fn call_module<'a, F: Files, W: Write>(
+    alloc: Global,
+    verified: &Verified,
+    input: &'a str,
+    files: &mut F,
+    out: &mut W,
+) -> Result<(), CommandFault<'a>>
+    ensures answered { OnOk result ((told : List ℕ) × TellsAnswer (F.disk files.old) verified.now input.now told
+        × Appends (W.contents out.old) (W.contents out.new) told) }
+    ensures kept { Stays (F.disk files.old) (F.disk files.new) }
+    ensures refused { IfErr result (IsAnswerCause (F.disk files.old) verified.now input.now) }
+    ensures unwritten { IfErr result (λ fault. fault ≢ CommandFault.Call CallFault.Write
+        → Keeps (W.contents out.old) (W.contents out.new)) }
+{
     let text = read_text(alloc, input, files)?;
-    answer(alloc, &verified, text.as_str(), out)?;
+    answer(alloc, verified, text.as_str(), out)?;
     Ok(())
 }
 
@@ -131,7 +153,26 @@ fn assemble_file<'a, F: Files, W: Write>(
         → Keeps (W.contents out.old) (W.contents out.new)) }
 {
     let module = read_module(alloc, path, files)?;
-    let bytes = encode(alloc, &module)?;
+    write_module(alloc, &module, binary, files, out)
+}
+
+// Writes a module to a file, in the binary format.
+fn write_module<'a, F: Files, W: Write>(
+    alloc: Global,
+    module: &Module,
+    binary: &'a str,
+    files: &mut F,
+    out: &mut W,
+) -> Result<(), CommandFault<'a>>
+    requires { IsWithinLimits «module».now }
+    ensures answered { OnOk result ((told : List ℕ) × TellsSpelling (F.disk files.new) «module».now binary.now told
+        × Appends (W.contents out.old) (W.contents out.new) told) }
+    ensures refused { IfErr result (IsUnspelled (F.disk files.old) binary.now «module».now) }
+    ensures before { IfErr result (λ fault. IsBeforeWriting fault → Stays (F.disk files.old) (F.disk files.new)) }
+    ensures unwritten { IfErr result (λ fault. fault ≢ CommandFault.Call CallFault.Write
+        → Keeps (W.contents out.old) (W.contents out.new)) }
+{
+    let bytes = encode(alloc, module)?;
     write(binary, bytes.as_slice(), files)?;
     tell_length(bytes.len(), out)?;
     Ok(())
@@ -158,7 +199,21 @@ fn print_file<'a, F: Files, W: Write>(
         → Keeps (W.contents out.old) (W.contents out.new)) }
 {
     let module = read_module(alloc, path, files)?;
-    let text = print(alloc, &module)?;
+    print_module(alloc, &module, out)
+}
+
+fn print_module<'a, W: Write>(
+    alloc: Global,
+    module: &Module,
+    out: &mut W,
+) -> Result<(), CommandFault<'a>>
+    requires { IsWithinLimits «module».now }
+    ensures answered { OnOk result (Appends (W.contents out.old) (W.contents out.new) (layout «module».now)) }
+    ensures refused { IfErr result IsUntold }
+    ensures unwritten { IfErr result (λ fault. fault ≢ CommandFault.Call CallFault.Write
+        → Keeps (W.contents out.old) (W.contents out.new)) }
+{
+    let text = print(alloc, module)?;
     out.write_all(text.as_bytes())?;
     Ok(())
 }
@@ -178,6 +233,15 @@ fn verify_file<'a, F: Files, W: Write>(
         → Keeps (W.contents out.old) (W.contents out.new)) }
 {
     let verified = load_module(alloc, path, files)?;
+    verify_module(&verified, out)
+}
+
+// Tells a module's bounds.
+fn verify_module<'a, W: Write>(verified: &Verified, out: &mut W) -> Result<(), CommandFault<'a>>
+    ensures answered { OnOk result ((told : List ℕ) × IsBoundsLine verified.now told
+        × Appends (W.contents out.old) (W.contents out.new) told) }
+    ensures refused { IfErr result (λ fault. fault ≡ CommandFault.Call CallFault.Write) }
+{
     let (size, operands) = (verified.size(), verified.max_operands());
     tell_bounds(size, operands, verified.max_frames(), out)?;
     Ok(())

@@ -1,10 +1,10 @@
 //! How a refusal is told.
 
-ghost use Rattle.std.specs.Prelude.{◌≡◌, OnOk, Some};
+ghost use Rattle.std.specs.Prelude.{◌≡◌, ◌++◌, OnOk, Some, codes};
 ghost use Rattle.std.specs.Fmt.{DisplaysOnOk};
 ghost use Rattle.std.specs.Io.KnownBytes.{Appends};
 ghost use Rattle.console.specs.Lines.{line};
-ghost use Rattle.console.specs.Refusal.{cycle_text, decode_text, invalid_text, number_text, place_text, profile_word, refusal_text, rule_word, unbounded_text, word_at};
+ghost use Rattle.console.specs.Refusal.{cycle_text, input_text, invalid_text, number_text, place_text, profile_word, refusal_text, rule_word, run_text, unbounded_text};
 
 use crate::fault::CallFault;
 use crate::input::InputFault;
@@ -13,12 +13,11 @@ use interp::RunFault;
 use std::io::Write;
 use std::{fmt, io};
 use validate::{Place, Rule, ValidFault};
-use wasm_decode::DecodeFault;
 
 /// The line that tells of a fault, without its end: `no decode WORD PLACE`, `no valid WORD FUNC INSTR`,
 /// `no profile RULE FUNC INSTR`, `no profile P12` and the numbers of the cycle, `no input LINE`, `no run WORD` or
 /// `no memory`. FUNC, INSTR and PLACE are `-` where there is none. Of a writer that failed it tells nothing.
-#[derive(Clone, Copy, Debug)]
+#[derive(Clone, Copy)]
 pub struct Refusal<'a>(pub &'a CallFault);
 
 /// Writes the line that tells of a fault.
@@ -33,65 +32,28 @@ impl fmt::Display for Refusal<'_> {
 
     fn fmt<W: fmt::Write>(&self, f: &mut fmt::Formatter<W>) -> fmt::Result {
         match self.0 {
-            CallFault::Decode(fault) => {
-                f.write_str("no decode ")?;
-                tell_decode_fault(fault, f)
-            }
-            CallFault::Invalid(fault) => {
-                f.write_str("no valid ")?;
-                tell_valid_fault(fault, f)
-            }
-            CallFault::Unbounded(fault) => {
-                f.write_str("no profile ")?;
-                tell_profile_fault(fault, f)
-            }
-            CallFault::Input(InputFault::Line(line)) => write!(f, "no input {line}"),
-            CallFault::Run(RunFault::Budget) => f.write_str("no run Budget"),
-            CallFault::Run(RunFault::OutOfMemory) => f.write_str("no run OutOfMemory"),
-            CallFault::Input(InputFault::OutOfMemory) => f.write_str("no memory"),
+            CallFault::Decode(fault) => write!(f, "no decode {fault}"),
+            CallFault::Invalid(fault) => tell_valid_fault(fault, f),
+            CallFault::Unbounded(fault) => tell_unbounded(fault, f),
+            CallFault::Input(fault) => tell_input_fault(*fault, f),
+            CallFault::Run(fault) => f.write_str(run_line(*fault)),
             CallFault::OutOfMemory => f.write_str("no memory"),
             CallFault::Write => Ok(()),
         }
     }
 }
 
-// The fault's word and its place in the bytes.
-fn tell_decode_fault<W: fmt::Write>(fault: &DecodeFault, f: &mut fmt::Formatter<W>) -> fmt::Result
-    ensures { DisplaysOnOk W.write_str_gives f.old result (Some (decode_text fault.now)) f.new }
-{
-    match *fault {
-        DecodeFault::Magic(place) => tell_word_at("Magic", place, f),
-        DecodeFault::Version(place) => tell_word_at("Version", place, f),
-        DecodeFault::Truncated(place) => tell_word_at("Truncated", place, f),
-        DecodeFault::Leb(place) => tell_word_at("Leb", place, f),
-        DecodeFault::SectionOrder(place) => tell_word_at("SectionOrder", place, f),
-        DecodeFault::SectionSize(place) => tell_word_at("SectionSize", place, f),
-        DecodeFault::BadByte(place) => tell_word_at("BadByte", place, f),
-        DecodeFault::Utf8(place) => tell_word_at("Utf8", place, f),
-        DecodeFault::CountMismatch(place) => tell_word_at("CountMismatch", place, f),
-        DecodeFault::Unsupported(place) => tell_word_at("Unsupported", place, f),
-        DecodeFault::OverLimit(place) => tell_word_at("OverLimit", place, f),
-        DecodeFault::OutOfMemory => f.write_str("OutOfMemory -"),
-    }
-}
-
-fn tell_word_at<W: fmt::Write>(word: &str, place: usize, f: &mut fmt::Formatter<W>) -> fmt::Result
-    ensures { DisplaysOnOk W.write_str_gives f.old result (Some (word_at word.now place)) f.new }
-{
-    write!(f, "{word} {place}")
-}
-
 // The rule's word and the place that breaks it.
 fn tell_valid_fault<W: fmt::Write>(fault: &ValidFault, f: &mut fmt::Formatter<W>) -> fmt::Result
-    ensures { DisplaysOnOk W.write_str_gives f.old result (Some (invalid_text fault.now)) f.new }
+    ensures { DisplaysOnOk W.write_str_gives f.old result (Some (codes "no valid " ++ invalid_text fault.now)) f.new }
 {
     match fault {
         ValidFault::Breaks(rule, place) => {
             let word = rule_word(*rule);
-            write!(f, "{word} ")?;
+            write!(f, "no valid {word} ")?;
             tell_place(place, f)
         }
-        ValidFault::OutOfMemory => f.write_str("OutOfMemory - -"),
+        ValidFault::OutOfMemory => f.write_str("no valid OutOfMemory - -"),
     }
 }
 
@@ -114,6 +76,13 @@ fn rule_word(rule: Rule) -> &'static str
         Rule::Limits => "Limits",
         Rule::StartType => "StartType",
     }
+}
+
+fn tell_unbounded<W: fmt::Write>(fault: &ProfileFault, f: &mut fmt::Formatter<W>) -> fmt::Result
+    ensures { DisplaysOnOk W.write_str_gives f.old result (Some (codes "no profile " ++ unbounded_text fault.now)) f.new }
+{
+    f.write_str("no profile ")?;
+    tell_profile_fault(fault, f)
 }
 
 // The rule of the profile and the place that breaks it, or the cycle of functions that call each other.
@@ -178,5 +147,24 @@ fn tell_number<W: fmt::Write>(number: Option<u32>, f: &mut fmt::Formatter<W>) ->
     match number {
         Some(number) => write!(f, "{number}"),
         None => f.write_str("-"),
+    }
+}
+
+// The number of the line, or want of memory.
+fn tell_input_fault<W: fmt::Write>(fault: InputFault, f: &mut fmt::Formatter<W>) -> fmt::Result
+    ensures { DisplaysOnOk W.write_str_gives f.old result (Some (input_text fault)) f.new }
+{
+    match fault {
+        InputFault::Line(line) => write!(f, "no input {line}"),
+        InputFault::OutOfMemory => f.write_str("no memory"),
+    }
+}
+
+fn run_line(fault: RunFault) -> &'static str
+    ensures { result.now ≡ run_text fault }
+{
+    match fault {
+        RunFault::Budget => "no run Budget",
+        RunFault::OutOfMemory => "no run OutOfMemory",
     }
 }

@@ -1,7 +1,7 @@
 //! What the program is asked for.
 
 /// What the command line asks for.
-#[derive(Clone, Copy, Debug, PartialEq, Eq)]
+#[derive(Clone, Copy)]
 pub enum Options<'a> {
     /// Call the module in one file with the input in the other.
     Call { module: &'a str, input: &'a str },

@@ -9,7 +9,7 @@ ghost use Rattle.cost.specs.Stops.{Leaves, Targets};
 use crate::fault::CostFault;
 
 /// Why a walk stops.
-#[derive(Debug, Drop)]
+#[derive(Drop)]
 pub enum Stop {
     /// It has come back to this function by the others, the last first.
     Back(u32, Vec<u32>),

@@ -9,8 +9,6 @@ mod order;
 mod outline;
 mod size;
 mod table;
-#[cfg(test)]
-mod tests;
 mod walk;
 
 pub use fault::CostFault;

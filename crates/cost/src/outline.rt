@@ -19,7 +19,7 @@ use wasm_ast::{Body, Function, Import, ImportDescription, Instr};
 pub const CAP: u64 = MAX_SIZE as u64 + 1;
 
 /// A function in outline.
-#[derive(Debug, Drop)]
+#[derive(Drop)]
 pub struct Outline {
     // how much its own instructions count, at most `CAP`
     own: u32,

@@ -8,7 +8,7 @@ use std::alloc::{AllocError, Global};
 use std::marker::Model;
 
 /// How far the walk along calls is with a function.
-#[derive(Clone, Copy, Debug, PartialEq, Eq)]
+#[derive(Clone, Copy)]
 pub enum Mark {
     Unseen,
     /// It stands on the path that the walk is on.
@@ -18,7 +18,7 @@ pub enum Mark {
 }
 
 /// The rank of each function of a module, which falls at each call, and its size with its calls unfolded.
-#[derive(Debug, Drop)]
+#[derive(Drop)]
 pub struct Ranks {
     marks: Vec<Mark>,
 }

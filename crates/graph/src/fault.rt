@@ -8,7 +8,7 @@ use std::alloc::{AllocError, AllocFailed};
 use thiserror::Error;
 
 /// Why a text gives no graph. Each line is counted from 1.
-#[derive(Clone, Copy, Debug, PartialEq, Eq, Error)]
+#[derive(Clone, Copy, Debug, Error)]
 pub enum GraphFault {
     /// The line is not blank, no comment, and of no form that a line may have.
     #[error("line {0} has no form of a graph file")]
@@ -47,7 +47,7 @@ impl<T: Drop> From<AllocFailed<T>> for GraphFault {
 }
 
 /// Why values are not printed, or not all of them.
-#[derive(Clone, Copy, Debug, PartialEq, Eq, Error)]
+#[derive(Clone, Copy, Debug, Error)]
 pub enum PrintFault {
     /// The writer failed.
     #[error("writing failed")]

@@ -19,7 +19,7 @@ use std::marker::Model;
 /// A directed graph with a value at each vertex and each edge.
 ///
 /// Contracts see it as the list of its vertices by rising id, each with its edges in order.
-#[derive(Debug, Drop)]
+#[derive(Drop)]
 pub struct Graph {
     vertices: Vec<Vertex>,
 }

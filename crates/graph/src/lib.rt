@@ -14,8 +14,6 @@ mod parts;
 mod place;
 mod print;
 mod rising;
-#[cfg(test)]
-mod tests;
 mod vertex;
 
 pub use fault::{GraphFault, PrintFault};

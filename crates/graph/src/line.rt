@@ -7,7 +7,7 @@ use crate::fields::Fields;
 use crate::number::{id_of, number_of};
 
 /// What a line means.
-#[derive(Clone, Copy, Debug, PartialEq, Eq)]
+#[derive(Clone, Copy)]
 pub enum Line {
     /// It is blank, or a comment.
     Blank,

@@ -12,7 +12,7 @@ use crate::vertex::Vertex;
 use std::alloc::{AllocError, Global};
 
 /// Some of a graph's vertices, with all edges from them.
-#[derive(Debug, Drop)]
+#[derive(Drop)]
 pub struct Part {
     /// The vertices, by rising id.
     pub vertices: Vec<Vertex>,

@@ -7,7 +7,7 @@ pub const MAX_VERTICES: usize = 1_000_000;
 pub const MAX_EDGES: usize = 10_000_000;
 
 /// A vertex with its value and the edges from it.
-#[derive(Debug, Drop)]
+#[derive(Drop)]
 pub struct Vertex {
     /// From 0 to 9,223,372,036,854,775,807.
     pub id: u64,
@@ -18,7 +18,7 @@ pub struct Vertex {
 }
 
 /// An edge as a line says it.
-#[derive(Clone, Copy, Debug, PartialEq, Eq)]
+#[derive(Clone, Copy)]
 pub struct Edge {
     /// The vertex that it leaves.
     pub from: u64,

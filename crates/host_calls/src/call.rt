@@ -2,7 +2,7 @@
 pub const SLOTS: u32 = 8;
 
 /// What a compute call of one vertex is given.
-#[derive(Clone, Copy, Debug)]
+#[derive(Clone, Copy)]
 pub struct CallInput<'a> {
     /// The vertex's id, from 0 to 9,223,372,036,854,775,807.
     pub id: u64,
@@ -21,7 +21,7 @@ pub struct CallInput<'a> {
 }
 
 /// What a compute call of one vertex leaves.
-#[derive(Debug, Drop)]
+#[derive(Drop)]
 pub struct CallOutcome {
     /// The vertex's value after the call.
     pub value: i64,

@@ -5,7 +5,7 @@ ghost use Rattle.host_calls.specs.Imports.{name_of, type_of_call, call_named, Br
 use wasm_ast::{FuncType, ValType};
 
 /// A function of module `pregel`.
-#[derive(Clone, Copy, Debug, PartialEq, Eq)]
+#[derive(Clone, Copy)]
 pub enum HostCall {
     VertexId,
     Superstep,
@@ -24,7 +24,7 @@ pub enum HostCall {
 }
 
 /// What a function of the host takes and gives.
-#[derive(Clone, Copy, Debug)]
+#[derive(Clone, Copy)]
 pub struct CallType {
     pub parameters: &'static [ValType],
     pub results: &'static [ValType],

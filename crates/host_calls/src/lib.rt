@@ -6,8 +6,6 @@ mod call;
 mod imports;
 mod laws;
 mod state;
-#[cfg(test)]
-mod tests;
 
 pub use call::{CallInput, CallOutcome, SLOTS};
 pub use imports::{CallType, HostCall};

@@ -2,7 +2,7 @@ use std::alloc::{AllocError, Global};
 use std::marker::Model;
 
 /// The messages to one vertex, in their order, which contracts see as their list.
-#[derive(Debug, Drop)]
+#[derive(Drop)]
 pub struct Inbox {
     messages: Vec<i64>,
 }

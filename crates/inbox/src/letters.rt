@@ -1,5 +1,5 @@
 /// A message on its way.
-#[derive(Clone, Copy, Debug, PartialEq, Eq)]
+#[derive(Clone, Copy)]
 pub struct Letter {
     /// The id of the vertex that sent it.
     pub from: u64,

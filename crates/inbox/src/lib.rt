@@ -9,8 +9,6 @@ mod inboxes;
 mod laws;
 mod letters;
 mod merging;
-#[cfg(test)]
-mod tests;
 
 pub use inboxes::Inbox;
 pub use laws::{inboxes_are_concatenated_by_source, letters_have_one_order};

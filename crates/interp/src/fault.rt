@@ -6,7 +6,7 @@ use std::alloc::AllocError;
 use thiserror::Error;
 
 /// Why a call gave no outcome.
-#[derive(Clone, Copy, Debug, PartialEq, Eq, Error)]
+#[derive(Clone, Copy, Debug, Error)]
 pub enum RunFault {
     /// Memory ran out.
     #[error("out of memory")]
@@ -17,7 +17,7 @@ pub enum RunFault {
 }
 
 /// Why a walk over any valid module gave no outcome.
-#[derive(Clone, Copy, Debug, PartialEq, Eq)]
+#[derive(Clone, Copy)]
 pub enum WalkFault {
     /// Memory ran out.
     OutOfMemory,

@@ -24,22 +24,24 @@ pub fn call_host(
     ensures below { operands.new.below ≡ operands.old.below }
 {
     match call {
-        HostCall::VertexId => operands.push(signed(vertex.vertex_id()))?,
-        HostCall::Superstep => operands.push(signed(vertex.superstep()))?,
-        HostCall::NumVertices => operands.push(signed(vertex.num_vertices()))?,
-        HostCall::GetValue => operands.push(signed(vertex.get_value()))?,
-        HostCall::SetValue => vertex.set_value(operands.pop_i64()?.cast_signed()),
-        HostCall::NextMessage => operands.push(Value::I32(u32::from(vertex.next_message())))?,
-        HostCall::MessageValue => operands.push(signed(vertex.message_value()))?,
-        HostCall::NextEdge => operands.push(Value::I32(u32::from(vertex.next_edge())))?,
-        HostCall::EdgeTarget => operands.push(signed(vertex.edge_target()))?,
-        HostCall::EdgeValue => operands.push(signed(vertex.edge_value()))?,
-        HostCall::Send => return send(operands, vertex),
-        HostCall::Aggregate => return aggregate(operands, vertex),
-        HostCall::Aggregated => return aggregated(operands, vertex),
-        HostCall::VoteToHalt => vertex.vote_to_halt(),
+        HostCall::VertexId => operands.push(signed(vertex.vertex_id())),
+        HostCall::Superstep => operands.push(signed(vertex.superstep())),
+        HostCall::NumVertices => operands.push(signed(vertex.num_vertices())),
+        HostCall::GetValue => operands.push(signed(vertex.get_value())),
+        HostCall::SetValue => set_value(operands, vertex),
+        HostCall::NextMessage => operands.push(Value::I32(u32::from(vertex.next_message()))),
+        HostCall::MessageValue => operands.push(signed(vertex.message_value())),
+        HostCall::NextEdge => operands.push(Value::I32(u32::from(vertex.next_edge()))),
+        HostCall::EdgeTarget => operands.push(signed(vertex.edge_target())),
+        HostCall::EdgeValue => operands.push(signed(vertex.edge_value())),
+        HostCall::Send => send(operands, vertex),
+        HostCall::Aggregate => aggregate(operands, vertex),
+        HostCall::Aggregated => aggregated(operands, vertex),
+        HostCall::VoteToHalt => {
+            vertex.vote_to_halt();
+            Ok(())
+        }
     }
-    Ok(())
 }
 
 // A signed number as an operand.
@@ -48,6 +50,14 @@ fn signed(number: i64) -> Value
     ensures { result ≡ signed number }
 {
     Value::I64(number.cast_unsigned())
+}
+
+fn set_value(operands: &mut Operands, vertex: &mut CallState) -> Result<(), WalkFault>
+    ensures acts { (locals globals : List AnyValue) (bytes : List ℕ) (count : ℕ) → Acts result (call_effect calls.SetValue operands.old.here (state locals globals bytes vertex.old count)) operands.new.here (state locals globals bytes vertex.new count) }
+    ensures below { operands.new.below ≡ operands.old.below }
+{
+    vertex.set_value(operands.pop_i64()?.cast_signed());
+    Ok(())
 }
 
 fn send(operands: &mut Operands, vertex: &mut CallState) -> Result<(), WalkFault>
@@ -81,6 +91,5 @@ fn aggregated(operands: &mut Operands, vertex: &mut CallState) -> Result<(), Wal
     if slot >= SLOTS {
         return Err(WalkFault::Trap);
     }
-    operands.push(signed(vertex.aggregated(slot)))?;
-    Ok(())
+    operands.push(signed(vertex.aggregated(slot)))
 }

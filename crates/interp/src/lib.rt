@@ -23,6 +23,3 @@ pub use host_calls::{CallInput, CallOutcome};
 pub use laws::{an_end_stays, calls_end, one_outcome};
 pub use runs::run;
 pub use scratch::Scratch;
-
-#[cfg(test)]
-mod tests;

@@ -38,8 +38,7 @@ fn act_eqz(of: ValType, operands: &mut Operands) -> Result<(), WalkFault>
         ValType::I32 => i32_eqz(operands.pop_i32()?),
         ValType::I64 => i64_eqz(operands.pop_i64()?),
     };
-    operands.push(Value::I32(answer))?;
-    Ok(())
+    operands.push(Value::I32(answer))
 }
 
 fn act_comparison(
@@ -60,8 +59,7 @@ fn act_comparison(
             comparison.holds_i64(operands.pop_i64()?, second)
         }
     };
-    operands.push(Value::I32(u32::from(holds)))?;
-    Ok(())
+    operands.push(Value::I32(u32::from(holds)))
 }
 
 fn act_unary(of: ValType, unary: Unary, operands: &mut Operands) -> Result<(), WalkFault>
@@ -72,8 +70,7 @@ fn act_unary(of: ValType, unary: Unary, operands: &mut Operands) -> Result<(), W
         ValType::I32 => Value::I32(unary.apply_i32(operands.pop_i32()?)),
         ValType::I64 => Value::I64(unary.apply_i64(operands.pop_i64()?)),
     };
-    operands.push(value)?;
-    Ok(())
+    operands.push(value)
 }
 
 fn act_binary(of: ValType, binary: Binary, operands: &mut Operands) -> Result<(), WalkFault>
@@ -90,8 +87,7 @@ fn act_binary(of: ValType, binary: Binary, operands: &mut Operands) -> Result<()
             Value::I64(binary.apply_i64(operands.pop_i64()?, second))
         }
     };
-    operands.push(value)?;
-    Ok(())
+    operands.push(value)
 }
 
 fn act_division(of: ValType, division: Division, operands: &mut Operands) -> Result<(), WalkFault>
@@ -113,8 +109,7 @@ fn divide_i32(division: Division, operands: &mut Operands) -> Result<(), WalkFau
     if division.traps_i32(first, second) {
         return Err(WalkFault::Trap);
     }
-    operands.push(Value::I32(division.apply_i32(first, second)))?;
-    Ok(())
+    operands.push(Value::I32(division.apply_i32(first, second)))
 }
 
 fn divide_i64(division: Division, operands: &mut Operands) -> Result<(), WalkFault>
@@ -126,8 +121,7 @@ fn divide_i64(division: Division, operands: &mut Operands) -> Result<(), WalkFau
     if division.traps_i64(first, second) {
         return Err(WalkFault::Trap);
     }
-    operands.push(Value::I64(division.apply_i64(first, second)))?;
-    Ok(())
+    operands.push(Value::I64(division.apply_i64(first, second)))
 }
 
 fn act_conversion(conversion: Conversion, operands: &mut Operands) -> Result<(), WalkFault>
@@ -139,6 +133,5 @@ fn act_conversion(conversion: Conversion, operands: &mut Operands) -> Result<(),
         Conversion::ExtendS => Value::I64(i64_extend_i32_s(operands.pop_i32()?)),
         Conversion::ExtendU => Value::I64(i64_extend_i32_u(operands.pop_i32()?)),
     };
-    operands.push(value)?;
-    Ok(())
+    operands.push(value)
 }

@@ -1,12 +1,12 @@
 //! Operands in one list, of which the topmost belong to the innermost layer.
 
-ghost use Rattle.std.specs.Prelude.{◌≡◌, ◌∷◌, ◌++◌, ◌-◌, ◌<◌, ◌≤◌, [], length, take, drop, reverse, OnOk, IfOk, MatchOption, MatchResult, if◌then◌else◌};
+ghost use Rattle.std.specs.Prelude.{◌≡◌, ◌∷◌, ◌++◌, ◌-◌, ◌<◌, ◌≤◌, [], length, take, drop, reverse, IfErr, IfOk, MatchOption, MatchResult, if◌then◌else◌};
 ghost use Rattle.wasm_ast.specs.declared.types.ValType.TheVariants.{I32 as i32_type, I64 as i64_type};
 ghost use Rattle.interp.specs.Acts.{Pops};
 ghost use Rattle.interp.specs.Machine.{first, carry};
 
 use crate::fault::WalkFault;
-use std::alloc::{AllocError, Global};
+use std::alloc::Global;
 use std::marker::Model;
 use wasm_ast::Value;
 
@@ -50,12 +50,14 @@ impl Operands {
 
     /// Puts a value on top.
     #[inline]
-    pub fn push(&mut self, value: Value) -> Result<(), AllocError>
-        ensures here { OnOk result (self.new.here ≡ value ∷ self.old.here) }
+    pub fn push(&mut self, value: Value) -> Result<(), WalkFault>
+        ensures here { MatchResult result (λ _. self.new.here ≡ value ∷ self.old.here) (λ fault. fault ≡ WalkFault.OutOfMemory) }
         ensures below { self.new.below ≡ self.old.below }
     {
-        self.values.push(value)?;
-        Ok(())
+        match self.values.push(value) {
+            Ok(()) => Ok(()),
+            Err(_) => Err(WalkFault::OutOfMemory),
+        }
     }
 
     /// The topmost value; `Stuck` where the layer has none.
@@ -105,7 +107,8 @@ impl Operands {
 
     /// Puts a value on top where one is wanted; whether there was one.
     #[inline]
-    pub fn carry(&mut self, keeps: bool, top: Option<Value>) -> Result<bool, AllocError>
+    pub fn carry(&mut self, keeps: bool, top: Option<Value>) -> Result<bool, WalkFault>
+        ensures fault { IfErr result (λ fault. fault ≡ WalkFault.OutOfMemory) }
         ensures here { IfOk result (λ there. carry keeps top self.old.here ≡ (if there then Some self.new.here else None)) }
         ensures below { self.new.below ≡ self.old.below }
     {

@@ -40,10 +40,7 @@ pub fn act_plain(
             Ok(())
         }
         Plain::Select => act_select(operands),
-        Plain::Const(value) => {
-            operands.push(value)?;
-            Ok(())
-        }
+        Plain::Const(value) => { operands.push(value) }
         Plain::Numeric(op) => act_numeric(op, operands),
         Plain::Variable(op) => act_variable(op, operands, locals, globals),
         Plain::Memory(op) => act_memory(op, operands, bytes),
@@ -62,8 +59,7 @@ fn act_select(operands: &mut Operands) -> Result<(), WalkFault>
     if first.val_type() != second.val_type() {
         return Err(WalkFault::Stuck);
     }
-    operands.push(if number == 0 { second } else { first })?;
-    Ok(())
+    operands.push(if number == 0 { second } else { first })
 }
 
 /// Reads and writes of locals and globals (Core 1.0, 4.4.3).
@@ -79,17 +75,16 @@ fn act_variable(
     ensures locals_below { locals.new.below ≡ locals.old.below }
 {
     match instruction {
-        Variable::LocalGet(number) => operands.push(locals.get(number)?)?,
-        Variable::LocalSet(number) => locals.set(number, operands.pop()?)?,
+        Variable::LocalGet(number) => operands.push(locals.get(number)?),
+        Variable::LocalSet(number) => locals.set(number, operands.pop()?),
         Variable::LocalTee(number) => {
             let value = operands.pop()?;
             locals.set(number, value)?;
-            operands.push(value)?;
+            operands.push(value)
         }
-        Variable::GlobalGet(number) => operands.push(globals.get(number)?)?,
-        Variable::GlobalSet(number) => globals.set(number, operands.pop()?)?,
+        Variable::GlobalGet(number) => operands.push(globals.get(number)?),
+        Variable::GlobalSet(number) => globals.set(number, operands.pop()?),
     }
-    Ok(())
 }
 
 /// Loads, stores and the size of the memory (Core 1.0, 4.4.4). There is no growing.
@@ -105,10 +100,7 @@ fn act_memory(
     match instruction {
         MemoryAccess::Load(op, argument) => act_load(op, argument, operands, bytes),
         MemoryAccess::Store(op, argument) => act_store(op, argument, operands, bytes),
-        MemoryAccess::Size => {
-            operands.push(Value::I32(bytes.size()))?;
-            Ok(())
-        }
+        MemoryAccess::Size => { operands.push(Value::I32(bytes.size())) }
         MemoryAccess::Grow => Err(WalkFault::Stuck),
     }
 }
@@ -125,8 +117,7 @@ fn act_load(
 {
     let place = u64::from(operands.pop_i32()?) + u64::from(argument.offset);
     let value = bytes.load(op, place).ok_or(WalkFault::Trap)?;
-    operands.push(value)?;
-    Ok(())
+    operands.push(value)
 }
 
 #[inline]

@@ -8,8 +8,6 @@
 mod fault;
 mod laws;
 mod read;
-#[cfg(test)]
-mod tests;
 mod write;
 
 pub use fault::LebFault;

@@ -9,7 +9,7 @@ use std::fmt;
 use thiserror::Error;
 
 /// A rule that a module breaks.
-#[derive(Clone, Copy, Debug, PartialEq, Eq)]
+#[derive(Clone, Copy, Debug)]
 pub enum Rule {
     /// A number names no type.
     TypeNumber,
@@ -64,7 +64,7 @@ impl fmt::Display for Rule {
 }
 
 /// Where a rule is broken. It is shown as its two numbers, with `-` for what is not there.
-#[derive(Clone, Copy, Debug, PartialEq, Eq)]
+#[derive(Clone, Copy, Debug)]
 pub struct Place {
     /// The number of the function, imports counted, where there is one.
     pub function: Option<u32>,
@@ -87,7 +87,7 @@ impl fmt::Display for Place {
 }
 
 /// Why a module is not valid. It is shown as the rule's word and the place.
-#[derive(Clone, Copy, Debug, PartialEq, Eq, Error)]
+#[derive(Clone, Copy, Debug, Error)]
 pub enum ValidFault {
     /// The module breaks the rule at this place.
     #[error("{0} {1}")]

@@ -12,8 +12,6 @@ mod nesting;
 mod operands;
 mod segments;
 mod spaces;
-#[cfg(test)]
-mod tests;
 mod types;
 mod valid;
 

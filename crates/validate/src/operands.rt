@@ -16,7 +16,7 @@ use std::alloc::{AllocError, Global};
 use wasm_ast::{BlockType, Conversion, FuncType, Numeric, ValType};
 
 /// What is known of one operand.
-#[derive(Clone, Copy, Debug, PartialEq, Eq)]
+#[derive(Clone, Copy, PartialEq, Eq)]
 pub enum Slot {
     Known(ValType),
     Unknown,

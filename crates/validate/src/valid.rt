@@ -17,7 +17,7 @@ use std::marker::Model;
 use wasm_ast::{Module, within_limits};
 
 /// A module that is typed (Core 1.0, 3.4.10). Only `validate` makes one.
-#[derive(Debug, Drop)]
+#[derive(Drop)]
 pub struct Valid {
     module: Module,
 }

@@ -8,14 +8,14 @@ use std::marker::Model;
 
 /// Instructions in sequence (Core 1.0, 2.4.6), which contracts see as `Code`.
 #[cycle(syntax)]
-#[derive(Debug, Drop)]
+#[derive(Drop)]
 pub struct Body {
     instrs: Vec<Instr>,
 }
 
 /// An instruction (Core 1.0, 2.4).
 #[cycle(syntax)]
-#[derive(Debug, Drop)]
+#[derive(Drop)]
 pub enum Instr {
     Plain(Plain),
     Branch(Branch),

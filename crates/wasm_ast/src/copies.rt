@@ -1,6 +1,6 @@
 //! Copies of syntax, which are equal to what they are copies of.
 
-ghost use Rattle.std.specs.Prelude.{◌≡◌, IfOk};
+ghost use Rattle.std.specs.Prelude.{◌≡◌, IfOk, OnOk};
 
 use crate::body::{Body, Instr};
 use crate::module::{Data, Element, Export, Function, Global, Import, Module};
@@ -146,18 +146,42 @@ impl Duplicate for Data {
 impl Duplicate for Module {
     fn duplicate(&self, alloc: Heap) -> Result<Module, AllocError> {
         let mut copy = Module::empty(alloc);
-        copy.types = self.types.duplicate(alloc)?;
-        copy.imports = self.imports.duplicate(alloc)?;
-        copy.functions = self.functions.duplicate(alloc)?;
-        copy.tables = self.tables.duplicate(alloc)?;
-        copy.memories = self.memories.duplicate(alloc)?;
-        copy.globals = self.globals.duplicate(alloc)?;
-        copy.exports = self.exports.duplicate(alloc)?;
+        duplicate_functions(self, alloc, &mut copy)?;
+        duplicate_spaces(self, alloc, &mut copy)?;
+        duplicate_segments(self, alloc, &mut copy)?;
         copy.start = self.start;
-        copy.elements = self.elements.duplicate(alloc)?;
-        copy.data = self.data.duplicate(alloc)?;
         Ok(copy)
     }
+}
+
+// The types, the imports and the functions.
+fn duplicate_functions(module: &Module, alloc: Heap, copy: &mut Module) -> Result<(), AllocError>
+    ensures { OnOk result (copy.new ≡ record copy.old { types = «module».now.types; imports = «module».now.imports; functions = «module».now.functions }) }
+{
+    copy.types = module.types.duplicate(alloc)?;
+    copy.imports = module.imports.duplicate(alloc)?;
+    copy.functions = module.functions.duplicate(alloc)?;
+    Ok(())
+}
+
+// The tables, the memories, the globals and the exports.
+fn duplicate_spaces(module: &Module, alloc: Heap, copy: &mut Module) -> Result<(), AllocError>
+    ensures { OnOk result (copy.new ≡ record copy.old { tables = «module».now.tables; memories = «module».now.memories; globals = «module».now.globals; exports = «module».now.exports }) }
+{
+    copy.tables = module.tables.duplicate(alloc)?;
+    copy.memories = module.memories.duplicate(alloc)?;
+    copy.globals = module.globals.duplicate(alloc)?;
+    copy.exports = module.exports.duplicate(alloc)?;
+    Ok(())
+}
+
+// The element and the data segments.
+fn duplicate_segments(module: &Module, alloc: Heap, copy: &mut Module) -> Result<(), AllocError>
+    ensures { OnOk result (copy.new ≡ record copy.old { elements = «module».now.elements; «data» = «module».now.«data» }) }
+{
+    copy.elements = module.elements.duplicate(alloc)?;
+    copy.data = module.data.duplicate(alloc)?;
+    Ok(())
 }
 
 impl Duplicate for Body {

@@ -11,8 +11,6 @@ mod numeric;
 mod plain;
 mod same;
 mod sequence;
-#[cfg(test)]
-mod tests;
 mod types;
 
 pub use body::Body;

@@ -8,7 +8,7 @@ use crate::types::{FuncType, GlobalType, Limits, ValType};
 use std::alloc::{AllocError, Global as Heap};
 
 /// What an import brings in (Core 1.0, 2.5.11).
-#[derive(Clone, Copy, Debug, PartialEq, Eq)]
+#[derive(Clone, Copy, PartialEq, Eq)]
 pub enum ImportDescription {
     /// A function of the type with this number.
     Function(u32),
@@ -18,7 +18,7 @@ pub enum ImportDescription {
 }
 
 /// An import (Core 1.0, 2.5.11).
-#[derive(Debug, Drop)]
+#[derive(Drop)]
 pub struct Import {
     pub module: Name,
     pub name: Name,
@@ -26,7 +26,7 @@ pub struct Import {
 }
 
 /// A function that the module defines (Core 1.0, 2.5.3).
-#[derive(Debug, Drop)]
+#[derive(Drop)]
 pub struct Function {
     /// The number of its type.
     pub type_number: u32,
@@ -36,14 +36,14 @@ pub struct Function {
 }
 
 /// A global that the module defines (Core 1.0, 2.5.6).
-#[derive(Debug, Drop)]
+#[derive(Drop)]
 pub struct Global {
     pub global_type: GlobalType,
     pub initial: Body,
 }
 
 /// What an export names, by its number (Core 1.0, 2.5.10).
-#[derive(Clone, Copy, Debug, PartialEq, Eq)]
+#[derive(Clone, Copy, PartialEq, Eq)]
 pub enum ExportDescription {
     Function(u32),
     Table(u32),
@@ -52,14 +52,14 @@ pub enum ExportDescription {
 }
 
 /// An export (Core 1.0, 2.5.10).
-#[derive(Debug, Drop)]
+#[derive(Drop)]
 pub struct Export {
     pub name: Name,
     pub description: ExportDescription,
 }
 
 /// Functions that a table holds from an offset on (Core 1.0, 2.5.7).
-#[derive(Debug, Drop)]
+#[derive(Drop)]
 pub struct Element {
     pub table: u32,
     pub offset: Body,
@@ -67,7 +67,7 @@ pub struct Element {
 }
 
 /// Bytes that a memory holds from an offset on (Core 1.0, 2.5.8).
-#[derive(Debug, Drop)]
+#[derive(Drop)]
 pub struct Data {
     pub memory: u32,
     pub offset: Body,
@@ -75,7 +75,7 @@ pub struct Data {
 }
 
 /// A module (Core 1.0, 2.5). Tables hold functions; memories are bytes.
-#[derive(Debug, Drop)]
+#[derive(Drop)]
 pub struct Module {
     pub types: Sequence<FuncType>,
     pub imports: Sequence<Import>,

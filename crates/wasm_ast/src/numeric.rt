@@ -17,7 +17,7 @@ use self::i64::{
 use crate::types::ValType;
 
 /// One operand of a type, one result of the same type.
-#[derive(Clone, Copy, Debug, PartialEq, Eq)]
+#[derive(Clone, Copy, PartialEq, Eq)]
 pub enum Unary {
     Clz,
     Ctz,
@@ -52,7 +52,7 @@ impl Unary {
 }
 
 /// Two operands of a type, one result of the same type; defined on all operands.
-#[derive(Clone, Copy, Debug, PartialEq, Eq)]
+#[derive(Clone, Copy, PartialEq, Eq)]
 pub enum Binary {
     Add,
     Sub,
@@ -111,7 +111,7 @@ impl Binary {
 }
 
 /// Two operands of a type, one result of the same type; a trap on some operands.
-#[derive(Clone, Copy, Debug, PartialEq, Eq)]
+#[derive(Clone, Copy, PartialEq, Eq)]
 pub enum Division {
     DivS,
     DivU,
@@ -171,7 +171,7 @@ impl Division {
 }
 
 /// Two operands of a type, and an i32 that is 1 where the comparison holds, else 0.
-#[derive(Clone, Copy, Debug, PartialEq, Eq)]
+#[derive(Clone, Copy, PartialEq, Eq)]
 pub enum Comparison {
     Eq,
     Ne,
@@ -227,7 +227,7 @@ impl Comparison {
 }
 
 /// From one type to the other.
-#[derive(Clone, Copy, Debug, PartialEq, Eq)]
+#[derive(Clone, Copy, PartialEq, Eq)]
 pub enum Conversion {
     /// `i32.wrap_i64`
     Wrap,
@@ -238,7 +238,7 @@ pub enum Conversion {
 }
 
 /// A numeric instruction other than a constant.
-#[derive(Clone, Copy, Debug, PartialEq, Eq)]
+#[derive(Clone, Copy, PartialEq, Eq)]
 pub enum Numeric {
     /// `eqz`: one operand, and an i32 that is 1 where it is 0, else 0.
     Eqz(ValType),

@@ -5,7 +5,7 @@ use crate::sequence::Sequence;
 use crate::types::{ValType, Value};
 
 /// Reads and writes of locals and globals (Core 1.0, 2.4.3), each with the number of its variable.
-#[derive(Clone, Copy, Debug, PartialEq, Eq)]
+#[derive(Clone, Copy, PartialEq, Eq)]
 pub enum Variable {
     LocalGet(u32),
     LocalSet(u32),
@@ -15,14 +15,14 @@ pub enum Variable {
 }
 
 /// The immediates of a load or a store (Core 1.0, 2.4.4): the alignment is 2 to the power `align`, a hint.
-#[derive(Clone, Copy, Debug, PartialEq, Eq)]
+#[derive(Clone, Copy, PartialEq, Eq)]
 pub struct MemoryArgument {
     pub align: u32,
     pub offset: u32,
 }
 
 /// The loads (Core 1.0, 2.4.4): the type that is given, and the bytes that are read where they are fewer.
-#[derive(Clone, Copy, Debug, PartialEq, Eq)]
+#[derive(Clone, Copy, PartialEq, Eq)]
 pub enum Load {
     I32,
     I64,
@@ -73,7 +73,7 @@ impl Load {
 }
 
 /// The stores (Core 1.0, 2.4.4): the type that is taken, and the bytes that are written where they are fewer.
-#[derive(Clone, Copy, Debug, PartialEq, Eq)]
+#[derive(Clone, Copy, PartialEq, Eq)]
 pub enum Store {
     I32,
     I64,
@@ -112,7 +112,7 @@ impl Store {
 }
 
 /// Memory instructions (Core 1.0, 2.4.4).
-#[derive(Clone, Copy, Debug, PartialEq, Eq)]
+#[derive(Clone, Copy, PartialEq, Eq)]
 pub enum Memory {
     Load(Load, MemoryArgument),
     Store(Store, MemoryArgument),
@@ -121,7 +121,7 @@ pub enum Memory {
 }
 
 /// An instruction that neither branches nor calls: it acts on operands, locals, globals and memory alone.
-#[derive(Clone, Copy, Debug, PartialEq, Eq)]
+#[derive(Clone, Copy, PartialEq, Eq)]
 pub enum Plain {
     Nop,
     Drop,
@@ -133,7 +133,7 @@ pub enum Plain {
 }
 
 /// An instruction that goes on elsewhere (Core 1.0, 2.4.5). Labels count from 0, the innermost.
-#[derive(Debug, Drop)]
+#[derive(Drop)]
 pub enum Branch {
     Br(u32),
     BrIf(u32),

@@ -4,7 +4,7 @@ use std::alloc::Global;
 use std::marker::Model;
 
 /// Items in order, which contracts see as their list.
-#[derive(Debug, Drop)]
+#[derive(Drop)]
 pub struct Sequence<T> {
     items: Vec<T>,
 }
@@ -53,7 +53,7 @@ impl<T> From<Vec<T>> for Sequence<T> {
 }
 
 /// The name of an import or an export (Core 1.0, 2.2.4), which contracts see as its bytes in UTF-8.
-#[derive(Debug, Drop)]
+#[derive(Drop)]
 pub struct Name {
     text: String,
 }

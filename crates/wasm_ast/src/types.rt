@@ -3,14 +3,14 @@
 use crate::sequence::Sequence;
 
 /// The type of a number (Core 1.0, 2.3.1).
-#[derive(Clone, Copy, Debug, PartialEq, Eq)]
+#[derive(Clone, Copy, PartialEq, Eq)]
 pub enum ValType {
     I32,
     I64,
 }
 
 /// A number with its type, kept as its unsigned value (Core 1.0, 2.2.2 and 4.2.1).
-#[derive(Clone, Copy, Debug, PartialEq, Eq)]
+#[derive(Clone, Copy, PartialEq, Eq)]
 pub enum Value {
     I32(u32),
     I64(u64),
@@ -44,7 +44,7 @@ impl Value {
 pub type BlockType = Option<ValType>;
 
 /// What a function takes and gives (Core 1.0, 2.3.3).
-#[derive(Debug, Drop)]
+#[derive(Drop)]
 pub struct FuncType {
     pub parameters: Sequence<ValType>,
     pub results: Sequence<ValType>,
@@ -52,21 +52,21 @@ pub struct FuncType {
 
 /// How small a table or a memory begins and how large it may grow, in elements or pages of 65,536 bytes
 /// (Core 1.0, 2.3.4).
-#[derive(Clone, Copy, Debug, PartialEq, Eq)]
+#[derive(Clone, Copy, PartialEq, Eq)]
 pub struct Limits {
     pub minimum: u32,
     pub maximum: Option<u32>,
 }
 
 /// Whether a global may be set (Core 1.0, 2.3.7).
-#[derive(Clone, Copy, Debug, PartialEq, Eq)]
+#[derive(Clone, Copy, PartialEq, Eq)]
 pub enum Mutability {
     Constant,
     Variable,
 }
 
 /// The type of a global (Core 1.0, 2.3.7).
-#[derive(Clone, Copy, Debug, PartialEq, Eq)]
+#[derive(Clone, Copy, PartialEq, Eq)]
 pub struct GlobalType {
     pub mutability: Mutability,
     pub value: ValType,

@@ -12,7 +12,7 @@ use Rattle.wasm_decode.specs.Bytes.{Then, U32, Vector}
 use Rattle.wasm_decode.specs.Types.{SpellsFuncType, SpellsLimits, SpellsTableType}
 use Rattle.wasm_decode.specs.Grammar.{SpellsImport, SpellsGlobal, SpellsExport, SpellsElement, SpellsFunction, SpellsData, type_numbers, Customs, VectorSection, StartSection, magic, version, SpellsSections, Spells}
 use Rattle.wasm_decode.specs.Reading.{Reads, any_count, u32_at, vector_at, func_type_at, limits_at, table_type_at}
-use Rattle.wasm_decode.specs.ReadingModule.{import_at, imports_at, global_at, export_at, start_at, element_at, data_at, functions_at, customs_at, skip_customs, no_bodies, types_at, numbers_at, spaces_at, exports_at, contents_at, remaining_at, sections_at, after_bytes, module_at}
+use Rattle.wasm_decode.specs.ReadingModule.{import_at, imports_at, global_at, export_at, start_at, element_at, data_at, functions_at, customs_at, skip_customs, no_bodies, types_at, numbers_at, spaces_at, exports_at, contents_at, remaining_at, filled_at, sections_at, after_bytes, module_at}
 use Rattle.wasm_decode.proofs.AgainFunctions.{functions_again}
 use Rattle.wasm_decode.proofs.AgainItems.{import_again, global_again, export_again, element_again, data_again}
 use Rattle.wasm_decode.proofs.AgainParts.{u32_again, vector_again, length-Vector, func_type_again, limits_again, table_type_again}
@@ -125,7 +125,7 @@ at_end h = record {
 }
 
 sections_again : (m : Module) (bytes : List ℕ) → SpellsSections m bytes → IsWithinLimits m → sections_at bytes ≡ Some m
-unfolding sections_at remaining_at skip_customs types_at numbers_at spaces_at exports_at contents_at
+unfolding sections_at filled_at remaining_at skip_customs types_at numbers_at spaces_at exports_at contents_at
 sections_again m bytes h within =
     let h1 = h.is_second in
     let h2 = h1.is_second.is_second in
@@ -155,11 +155,16 @@ sections_again m bytes h within =
     let skips = customs_before h.front h.back s1.start h.is_first s1.leads.skips in
     rw (h.parts, skips (suc (length (h.front ++ h.back))) (omega arith), s1.is_read, s2.is_read, s3.is_read, s4.is_read, s5.is_read, s6.is_read, s7.is_read, s8.is_read, s9.is_read, s10.is_read, s11.is_read) refl
 
-after_header : (sections : List ℕ) → after_bytes (magic ++ version) (magic ++ version ++ sections) ≡ Some sections
-after_header sections = refl
+after_magic : (rest : List ℕ) → after_bytes magic (magic ++ rest) ≡ Some rest
+unfolding after_bytes
+after_magic rest = refl
+
+after_version : (rest : List ℕ) → after_bytes version (version ++ rest) ≡ Some rest
+unfolding after_bytes
+after_version rest = refl
 
 pub module_again : (bytes : List ℕ) (m : Module) → Spells bytes m → module_at bytes ≡ Some m
 unfolding module_at
 module_again bytes m h =
-    let sections : after_bytes (magic ++ version) bytes ≡ Some h.sections = rw h.parts (after_header h.sections) in
-    rw (le-leb (length bytes) max_module_bytes h.small, sections) (sections_again m h.sections h.spelled h.limited)
+    let numbered : after_bytes magic bytes ≡ Some (version ++ h.sections) = rw h.parts (after_magic (version ++ h.sections)) in
+    rw (le-leb (length bytes) max_module_bytes h.small, numbered, after_version h.sections) (sections_again m h.sections h.spelled h.limited)

@@ -1,5 +1,6 @@
 -- How locals are grouped, one local at a time.
-use Rattle.std.proofs.Common.{◌≡◌, ℕ, ◌+◌, ◌<◌, ◌≤◌, Bool, true, false, List, [], ◌∷◌, ◌++◌, length, get_or, drop, refl, ap, ◌∙◌, add-one, drop-cons, arith}
+use Rattle.std.proofs.Common.{◌≡◌, ℕ, ◌+◌, ◌<◌, ◌≤◌, Bool, true, false, List, [], ◌∷◌, ◌++◌, length, get_or, drop, refl, sym, ap, ◌∙◌, add-one, append_assoc, drop-cons, arith}
+use Rattle.std.proofs.lemmas.List.{append-nil, drop_all}
 use Rattle.std.specs.Prelude.{if◌then◌else◌}
 use Rattle.std.specs.List.{flat_map}
 use denote.Enum.Bare.{sameb}
@@ -50,3 +51,30 @@ counted_same first us groups t k d c below same =
 pub record Grouped (us : List ValType) (whole out : List ℕ) (count : ℕ) (t : ValType) (k : ℕ) : Type 0 where
   pub few : count ≤ k + 1
   pub so_far : out ++ flat_map group_bytes (groups_from count t (drop k us)) ≡ whole
+
+-- another of the last type
+pub grouped_same : (us : List ValType) (whole out : List ℕ) (count : ℕ) (t : ValType) (k : ℕ) (d : ValType) → Grouped us whole out count t k
+    → k < length us → is_same_type (get_or us k d) t ≡ true → Grouped us whole out (count + 1) t (k + 1)
+grouped_same us whole out count t k d g below same =
+    let here : drop k us ≡ get_or us k d ∷ drop (k + 1) us = rw add-one (drop-cons us k d below) in
+    let step : groups_from count t (drop k us) ≡ groups_from (count + 1) t (drop (k + 1) us) =
+    ap (λ (xs : List ValType). groups_from count t xs) here ∙ rw same refl in
+    record { few = omega (arith, g.few); so_far = rw (← step) g.so_far }
+
+-- one of another type, behind the group that it ends
+pub grouped_next : (us : List ValType) (whole out longer : List ℕ) (count : ℕ) (t : ValType) (k : ℕ) (d : ValType) → Grouped us whole out count t k
+    → k < length us → is_same_type (get_or us k d) t ≡ false → longer ≡ out ++ group_bytes (count, t)
+    → Grouped us whole longer 1 (get_or us k d) (k + 1)
+grouped_next us whole out longer count t k d g below other wrote =
+    let here : drop k us ≡ get_or us k d ∷ drop (k + 1) us = rw add-one (drop-cons us k d below) in
+    let step : groups_from count t (drop k us) ≡ (count, t) ∷ groups_from 1 (get_or us k d) (drop (k + 1) us) =
+    ap (λ (xs : List ValType). groups_from count t xs) here ∙ rw other refl in
+    record { few = omega arith; so_far = rw (wrote, append_assoc) (rw step at g.so_far) }
+
+-- the last group
+pub grouped_last : (us : List ValType) (whole out : List ℕ) (count : ℕ) (t : ValType) (k : ℕ) → Grouped us whole out count t k → length us ≤ k
+    → out ++ group_bytes (count, t) ≡ whole
+grouped_last us whole out count t k g all =
+    let none : drop k us ≡ [] = drop_all k us all in
+    let last : out ++ flat_map group_bytes (groups_from count t []) ≡ whole = rw none at g.so_far in
+    ap (λ (bs : List ℕ). out ++ bs) (sym (append-nil (group_bytes (count, t)))) ∙ last

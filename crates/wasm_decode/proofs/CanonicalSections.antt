@@ -1,9 +1,17 @@
 -- Sections one after another.
 use Rattle.std.proofs.Common.{◌≡◌, ℕ, List, ◌++◌, append_assoc}
+use Rattle.wasm_ast.specs.declared.module.Module.{Module}
+use Rattle.wasm_decode.specs.Canonical.{declarations_bytes, spaces_bytes, contents_bytes, sections_bytes}
 
-pub eleven_in_order : (o a b c d e f g h i j o1 o2 o3 o4 o5 o6 o7 o8 o9 o10 k : List ℕ)
-    → o1 ≡ o ++ a → o2 ≡ o1 ++ b → o3 ≡ o2 ++ c → o4 ≡ o3 ++ d → o5 ≡ o4 ++ e → o6 ≡ o5 ++ f → o7 ≡ o6 ++ g → o8 ≡ o7 ++ h
-    → o9 ≡ o8 ++ i → o10 ≡ o9 ++ j
-    → o10 ++ k ≡ o ++ (a ++ (b ++ (c ++ (d ++ (e ++ (f ++ (g ++ (h ++ (i ++ (j ++ k))))))))))
-eleven_in_order o a b c d e f g h i j o1 o2 o3 o4 o5 o6 o7 o8 o9 o10 k e1 e2 e3 e4 e5 e6 e7 e8 e9 e10 =
-    rw (e10, e9, e8, e7, e6, e5, e4, e3, e2, e1) (simp append_assoc)
+pub three_in_order : (o a b o1 o2 c : List ℕ) → o1 ≡ o ++ a → o2 ≡ o1 ++ b → o2 ++ c ≡ o ++ (a ++ (b ++ c))
+three_in_order o a b o1 o2 c e1 e2 = rw (e2, e1) (simp append_assoc)
+
+pub four_in_order : (o a b c o1 o2 o3 d : List ℕ) → o1 ≡ o ++ a → o2 ≡ o1 ++ b → o3 ≡ o2 ++ c
+    → o3 ++ d ≡ o ++ (a ++ (b ++ (c ++ d)))
+four_in_order o a b c o1 o2 o3 d e1 e2 e3 = rw (e3, e2, e1) (simp append_assoc)
+
+-- the three groups are all of the sections
+pub groups_in_order : (m : Module) (o o1 o2 : List ℕ) → o1 ≡ o ++ declarations_bytes m → o2 ≡ o1 ++ spaces_bytes m
+    → o2 ++ contents_bytes m ≡ o ++ sections_bytes m
+unfolding declarations_bytes spaces_bytes contents_bytes sections_bytes
+groups_in_order m o o1 o2 e1 e2 = rw (e2, e1) (simp append_assoc)

@@ -9,7 +9,7 @@ use Rattle.wasm_decode.proofs.Loops.{Fails-then}
 use Rattle.wasm_decode.proofs.Parts.{Fails-refusal}
 
 after_bytes-byte : (w : ℕ) (ws bytes : List ℕ) → after_bytes (w ∷ ws) bytes ≡ (byte_at bytes >>= λ b. guarded (b.0 == w) (after_bytes ws b.1))
-unfolding byte_at
+unfolding byte_at after_bytes
 after_bytes-byte w ws [] = refl
 after_bytes-byte w ws (b ∷ bytes) = refl
 

@@ -18,7 +18,7 @@ use Rattle.wasm_decode.specs.Bytes.{Then, U32, Vector}
 use Rattle.wasm_decode.specs.Types.{SpellsFuncType, SpellsLimits, SpellsTableType}
 use Rattle.wasm_decode.specs.Grammar.{SpellsImport, SpellsGlobal, SpellsExport, SpellsElement, SpellsFunction, SpellsData, type_numbers, Customs, VectorSection, StartSection, magic, version, SpellsSections, Spells}
 use Rattle.wasm_decode.specs.Reading.{Reads, is_empty, any_count, vector_at}
-use Rattle.wasm_decode.specs.ReadingModule.{import_at, imports_at, start_at, functions_at, skip_customs, no_bodies, section_with, items_in, types_at, numbers_at, spaces_at, exports_at, contents_at, remaining_at, sections_at, after_bytes, module_at}
+use Rattle.wasm_decode.specs.ReadingModule.{import_at, imports_at, start_at, functions_at, skip_customs, no_bodies, section_with, items_in, types_at, numbers_at, spaces_at, exports_at, contents_at, remaining_at, filled_at, sections_at, after_bytes, module_at}
 use Rattle.wasm_decode.proofs.Limited.{are_few, Vector-apart, VectorSection-apart}
 use Rattle.wasm_decode.proofs.SectionParts.{MaySpell, Section-map, length-type_numbers}
 use Rattle.wasm_decode.proofs.TakesFunctions.{AreFew, AreBodies, functions_take}
@@ -246,7 +246,7 @@ module _ (a b c m : Module) (numbers f f1 f2 f3 f4 f5 : List ℕ) (customs : Cus
       }
 
 sections_take : (bytes : List ℕ) (m : Module) → IsBytes bytes → sections_at bytes ≡ Some m → Takes (IsFound m) bytes []
-unfolding sections_at remaining_at
+unfolding sections_at filled_at remaining_at
 sections_take bytes m fits e =
     let customs = bind_some (skip_customs bytes) _ m e in
     let first = skip_customs_takes bytes customs.0 fits customs.1 in
@@ -265,6 +265,7 @@ sections_take bytes m fits e =
     record { front = b4; is_spelled = subst (λ (m : Module). IsFound m (first.front ++ (f1 ++ (f2 ++ (f3 ++ (f4 ++ b4)))))) made found; parts = sym (append-nil b4) })
 
 after_bytes_some : (given bytes rest : List ℕ) → after_bytes given bytes ≡ Some rest → bytes ≡ given ++ rest
+unfolding after_bytes
 after_bytes_some [] bytes rest e = some_is bytes rest e
 after_bytes_some (c ∷ given) [] rest e = never rest e
 after_bytes_some (c ∷ given) (b ∷ bytes) rest e =
@@ -275,7 +276,10 @@ pub module_takes : (bytes : List ℕ) (m : Module) → IsBytes bytes → module_
 unfolding module_at
 module_takes bytes m fits e =
     let size = guarded_some (nat_le (length bytes) max_module_bytes) _ m e in
-    let header = bind_some (after_bytes (magic ++ version) bytes) sections_at m size.1 in
-    let parts = after_bytes_some (magic ++ version) bytes header.0 header.1 in
+    let numbered = bind_some (after_bytes magic bytes) _ m size.1 in
+    let header = bind_some (after_bytes version numbered.0) sections_at m numbered.2 in
+    let first = after_bytes_some magic bytes numbered.0 numbered.1 in
+    let second = after_bytes_some version numbered.0 header.0 header.1 in
+    let parts : bytes ≡ magic ++ version ++ header.0 = first ∙ ap (λ (xs : List ℕ). magic ++ xs) second in
     let is = Takes-all header.0 [] (sections_take header.0 m (IsBytes-back (magic ++ version) header.0 (rw parts at fits)) header.2) refl in
     record { sections = header.0; spelled = is.spelled; parts = parts; small = leb-true (length bytes) max_module_bytes size.0; limited = is.limited }

@@ -1,5 +1,6 @@
 pub mod Bytes
 pub mod Types
+pub mod Faults
 pub mod Instructions
 pub mod Grammar
 pub mod Canonical

@@ -214,6 +214,10 @@ closed_at bytes = do
   b ← byte_at bytes
   guarded (b.0 == 0x0B) (Some b.1)
 
+-- the byte that ends what this is
+abbrev pub closed_as : {A : Type 0} → A → Reads A
+closed_as whole bytes = closed_at bytes >>= λ rest. Some (whole, rest)
+
 -- a block's type, and the instructions in it, without the byte that ends them
 unfoldable pub typed_with : Inner → ℕ → Reads (Option ValType × Code)
 typed_with inner levels bytes =

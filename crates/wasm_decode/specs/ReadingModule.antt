@@ -241,19 +241,26 @@ remaining_at ts m bytes = do
   contents ← contents_at ts exports.0 exports.1
   guarded (is_empty contents.1) (Some contents.0)
 
--- all of the bytes
-unfoldable pub sections_at : List ℕ → Option Module
-sections_at bytes = do
+-- all of the bytes, whose sections take the place of what the module has
+unfoldable pub filled_at : Module → List ℕ → Option Module
+filled_at m bytes = do
   first ← skip_customs bytes
-  types ← types_at empty_module first
+  types ← types_at m first
   numbers ← numbers_at (imported_functions types.0.imports) types.1
   remaining_at numbers.0 types.0 numbers.1
 
+-- all of the bytes
+unfoldable pub sections_at : List ℕ → Option Module
+sections_at bytes = filled_at empty_module bytes
+
 -- the bytes begin with these, which are not given
-abbrev pub after_bytes : List ℕ → List ℕ → Option (List ℕ)
+unfoldable pub after_bytes : List ℕ → List ℕ → Option (List ℕ)
 after_bytes [] bytes = Some bytes
 after_bytes (c ∷ cs) [] = None
 after_bytes (c ∷ cs) (b ∷ bytes) = guarded (b == c) (after_bytes cs bytes)
 
 unfoldable pub module_at : List ℕ → Option Module
-module_at bytes = guarded (nat_le (length bytes) max_module_bytes) (after_bytes (magic ++ version) bytes >>= sections_at)
+module_at bytes = guarded (nat_le (length bytes) max_module_bytes) (do
+  numbered ← after_bytes magic bytes
+  sections ← after_bytes version numbered
+  sections_at sections)

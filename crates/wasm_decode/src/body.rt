@@ -2,9 +2,9 @@
 
 ghost use Rattle.std.specs.Prelude.{◌≡◌, ◌<◌, ◌≤◌, ℕ, length, slice_get};
 ghost use Rattle.wasm_decode.specs.Reading.{Gives};
-ghost use Rattle.wasm_decode.specs.ReadingCode.{closed_at, typed_with, ended_with, arm_with, else_with, if_with, opcode_with, instr_with, stops, code_at, expression_at};
+ghost use Rattle.wasm_decode.specs.ReadingCode.{closed_as, typed_with, ended_with, arm_with, else_with, if_with, opcode_with, instr_with, stops, code_at, expression_at};
 
-use crate::fault::DecodeFault;
+use crate::fault::{DecodeFault, DecodeRule};
 use crate::instructions::flat;
 use crate::reader::Reader;
 use crate::types::block_type;
@@ -33,16 +33,16 @@ fn is_closing(reader: &Reader) -> bool
     }
 }
 
-// Reads the byte that ends a sequence.
+// Reads the byte that ends a sequence, and gives what it ends.
 #[tactic(auto, unfolding(crate::specs::ReadingCode::closed_at))]
-fn close(reader: &mut Reader) -> Result<(), DecodeFault>
-    ensures { Gives (λ _. reader.new) result (closed_at reader.old) }
+fn closed<T: Drop>(reader: &mut Reader, whole: T) -> Result<T, DecodeFault>
+    ensures { Gives (λ x. (x, reader.new)) result (closed_as whole reader.old) }
 {
     let place = reader.place();
     if reader.byte()? != END {
-        return Err(DecodeFault::BadByte(place));
+        return Err(DecodeFault::Refused(DecodeRule::BadByte, place));
     }
-    Ok(())
+    Ok(whole)
 }
 
 // Instructions and the `end` that closes them.
@@ -52,8 +52,7 @@ fn ended(alloc: Global, reader: &mut Reader, levels: u32) -> Result<Body, Decode
     ensures { (n : ℕ) → length reader.old < n → Gives (λ body. (body, reader.new)) result (ended_with (code_at n) levels reader.old) }
 {
     let body = sequence(alloc, reader, levels)?;
-    close(reader)?;
-    Ok(body)
+    closed(reader, body)
 }
 
 // Instructions up to a byte that ends them, in at most so many blocks, loops and ifs inside each other.
@@ -96,13 +95,11 @@ fn after_opcode(
     match opcode {
         0x02 => {
             let (result_type, body) = typed_body(alloc, reader, levels, place)?;
-            close(reader)?;
-            Ok(Instr::Block(result_type, body))
+            closed(reader, Instr::Block(result_type, body))
         }
         0x03 => {
             let (result_type, body) = typed_body(alloc, reader, levels, place)?;
-            close(reader)?;
-            Ok(Instr::Loop(result_type, body))
+            closed(reader, Instr::Loop(result_type, body))
         }
         0x04 => choice(alloc, reader, levels, place),
         _ => flat(alloc, reader, opcode, place),
@@ -121,7 +118,7 @@ fn typed_body(
     ensures { (n : ℕ) → length reader.old < n → Gives (λ x. (x, reader.new)) result (typed_with (code_at n) levels reader.old) }
 {
     if levels == 0 {
-        return Err(DecodeFault::OverLimit(place));
+        return Err(DecodeFault::Refused(DecodeRule::OverLimit, place));
     }
     let result_type = block_type(reader)?;
     let body = sequence(alloc, reader, levels - 1)?;
@@ -155,6 +152,6 @@ fn else_body(alloc: Global, reader: &mut Reader, levels: u32) -> Result<Body, De
     match reader.byte()? {
         ELSE => ended(alloc, reader, levels - 1),
         END => Ok(Body::empty(alloc)),
-        _ => Err(DecodeFault::BadByte(place)),
+        _ => Err(DecodeFault::Refused(DecodeRule::BadByte, place)),
     }
 }

@@ -6,7 +6,7 @@ ghost use Rattle.wasm_decode.specs.Reading.{Gives};
 ghost use Rattle.wasm_decode.specs.ReadingModule.{groups_at, locals_at, function_in, function_at, bodies_at, functions_at};
 
 use crate::body::expression;
-use crate::fault::DecodeFault;
+use crate::fault::{DecodeFault, DecodeRule};
 use crate::reader::Reader;
 use crate::types::val_type;
 use std::alloc::{AllocError, Global};
@@ -25,7 +25,7 @@ pub fn code(
     let place = reader.place();
     let count = reader.u32()? as usize;
     if count != type_numbers.len() {
-        return Err(DecodeFault::CountMismatch(place));
+        return Err(DecodeFault::Refused(DecodeRule::CountMismatch, place));
     }
     let functions = bodies(alloc, reader, types, type_numbers)?;
     Ok(Sequence::from(functions))
@@ -116,7 +116,7 @@ fn groups(
         let place = reader.place();
         let len = reader.u32()?;
         if len > room {
-            return Err(DecodeFault::OverLimit(place));
+            return Err(DecodeFault::Refused(DecodeRule::OverLimit, place));
         }
         let local = val_type(reader)?;
         push_copies(&mut locals, len, local)?;

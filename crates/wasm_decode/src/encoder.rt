@@ -8,8 +8,6 @@ mod laws;
 mod modules;
 mod opcodes;
 mod parts;
-#[cfg(test)]
-mod tests;
 mod types;
 
 pub use fault::EncodeFault;

@@ -3,7 +3,7 @@
 ghost use Rattle.wasm_decode.specs.Reading.{Gives};
 ghost use Rattle.wasm_decode.specs.ReadingModule.{export_at, export_description_at};
 
-use crate::fault::DecodeFault;
+use crate::fault::{DecodeFault, DecodeRule};
 use crate::item::Item;
 use crate::names::name;
 use crate::reader::Reader;
@@ -30,7 +30,7 @@ fn export_description(reader: &mut Reader) -> Result<ExportDescription, DecodeFa
     let place = reader.place();
     let kind = reader.byte()?;
     if kind > 0x03 {
-        return Err(DecodeFault::BadByte(place));
+        return Err(DecodeFault::Refused(DecodeRule::BadByte, place));
     }
     let number = reader.u32()?;
     Ok(match kind {

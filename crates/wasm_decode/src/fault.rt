@@ -1,53 +1,93 @@
 //! Why bytes are no module.
 
-ghost use Rattle.std.specs.Prelude.{◌≡◌};
+ghost use Rattle.std.specs.Prelude.{◌≡◌, Some};
 ghost use Rattle.wasm_decode.specs.declared.fault.DecodeFault.TheVariants.{OutOfMemory};
+ghost use Rattle.wasm_decode.specs.Faults.{fault_text, rule_word};
 
 use std::alloc::{AllocError, AllocFailed};
-use thiserror::Error;
+use std::error::Error;
+use std::fmt;
 
-/// Why bytes are no module, with the place of the fault in the bytes, from 0. Faults are met from left to right.
-#[derive(Clone, Copy, Debug, PartialEq, Eq, Error)]
-pub enum DecodeFault {
+/// A rule that bytes break. The place in the bytes, from 0, is told beside it.
+#[derive(Clone, Copy)]
+pub enum DecodeRule {
     /// The bytes do not begin with `00 61 73 6D`; the place is 0.
-    #[error("no module begins here, at byte {0}")]
-    Magic(usize),
+    Magic,
     /// The four bytes after those are not version 1; the place is 4.
-    #[error("the version is not 1, at byte {0}")]
-    Version(usize),
+    Version,
     /// The bytes end within the module; the place is their end.
-    #[error("the bytes end at byte {0}, within the module")]
-    Truncated(usize),
+    Truncated,
     /// A number is not spelled as its width allows (Core 1.0, 5.2.2); the place is its first byte.
-    #[error("a number is misspelled at byte {0}")]
-    Leb(usize),
+    Leb,
     /// A section stands twice, or behind one that has to follow it; the place is its number.
-    #[error("a section is out of order at byte {0}")]
-    SectionOrder(usize),
+    SectionOrder,
     /// A section or a body is longer than its size says, with its end as the place, or shorter, with the first byte
     /// that is left over.
-    #[error("a size is wrong at byte {0}")]
-    SectionSize(usize),
+    SectionSize,
     /// A byte stands where the format has no such byte; the place is that byte.
-    #[error("no such byte can stand at byte {0}")]
-    BadByte(usize),
+    BadByte,
     /// A name is not in UTF-8; the place is the first byte of its text.
-    #[error("a name is not in UTF-8 at byte {0}")]
-    Utf8(usize),
+    Utf8,
     /// There are not as many bodies as functions; the place is the number of bodies, or the end of the file where there
     /// is no code section.
-    #[error("the numbers of functions and of bodies differ at byte {0}")]
-    CountMismatch(usize),
+    CountMismatch,
     /// The format knows this byte, and this decoder does not read what it stands for.
-    #[error("unsupported at byte {0}")]
-    Unsupported(usize),
+    Unsupported,
     /// A number is above its limit, with its first byte as the place, or the file is too long, with the limit.
-    #[error("a limit is passed at byte {0}")]
-    OverLimit(usize),
+    OverLimit,
+}
+
+impl DecodeRule {
+    // The rule's name.
+    fn word(self) -> &'static str
+        ensures { result.now ≡ rule_word self }
+    {
+        match self {
+            DecodeRule::Magic => "Magic",
+            DecodeRule::Version => "Version",
+            DecodeRule::Truncated => "Truncated",
+            DecodeRule::Leb => "Leb",
+            DecodeRule::SectionOrder => "SectionOrder",
+            DecodeRule::SectionSize => "SectionSize",
+            DecodeRule::BadByte => "BadByte",
+            DecodeRule::Utf8 => "Utf8",
+            DecodeRule::CountMismatch => "CountMismatch",
+            DecodeRule::Unsupported => "Unsupported",
+            DecodeRule::OverLimit => "OverLimit",
+        }
+    }
+}
+
+/// Why bytes are no module. Faults are met from left to right. It is shown as the rule's word and the place.
+#[derive(Clone, Copy)]
+pub enum DecodeFault {
+    /// The bytes break the rule at this place.
+    Refused(DecodeRule, usize),
     /// Memory ran out.
-    #[error("out of memory")]
     OutOfMemory,
 }
+
+impl fmt::Display for DecodeFault {
+    ghost output = { λ fault. Some (fault_text fault) };
+
+    fn fmt<W: fmt::Write>(&self, f: &mut fmt::Formatter<W>) -> fmt::Result {
+        match self {
+            DecodeFault::Refused(rule, place) => {
+                let word = rule.word();
+                write!(f, "{word} {place}")
+            }
+            DecodeFault::OutOfMemory => f.write_str("OutOfMemory -"),
+        }
+    }
+}
+
+impl fmt::Debug for DecodeFault {
+    fn fmt<W: fmt::Write>(&self, f: &mut fmt::Formatter<W>) -> fmt::Result {
+        write!(f, "{self}")
+    }
+}
+
+impl Error for DecodeFault {}
 
 impl From<AllocError> for DecodeFault {
     ghost from_gives = { λ _ fault. fault ≡ OutOfMemory };

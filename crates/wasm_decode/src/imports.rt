@@ -5,7 +5,7 @@ ghost use Rattle.wasm_ast.specs.Limits.{imported_functions as functions_of};
 ghost use Rattle.wasm_decode.specs.Reading.{Gives};
 ghost use Rattle.wasm_decode.specs.ReadingModule.{import_of, import_at, imports_at, import_description_at};
 
-use crate::fault::DecodeFault;
+use crate::fault::{DecodeFault, DecodeRule};
 use crate::item::{Item, vector};
 use crate::names::name;
 use crate::reader::Reader;
@@ -21,7 +21,7 @@ pub fn imports(alloc: Global, reader: &mut Reader) -> Result<Sequence<Import>, D
     let place = reader.place();
     let imports = vector::<Import>(alloc, reader, u32::MAX)?;
     if imported_functions(imports.as_slice()) > MAX_FUNCTIONS as usize {
-        return Err(DecodeFault::OverLimit(place));
+        return Err(DecodeFault::Refused(DecodeRule::OverLimit, place));
     }
     Ok(imports)
 }
@@ -85,6 +85,6 @@ fn import_of(reader: &mut Reader, kind: u8, place: usize) -> Result<ImportDescri
             let global = global_type(reader)?;
             Ok(ImportDescription::Global(global))
         }
-        _ => Err(DecodeFault::BadByte(place)),
+        _ => Err(DecodeFault::Refused(DecodeRule::BadByte, place)),
     }
 }

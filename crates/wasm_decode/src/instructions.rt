@@ -2,9 +2,9 @@
 
 ghost use Rattle.std.specs.Prelude.{◌≡◌};
 ghost use Rattle.wasm_decode.specs.Reading.{Gives, IsRefusal};
-ghost use Rattle.wasm_decode.specs.ReadingCode.{plain_at, variable_of, variable_at, branch_at, flat_at};
+ghost use Rattle.wasm_decode.specs.ReadingCode.{plain_at, i32_at, i64_at, variable_of, variable_at, branch_at, br_table_at, call_at, call_indirect_at, flat_at};
 
-use crate::fault::DecodeFault;
+use crate::fault::{DecodeFault, DecodeRule};
 use crate::item::vector;
 use crate::memory::{after_zero, memory};
 use crate::numeric::numeric;
@@ -13,7 +13,7 @@ use std::alloc::Global;
 use wasm_ast::{Branch, Instr, MAX_LABELS, Plain, Value, Variable};
 
 /// What follows the opcode of an instruction that holds no others; the opcode stands at `place`.
-#[tactic(auto, unfolding(crate::specs::ReadingCode::flat_at, crate::specs::ReadingCode::call_at, crate::specs::ReadingCode::call_indirect_at))]
+#[tactic(auto, unfolding(crate::specs::ReadingCode::flat_at))]
 pub fn flat(
     alloc: Global,
     reader: &mut Reader,
@@ -28,14 +28,8 @@ pub fn flat(
             let branch = branch(alloc, reader, opcode)?;
             Ok(Instr::Branch(branch))
         }
-        0x10 => {
-            let function = reader.u32()?;
-            Ok(Instr::Call(function))
-        }
-        0x11 => {
-            let type_number = reader.u32()?;
-            after_zero(reader, Instr::CallIndirect(type_number))
-        }
+        0x10 => call(reader),
+        0x11 => call_indirect(reader),
         _ => {
             let plain = plain(reader, opcode, place)?;
             Ok(Instr::Plain(plain))
@@ -43,8 +37,24 @@ pub fn flat(
     }
 }
 
+#[tactic(auto, unfolding(crate::specs::ReadingCode::call_at))]
+fn call(reader: &mut Reader) -> Result<Instr, DecodeFault>
+    ensures { Gives (λ instr. (instr, reader.new)) result (call_at reader.old) }
+{
+    let function = reader.u32()?;
+    Ok(Instr::Call(function))
+}
+
+#[tactic(auto, unfolding(crate::specs::ReadingCode::call_indirect_at))]
+fn call_indirect(reader: &mut Reader) -> Result<Instr, DecodeFault>
+    ensures { Gives (λ instr. (instr, reader.new)) result (call_indirect_at reader.old) }
+{
+    let type_number = reader.u32()?;
+    after_zero(reader, Instr::CallIndirect(type_number))
+}
+
 // What follows an opcode from 0C to 0F.
-#[tactic(auto, unfolding(crate::specs::ReadingCode::branch_at, crate::specs::ReadingCode::br_at, crate::specs::ReadingCode::br_if_at, crate::specs::ReadingCode::br_table_at))]
+#[tactic(auto, unfolding(crate::specs::ReadingCode::branch_at, crate::specs::ReadingCode::br_at, crate::specs::ReadingCode::br_if_at))]
 fn branch(alloc: Global, reader: &mut Reader, opcode: u8) -> Result<Branch, DecodeFault>
     ensures { Gives (λ branch. (branch, reader.new)) result (branch_at opcode reader.old) }
 {
@@ -57,17 +67,22 @@ fn branch(alloc: Global, reader: &mut Reader, opcode: u8) -> Result<Branch, Deco
             let label = reader.u32()?;
             Ok(Branch::BrIf(label))
         }
-        0x0E => {
-            let labels = vector::<u32>(alloc, reader, MAX_LABELS)?;
-            let default = reader.u32()?;
-            Ok(Branch::BrTable(labels, default))
-        }
+        0x0E => branch_table(alloc, reader),
         _ => Ok(Branch::Return),
     }
 }
 
+#[tactic(auto, unfolding(crate::specs::ReadingCode::br_table_at))]
+fn branch_table(alloc: Global, reader: &mut Reader) -> Result<Branch, DecodeFault>
+    ensures { Gives (λ branch. (branch, reader.new)) result (br_table_at reader.old) }
+{
+    let labels = vector::<u32>(alloc, reader, MAX_LABELS)?;
+    let default = reader.u32()?;
+    Ok(Branch::BrTable(labels, default))
+}
+
 // What follows the opcode of an instruction that neither branches nor calls.
-#[tactic(auto, unfolding(crate::specs::ReadingCode::plain_at, crate::specs::ReadingCode::i32_at, crate::specs::ReadingCode::i64_at, crate::specs::ReadingCode::numeric_at))]
+#[tactic(auto, unfolding(crate::specs::ReadingCode::plain_at, crate::specs::ReadingCode::numeric_at))]
 fn plain(reader: &mut Reader, opcode: u8, place: usize) -> Result<Plain, DecodeFault>
     ensures { Gives (λ plain. (plain, reader.new)) result (plain_at opcode reader.old) }
 {
@@ -80,19 +95,29 @@ fn plain(reader: &mut Reader, opcode: u8, place: usize) -> Result<Plain, DecodeF
             let operation = memory(reader, opcode, place)?;
             Ok(Plain::Memory(operation))
         }
-        0x41 => {
-            let number = reader.s32()?;
-            Ok(Plain::Const(Value::I32(number.cast_unsigned())))
-        }
-        0x42 => {
-            let number = reader.s64()?;
-            Ok(Plain::Const(Value::I64(number.cast_unsigned())))
-        }
+        0x41 => i32_constant(reader),
+        0x42 => i64_constant(reader),
         _ => match numeric(opcode) {
             Some(operation) => Ok(Plain::Numeric(operation)),
             None => Err(no_instruction(opcode, place)),
         },
     }
+}
+
+#[tactic(auto, unfolding(crate::specs::ReadingCode::i32_at))]
+fn i32_constant(reader: &mut Reader) -> Result<Plain, DecodeFault>
+    ensures { Gives (λ plain. (plain, reader.new)) result (i32_at reader.old) }
+{
+    let number = reader.s32()?;
+    Ok(Plain::Const(Value::I32(number.cast_unsigned())))
+}
+
+#[tactic(auto, unfolding(crate::specs::ReadingCode::i64_at))]
+fn i64_constant(reader: &mut Reader) -> Result<Plain, DecodeFault>
+    ensures { Gives (λ plain. (plain, reader.new)) result (i64_at reader.old) }
+{
+    let number = reader.s64()?;
+    Ok(Plain::Const(Value::I64(number.cast_unsigned())))
 }
 
 // What follows an opcode from 20 to 24.
@@ -121,8 +146,11 @@ fn no_instruction(opcode: u8, place: usize) -> DecodeFault
     ensures { IsRefusal result }
 {
     match opcode {
-        0x43 | 0x44 | 0x5B..=0x66 => DecodeFault::Unsupported(place),
-        0x8B..=0xA6 | 0xA8..=0xAB | 0xAE..=0xBF => DecodeFault::Unsupported(place),
-        _ => DecodeFault::BadByte(place),
+        0x43 | 0x44 | 0x5B..=0x66 => DecodeFault::Refused(DecodeRule::Unsupported, place),
+        0x8B..=0xA6 | 0xA8..=0xAB | 0xAE..=0xBF => DecodeFault::Refused(
+            DecodeRule::Unsupported,
+            place,
+        ),
+        _ => DecodeFault::Refused(DecodeRule::BadByte, place),
     }
 }

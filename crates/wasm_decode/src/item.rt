@@ -3,7 +3,7 @@
 ghost use Rattle.std.specs.Prelude.{◌≡◌, List, ℕ, Option};
 ghost use Rattle.wasm_decode.specs.Reading.{Gives, vector_at, items_at, u32_at};
 
-use crate::fault::DecodeFault;
+use crate::fault::{DecodeFault, DecodeRule};
 use crate::reader::Reader;
 use std::alloc::Global;
 use wasm_ast::Sequence;
@@ -43,7 +43,7 @@ where
     let place = reader.place();
     let count = reader.u32()?;
     if count > most {
-        return Err(DecodeFault::OverLimit(place));
+        return Err(DecodeFault::Refused(DecodeRule::OverLimit, place));
     }
     let all = items::<T>(alloc, reader, count)?;
     Ok(Sequence::from(all))

@@ -20,9 +20,6 @@ mod segments;
 mod types;
 
 pub use encoder::{EncodeFault, canonical_is_shortest, canonical_spells_its_module, encode};
-pub use fault::DecodeFault;
+pub use fault::{DecodeFault, DecodeRule};
 pub use laws::spells_one_module;
 pub use modules::decode;
-
-#[cfg(test)]
-mod tests;

@@ -4,7 +4,7 @@ ghost use Rattle.std.specs.Prelude.{◌≡◌, ◌-◌, ◌≤◌};
 ghost use Rattle.wasm_decode.specs.Reading.{Gives};
 ghost use Rattle.wasm_decode.specs.ReadingCode.{memory_argument_at, load_of, store_of, load_at, store_at, memory_at, after_zero};
 
-use crate::fault::DecodeFault;
+use crate::fault::{DecodeFault, DecodeRule};
 use crate::reader::Reader;
 use wasm_ast::{Load, MAX_ALIGN, Memory, MemoryArgument, Store};
 
@@ -28,7 +28,7 @@ fn load(reader: &mut Reader, opcode: u8, place: usize) -> Result<Memory, DecodeF
     ensures { Gives (λ op. (op, reader.new)) result (load_at opcode reader.old) }
 {
     let Some(load) = load_at(opcode - 0x28) else {
-        return Err(DecodeFault::Unsupported(place));
+        return Err(DecodeFault::Refused(DecodeRule::Unsupported, place));
     };
     let argument = memory_argument(reader)?;
     Ok(Memory::Load(load, argument))
@@ -40,7 +40,7 @@ fn store(reader: &mut Reader, opcode: u8, place: usize) -> Result<Memory, Decode
     ensures { Gives (λ op. (op, reader.new)) result (store_at opcode reader.old) }
 {
     let Some(store) = store_at(opcode - 0x36) else {
-        return Err(DecodeFault::Unsupported(place));
+        return Err(DecodeFault::Refused(DecodeRule::Unsupported, place));
     };
     let argument = memory_argument(reader)?;
     Ok(Memory::Store(store, argument))
@@ -90,7 +90,7 @@ fn memory_argument(reader: &mut Reader) -> Result<MemoryArgument, DecodeFault>
     let place = reader.place();
     let align = reader.u32()?;
     if align > MAX_ALIGN {
-        return Err(DecodeFault::OverLimit(place));
+        return Err(DecodeFault::Refused(DecodeRule::OverLimit, place));
     }
     let offset = reader.u32()?;
     Ok(MemoryArgument { align, offset })
@@ -103,7 +103,7 @@ pub fn after_zero<T: Drop>(reader: &mut Reader, whole: T) -> Result<T, DecodeFau
 {
     let place = reader.place();
     if reader.byte()? != 0x00 {
-        return Err(DecodeFault::BadByte(place));
+        return Err(DecodeFault::Refused(DecodeRule::BadByte, place));
     }
     Ok(whole)
 }

@@ -4,9 +4,9 @@ ghost use Rattle.std.specs.Prelude.{IfOk};
 ghost use Rattle.wasm_ast.specs.declared.module.Module.{Module as AnyModule};
 ghost use Rattle.wasm_decode.specs.Grammar.{Spells};
 ghost use Rattle.wasm_decode.specs.Reading.{Gives, IsRefusal, found};
-ghost use Rattle.wasm_decode.specs.ReadingModule.{types_at, numbers_at, spaces_at, exports_at, contents_at, remaining_at, sections_at, after_bytes, module_at};
+ghost use Rattle.wasm_decode.specs.ReadingModule.{types_at, numbers_at, spaces_at, exports_at, contents_at, remaining_at, filled_at, sections_at, after_bytes, module_at};
 
-use crate::fault::DecodeFault;
+use crate::fault::{DecodeFault, DecodeRule};
 use crate::imports::imported_functions;
 use crate::reader::Reader;
 use crate::sections::{
@@ -46,15 +46,24 @@ fn module(alloc: Global, bytes: &[u8]) -> Result<Module, DecodeFault>
     ensures exact { Gives (λ m. m) result (module_at bytes.now) }
 {
     if bytes.len() > MAX_MODULE_BYTES {
-        return Err(DecodeFault::OverLimit(MAX_MODULE_BYTES));
+        return Err(DecodeFault::Refused(DecodeRule::OverLimit, MAX_MODULE_BYTES));
     }
     let mut reader = Reader::new(bytes);
-    expect(&mut reader, &MAGIC, DecodeFault::Magic(0))?;
-    expect(&mut reader, &VERSION, DecodeFault::Version(4))?;
+    expect(
+        &mut reader,
+        &MAGIC,
+        DecodeFault::Refused(DecodeRule::Magic, 0),
+    )?;
+    expect(
+        &mut reader,
+        &VERSION,
+        DecodeFault::Refused(DecodeRule::Version, 4),
+    )?;
     sections(alloc, &mut reader)
 }
 
 // Reads these bytes; another byte in their place is the given fault.
+#[tactic(auto, unfolding(crate::specs::ReadingModule::after_bytes))]
 fn expect(reader: &mut Reader, wanted: &[u8], fault: DecodeFault) -> Result<(), DecodeFault>
     requires { IsRefusal fault }
     ensures { Gives (λ _. reader.new) result (after_bytes wanted.now reader.old) }
@@ -71,12 +80,21 @@ fn expect(reader: &mut Reader, wanted: &[u8], fault: DecodeFault) -> Result<(), 
 fn sections(alloc: Global, reader: &mut Reader) -> Result<Module, DecodeFault>
     ensures { Gives (λ m. m) result (sections_at reader.old) }
 {
-    skip_customs(reader)?;
     let mut module = Module::empty(alloc);
-    types_and_imports(alloc, reader, &mut module)?;
+    fill(alloc, reader, &mut module)?;
+    Ok(module)
+}
+
+// Reads all sections into a module, in place of what it has.
+#[tactic(auto, unfolding(crate::specs::ReadingModule::filled_at))]
+fn fill(alloc: Global, reader: &mut Reader, module: &mut Module) -> Result<(), DecodeFault>
+    ensures { Gives (λ _. «module».new) result (filled_at «module».old reader.old) }
+{
+    skip_customs(reader)?;
+    types_and_imports(alloc, reader, module)?;
     let imported = imported_functions(module.imports.as_slice());
     let type_numbers = type_numbers(alloc, reader, imported)?;
-    remaining(alloc, reader, type_numbers, module)
+    remaining(alloc, reader, &type_numbers, module)
 }
 
 // The sections behind the type numbers of functions, to the end of the file.
@@ -84,16 +102,16 @@ fn sections(alloc: Global, reader: &mut Reader) -> Result<Module, DecodeFault>
 fn remaining(
     alloc: Global,
     reader: &mut Reader,
-    type_numbers: Sequence<u32>,
-    mut module: Module,
-) -> Result<Module, DecodeFault>
-    ensures { Gives (λ m. m) result (remaining_at type_numbers «module» reader.old) }
+    type_numbers: &Sequence<u32>,
+    module: &mut Module,
+) -> Result<(), DecodeFault>
+    ensures { Gives (λ _. «module».new) result (remaining_at type_numbers.now «module».old reader.old) }
 {
-    spaces(alloc, reader, &mut module)?;
-    exports(alloc, reader, &mut module)?;
-    contents(alloc, reader, &type_numbers, &mut module)?;
+    spaces(alloc, reader, module)?;
+    exports(alloc, reader, module)?;
+    contents(alloc, reader, type_numbers, module)?;
     end_of_sections(reader)?;
-    Ok(module)
+    Ok(())
 }
 
 #[tactic(auto, unfolding(crate::specs::ReadingModule::types_at))]

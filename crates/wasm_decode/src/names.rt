@@ -2,7 +2,7 @@
 
 ghost use Rattle.wasm_decode.specs.Reading.{Gives, name_at};
 
-use crate::fault::DecodeFault;
+use crate::fault::{DecodeFault, DecodeRule};
 use crate::reader::Reader;
 use std::alloc::Global;
 use std::str;
@@ -18,7 +18,7 @@ pub fn text<'a>(reader: &mut Reader<'a>) -> Result<&'a str, DecodeFault>
     let bytes = reader.take(len)?;
     match str::from_utf8(bytes) {
         Ok(text) => Ok(text),
-        Err(_) => Err(DecodeFault::Utf8(place)),
+        Err(_) => Err(DecodeFault::Refused(DecodeRule::Utf8, place)),
     }
 }
 

@@ -3,7 +3,7 @@
 ghost use Rattle.std.specs.Prelude.{◌≡◌, ◌≤◌, ◌<◌, drop, length, slice_get, true, false, OnOk, IfErr};
 ghost use Rattle.wasm_decode.specs.Reading.{Gives, IsRefusal, byte_at, u32_at, signed_number_at, take_at, part_at, is_empty};
 
-use crate::fault::DecodeFault;
+use crate::fault::{DecodeFault, DecodeRule};
 use leb::{LebFault, read_s32, read_s64, read_u32};
 use std::marker::Model;
 
@@ -58,8 +58,8 @@ impl<'a> Reader<'a> {
         ensures { IsRefusal result }
     {
         match self.end {
-            End::File => DecodeFault::Truncated(self.bytes.len()),
-            End::Part => DecodeFault::SectionSize(self.bytes.len()),
+            End::File => DecodeFault::Refused(DecodeRule::Truncated, self.bytes.len()),
+            End::Part => DecodeFault::Refused(DecodeRule::SectionSize, self.bytes.len()),
         }
     }
 
@@ -83,7 +83,10 @@ impl<'a> Reader<'a> {
     {
         match fault {
             LebFault::Truncated => self.past_end(),
-            LebFault::TooLong | LebFault::UnusedBits => DecodeFault::Leb(self.at),
+            LebFault::TooLong | LebFault::UnusedBits => DecodeFault::Refused(
+                DecodeRule::Leb,
+                self.at,
+            ),
         }
     }
 
@@ -183,7 +186,7 @@ impl<'a> Reader<'a> {
         ensures err { IfErr result (λ fault. IsRefusal fault × (is_empty self.entry ≡ false)) }
     {
         if self.at < self.bytes.len() {
-            Err(DecodeFault::SectionSize(self.at))
+            Err(DecodeFault::Refused(DecodeRule::SectionSize, self.at))
         } else {
             Ok(())
         }

@@ -1,11 +1,11 @@
 //! Sections (Core 1.0, 5.5.2), and the custom ones between them.
 
 ghost use Rattle.std.specs.Prelude.{◌≡◌, Some, None, [], true, false, OnOk, IfErr};
-ghost use Rattle.wasm_decode.specs.Reading.{Gives, IsRefusal, guarded, vector_at, is_empty};
-ghost use Rattle.wasm_decode.specs.ReadingModule.{skip_customs as customs_skipped, custom_at, section_at, section_with, imports_at, start_at, functions_at, no_bodies, is_later as may_follow};
+ghost use Rattle.wasm_decode.specs.Reading.{Gives, IsRefusal, found, vector_at, is_empty};
+ghost use Rattle.wasm_decode.specs.ReadingModule.{skip_customs as customs_skipped, custom_at, section_at, section_with, closed as closed_behind, imports_at, start_at, functions_at, no_bodies, is_later as may_follow};
 
 use crate::code::code;
-use crate::fault::DecodeFault;
+use crate::fault::{DecodeFault, DecodeRule};
 use crate::imports::imports;
 use crate::item::{Item, vector};
 use crate::names::text;
@@ -76,8 +76,7 @@ where
         return Ok(Sequence::empty(alloc));
     };
     let items = vector::<T>(alloc, &mut inside, most)?;
-    close(inside, reader)?;
-    Ok(items)
+    closed(inside, reader, items)
 }
 
 /// The import section (Core 1.0, 5.5.5), or nothing where it is absent, and the custom sections behind it.
@@ -89,8 +88,7 @@ pub fn import_section(alloc: Global, reader: &mut Reader) -> Result<Sequence<Imp
         return Ok(Sequence::empty(alloc));
     };
     let items = imports(alloc, &mut inside)?;
-    close(inside, reader)?;
-    Ok(items)
+    closed(inside, reader, items)
 }
 
 /// The start section (Core 1.0, 5.5.11), or nothing where it is absent, and the custom sections behind it.
@@ -102,8 +100,7 @@ pub fn start_section(reader: &mut Reader) -> Result<Option<u32>, DecodeFault>
         return Ok(None);
     };
     let function = inside.u32()?;
-    close(inside, reader)?;
-    Ok(Some(function))
+    closed(inside, reader, Some(function))
 }
 
 /// The code section (Core 1.0, 5.5.13), and the custom sections behind it. It may be absent where there are no functions.
@@ -123,8 +120,7 @@ pub fn code_section(
         return Err(without_bodies(alloc, reader));
     };
     let functions = code(alloc, &mut inside, types, type_numbers)?;
-    close(inside, reader)?;
-    Ok(functions)
+    closed(inside, reader, functions)
 }
 
 // The fault of a module whose functions have no bodies: it is met at the end of the file, behind the section of data.
@@ -134,7 +130,7 @@ fn without_bodies(alloc: Global, reader: &mut Reader) -> DecodeFault {
         return fault;
     }
     match end_of_sections(reader) {
-        Ok(()) => DecodeFault::CountMismatch(reader.place()),
+        Ok(()) => DecodeFault::Refused(DecodeRule::CountMismatch, reader.place()),
         Err(fault) => fault,
     }
 }
@@ -150,12 +146,13 @@ pub fn end_of_sections(reader: &Reader) -> Result<(), DecodeFault>
     }
 }
 
-// Ends a section, and skips the custom sections behind it.
-fn close(inside: Reader, reader: &mut Reader) -> Result<(), DecodeFault>
-    ensures { Gives (λ _. reader.new) result (guarded (is_empty inside.entry) (customs_skipped reader.old)) }
+// Ends a section whose content was read, skips the custom sections behind it, and gives the content.
+fn closed<T: Drop>(inside: Reader, reader: &mut Reader, content: T) -> Result<T, DecodeFault>
+    ensures { Gives (λ x. (x, reader.new)) result (closed_behind (found (content, inside.entry)) reader.old) }
 {
     inside.finish()?;
-    skip_customs(reader)
+    skip_customs(reader)?;
+    Ok(content)
 }
 
 // The content of the section with this number, or `None` where it is absent: a later one comes, or nothing.
@@ -189,8 +186,8 @@ fn no_section(id: u8, place: usize) -> DecodeFault
     ensures { IsRefusal result }
 {
     match id {
-        0..=11 => DecodeFault::SectionOrder(place),
-        12 => DecodeFault::Unsupported(place),
-        _ => DecodeFault::BadByte(place),
+        0..=11 => DecodeFault::Refused(DecodeRule::SectionOrder, place),
+        12 => DecodeFault::Refused(DecodeRule::Unsupported, place),
+        _ => DecodeFault::Refused(DecodeRule::BadByte, place),
     }
 }

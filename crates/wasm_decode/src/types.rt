@@ -2,7 +2,7 @@
 
 ghost use Rattle.wasm_decode.specs.Reading.{Gives, val_type_at, block_type_at, func_type_at, at_least_at, between_at, range_at, limits_at, table_type_at, mutability_at, global_type_at};
 
-use crate::fault::DecodeFault;
+use crate::fault::{DecodeFault, DecodeRule};
 use crate::item::{Item, vector};
 use crate::reader::Reader;
 use std::alloc::Global;
@@ -31,8 +31,8 @@ pub fn val_type(reader: &mut Reader) -> Result<ValType, DecodeFault>
         0x7F => Ok(ValType::I32),
         0x7E => Ok(ValType::I64),
         // the types of floats
-        0x7C | 0x7D => Err(DecodeFault::Unsupported(place)),
-        _ => Err(DecodeFault::BadByte(place)),
+        0x7C | 0x7D => Err(DecodeFault::Refused(DecodeRule::Unsupported, place)),
+        _ => Err(DecodeFault::Refused(DecodeRule::BadByte, place)),
     }
 }
 
@@ -47,8 +47,8 @@ pub fn block_type(reader: &mut Reader) -> Result<BlockType, DecodeFault>
         0x7F => Ok(Some(ValType::I32)),
         0x7E => Ok(Some(ValType::I64)),
         // the types of floats
-        0x7C | 0x7D => Err(DecodeFault::Unsupported(place)),
-        _ => Err(DecodeFault::BadByte(place)),
+        0x7C | 0x7D => Err(DecodeFault::Refused(DecodeRule::Unsupported, place)),
+        _ => Err(DecodeFault::Refused(DecodeRule::BadByte, place)),
     }
 }
 
@@ -62,7 +62,7 @@ impl Item for FuncType {
     fn read(alloc: Global, reader: &mut Reader) -> Result<FuncType, DecodeFault> {
         let place = reader.place();
         if reader.byte()? != 0x60 {
-            return Err(DecodeFault::BadByte(place));
+            return Err(DecodeFault::Refused(DecodeRule::BadByte, place));
         }
         let parameters = vector::<ValType>(alloc, reader, MAX_PARAMETERS)?;
         let results = vector::<ValType>(alloc, reader, MAX_RESULTS)?;
@@ -106,7 +106,7 @@ pub fn limits(reader: &mut Reader) -> Result<Limits, DecodeFault>
                 maximum: Some(maximum),
             })
         }
-        _ => Err(DecodeFault::BadByte(place)),
+        _ => Err(DecodeFault::Refused(DecodeRule::BadByte, place)),
     }
 }
 
@@ -130,7 +130,7 @@ pub fn table_type(reader: &mut Reader) -> Result<Limits, DecodeFault>
 {
     let place = reader.place();
     if reader.byte()? != 0x70 {
-        return Err(DecodeFault::BadByte(place));
+        return Err(DecodeFault::Refused(DecodeRule::BadByte, place));
     }
     limits(reader)
 }
@@ -143,7 +143,7 @@ fn mutability(reader: &mut Reader) -> Result<Mutability, DecodeFault>
     match reader.byte()? {
         0x00 => Ok(Mutability::Constant),
         0x01 => Ok(Mutability::Variable),
-        _ => Err(DecodeFault::BadByte(place)),
+        _ => Err(DecodeFault::Refused(DecodeRule::BadByte, place)),
     }
 }
 

@@ -31,7 +31,7 @@ use Rattle.wat_asm.specs.Instructions.{number, type_use, variable_line, offset_p
 use Rattle.wat_asm.specs.Tokens.{sorted, number_of}
 use Rattle.wat_asm.specs.Tokens as tok
 use Rattle.wat_asm.specs.Reading.{repeated, number_first}
-use Rattle.wat_asm.specs.ReadingCode.{Inner, offset_at, exponent, exponent_from, alignment_at, memory_argument_at, constant_of, constant_at, load_at, store_at, label_step, branch_table_at, variable_at, plain_at, instr_with, stops}
+use Rattle.wat_asm.specs.ReadingCode.{Inner, offset_at, exponent, exponent_from, alignment_at, memory_argument_at, constant_of, constant_at, load_at, store_at, label_step, branch_table_at, variable_at, plain_at, instr_with, linear_with, stops}
 use Rattle.wat_asm.proofs.AgainTools.{Ends, step_again, stop_again}
 use Rattle.wat_asm.proofs.AgainTypes.{number_again, type_use_again}
 use Rattle.wat_asm.proofs.Exponents.{exponent_found, exponent_goes_on, exponent_starts}
@@ -138,7 +138,7 @@ pub record Stands (n : ℕ) (inner : Inner) (i : Instr) (ps more : List Piece) :
 
 module _ (n : ℕ) (inner : Inner) (g : Gap) where
   variable_stands : (op : Variable) (more : List Piece) → IsVariableHeld op → Stands n inner (instr.Plain (leaf.Variable op)) (variable_line g op more) more
-  unfolding instr_with plain_at variable_at
+  unfolding instr_with linear_with plain_at variable_at
   variable_stands (variable.LocalGet x) more h = record { goes_on = refl; reads = λ types. rw (number_again x (sorted more) types h) refl }
   variable_stands (variable.LocalSet x) more h = record { goes_on = refl; reads = λ types. rw (number_again x (sorted more) types h) refl }
   variable_stands (variable.LocalTee x) more h = record { goes_on = refl; reads = λ types. rw (number_again x (sorted more) types h) refl }
@@ -146,7 +146,7 @@ module _ (n : ℕ) (inner : Inner) (g : Gap) where
   variable_stands (variable.GlobalSet x) more h = record { goes_on = refl; reads = λ types. rw (number_again x (sorted more) types h) refl }
 
   pub plain_stands : (p : Plain) (more : List Piece) → IsPlainHeld p → IsPlainWithin p → Ends (sorted more) → Stands n inner (instr.Plain p) (plain_line g p more) more
-  unfolding instr_with plain_at load_at store_at constant_at
+  unfolding instr_with linear_with plain_at load_at store_at constant_at
   plain_stands leaf.Nop more h w e = record { goes_on = refl; reads = λ types. refl }
   plain_stands leaf.Drop more h w e = record { goes_on = refl; reads = λ types. refl }
   plain_stands leaf.Select more h w e = record { goes_on = refl; reads = λ types. refl }
@@ -162,7 +162,7 @@ module _ (n : ℕ) (inner : Inner) (g : Gap) where
   plain_stands (leaf.Memory memory.Grow) more h w e = record { goes_on = refl; reads = λ types. refl }
 
   pub branch_stands : (b : Branch) (more : List Piece) → max_labels < n → IsBranchHeld b → IsBranchWithin b → Ends (sorted more) → Stands n inner (instr.Branch b) (branch_line g b more) more
-  unfolding instr_with plain_at
+  unfolding instr_with linear_with plain_at
   branch_stands (jump.Br l) more lt h w e = record { goes_on = refl; reads = λ types. rw (number_again l (sorted more) types h) refl }
   branch_stands (jump.BrIf l) more lt h w e = record { goes_on = refl; reads = λ types. rw (number_again l (sorted more) types h) refl }
   branch_stands (jump.BrTable ls l) more lt h w e =
@@ -171,13 +171,13 @@ module _ (n : ℕ) (inner : Inner) (g : Gap) where
   branch_stands jump.Return more lt h w e = record { goes_on = refl; reads = λ types. refl }
 
   pub call_stands : (f : ℕ) (more : List Piece) → IsU32 f → Stands n inner (instr.Call f) (piece.says g keyword.Call ∷ piece.counts f ∷ more) more
-  unfolding instr_with plain_at
+  unfolding instr_with linear_with plain_at
   call_stands f more h = record { goes_on = refl; reads = λ types. rw (number_again f (sorted more) types h) refl }
 
   pub call_indirect_stands : (t : ℕ) (more : List Piece) → IsU32 t → Ends (sorted more) → Stands n inner (instr.CallIndirect t) (piece.says g keyword.CallIndirect ∷ type_use t more) more
-  unfolding instr_with plain_at
+  unfolding instr_with linear_with plain_at
   call_indirect_stands t more h e = record { goes_on = refl; reads = λ types. rw (type_use_again t more types h e.no_signature) refl }
 
   pub unreachable_stands : (more : List Piece) → Stands n inner instr.Unreachable (piece.says g keyword.Unreachable ∷ more) more
-  unfolding instr_with plain_at
+  unfolding instr_with linear_with plain_at
   unreachable_stands more = record { goes_on = refl; reads = λ types. refl }

@@ -21,8 +21,8 @@ use Rattle.wat_asm.specs.Pieces as piece
 use Rattle.wat_asm.specs.Layout.{type_field, import_field, function_field, table_field, memory_field, global_field, export_field, start_field, element_field, data_field, uses, pieces}
 use Rattle.wat_asm.specs.Tokens.{Tok, sorted}
 use Rattle.wat_asm.specs.Tokens as tok
-use Rattle.wat_asm.specs.Reading.{repeated, closed_at}
-use Rattle.wat_asm.specs.ReadingModule.{Making, start_at, field_at, field_first, field_step, fields_at, type_first, module_open_at, whole_at, module_at}
+use Rattle.wat_asm.specs.Reading.{repeated, opened_at, closed_at}
+use Rattle.wat_asm.specs.ReadingModule.{Making, field_at, field_first, field_step, fields_at, goes_on_with_type, module_open_at, whole_at, only_at, module_at}
 use Rattle.wat_asm.proofs.AgainTools.{unnamed_again, step_again, stop_again, items_again, each_first, all_map, all_within, total}
 use Rattle.wat_asm.proofs.AgainTypes.{number_again, types_again}
 use Rattle.wat_asm.proofs.AgainFields.{IsFunctionFine, IsGlobalFine, IsElementFine, IsDataFine, import_again, function_again, table_again, memory_again, global_again, export_again, element_again, segment_again}
@@ -134,7 +134,7 @@ start_count (Some n) = 1
 
 start_again : (n k : ℕ) (m : Module) (start : Option ℕ) (more : List Piece) → IsOptionalU32 start → start_count start ≤ k
     → repeated field_first (field_step n) k (with_starts m None, (sorted (start_field start more), m.types)) ≡ repeated field_first (field_step n) (k - start_count start) (with_starts m start, (sorted more, m.types))
-unfolding field_first field_step field_at start_at closed_at
+unfolding field_first field_step opened_at field_at closed_at
 start_again n k m None more h le =
     let same : k - 0 ≡ k = omega arith in
     rw same refl
@@ -246,20 +246,20 @@ module _ (n : ℕ) (m : Module) (fine : IsFine n m) where
       ∙ uses_again k5 more (omega arith) off
 
   -- behind the types no type stands
-  types_stop : (more : List Piece) → type_first (sorted more) ≡ Some false
-      → type_first (sorted (each import_field m.imports (each function_field m.functions (each table_field m.tables (each memory_field m.memories (each global_field m.globals (uses m more))))))) ≡ Some false
+  types_stop : (more : List Piece) → goes_on_with_type (sorted more) ≡ Some false
+      → goes_on_with_type (sorted (each import_field m.imports (each function_field m.functions (each table_field m.tables (each memory_field m.memories (each global_field m.globals (uses m more))))))) ≡ Some false
   types_stop more off =
-      each_first type_first (Some false) import_field (λ x ps. refl) m.imports _
-      (each_first type_first (Some false) function_field (λ x ps. refl) m.functions _
-      (each_first type_first (Some false) table_field (λ x ps. refl) m.tables _
-      (each_first type_first (Some false) memory_field (λ x ps. refl) m.memories _
-      (each_first type_first (Some false) global_field (λ x ps. refl) m.globals _
-      (each_first type_first (Some false) export_field (λ x ps. refl) m.exports _
+      each_first goes_on_with_type (Some false) import_field (λ x ps. refl) m.imports _
+      (each_first goes_on_with_type (Some false) function_field (λ x ps. refl) m.functions _
+      (each_first goes_on_with_type (Some false) table_field (λ x ps. refl) m.tables _
+      (each_first goes_on_with_type (Some false) memory_field (λ x ps. refl) m.memories _
+      (each_first goes_on_with_type (Some false) global_field (λ x ps. refl) m.globals _
+      (each_first goes_on_with_type (Some false) export_field (λ x ps. refl) m.exports _
       (start_stops m.start _
-      (each_first type_first (Some false) element_field (λ x ps. refl) m.elements _
-      (each_first type_first (Some false) data_field (λ x ps. refl) m.data _ off))))))))
+      (each_first goes_on_with_type (Some false) element_field (λ x ps. refl) m.elements _
+      (each_first goes_on_with_type (Some false) data_field (λ x ps. refl) m.data _ off))))))))
     where
-      start_stops : (s : Option ℕ) (ps : List Piece) → type_first (sorted ps) ≡ Some false → type_first (sorted (start_field s ps)) ≡ Some false
+      start_stops : (s : Option ℕ) (ps : List Piece) → goes_on_with_type (sorted ps) ≡ Some false → goes_on_with_type (sorted (start_field s ps)) ≡ Some false
       start_stops None ps e = e
       start_stops (Some x) ps e = refl
 
@@ -272,7 +272,7 @@ module _ (n : ℕ) (m : Module) (fine : IsFine n m) where
 
 -- what is printed of a module is read as that module, where a repetition may take as many steps as it has
 pub module_again : (m : Module) → IsRepresentable m → IsWithinLimits m → (n : ℕ) → steps_of m ≤ n → module_at n (sorted (pieces m [])) ≡ Some m
-unfolding module_at
+unfolding module_at only_at
 module_again m h w n le = rw (whole_again n m (is_fine m n h w le)) refl
 
 -- what follows the reader of these tokens answers that module, unless there was no memory

@@ -19,8 +19,8 @@ use Rattle.wat_asm.specs.Instructions.{type_use, type_word, number}
 use Rattle.wat_asm.specs.Layout.{type_group, maximum_part, limits, value_type, global_type, type_field}
 use Rattle.wat_asm.specs.Tokens.{Tok, sorted}
 use Rattle.wat_asm.specs.Tokens as tok
-use Rattle.wat_asm.specs.Reading.{State, repeated, item_step, closed_at, unnamed_at, number_at, number_first, text_at, name_at, val_type_at, val_type_first, val_types_at, maximum_at, limits_at, mut_type_at, global_type_at, group_at, param_first, result_first, local_first, nameless_at, param_group_at, result_group_at, local_group_at, params_at, results_at, locals_at, signature_at, signature_first, func_at, defined_type_at, type_use_at}
-use Rattle.wat_asm.specs.ReadingModule.{type_first, type_step, types_at}
+use Rattle.wat_asm.specs.Reading.{State, repeated, item_step, closed_at, unnamed_at, number_at, number_first, text_at, name_at, val_type_at, val_type_first, val_types_at, maximum_at, limits_at, mut_type_at, global_type_at, group_at, param_first, result_first, local_first, nameless_at, group_step, groups_at, signature_at, signature_first, func_at, defined_type_at, named_use_at, type_use_at}
+use Rattle.wat_asm.specs.ReadingModule.{goes_on_with_type, type_step, types_at}
 use Rattle.wat_asm.proofs.AgainTools.{unnamed_again, Ends, step_again, stop_again, each_again, all_of}
 
 -- ---- numbers and names
@@ -82,37 +82,28 @@ group_again : (ts : List ValType) (n : ℕ) (more : List Piece) (types : List Fu
 unfolding group_at closed_at val_type_first
 group_again ts n more types lt = rw (val_types_again ts n (piece.closes ∷ more) types lt refl) refl
 
--- a reader of groups that begin with this keyword
-record IsGroup (k : Keyword) (first : List Tok → Option Bool) (group : ℕ → List ValType × State → Option (List ValType × State)) : Type 0 where
-  begins : (ts : List Tok) → first (tok.opens ∷ tok.key k ∷ ts) ≡ Some true
-  reads : (n : ℕ) (ps : List Piece) (types : List FuncType) → group n ([], (tok.opens ∷ tok.key k ∷ sorted ps, types)) ≡ group_at n ([], (sorted ps, types))
+-- what tells whether a group stands in front that begins with this keyword
+abbrev Begins : Keyword → (List Tok → Option Bool) → Type 0
+Begins k first = (ts : List Tok) → first (tok.opens ∷ tok.key k ∷ ts) ≡ Some true
 
-params_group : IsGroup keyword.Param param_first param_group_at
-unfolding param_group_at nameless_at
-params_group = record { begins = λ ts. refl; reads = λ n ps types. rw (unnamed_again ps types) refl }
+group_step_again : (k : Keyword) (n : ℕ) (ps : List Piece) (types : List FuncType) → group_step n ([], (tok.opens ∷ tok.key k ∷ sorted ps, types)) ≡ group_at n ([], (sorted ps, types))
+unfolding group_step nameless_at
+group_step_again k n ps types = rw (unnamed_again ps types) refl
 
-results_group : IsGroup keyword.Result result_first result_group_at
-unfolding result_group_at
-results_group = record { begins = λ ts. refl; reads = λ n ps types. refl }
-
-locals_group : IsGroup keyword.Local local_first local_group_at
-unfolding local_group_at nameless_at
-locals_group = record { begins = λ ts. refl; reads = λ n ps types. rw (unnamed_again ps types) refl }
-
-groups_again : (k : Keyword) (first : List Tok → Option Bool) (group : ℕ → List ValType × State → Option (List ValType × State)) → IsGroup k first group
+groups_again : (k : Keyword) (first : List Tok → Option Bool) → Begins k first
     → (ts : List ValType) (n m : ℕ) (more : List Piece) (types : List FuncType) → length ts < n → length ts < m → first (sorted more) ≡ Some false
-    → repeated first (group n) m ([], (sorted (type_group k ts more), types)) ≡ Some (ts, (sorted more, types))
-groups_again k first group g [] n m more types lt le off = stop_again first (group n) m ([], (sorted more, types)) (omega arith) off
-groups_again k first group g (t ∷ ts) n m more types lt le off =
+    → repeated first (group_step n) m ([], (sorted (type_group k ts more), types)) ≡ Some (ts, (sorted more, types))
+groups_again k first begins [] n m more types lt le off = stop_again first (group_step n) m ([], (sorted more, types)) (omega arith) off
+groups_again k first begins (t ∷ ts) n m more types lt le off =
     let inside : List Piece = each type_word (t ∷ ts) (piece.closes ∷ more) in
-    step_again first (group n) m ([], (tok.opens ∷ tok.key k ∷ sorted inside, types)) (t ∷ ts, (sorted more, types)) (omega arith)
-    (g.begins (sorted inside)) (g.reads n inside types ∙ group_again (t ∷ ts) n more types lt)
-    ∙ stop_again first (group n) (m - 1) (t ∷ ts, (sorted more, types)) (omega arith) off
+    step_again first (group_step n) m ([], (tok.opens ∷ tok.key k ∷ sorted inside, types)) (t ∷ ts, (sorted more, types)) (omega arith)
+    (begins (sorted inside)) (group_step_again k n inside types ∙ group_again (t ∷ ts) n more types lt)
+    ∙ stop_again first (group_step n) (m - 1) (t ∷ ts, (sorted more, types)) (omega arith) off
 
 pub locals_again : (ts : List ValType) (n : ℕ) (more : List Piece) (types : List FuncType) → length ts < n → local_first (sorted more) ≡ Some false
-    → locals_at n ([], (sorted (type_group keyword.Local ts more), types)) ≡ Some (ts, (sorted more, types))
-unfolding locals_at
-locals_again ts n more types lt off = groups_again keyword.Local local_first local_group_at locals_group ts n n more types lt lt off
+    → groups_at local_first n ([], (sorted (type_group keyword.Local ts more), types)) ≡ Some (ts, (sorted more, types))
+unfolding groups_at
+locals_again ts n more types lt off = groups_again keyword.Local local_first (λ ts. refl) ts n n more types lt lt off
 
 -- ---- the types that a module defines
 
@@ -122,12 +113,12 @@ no_params (t ∷ ts) more off = refl
 
 signature_again : (t : FuncType) (n : ℕ) (more : List Piece) (types : List FuncType) → length t.parameters < n → length t.results < n
     → signature_at n (sorted (type_group keyword.Param t.parameters (type_group keyword.Result t.results (piece.closes ∷ more))), types) ≡ Some (t, (tok.closes ∷ sorted more, types))
-unfolding signature_at params_at results_at
+unfolding signature_at groups_at
 signature_again t n more types lt le =
     let after : List Piece = type_group keyword.Result t.results (piece.closes ∷ more) in
     rw (
-      groups_again keyword.Param param_first param_group_at params_group t.parameters n n after types lt lt (no_params t.results (piece.closes ∷ more) refl),
-      groups_again keyword.Result result_first result_group_at results_group t.results n n (piece.closes ∷ more) types le le refl,
+      groups_again keyword.Param param_first (λ ts. refl) t.parameters n n after types lt lt (no_params t.results (piece.closes ∷ more) refl),
+      groups_again keyword.Result result_first (λ ts. refl) t.results n n (piece.closes ∷ more) types le le refl,
     ) refl
 
 defined_type_again : (t : FuncType) (n : ℕ) (more : List Piece) (types : List FuncType) → length t.parameters < n → length t.results < n
@@ -136,10 +127,10 @@ unfolding type_step defined_type_at unnamed_at func_at closed_at
 defined_type_again t n more types lt le = rw (signature_again t n (piece.closes ∷ more) types lt le) refl
 
 pub types_again : (ts : List FuncType) (n : ℕ) (more : List Piece) → AllByRecursion (λ (t : FuncType). (length t.parameters < n) × (length t.results < n)) ts → length ts < n
-    → type_first (sorted more) ≡ Some false → types_at n (sorted (each type_field ts more), []) ≡ Some (sorted more, ts)
+    → goes_on_with_type (sorted more) ≡ Some false → types_at n (sorted (each type_field ts more), []) ≡ Some (sorted more, ts)
 unfolding types_at
 types_again ts n more all lt off =
-    rw (each_again type_first (type_step n) type_field (λ (t : FuncType). (length t.parameters < n) × (length t.results < n)) (λ front ps. (tt, (sorted ps, front)))
+    rw (each_again goes_on_with_type (type_step n) type_field (λ (t : FuncType). (length t.parameters < n) × (length t.results < n)) (λ front ps. (tt, (sorted ps, front)))
     (λ front x after. refl)
     (λ front x after fine. defined_type_again x n after front fine.0 fine.1)
     ts [] n more all lt off) refl
@@ -147,5 +138,5 @@ types_again ts n more all lt off =
 -- (type n), where neither parameters nor results follow
 pub type_use_again : (n : ℕ) (more : List Piece) (types : List FuncType) → IsU32 n → signature_first (sorted more) ≡ false
     → type_use_at (sorted (type_use n more), types) ≡ Some (n, (sorted more, types))
-unfolding type_use_at closed_at
+unfolding type_use_at named_use_at closed_at
 type_use_again n more types small off = rw (number_again n (tok.closes ∷ sorted more) types small, off) refl

@@ -8,6 +8,8 @@ use Rattle.wat_asm.specs.declared.keyword.Keyword.{Keyword}
 use Rattle.wat_asm.specs.declared.keyword.Keyword.TheVariants as keyword
 use Rattle.wat_asm.specs.declared.lexer.token.Token.{Token}
 use Rattle.wat_asm.specs.declared.lexer.token.Token.TheVariants as token
+use Rattle.wat_asm.specs.declared.parser.names.Kind.{Kind}
+use Rattle.wat_asm.specs.declared.parser.names.Kind.TheVariants as kind
 use Rattle.wat_asm.specs.declared.parser.names.Names.{Names}
 use Rattle.wat_asm.specs.declared.parser.names.Space.{Space}
 use Rattle.wat_asm.specs.declared.parser.names.Series.{Series}
@@ -15,6 +17,14 @@ use Rattle.wat_asm.specs.declared.parser.names.Series.{Series}
 -- the number that a name stands for, if it stands for any
 abbrev pub number_of : Space → ℕ → Option ℕ
 number_of space name = get nat_eq space.numbers name
+
+-- the names of this kind
+abbrev pub space_of : Names → Kind → Space
+space_of names kind.Type = names.types.space
+space_of names kind.Function = names.functions.space
+space_of names kind.Table = names.tables.space
+space_of names kind.Memory = names.memories.space
+space_of names kind.Global = names.globals.space
 
 -- each name stands for what it stood for
 abbrev pub AreSame : (old new : Space) → Type 0

@@ -7,7 +7,10 @@ use Rattle.wasm_ast.specs.declared.types.FuncType.{FuncType}
 use Rattle.wasm_ast.specs.declared.types.Limits.{Limits}
 use Rattle.wasm_ast.specs.declared.types.Mutability.TheVariants as mutability
 use Rattle.wasm_ast.specs.declared.types.GlobalType.{GlobalType}
+use Rattle.wat_asm.specs.declared.keyword.Keyword.{Keyword}
 use Rattle.wat_asm.specs.declared.keyword.Keyword.TheVariants as keyword
+use Rattle.wat_asm.specs.declared.parser.types.Group.{Group}
+use Rattle.wat_asm.specs.declared.parser.types.Group.TheVariants as group
 use Rattle.wat_asm.specs.declared.parser.tokens.Parser.{Parser}
 use Rattle.wat_asm.specs.Follows.{◌>>=◌}
 use Rattle.wat_asm.specs.Tokens.{Tok, opens, closes, key, number, text, other, toks_of}
@@ -39,6 +42,28 @@ item_step item x = item x.1 >>= λ y. Some (x.0 ++ y.0 ∷ [], y.1)
 unfoldable pub closed_at : State → Option State
 closed_at (closes ∷ ts, types) = Some (ts, types)
 closed_at _ = None
+
+-- the keyword behind the parenthesis in front
+abbrev pub opening : List Tok → Option Keyword
+opening (opens ∷ key k ∷ ts) = Some k
+opening _ = None
+
+-- behind the parenthesis in front and its keyword
+abbrev pub inside : State → State
+inside (t ∷ u ∷ ts, types) = (ts, types)
+inside s = s
+
+unfoldable pub opened_at : Reads Keyword
+opened_at (opens ∷ key k ∷ ts, types) = Some (k, (ts, types))
+opened_at _ = None
+
+abbrev pub is_type : Option Keyword → Bool
+is_type (Some keyword.FuncType) = true
+is_type _ = false
+
+-- whether a type stands in front, or its use by its number
+abbrev pub type_first : List Tok → Bool
+type_first ts = is_type (opening ts)
 
 unfoldable pub funcref_at : State → Option State
 funcref_at (key keyword.Funcref ∷ ts, types) = Some (ts, types)
@@ -85,10 +110,6 @@ val_type_first _ = Some false
 unfoldable pub val_types_at : ℕ → List ValType × State → Option (List ValType × State)
 val_types_at n x = repeated val_type_first (item_step val_type_at) n x
 
-unfoldable pub block_type_at : Reads (Option ValType)
-block_type_at (opens ∷ key keyword.Result ∷ ts, types) = val_type_at (ts, types) >>= λ t. closed_at t.1 >>= λ s. Some (Some t.0, s)
-block_type_at s = Some (None, s)
-
 unfoldable pub maximum_at : Reads (Option ℕ)
 maximum_at (number n ∷ ts, types) = number_at (number n ∷ ts, types) >>= λ x. Some (Some x.0, x.1)
 maximum_at (other ∷ ts, types) = None
@@ -97,14 +118,17 @@ maximum_at s = Some (None, s)
 unfoldable pub limits_at : Reads Limits
 limits_at s = number_at s >>= λ a. maximum_at a.1 >>= λ b. Some (record { minimum = a.0; maximum = b.0 }, b.1)
 
-abbrev pub mut_first : List Tok → Bool
-mut_first (opens ∷ key keyword.Mut ∷ ts) = true
-mut_first _ = false
+abbrev pub is_mut : Option Keyword → Bool
+is_mut (Some keyword.Mut) = true
+is_mut _ = false
 
+abbrev pub mut_first : List Tok → Bool
+mut_first ts = is_mut (opening ts)
+
+-- what stands in (mut ..)
 unfoldable pub mut_type_at : Reads GlobalType
-mut_type_at (opens ∷ key keyword.Mut ∷ ts, types) =
-    val_type_at (ts, types) >>= λ t. closed_at t.1 >>= λ s. Some (record { mutability = mutability.Variable; value = t.0 }, s)
-mut_type_at _ = None
+mut_type_at s =
+    val_type_at (inside s) >>= λ t. closed_at t.1 >>= λ e. Some (record { mutability = mutability.Variable; value = t.0 }, e)
 
 unfoldable pub global_type_at : Reads GlobalType
 global_type_at s =
@@ -115,63 +139,74 @@ global_type_at s =
 unfoldable pub group_at : ℕ → List ValType × State → Option (List ValType × State)
 group_at n x = val_types_at n x >>= λ y. closed_at y.1 >>= λ s. Some (y.0, s)
 
+abbrev pub is_param : Option Keyword → Bool
+is_param (Some keyword.Param) = true
+is_param _ = false
+
+abbrev pub is_result : Option Keyword → Bool
+is_result (Some keyword.Result) = true
+is_result _ = false
+
+abbrev pub is_local : Option Keyword → Bool
+is_local (Some keyword.Local) = true
+is_local _ = false
+
 abbrev pub param_first : List Tok → Option Bool
-param_first (opens ∷ key keyword.Param ∷ ts) = Some true
-param_first _ = Some false
+param_first ts = Some (is_param (opening ts))
 
 abbrev pub result_first : List Tok → Option Bool
-result_first (opens ∷ key keyword.Result ∷ ts) = Some true
-result_first _ = Some false
+result_first ts = Some (is_result (opening ts))
 
 abbrev pub local_first : List Tok → Option Bool
-local_first (opens ∷ key keyword.Local ∷ ts) = Some true
-local_first _ = Some false
+local_first ts = Some (is_local (opening ts))
+
+-- whether a group of this kind stands in front
+abbrev pub group_first : Group → List Tok → Option Bool
+group_first (group.Parameters names) = param_first
+group_first group.Results = result_first
+
+unfoldable pub block_type_at : Reads (Option ValType)
+block_type_at s =
+    result_first s.0 >>= λ given. if given then (val_type_at (inside s) >>= λ t. closed_at t.1 >>= λ e. Some (Some t.0, e)) else Some (None, s)
 
 -- no name stands in front of a group's types
 unfoldable pub nameless_at : List ValType × State → Option (List ValType × State)
 nameless_at x = unnamed_at x.1 >>= λ s. Some (x.0, s)
 
-unfoldable pub param_group_at : ℕ → List ValType × State → Option (List ValType × State)
-param_group_at n (front, (opens ∷ key keyword.Param ∷ ts, types)) = nameless_at (front, (ts, types)) >>= λ x. group_at n x
-param_group_at n _ = None
+-- a group, from the parenthesis in front on
+unfoldable pub group_step : ℕ → List ValType × State → Option (List ValType × State)
+group_step n x = nameless_at (x.0, inside x.1) >>= λ y. group_at n y
 
-unfoldable pub result_group_at : ℕ → List ValType × State → Option (List ValType × State)
-result_group_at n (front, (opens ∷ key keyword.Result ∷ ts, types)) = group_at n (front, (ts, types))
-result_group_at n _ = None
-
-unfoldable pub local_group_at : ℕ → List ValType × State → Option (List ValType × State)
-local_group_at n (front, (opens ∷ key keyword.Local ∷ ts, types)) = nameless_at (front, (ts, types)) >>= λ x. group_at n x
-local_group_at n _ = None
-
-unfoldable pub params_at : ℕ → List ValType × State → Option (List ValType × State)
-params_at n x = repeated param_first (param_group_at n) n x
-
-unfoldable pub results_at : ℕ → List ValType × State → Option (List ValType × State)
-results_at n x = repeated result_first (result_group_at n) n x
-
-unfoldable pub locals_at : ℕ → List ValType × State → Option (List ValType × State)
-locals_at n x = repeated local_first (local_group_at n) n x
+-- groups of a kind, one after another
+unfoldable pub groups_at : (List Tok → Option Bool) → ℕ → List ValType × State → Option (List ValType × State)
+groups_at first n x = repeated first (group_step n) n x
 
 unfoldable pub signature_at : ℕ → Reads FuncType
-signature_at n s = params_at n ([], s) >>= λ p. results_at n ([], p.1) >>= λ r. Some (record { parameters = p.0; results = r.0 }, r.1)
+signature_at n s =
+    groups_at param_first n ([], s) >>= λ p. groups_at result_first n ([], p.1) >>= λ r. Some (record { parameters = p.0; results = r.0 }, r.1)
+
+abbrev pub begins_signature : Option Keyword → Bool
+begins_signature (Some keyword.Param) = true
+begins_signature (Some keyword.Result) = true
+begins_signature _ = false
 
 -- whether parameters or results stand in front
 abbrev pub signature_first : List Tok → Bool
-signature_first (opens ∷ key keyword.Param ∷ ts) = true
-signature_first (opens ∷ key keyword.Result ∷ ts) = true
-signature_first _ = false
+signature_first ts = begins_signature (opening ts)
 
 unfoldable pub func_at : State → Option State
 func_at (opens ∷ key keyword.Func ∷ ts, types) = Some (ts, types)
 func_at _ = None
 
--- a type that the module defines, behind its keyword
+-- a type that the module defines, behind its keyword and without the last parenthesis
 unfoldable pub defined_type_at : ℕ → Reads FuncType
 defined_type_at n s =
-    unnamed_at s >>= λ a. func_at a >>= λ b. signature_at n b >>= λ t. closed_at t.1 >>= λ c. closed_at c >>= λ d. Some (t.0, d)
+    unnamed_at s >>= λ a. func_at a >>= λ b. signature_at n b >>= λ t. closed_at t.1 >>= λ c. Some (t.0, c)
 
 -- (type n) with no parameters or results beside it
+unfoldable pub named_use_at : Reads ℕ
+named_use_at s =
+    number_at (inside s) >>= λ n. closed_at n.1 >>= λ e. if signature_first e.0 then None else Some (n.0, e)
+
 unfoldable pub type_use_at : Reads ℕ
-type_use_at (opens ∷ key keyword.FuncType ∷ ts, types) =
-    number_at (ts, types) >>= λ n. closed_at n.1 >>= λ s. if signature_first s.0 then None else Some (n.0, s)
-type_use_at _ = None
+type_use_at s = if type_first s.0 then named_use_at s else None

@@ -125,20 +125,32 @@ unfoldable pub else_with : Inner → Reads Code
 else_with inner (key keyword.Else ∷ ts, types) = unnamed_at (ts, types) >>= λ a. inner a
 else_with inner s = Some (end, s)
 
+-- the same up to its end
+unfoldable pub ended_with : Inner → Reads (Option ValType × Code)
+ended_with inner s = typed_with inner s >>= λ x. end_at x.1 >>= λ e. Some (x.0, e)
+
+-- the arm for 0, and the end
+unfoldable pub other_with : Inner → Reads Code
+other_with inner s = else_with inner s >>= λ o. end_at o.1 >>= λ e. Some (o.0, e)
+
 unfoldable pub block_with : Inner → Reads Instr
-block_with inner s = typed_with inner s >>= λ x. end_at x.1 >>= λ e. Some (instr.Block x.0.0 x.0.1, e)
+block_with inner s = ended_with inner s >>= λ x. Some (instr.Block x.0.0 x.0.1, x.1)
 
 unfoldable pub loop_with : Inner → Reads Instr
-loop_with inner s = typed_with inner s >>= λ x. end_at x.1 >>= λ e. Some (instr.Loop x.0.0 x.0.1, e)
+loop_with inner s = ended_with inner s >>= λ x. Some (instr.Loop x.0.0 x.0.1, x.1)
 
 unfoldable pub if_with : Inner → Reads Instr
-if_with inner s = typed_with inner s >>= λ x. else_with inner x.1 >>= λ o. end_at o.1 >>= λ e. Some (instr.If x.0.0 x.0.1 o.0, e)
+if_with inner s = typed_with inner s >>= λ x. other_with inner x.1 >>= λ o. Some (instr.If x.0.0 x.0.1 o.0, o.1)
+
+-- behind a keyword
+unfoldable pub linear_with : ℕ → Inner → Keyword → Reads Instr
+linear_with n inner keyword.Block s = block_with inner s
+linear_with n inner keyword.Loop s = loop_with inner s
+linear_with n inner keyword.If s = if_with inner s
+linear_with n inner k s = plain_at n k s
 
 unfoldable pub instr_with : ℕ → Inner → Reads Instr
-instr_with n inner (key keyword.Block ∷ ts, types) = block_with inner (ts, types)
-instr_with n inner (key keyword.Loop ∷ ts, types) = loop_with inner (ts, types)
-instr_with n inner (key keyword.If ∷ ts, types) = if_with inner (ts, types)
-instr_with n inner (key k ∷ ts, types) = plain_at n k (ts, types)
+instr_with n inner (key k ∷ ts, types) = linear_with n inner k (ts, types)
 instr_with n inner _ = None
 
 -- instructions end here

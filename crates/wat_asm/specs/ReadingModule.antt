@@ -23,7 +23,7 @@ use Rattle.wat_asm.specs.declared.lexer.token.Token.TheVariants as token
 use Rattle.wat_asm.specs.declared.parser.draft.Draft.{Draft}
 use Rattle.wat_asm.specs.Follows.{◌>>=◌}
 use Rattle.wat_asm.specs.Tokens.{Tok, opens, key, text, other}
-use Rattle.wat_asm.specs.Reading.{State, Reads, repeated, item_step, closed_at, funcref_at, unnamed_at, number_at, number_first, text_at, name_at, limits_at, global_type_at, locals_at, defined_type_at, type_use_at}
+use Rattle.wat_asm.specs.Reading.{State, Reads, repeated, item_step, opening, inside, opened_at, type_first, closed_at, funcref_at, unnamed_at, number_at, number_first, text_at, name_at, limits_at, global_type_at, local_first, groups_at, defined_type_at, type_use_at}
 use Rattle.wat_asm.specs.ReadingCode.{code_at}
 
 -- ---- a module in the making, but for its types
@@ -86,22 +86,24 @@ has_definition m = not (is_empty m.functions && is_empty m.tables && is_empty m.
 
 -- ---- imports and exports
 
+unfoldable pub table_at : Reads Limits
+table_at s = limits_at s >>= λ l. funcref_at l.1 >>= λ e. Some (l.0, e)
+
 unfoldable pub imported_at : Keyword → Reads ImportDescription
 imported_at keyword.Func s = type_use_at s >>= λ n. Some (import.Function n.0, n.1)
-imported_at keyword.Table s = limits_at s >>= λ l. funcref_at l.1 >>= λ e. Some (import.Table l.0, e)
+imported_at keyword.Table s = table_at s >>= λ l. Some (import.Table l.0, l.1)
 imported_at keyword.Memory s = limits_at s >>= λ l. Some (import.Memory l.0, l.1)
 imported_at keyword.Global s = global_type_at s >>= λ t. Some (import.Global t.0, t.1)
 imported_at _ s = None
 
 unfoldable pub import_description_at : Reads ImportDescription
-import_description_at (opens ∷ key k ∷ ts, types) =
-    unnamed_at (ts, types) >>= λ a. imported_at k a >>= λ d. closed_at d.1 >>= λ e. Some (d.0, e)
-import_description_at _ = None
+import_description_at s =
+    opened_at s >>= λ k. unnamed_at k.1 >>= λ a. imported_at k.0 a >>= λ d. closed_at d.1 >>= λ e. Some (d.0, e)
 
 unfoldable pub import_at : Reads Import
 import_at s =
-    name_at s >>= λ m. name_at m.1 >>= λ n. import_description_at n.1 >>= λ d. closed_at d.1 >>= λ e.
-    Some (record { «module» = m.0; name = n.0; description = d.0 }, e)
+    name_at s >>= λ m. name_at m.1 >>= λ n. import_description_at n.1 >>= λ d.
+    Some (record { «module» = m.0; name = n.0; description = d.0 }, d.1)
 
 unfoldable pub exported_at : Keyword → Reads ExportDescription
 exported_at keyword.Func s = number_at s >>= λ n. Some (export.Function n.0, n.1)
@@ -111,44 +113,40 @@ exported_at keyword.Global s = number_at s >>= λ n. Some (export.Global n.0, n.
 exported_at _ s = None
 
 unfoldable pub export_description_at : Reads ExportDescription
-export_description_at (opens ∷ key k ∷ ts, types) = exported_at k (ts, types) >>= λ d. closed_at d.1 >>= λ e. Some (d.0, e)
-export_description_at _ = None
+export_description_at s = opened_at s >>= λ k. exported_at k.0 k.1 >>= λ d. closed_at d.1 >>= λ e. Some (d.0, e)
 
 unfoldable pub export_at : Reads Export
-export_at s = name_at s >>= λ n. export_description_at n.1 >>= λ d. closed_at d.1 >>= λ e. Some (record { name = n.0; description = d.0 }, e)
+export_at s = name_at s >>= λ n. export_description_at n.1 >>= λ d. Some (record { name = n.0; description = d.0 }, d.1)
 
 -- ---- definitions
 
 -- an export or an import inside of a field
+abbrev pub is_inline : Option Keyword → Bool
+is_inline (Some keyword.Export) = true
+is_inline (Some keyword.Import) = true
+is_inline _ = false
+
 abbrev pub inline_first : List Tok → Bool
-inline_first (opens ∷ key keyword.Export ∷ ts) = true
-inline_first (opens ∷ key keyword.Import ∷ ts) = true
-inline_first _ = false
+inline_first ts = is_inline (opening ts)
 
 unfoldable pub inline_at : Making → Option Making
 inline_at x = if inline_first x.1.0 then None else Some x
 
 -- behind the keyword of a definition no name and no inline export stands
+unfoldable pub heading_at : Making → Option Making
+heading_at x = unnamed_at x.1 >>= λ s. inline_at (x.0, s)
+
 unfoldable pub defined_at : {A : Type 0} → Reads A → (Module → A → Module) → Making → Option Making
-defined_at item with_item x = unnamed_at x.1 >>= λ s. inline_at (x.0, s) >>= λ y. item y.1 >>= λ i. Some (with_item y.0 i.0, i.1)
+defined_at item with_item x = heading_at x >>= λ y. item y.1 >>= λ i. Some (with_item y.0 i.0, i.1)
 
 unfoldable pub function_at : ℕ → Reads Function
 function_at n s =
-    type_use_at s >>= λ t. locals_at n ([], t.1) >>= λ l. code_at max_nesting n l.1 >>= λ b. closed_at b.1 >>= λ e.
-    Some (record { type_number = t.0; locals = l.0; body = b.0 }, e)
-
-unfoldable pub table_at : Reads Limits
-table_at s = limits_at s >>= λ l. funcref_at l.1 >>= λ a. closed_at a >>= λ b. Some (l.0, b)
-
-unfoldable pub memory_at : Reads Limits
-memory_at s = limits_at s >>= λ l. closed_at l.1 >>= λ a. Some (l.0, a)
+    type_use_at s >>= λ t. groups_at local_first n ([], t.1) >>= λ l. code_at max_nesting n l.1 >>= λ b.
+    Some (record { type_number = t.0; locals = l.0; body = b.0 }, b.1)
 
 unfoldable pub global_at : ℕ → Reads Global
 global_at n s =
-    global_type_at s >>= λ t. code_at max_nesting n t.1 >>= λ b. closed_at b.1 >>= λ e. Some (record { global_type = t.0; initial = b.0 }, e)
-
-unfoldable pub start_at : Reads ℕ
-start_at s = number_at s >>= λ n. closed_at n.1 >>= λ e. Some (n.0, e)
+    global_type_at s >>= λ t. code_at max_nesting n t.1 >>= λ b. Some (record { global_type = t.0; initial = b.0 }, b.1)
 
 -- ---- segments
 
@@ -156,17 +154,27 @@ start_at s = number_at s >>= λ n. closed_at n.1 >>= λ e. Some (n.0, e)
 unfoldable pub number_or_0_at : Reads ℕ
 number_or_0_at s = number_first s.0 >>= λ b. if b then number_at s else Some (0, s)
 
+abbrev pub is_offset : Option Keyword → Bool
+is_offset (Some keyword.Offset) = true
+is_offset _ = false
+
+abbrev pub offset_first : List Tok → Bool
+offset_first ts = is_offset (opening ts)
+
+-- what stands in (offset ..)
+unfoldable pub inner_offset_at : ℕ → Reads Code
+inner_offset_at n s = code_at max_nesting n (inside s) >>= λ b. closed_at b.1 >>= λ e. Some (b.0, e)
+
 unfoldable pub offset_at : ℕ → Reads Code
-offset_at n (opens ∷ key keyword.Offset ∷ ts, types) = code_at max_nesting n (ts, types) >>= λ b. closed_at b.1 >>= λ e. Some (b.0, e)
-offset_at n _ = None
+offset_at n s = if offset_first s.0 then inner_offset_at n s else None
 
 unfoldable pub numbers_at : ℕ → Reads (List ℕ)
 numbers_at n s = repeated number_first (item_step number_at) n ([], s)
 
 unfoldable pub element_at : ℕ → Reads Element
 element_at n s =
-    number_or_0_at s >>= λ t. offset_at n t.1 >>= λ o. numbers_at n o.1 >>= λ f. closed_at f.1 >>= λ e.
-    Some (record { table = t.0; offset = o.0; functions = f.0 }, e)
+    number_or_0_at s >>= λ t. offset_at n t.1 >>= λ o. numbers_at n o.1 >>= λ f.
+    Some (record { table = t.0; offset = o.0; functions = f.0 }, f.1)
 
 -- whether a string stands in front
 unfoldable pub text_first : List Tok → Option Bool
@@ -182,8 +190,8 @@ bytes_at n s = repeated text_first text_step n ([], s)
 
 unfoldable pub segment_at : ℕ → Reads Data
 segment_at n s =
-    number_or_0_at s >>= λ t. offset_at n t.1 >>= λ o. bytes_at n o.1 >>= λ b. closed_at b.1 >>= λ e.
-    Some (record { memory = t.0; offset = o.0; bytes = b.0 }, e)
+    number_or_0_at s >>= λ t. offset_at n t.1 >>= λ o. bytes_at n o.1 >>= λ b.
+    Some (record { memory = t.0; offset = o.0; bytes = b.0 }, b.1)
 
 -- ---- fields
 
@@ -191,15 +199,15 @@ segment_at n s =
 abbrev pub added : {A : Type 0} → Reads A → (Module → A → Module) → Making → Option Making
 added item with_item x = item x.1 >>= λ i. Some (with_item x.0 i.0, i.1)
 
--- behind a field's keyword
+-- behind a field's keyword, up to its closing parenthesis
 unfoldable pub field_at : ℕ → Keyword → Making → Option Making
 field_at n keyword.Import x = if has_definition x.0 then None else added import_at with_import x
 field_at n keyword.Func x = defined_at (function_at n) with_function x
 field_at n keyword.Table x = defined_at table_at with_table x
-field_at n keyword.Memory x = defined_at memory_at with_memory x
+field_at n keyword.Memory x = defined_at limits_at with_memory x
 field_at n keyword.Global x = defined_at (global_at n) with_global x
 field_at n keyword.Export x = added export_at with_export x
-field_at n keyword.Start x = if is_some x.0.start then None else added start_at with_start x
+field_at n keyword.Start x = if is_some x.0.start then None else added number_at with_start x
 field_at n keyword.Elem x = added (element_at n) with_element x
 field_at n keyword.Data x = added (segment_at n) with_segment x
 field_at n _ x = None
@@ -208,27 +216,26 @@ unfoldable pub field_first : List Tok → Option Bool
 field_first (opens ∷ key k ∷ ts) = Some true
 field_first _ = Some false
 
+-- a field with its parentheses
 unfoldable pub field_step : ℕ → Making → Option Making
-field_step n (m, (opens ∷ key k ∷ ts, types)) = field_at n k (m, (ts, types))
-field_step n _ = None
+field_step n x = opened_at x.1 >>= λ k. field_at n k.0 (x.0, k.1) >>= λ y. closed_at y.1 >>= λ e. Some (y.0, e)
 
 unfoldable pub fields_at : ℕ → Making → Option Making
 fields_at n x = repeated field_first (field_step n) n x
 
 -- ---- the module
 
-abbrev pub type_first : List Tok → Option Bool
-type_first (opens ∷ key keyword.FuncType ∷ ts) = Some true
-type_first _ = Some false
+-- whether a type stands in front
+abbrev pub goes_on_with_type : List Tok → Option Bool
+goes_on_with_type ts = Some (type_first ts)
 
 -- a type that is added to those so far
 unfoldable pub type_step : ℕ → Unit {0} × State → Option (Unit {0} × State)
-type_step n (u, (opens ∷ key keyword.FuncType ∷ ts, types)) =
-    defined_type_at n (ts, types) >>= λ t. Some (u, (t.1.0, t.1.1 ++ t.0 ∷ []))
-type_step n _ = None
+type_step n x =
+    defined_type_at n (inside x.1) >>= λ t. closed_at (t.1.0, t.1.1 ++ t.0 ∷ []) >>= λ e. Some (x.0, e)
 
 unfoldable pub types_at : ℕ → State → Option State
-types_at n s = repeated type_first (type_step n) n (tt, s) >>= λ x. Some x.1
+types_at n s = repeated goes_on_with_type (type_step n) n (tt, s) >>= λ x. Some x.1
 
 unfoldable pub module_open_at : State → Option State
 module_open_at (opens ∷ key keyword.Module ∷ ts, types) = unnamed_at (ts, types)
@@ -239,9 +246,13 @@ unfoldable pub whole_at : ℕ → Making → Option Making
 whole_at n x =
     module_open_at x.1 >>= λ a. types_at n a >>= λ b. fields_at n (x.0, b) >>= λ y. closed_at y.1 >>= λ e. Some (y.0, e)
 
+-- the same, and nothing behind it
+unfoldable pub only_at : ℕ → Making → Option Making
+only_at n x = whole_at n x >>= λ y. if is_empty y.1.0 then Some y else None
+
 -- all of a text's tokens
 unfoldable pub module_at : ℕ → List Tok → Option Module
-module_at n ts = whole_at n (empty_module, (ts, [])) >>= λ x. if is_empty x.1.0 then Some (with_types x.0 x.1.1) else None
+module_at n ts = only_at n (empty_module, (ts, [])) >>= λ x. Some (with_types x.0 x.1.1)
 
 -- no token is a name
 abbrev pub nameless : List Token → Bool

@@ -105,6 +105,3 @@ fn position(text: &[u8], place: usize) -> Position {
     }
     Position { line, column }
 }
-
-#[cfg(test)]
-mod tests;

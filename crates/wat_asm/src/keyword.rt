@@ -6,7 +6,7 @@ ghost use Rattle.wat_asm.specs.Keywords.{type_text, of_type, comparison_text, un
 use wasm_ast::{Binary, Comparison, Conversion, Division, Load, Numeric, Store, Unary, ValType};
 
 /// A word with a meaning of its own (Core 1.0, 6.3.1): of a module's fields, of types, or of an instruction.
-#[derive(Clone, Copy, Debug, PartialEq, Eq)]
+#[derive(Clone, Copy)]
 pub enum Keyword {
     Module,
     /// `type`, of a field and of a use.

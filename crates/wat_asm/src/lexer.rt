@@ -41,6 +41,3 @@ pub fn lex(alloc: Global, source: &str) -> Result<Tokens, Failure>
     }
     Ok(Tokens { tokens, places })
 }
-
-#[cfg(test)]
-mod tests;

@@ -15,6 +15,3 @@ pub use assembling::assemble;
 pub use fault::{Position, TextFault};
 pub use keyword::Keyword;
 pub use printing::print;
-
-#[cfg(test)]
-mod tests;

@@ -11,6 +11,3 @@ mod tokens;
 mod types;
 
 pub use modules::parse;
-
-#[cfg(test)]
-mod tests;

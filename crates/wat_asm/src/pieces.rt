@@ -8,7 +8,7 @@ use crate::keyword::Keyword;
 use std::alloc::AllocError;
 
 /// What stands before a token.
-#[derive(Clone, Copy, Debug)]
+#[derive(Clone, Copy)]
 pub enum Gap {
     Nothing,
     Space,

@@ -9,7 +9,7 @@ use crate::wants::Premise;
 use wasm_ast::{Division, ValType};
 
 /// Which constants have to be known.
-#[derive(Clone, Copy, Debug, PartialEq, Eq)]
+#[derive(Clone, Copy)]
 pub enum Asks {
     /// The addresses of loads and stores.
     Addresses,

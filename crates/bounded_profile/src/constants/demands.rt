@@ -8,7 +8,7 @@ use host_calls::SLOTS;
 use wasm_ast::ValType;
 
 /// What is asked of an operand.
-#[derive(Clone, Copy, Debug, PartialEq, Eq)]
+#[derive(Clone, Copy)]
 pub enum Demand {
     /// Nothing.
     Any,

@@ -7,7 +7,7 @@ use std::alloc::{AllocError, AllocFailed};
 use validate::Place;
 
 /// Why the constants of a module are not all known.
-#[derive(Clone, Copy, Debug, PartialEq, Eq)]
+#[derive(Clone, Copy)]
 pub enum ConstantsFault {
     /// The instruction at this place lacks a constant.
     Breaks(Place),

@@ -12,7 +12,7 @@ use validate::Place;
 use wasm_ast::{BlockType, ValType};
 
 /// What is known of one operand.
-#[derive(Clone, Copy, Debug, PartialEq, Eq)]
+#[derive(Clone, Copy)]
 pub enum Operand {
     Unknown,
     /// This constant, read unsigned.

@@ -7,7 +7,7 @@ use std::alloc::AllocError;
 use thiserror::Error;
 
 /// Why a module is not encoded.
-#[derive(Clone, Copy, Debug, PartialEq, Eq, Error)]
+#[derive(Clone, Copy, Debug, Error)]
 pub enum EncodeFault {
     /// The shortest spelling takes more than 1,048,576 bytes.
     #[error("the module takes more than 1,048,576 bytes")]

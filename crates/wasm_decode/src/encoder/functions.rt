@@ -5,38 +5,20 @@ ghost use Rattle.wasm_decode.specs.Canonical.{vector, vector_section, type_numbe
 
 use super::instructions::write_expression;
 use super::opcodes::val_type_byte;
-use super::parts::{write_count, write_section, write_sized};
-use crate::sections::{CODE, FUNCTION};
+use super::parts::{Part, write_count, write_section, write_sized};
+use crate::sections::CODE;
 use leb::write_u32;
 use std::alloc::AllocError;
 use wasm_ast::{Function, ValType};
 
-/// Appends the section of the type numbers, or nothing where there are no functions. The content is put together in
-/// `content`, whatever it held.
-pub fn write_function_section(
-    out: &mut Vec<u8>,
-    content: &mut Vec<u8>,
-    functions: &[Function],
-) -> Result<(), AllocError>
-    ensures { OnOk result (out.new.items ≡ out.old.items ++ vector_section 3 type_number_bytes functions.now) }
-{
-    if functions.is_empty() {
-        return Ok(());
-    }
-    content.clear();
-    write_type_numbers(content, functions)?;
-    write_section(out, FUNCTION, content)
-}
+/// What the function section has of a function: the number of its type (Core 1.0, 5.5.6).
+impl Part for Function {
+    ghost spelling = { type_number_bytes };
 
-#[tactic(auto, unfolding(crate::specs::Canonical::vector, crate::specs::Canonical::type_number_bytes))]
-fn write_type_numbers(out: &mut Vec<u8>, functions: &[Function]) -> Result<(), AllocError>
-    ensures { OnOk result (out.new.items ≡ out.old.items ++ vector type_number_bytes functions.now) }
-{
-    write_count(out, functions.len())?;
-    for function in functions {
-        write_u32(out, function.type_number)?;
+    #[tactic(auto, unfolding(crate::specs::Canonical::type_number_bytes))]
+    fn write(&self, out: &mut Vec<u8>) -> Result<(), AllocError> {
+        write_u32(out, self.type_number)
     }
-    Ok(())
 }
 
 /// Appends the section of the bodies, or nothing where there are no functions. The content is put together in
@@ -124,11 +106,11 @@ fn write_groups(out: &mut Vec<u8>, first: ValType, others: &[ValType]) -> Result
     for local in others {
         if *local == val_type {
             count += 1;
-        } else {
-            write_group(out, count, val_type)?;
-            count = 1;
-            val_type = *local;
+            continue;
         }
+        write_group(out, count, val_type)?;
+        count = 1;
+        val_type = *local;
     }
     write_group(out, count, val_type)
 }

@@ -44,24 +44,11 @@ fn write_instr(out: &mut Vec<u8>, instr: &Instr) -> Result<(), AllocError>
         Instr::Plain(plain) => write_plain(out, *plain),
         Instr::Branch(branch) => write_branch(out, branch),
         Instr::Call(function) => write_numbered(out, 0x10, *function),
-        Instr::CallIndirect(type_number) => {
-            write_numbered(out, 0x11, *type_number)?;
-            out.push(0x00)?;
-            Ok(())
-        }
-        Instr::Unreachable => {
-            out.push(0x00)?;
-            Ok(())
-        }
+        Instr::CallIndirect(type_number) => write_call_indirect(out, *type_number),
+        Instr::Unreachable => write_byte(out, 0x00),
         Instr::Block(block_type, body) => write_block(out, 0x02, *block_type, body),
         Instr::Loop(block_type, body) => write_block(out, 0x03, *block_type, body),
-        Instr::If(block_type, body, other) => {
-            write_opening(out, 0x04, *block_type)?;
-            write_body(out, body)?;
-            write_else(out, other)?;
-            out.push(END)?;
-            Ok(())
-        }
+        Instr::If(block_type, body, other) => write_choice(out, *block_type, body, other),
     }
 }
 
@@ -79,6 +66,22 @@ fn write_block(
     write_body(out, body)?;
     out.push(END)?;
     Ok(())
+}
+
+// An `if`, with both arms.
+#[cycle(instructions)]
+fn write_choice(
+    out: &mut Vec<u8>,
+    block_type: BlockType,
+    body: &Body,
+    other: &Body,
+) -> Result<(), AllocError>
+    ensures { OnOk result (out.new.items ≡ out.old.items ++ 0x04 ∷ block_type_byte block_type ∷ (code_bytes body.now ++ (else_bytes other.now (code_bytes other.now) ++ 0x0B ∷ []))) }
+{
+    write_opening(out, 0x04, block_type)?;
+    write_body(out, body)?;
+    write_else(out, other)?;
+    write_byte(out, END)
 }
 
 // The arm for 0, with its `else`; nothing where the arm is empty.
@@ -117,6 +120,13 @@ pub fn write_numbered(out: &mut Vec<u8>, opcode: u8, number: u32) -> Result<(), 
 {
     out.push(opcode)?;
     write_u32(out, number)
+}
+
+fn write_call_indirect(out: &mut Vec<u8>, type_number: u32) -> Result<(), AllocError>
+    ensures { OnOk result (out.new.items ≡ out.old.items ++ 0x11 ∷ (u32_spelling type_number ++ 0x00 ∷ [])) }
+{
+    write_numbered(out, 0x11, type_number)?;
+    write_byte(out, 0x00)
 }
 
 fn write_plain(out: &mut Vec<u8>, plain: Plain) -> Result<(), AllocError>

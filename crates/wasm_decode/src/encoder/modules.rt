@@ -2,14 +2,16 @@
 
 ghost use Rattle.std.specs.Prelude.{◌≡◌, ◌++◌, ◌<◌, ◌≤◌, length, OnOk, IfOk, IsOkUnless};
 ghost use Rattle.wasm_ast.specs.Limits.{max_module_bytes, IsWithinLimits};
-ghost use Rattle.wasm_decode.specs.Canonical.{canonical, sections_bytes, vector_section, table_bytes, vector, start_section};
+ghost use Rattle.wasm_decode.specs.Canonical.{canonical, sections_bytes, declarations_bytes, spaces_bytes, contents_bytes, vector_section, table_bytes, vector, start_section};
 
 use super::fault::EncodeFault;
-use super::functions::{write_code_section, write_function_section};
+use super::functions::write_code_section;
 use super::parts::{write_count, write_section, write_vector_section};
 use super::types::write_table_type;
 use crate::modules::{MAGIC, VERSION};
-use crate::sections::{DATA, ELEMENT, EXPORT, GLOBAL, IMPORT, MEMORY, START, TABLE, TYPE};
+use crate::sections::{
+    DATA, ELEMENT, EXPORT, FUNCTION, GLOBAL, IMPORT, MEMORY, START, TABLE, TYPE,
+};
 use leb::write_u32;
 use std::alloc::{AllocError, Global};
 use wasm_ast::{Limits, MAX_MODULE_BYTES, Module};
@@ -49,19 +51,51 @@ fn write_sections(alloc: Global, out: &mut Vec<u8>, module: &Module) -> Result<(
     ensures { OnOk result (out.new.items ≡ out.old.items ++ sections_bytes «module».now) }
 {
     let mut content = Vec::new(alloc);
+    write_declarations(out, &mut content, module)?;
+    write_spaces(out, &mut content, module)?;
+    write_contents(alloc, out, &mut content, module)
+}
+
+// Types, imports, the types of functions, and tables.
+#[tactic(auto, unfolding(crate::specs::Canonical::declarations_bytes))]
+fn write_declarations(
+    out: &mut Vec<u8>,
+    content: &mut Vec<u8>,
+    module: &Module,
+) -> Result<(), AllocError>
+    ensures { OnOk result (out.new.items ≡ out.old.items ++ declarations_bytes «module».now) }
+{
+    write_vector_section(out, content, TYPE, module.types.as_slice())?;
+    write_vector_section(out, content, IMPORT, module.imports.as_slice())?;
+    write_vector_section(out, content, FUNCTION, module.functions.as_slice())?;
+    write_table_section(out, content, module.tables.as_slice())
+}
+
+// Memories, globals, exports, and the function that starts the module.
+#[tactic(auto, unfolding(crate::specs::Canonical::spaces_bytes))]
+fn write_spaces(out: &mut Vec<u8>, content: &mut Vec<u8>, module: &Module) -> Result<(), AllocError>
+    ensures { OnOk result (out.new.items ≡ out.old.items ++ spaces_bytes «module».now) }
+{
+    write_vector_section(out, content, MEMORY, module.memories.as_slice())?;
+    write_vector_section(out, content, GLOBAL, module.globals.as_slice())?;
+    write_vector_section(out, content, EXPORT, module.exports.as_slice())?;
+    write_start_section(out, content, module.start)
+}
+
+// Elements, functions and data.
+#[tactic(auto, unfolding(crate::specs::Canonical::contents_bytes))]
+fn write_contents(
+    alloc: Global,
+    out: &mut Vec<u8>,
+    content: &mut Vec<u8>,
+    module: &Module,
+) -> Result<(), AllocError>
+    ensures { OnOk result (out.new.items ≡ out.old.items ++ contents_bytes «module».now) }
+{
     let mut body = Vec::new(alloc);
-    let functions = module.functions.as_slice();
-    write_vector_section(out, &mut content, TYPE, module.types.as_slice())?;
-    write_vector_section(out, &mut content, IMPORT, module.imports.as_slice())?;
-    write_function_section(out, &mut content, functions)?;
-    write_table_section(out, &mut content, module.tables.as_slice())?;
-    write_vector_section(out, &mut content, MEMORY, module.memories.as_slice())?;
-    write_vector_section(out, &mut content, GLOBAL, module.globals.as_slice())?;
-    write_vector_section(out, &mut content, EXPORT, module.exports.as_slice())?;
-    write_start_section(out, &mut content, module.start)?;
-    write_vector_section(out, &mut content, ELEMENT, module.elements.as_slice())?;
-    write_code_section(out, &mut content, &mut body, functions)?;
-    write_vector_section(out, &mut content, DATA, module.data.as_slice())
+    write_vector_section(out, content, ELEMENT, module.elements.as_slice())?;
+    write_code_section(out, content, &mut body, module.functions.as_slice())?;
+    write_vector_section(out, content, DATA, module.data.as_slice())
 }
 
 fn write_table_section(

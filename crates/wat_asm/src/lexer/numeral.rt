@@ -9,7 +9,7 @@ use super::token::Token;
 use std::str;
 
 /// What digits without a sign spell.
-#[derive(Clone, Copy, Debug, PartialEq, Eq)]
+#[derive(Clone, Copy)]
 enum Numeral {
     Value(u64),
     /// A number of 2^64 or more.

@@ -1,6 +1,6 @@
 //! Strings (Core 1.0, 6.3.3).
 
-ghost use Rattle.std.specs.Prelude.{◌≡◌, ◌<◌, ◌≤◌, ℕ, List, Some, drop, length, false, IfOk, IfSome, IsSomeAnd, IsTrue};
+ghost use Rattle.std.specs.Prelude.{◌≡◌, ◌<◌, ◌≤◌, ℕ, List, Some, None, drop, length, false, IfOk, IfSome, IsSomeAnd, IsTrue};
 ghost use Rattle.wat_asm.specs.Follows.{FollowsSome};
 ghost use Rattle.wat_asm.specs.Lexing.{IsLeft};
 ghost use Rattle.wat_asm.specs.Quoted.{stands_as_itself};
@@ -9,7 +9,7 @@ ghost use Rattle.wat_asm.specs.Strings.{hex_digit, plain, quote_at, escape_at, s
 use std::alloc::{AllocError, Global};
 
 /// One step through a string.
-#[derive(Clone, Copy, Debug, PartialEq, Eq)]
+#[derive(Clone, Copy)]
 enum Part {
     Byte(u8),
     /// A character by its number.
@@ -29,6 +29,12 @@ fn digit(b: u8) -> Option<u8>
         b'A'..=b'F' => Some(b - b'A' + 10),
         _ => None,
     }
+}
+
+// A number with one more hexadecimal digit.
+fn with_digit(number: u32, b: u8) -> Option<u32> {
+    let value = digit(b)?;
+    number.checked_mul(16)?.checked_add(u32::from(value))
 }
 
 // The number of a character, in hexadecimal up to the bracket, and what is behind that. Underscores may stand between
@@ -51,13 +57,44 @@ fn character(text: &[u8]) -> Option<(Part, &[u8])>
         if *b == b'_' && after_digit {
             after_digit = false;
         } else {
-            let value = digit(*b)?;
-            number = number.checked_mul(16)?.checked_add(u32::from(value))?;
+            number = with_digit(number, *b)?;
             after_digit = true;
         }
         rest = behind;
     }
     None
+}
+
+// The byte that a letter or a mark behind a backslash stands for.
+fn letter(b: u8) -> Option<u8>
+    ensures { IfSome result (λ _. hex_digit b ≡ None) }
+{
+    match b {
+        b't' => Some(b'\t'),
+        b'n' => Some(b'\n'),
+        b'r' => Some(b'\r'),
+        b'"' => Some(b'"'),
+        b'\'' => Some(b'\''),
+        b'\\' => Some(b'\\'),
+        _ => None,
+    }
+}
+
+// A byte in two hexadecimal digits.
+#[tactic(auto, using(crate::proofs::Left::left))]
+fn two_digits(text: &[u8]) -> Option<(Part, &[u8])>
+    ensures again { FollowsSome (λ x. (x.0, x.1.now)) result (escape_at text.now) }
+    ensures shrinks { IfSome result (λ x. length x.1.now < length text.now) }
+    ensures ends { IfSome result (λ x. IsLeft text.now x.1.now) }
+{
+    match text {
+        [high, low, rest @ ..] => {
+            let high = digit(*high)?;
+            let low = digit(*low)?;
+            Some((Part::Byte(high * 16 + low), rest))
+        }
+        _ => None,
+    }
 }
 
 // What stands behind a backslash.
@@ -68,19 +105,12 @@ fn escape(text: &[u8]) -> Option<(Part, &[u8])>
     ensures ends { IfSome result (λ x. IsLeft text.now x.1.now) }
 {
     match text {
-        [b't', rest @ ..] => Some((Part::Byte(b'\t'), rest)),
-        [b'n', rest @ ..] => Some((Part::Byte(b'\n'), rest)),
-        [b'r', rest @ ..] => Some((Part::Byte(b'\r'), rest)),
-        [b'"', rest @ ..] => Some((Part::Byte(b'"'), rest)),
-        [b'\'', rest @ ..] => Some((Part::Byte(b'\''), rest)),
-        [b'\\', rest @ ..] => Some((Part::Byte(b'\\'), rest)),
         [b'u', b'{', rest @ ..] => character(rest),
-        [high, low, rest @ ..] => {
-            let high = digit(*high)?;
-            let low = digit(*low)?;
-            Some((Part::Byte(high * 16 + low), rest))
-        }
-        _ => None,
+        [first, rest @ ..] => match letter(*first) {
+            Some(b) => Some((Part::Byte(b), rest)),
+            None => two_digits(text),
+        },
+        [] => None,
     }
 }
 

@@ -3,7 +3,7 @@
 use crate::keyword::Keyword;
 
 /// A token (Core 1.0, 6.3.1).
-#[derive(Clone, Copy, Debug, PartialEq, Eq)]
+#[derive(Clone, Copy)]
 pub enum Token {
     Open,
     Close,

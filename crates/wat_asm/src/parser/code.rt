@@ -3,7 +3,7 @@
 ghost use Rattle.std.specs.Prelude.{◌≡◌, ◌<◌, ◌≤◌, ℕ, length, IfOk};
 ghost use Rattle.wat_asm.specs.Follows.{Follows};
 ghost use Rattle.wat_asm.specs.Reading.{State, state_of, unnamed_at};
-ghost use Rattle.wat_asm.specs.ReadingCode.{code_at, else_with, end_at, if_with, inner_at, instr_with, instrs_at, stops, typed_with};
+ghost use Rattle.wat_asm.specs.ReadingCode.{code_at, else_with, end_at, ended_with, if_with, inner_at, instr_with, instrs_at, linear_with, other_with, stops, typed_with};
 ghost use Rattle.wat_asm.specs.Tokens.{toks_of};
 
 use crate::fault::{Failure, Wrong};
@@ -13,7 +13,7 @@ use crate::parser::tokens::Parser;
 use wasm_ast::{BlockType, Body, Instr};
 
 /// How much may still stand inside each other.
-#[derive(Clone, Copy, Debug)]
+#[derive(Clone, Copy)]
 pub struct Room {
     /// Blocks, loops and ifs.
     pub levels: u32,
@@ -90,34 +90,51 @@ fn instructions(parser: &mut Parser<'_>, room: Room, instrs: &mut Vec<Instr>) ->
 
 // One instruction that is not folded.
 #[cycle(parser)]
-#[tactic(auto, unfolding(crate::specs::ReadingCode::instr_with, crate::specs::ReadingCode::block_with, crate::specs::ReadingCode::loop_with))]
+#[tactic(auto, unfolding(crate::specs::ReadingCode::instr_with))]
 fn instruction(parser: &mut Parser<'_>, room: Room) -> Result<Instr, Failure>
     ensures again { (n : ℕ) → 0 < room.parentheses → Follows (λ i. (i, state_of parser.new)) result (instr_with n (inner_at room.levels n) (state_of parser.old)) }
     ensures shrinks { IfOk result (λ _. length parser.new.rest.now < length parser.old.rest.now) }
 {
     match parser.rest {
-        [Token::Key(Keyword::Block), rest @ ..] => {
-            parser.rest = rest;
-            let (name, given, body) = typed_body(parser, room)?;
-            ended(parser, name)?;
-            Ok(Instr::Block(given, body))
-        }
-        [Token::Key(Keyword::Loop), rest @ ..] => {
-            parser.rest = rest;
-            let (name, given, body) = typed_body(parser, room)?;
-            ended(parser, name)?;
-            Ok(Instr::Loop(given, body))
-        }
-        [Token::Key(Keyword::If), rest @ ..] => {
-            parser.rest = rest;
-            choice(parser, room)
-        }
         [Token::Key(keyword), rest @ ..] => {
             parser.rest = rest;
-            parser.plain(*keyword, room.parentheses)
+            linear(parser, room, *keyword)
         }
         _ => Err(parser.unexpected()),
     }
+}
+
+// An instruction that is not folded, behind its keyword.
+#[cycle(parser)]
+#[tactic(auto, unfolding(crate::specs::ReadingCode::linear_with, crate::specs::ReadingCode::block_with, crate::specs::ReadingCode::loop_with))]
+fn linear(parser: &mut Parser<'_>, room: Room, keyword: Keyword) -> Result<Instr, Failure>
+    ensures again { (n : ℕ) → 0 < room.parentheses → Follows (λ i. (i, state_of parser.new)) result (linear_with n (inner_at room.levels n) keyword (state_of parser.old)) }
+    ensures shrinks { IfOk result (λ _. length parser.new.rest.now ≤ length parser.old.rest.now) }
+{
+    match keyword {
+        Keyword::Block => {
+            let (given, body) = block(parser, room)?;
+            Ok(Instr::Block(given, body))
+        }
+        Keyword::Loop => {
+            let (given, body) = block(parser, room)?;
+            Ok(Instr::Loop(given, body))
+        }
+        Keyword::If => choice(parser, room),
+        _ => parser.plain(keyword, room.parentheses),
+    }
+}
+
+// The type and the body of a block, behind its keyword, and its `end`.
+#[cycle(parser)]
+#[tactic(auto, unfolding(crate::specs::ReadingCode::ended_with))]
+fn block(parser: &mut Parser<'_>, room: Room) -> Result<(BlockType, Body), Failure>
+    ensures again { (n : ℕ) → 0 < room.parentheses → Follows (λ x. ((x.0, x.1), state_of parser.new)) result (ended_with (inner_at room.levels n) (state_of parser.old)) }
+    ensures shrinks { IfOk result (λ _. length parser.new.rest.now ≤ length parser.old.rest.now) }
+{
+    let (name, given, body) = typed_body(parser, room)?;
+    ended(parser, name)?;
+    Ok((given, body))
 }
 
 // The name, the type and the body of a block, behind its keyword.
@@ -144,9 +161,20 @@ fn choice(parser: &mut Parser<'_>, room: Room) -> Result<Instr, Failure>
     ensures shrinks { IfOk result (λ _. length parser.new.rest.now ≤ length parser.old.rest.now) }
 {
     let (name, given, body) = typed_body(parser, room)?;
+    let other = other_arm(parser, room, name)?;
+    Ok(Instr::If(given, body, other))
+}
+
+// The arm for 0 of an `if`, and the `end`.
+#[cycle(parser)]
+#[tactic(auto, unfolding(crate::specs::ReadingCode::other_with))]
+fn other_arm(parser: &mut Parser<'_>, room: Room, name: Option<u32>) -> Result<Body, Failure>
+    ensures again { (n : ℕ) → 0 < room.parentheses → Follows (λ body. (body, state_of parser.new)) result (other_with (inner_at room.levels n) (state_of parser.old)) }
+    ensures shrinks { IfOk result (λ _. length parser.new.rest.now ≤ length parser.old.rest.now) }
+{
     let other = else_arm(parser, room, name)?;
     ended(parser, name)?;
-    Ok(Instr::If(given, body, other))
+    Ok(other)
 }
 
 // The arm behind `else`, which is empty where there is none.
@@ -224,12 +252,20 @@ pub fn folded(parser: &mut Parser<'_>, room: Room, instrs: &mut Vec<Instr>) -> R
     if room.parentheses == 0 {
         return Err(parser.fault(Wrong::OverLimit));
     }
+    let keyword = folded_keyword(parser)?;
+    let instr = unfolded(parser, room.in_parenthesis(), keyword, instrs)?;
+    instrs.push(instr)?;
+    parser.close()
+}
+
+// Passes the parenthesis and the keyword of a folded instruction.
+fn folded_keyword(parser: &mut Parser<'_>) -> Result<Keyword, Failure>
+    ensures shrinks { IfOk result (λ _. length parser.new.rest.now < length parser.old.rest.now) }
+{
     match parser.rest {
         [Token::Open, Token::Key(keyword), rest @ ..] => {
             parser.rest = rest;
-            let instr = unfolded(parser, room.in_parenthesis(), *keyword, instrs)?;
-            instrs.push(instr)?;
-            parser.close()
+            Ok(*keyword)
         }
         [Token::Open, rest @ ..] => {
             parser.rest = rest;
@@ -280,10 +316,9 @@ fn operands(parser: &mut Parser<'_>, room: Room, instrs: &mut Vec<Instr>) -> Res
 
 // Whether a parenthesis opens that is not that of `then`.
 fn is_operand(parser: &Parser<'_>) -> bool {
-    match parser.rest {
-        [Token::Open, Token::Key(Keyword::Then), ..] => false,
-        [Token::Open, ..] => true,
-        _ => false,
+    match parser.opening() {
+        Some(Keyword::Then) => false,
+        _ => parser.is_open(),
     }
 }
 
@@ -313,13 +348,8 @@ fn folded_choice(
 fn then_arm(parser: &mut Parser<'_>, room: Room, name: Option<u32>) -> Result<Body, Failure>
     ensures shrinks { IfOk result (λ _. length parser.new.rest.now ≤ length parser.old.rest.now) }
 {
-    match parser.rest {
-        [Token::Open, Token::Key(Keyword::Then), rest @ ..] => {
-            parser.rest = rest;
-            let body = inner(parser, room, name)?;
-            parser.close()?;
-            Ok(body)
-        }
+    match parser.opening() {
+        Some(Keyword::Then) => arm(parser, room, name),
         _ => Err(parser.unexpected()),
     }
 }
@@ -329,13 +359,19 @@ fn then_arm(parser: &mut Parser<'_>, room: Room, name: Option<u32>) -> Result<Bo
 fn folded_else(parser: &mut Parser<'_>, room: Room, name: Option<u32>) -> Result<Body, Failure>
     ensures shrinks { IfOk result (λ _. length parser.new.rest.now ≤ length parser.old.rest.now) }
 {
-    match parser.rest {
-        [Token::Open, Token::Key(Keyword::Else), rest @ ..] => {
-            parser.rest = rest;
-            let other = inner(parser, room, name)?;
-            parser.close()?;
-            Ok(other)
-        }
+    match parser.opening() {
+        Some(Keyword::Else) => arm(parser, room, name),
         _ => Ok(Body::empty(parser.alloc)),
     }
+}
+
+// The instructions in the parenthesis that stands next, of a folded `if` of this name.
+#[cycle(parser)]
+fn arm(parser: &mut Parser<'_>, room: Room, name: Option<u32>) -> Result<Body, Failure>
+    ensures shrinks { IfOk result (λ _. length parser.new.rest.now ≤ length parser.old.rest.now) }
+{
+    parser.enter();
+    let body = inner(parser, room, name)?;
+    parser.close()?;
+    Ok(body)
 }

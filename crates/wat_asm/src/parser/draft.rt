@@ -1,9 +1,10 @@
 //! A module in the making.
 
+use crate::parser::names::Kind;
 use std::alloc::Global as Heap;
 use wasm_ast::{
-    Data, Element, Export, FuncType, Function, Global, Import, ImportDescription, Limits, Module,
-    Sequence,
+    Data, Element, Export, ExportDescription, FuncType, Function, Global, Import,
+    ImportDescription, Limits, Module, Sequence,
 };
 
 /// What the fields of a module hold that were read so far, but for types.
@@ -23,7 +24,7 @@ pub struct Draft {
 }
 
 /// How much of each kind is imported.
-#[derive(Clone, Copy, Debug)]
+#[derive(Clone, Copy)]
 pub struct Imported {
     pub functions: usize,
     pub tables: usize,
@@ -79,6 +80,25 @@ impl Draft {
             ImportDescription::Table(_) => count.tables = count.tables.saturating_add(1),
             ImportDescription::Memory(_) => count.memories = count.memories.saturating_add(1),
             ImportDescription::Global(_) => count.globals = count.globals.saturating_add(1),
+        }
+    }
+
+    /// The export of what is defined next of this kind, if there is one.
+    pub fn next_export(&self, kind: Kind) -> Option<ExportDescription> {
+        let (imported, defined) = match kind {
+            Kind::Type => return None,
+            Kind::Function => (self.imported.functions, self.functions.len()),
+            Kind::Table => (self.imported.tables, self.tables.len()),
+            Kind::Memory => (self.imported.memories, self.memories.len()),
+            Kind::Global => (self.imported.globals, self.globals.len()),
+        };
+        let number = u32::try_from(imported.checked_add(defined)?).ok()?;
+        match kind {
+            Kind::Type => None,
+            Kind::Function => Some(ExportDescription::Function(number)),
+            Kind::Table => Some(ExportDescription::Table(number)),
+            Kind::Memory => Some(ExportDescription::Memory(number)),
+            Kind::Global => Some(ExportDescription::Global(number)),
         }
     }
 

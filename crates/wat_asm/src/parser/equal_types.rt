@@ -5,7 +5,7 @@ use std::collections::HashMap;
 use wasm_ast::{FuncType, ValType};
 
 // What the text of a type has, one after another.
-#[derive(Clone, Copy, Debug, PartialEq, Eq, Hash)]
+#[derive(Clone, Copy, PartialEq, Eq, Hash)]
 enum Part {
     I32,
     I64,
@@ -30,7 +30,8 @@ impl EqualTypes {
     /// The number of the first type that is equal to this one. Where none is, it is this one, which has this number from
     /// now on.
     pub fn first(&mut self, alloc: Global, t: &FuncType, number: u32) -> Result<u32, AllocError> {
-        let parts = parts(alloc, t)?;
+        let mut parts = Vec::new(alloc);
+        add_type(&mut parts, t)?;
         if let Some(first) = self.firsts.get(parts.as_slice()) {
             return Ok(*first);
         }
@@ -56,14 +57,15 @@ fn part_of(t: ValType) -> Part {
     }
 }
 
-fn parts(alloc: Global, t: &FuncType) -> Result<Vec<Part>, AllocError> {
-    let mut parts = Vec::new(alloc);
-    for parameter in t.parameters.as_slice() {
-        parts.push(part_of(*parameter))?;
+fn add_parts(parts: &mut Vec<Part>, types: &[ValType]) -> Result<(), AllocError> {
+    for t in types {
+        parts.push(part_of(*t))?;
     }
+    Ok(())
+}
+
+fn add_type(parts: &mut Vec<Part>, t: &FuncType) -> Result<(), AllocError> {
+    add_parts(parts, t.parameters.as_slice())?;
     parts.push(Part::Gives)?;
-    for given in t.results.as_slice() {
-        parts.push(part_of(*given))?;
-    }
-    Ok(parts)
+    add_parts(parts, t.results.as_slice())
 }

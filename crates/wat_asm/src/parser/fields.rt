@@ -2,8 +2,8 @@
 
 ghost use Rattle.std.specs.Prelude.{◌≡◌, ◌<◌, ◌≤◌, ℕ, Bool, Some, None, length, IfOk, is_some, if◌then◌else◌};
 ghost use Rattle.wat_asm.specs.Follows.{Follows};
-ghost use Rattle.wat_asm.specs.Reading.{local_first, local_group_at, locals_at, nameless_at, state_of};
-ghost use Rattle.wat_asm.specs.ReadingModule.{added, bytes_at, defined_at, drafted, element_at, export_at, export_description_at, exported_at, field_at, field_first, field_step, function_at, global_at, has_definition, import_at, import_description_at, imported_at, inline_at, inline_first, memory_at, number_or_0_at, numbers_at, offset_at, segment_at, start_at, table_at, text_first, with_element, with_export, with_function, with_global, with_import, with_memory, with_segment, with_start, with_table};
+ghost use Rattle.wat_asm.specs.Reading.{group_step, groups_at, limits_at, local_first, nameless_at, number_at, state_of};
+ghost use Rattle.wat_asm.specs.ReadingModule.{added, bytes_at, defined_at, drafted, element_at, export_at, export_description_at, exported_at, field_at, field_first, field_step, function_at, global_at, has_definition, heading_at, import_at, import_description_at, imported_at, inline_at, inline_first, inner_offset_at, number_or_0_at, numbers_at, offset_at, offset_first, segment_at, table_at, text_first, with_element, with_export, with_function, with_global, with_import, with_memory, with_segment, with_start, with_table};
 ghost use Rattle.wat_asm.specs.Tokens.{toks_of};
 
 use crate::fault::{Failure, Wrong};
@@ -11,7 +11,7 @@ use crate::keyword::Keyword;
 use crate::lexer::Token;
 use crate::parser::code::{Room, folded, sequence};
 use crate::parser::draft::Draft;
-use crate::parser::names::{Space, declare};
+use crate::parser::names::Kind;
 use crate::parser::tokens::Parser;
 use crate::parser::types::ParameterNames;
 use wasm_ast::{
@@ -51,16 +51,12 @@ pub fn field(parser: &mut Parser<'_>, draft: &mut Draft) -> Result<(), Failure>
     ensures again { (n : ℕ) → Follows (λ _. (drafted draft.new, state_of parser.new)) result (field_step n (drafted draft.old, state_of parser.old)) }
     ensures shrinks { IfOk result (λ _. length parser.new.rest.now < length parser.old.rest.now) }
 {
-    match parser.rest {
-        [Token::Open, Token::Key(keyword), rest @ ..] => {
-            parser.rest = rest;
-            behind_keyword(parser, draft, *keyword)
-        }
-        _ => Err(parser.unexpected()),
-    }
+    let keyword = parser.opened()?;
+    behind_keyword(parser, draft, keyword)?;
+    parser.close()
 }
 
-// What follows a field's keyword.
+// What follows a field's keyword, up to its closing parenthesis.
 #[tactic(auto, unfolding(crate::specs::ReadingModule::field_at))]
 fn behind_keyword(
     parser: &mut Parser<'_>,
@@ -119,7 +115,6 @@ fn import_item(parser: &mut Parser<'_>) -> Result<Import, Failure>
     let module = parser.text()?;
     let name = parser.text()?;
     let description = import_description(parser)?;
-    parser.close()?;
     Ok(Import {
         module,
         name,
@@ -132,16 +127,11 @@ fn import_description(parser: &mut Parser<'_>) -> Result<ImportDescription, Fail
     ensures again { Follows (λ d. (d, state_of parser.new)) result (import_description_at (state_of parser.old)) }
     ensures shrinks { IfOk result (λ _. length parser.new.rest.now ≤ length parser.old.rest.now) }
 {
-    match parser.rest {
-        [Token::Open, Token::Key(keyword), rest @ ..] => {
-            parser.rest = rest;
-            let _name = parser.name();
-            let description = imported(parser, *keyword)?;
-            parser.close()?;
-            Ok(description)
-        }
-        _ => Err(parser.unexpected()),
-    }
+    let keyword = parser.opened()?;
+    let _name = parser.name();
+    let description = imported(parser, keyword)?;
+    parser.close()?;
+    Ok(description)
 }
 
 // What is imported, behind its keyword and its name.
@@ -152,13 +142,12 @@ fn imported(parser: &mut Parser<'_>, keyword: Keyword) -> Result<ImportDescripti
 {
     match keyword {
         Keyword::Func => {
-            parser.locals = Space::new(parser.alloc);
+            parser.forget_locals();
             let number = parser.type_use(ParameterNames::Bound, INNER_ROOM.parentheses)?;
             Ok(ImportDescription::Function(number))
         }
         Keyword::Table => {
-            let limits = parser.limits()?;
-            parser.funcref()?;
+            let limits = table_limits(parser)?;
             Ok(ImportDescription::Table(limits))
         }
         Keyword::Memory => {
@@ -189,7 +178,6 @@ fn export_item(parser: &mut Parser<'_>) -> Result<Export, Failure>
 {
     let name = parser.text()?;
     let description = export_description(parser)?;
-    parser.close()?;
     Ok(Export { name, description })
 }
 
@@ -198,15 +186,10 @@ fn export_description(parser: &mut Parser<'_>) -> Result<ExportDescription, Fail
     ensures again { Follows (λ d. (d, state_of parser.new)) result (export_description_at (state_of parser.old)) }
     ensures shrinks { IfOk result (λ _. length parser.new.rest.now ≤ length parser.old.rest.now) }
 {
-    match parser.rest {
-        [Token::Open, Token::Key(keyword), rest @ ..] => {
-            parser.rest = rest;
-            let description = exported(parser, *keyword)?;
-            parser.close()?;
-            Ok(description)
-        }
-        _ => Err(parser.unexpected()),
-    }
+    let keyword = parser.opened()?;
+    let description = exported(parser, keyword)?;
+    parser.close()?;
+    Ok(description)
 }
 
 // What is exported, behind its keyword.
@@ -217,19 +200,19 @@ fn exported(parser: &mut Parser<'_>, keyword: Keyword) -> Result<ExportDescripti
 {
     match keyword {
         Keyword::Func => {
-            let n = parser.function_index()?;
+            let n = parser.index(Kind::Function)?;
             Ok(ExportDescription::Function(n))
         }
         Keyword::Table => {
-            let n = parser.table_index()?;
+            let n = parser.index(Kind::Table)?;
             Ok(ExportDescription::Table(n))
         }
         Keyword::Memory => {
-            let n = parser.memory_index()?;
+            let n = parser.index(Kind::Memory)?;
             Ok(ExportDescription::Memory(n))
         }
         Keyword::Global => {
-            let n = parser.global_index()?;
+            let n = parser.index(Kind::Global)?;
             Ok(ExportDescription::Global(n))
         }
         _ => Err(parser.unexpected()),
@@ -240,9 +223,9 @@ fn exported(parser: &mut Parser<'_>, keyword: Keyword) -> Result<ExportDescripti
 fn is_inline(parser: &Parser<'_>) -> bool
     ensures { result ≡ inline_first (toks_of parser.now.source.now parser.now.rest.now) }
 {
-    match parser.rest {
-        [Token::Open, Token::Key(Keyword::Export), ..] => true,
-        [Token::Open, Token::Key(Keyword::Import), ..] => true,
+    match parser.opening() {
+        Some(Keyword::Export) => true,
+        Some(Keyword::Import) => true,
         _ => false,
     }
 }
@@ -270,36 +253,46 @@ fn inline_export(
 ) -> Result<(), Failure>
     ensures shrinks { IfOk result (λ _. length parser.new.rest.now < length parser.old.rest.now) }
 {
-    match (parser.rest, description) {
-        ([Token::Open, Token::Key(Keyword::Export), rest @ ..], Some(description)) => {
-            parser.rest = rest;
-            let name = parser.text()?;
-            parser.close()?;
-            draft.exports.push(Export { name, description })?;
-            Ok(())
-        }
-        ([Token::Open, Token::Key(Keyword::Export), ..], None) => {
-            Err(parser.fault(Wrong::OverLimit))
-        }
+    match (parser.opening(), description) {
+        (Some(Keyword::Export), Some(description)) => named_export(parser, draft, description),
+        (Some(Keyword::Export), None) => Err(parser.fault(Wrong::OverLimit)),
         _ => Err(parser.fault(Wrong::Unsupported)),
     }
 }
 
-// The number of the next thing, where so many are imported and so many defined.
-fn next_number(imported: usize, defined: usize) -> Option<u32> {
-    u32::try_from(imported.checked_add(defined)?).ok()
+// The export in the parenthesis that stands next.
+fn named_export(
+    parser: &mut Parser<'_>,
+    draft: &mut Draft,
+    description: ExportDescription,
+) -> Result<(), Failure>
+    ensures shrinks { IfOk result (λ _. length parser.new.rest.now < length parser.old.rest.now) }
+{
+    parser.enter();
+    let name = parser.text()?;
+    draft.exports.push(Export { name, description })?;
+    parser.close()
 }
 
 // ---- definitions
+
+// The name and the exports of a definition, behind its keyword.
+#[tactic(auto, unfolding(crate::specs::ReadingModule::heading_at))]
+fn heading(parser: &mut Parser<'_>, draft: &mut Draft, kind: Kind) -> Result<(), Failure>
+    ensures again { Follows (λ _. (drafted draft.new, state_of parser.new)) result (heading_at (drafted draft.old, state_of parser.old)) }
+    ensures shrinks { IfOk result (λ _. length parser.new.rest.now ≤ length parser.old.rest.now) }
+{
+    let _name = parser.name();
+    let description = draft.next_export(kind);
+    inline_exports(parser, draft, description)
+}
 
 #[tactic(auto, unfolding(crate::specs::ReadingModule::defined_at))]
 fn function(parser: &mut Parser<'_>, draft: &mut Draft) -> Result<(), Failure>
     ensures again { (n : ℕ) → Follows (λ _. (drafted draft.new, state_of parser.new)) result (defined_at (function_at n) with_function (drafted draft.old, state_of parser.old)) }
     ensures shrinks { IfOk result (λ _. length parser.new.rest.now ≤ length parser.old.rest.now) }
 {
-    let _name = parser.name();
-    let number = next_number(draft.imported.functions, draft.functions.len());
-    inline_exports(parser, draft, number.map(ExportDescription::Function))?;
+    heading(parser, draft, Kind::Function)?;
     let item = function_item(parser)?;
     draft.functions.push(item)?;
     Ok(())
@@ -310,12 +303,11 @@ fn function_item(parser: &mut Parser<'_>) -> Result<Function, Failure>
     ensures again { (n : ℕ) → Follows (λ f. (f, state_of parser.new)) result (function_at n (state_of parser.old)) }
     ensures shrinks { IfOk result (λ _. length parser.new.rest.now ≤ length parser.old.rest.now) }
 {
-    parser.locals = Space::new(parser.alloc);
+    parser.forget_locals();
     let type_number = parser.type_use(ParameterNames::Bound, ROOM.parentheses)?;
     let mut locals = Vec::new(parser.alloc);
     all_locals(parser, type_number, &mut locals)?;
     let body = sequence(parser, ROOM)?;
-    parser.close()?;
     Ok(Function {
         type_number,
         locals: Sequence::from(locals),
@@ -324,13 +316,13 @@ fn function_item(parser: &mut Parser<'_>) -> Result<Function, Failure>
 }
 
 // All groups of locals that stand next, in a function of this type, are added to these.
-#[tactic(auto, unfolding(crate::specs::Reading::locals_at))]
+#[tactic(auto, unfolding(crate::specs::Reading::groups_at))]
 fn all_locals(
     parser: &mut Parser<'_>,
     type_number: u32,
     locals: &mut Vec<ValType>,
 ) -> Result<(), Failure>
-    ensures again { (n : ℕ) → Follows (λ _. (locals.new.items, state_of parser.new)) result (locals_at n (locals.old.items, state_of parser.old)) }
+    ensures again { (n : ℕ) → Follows (λ _. (locals.new.items, state_of parser.new)) result (groups_at local_first n (locals.old.items, state_of parser.old)) }
     ensures shrinks { IfOk result (λ _. length parser.new.rest.now ≤ length parser.old.rest.now) }
 {
     'each: while is_locals(parser) {
@@ -342,30 +334,25 @@ fn all_locals(
 fn is_locals(parser: &Parser<'_>) -> bool
     ensures { local_first (toks_of parser.now.source.now parser.now.rest.now) ≡ Some result }
 {
-    match parser.rest {
-        [Token::Open, Token::Key(Keyword::Local), ..] => true,
+    match parser.opening() {
+        Some(Keyword::Local) => true,
         _ => false,
     }
 }
 
-// A group of locals.
-#[tactic(auto, unfolding(crate::specs::Reading::local_group_at))]
+// A group of locals, which stands next.
+#[tactic(auto, unfolding(crate::specs::Reading::group_step))]
 fn local_group(
     parser: &mut Parser<'_>,
     type_number: u32,
     locals: &mut Vec<ValType>,
 ) -> Result<(), Failure>
-    ensures again { (n : ℕ) → Follows (λ _. (locals.new.items, state_of parser.new)) result (local_group_at n (locals.old.items, state_of parser.old)) }
+    ensures again { (n : ℕ) → Follows (λ _. (locals.new.items, state_of parser.new)) result (group_step n (locals.old.items, state_of parser.old)) }
     ensures shrinks { IfOk result (λ _. length parser.new.rest.now < length parser.old.rest.now) }
 {
-    match parser.rest {
-        [Token::Open, Token::Key(Keyword::Local), rest @ ..] => {
-            parser.rest = rest;
-            named_local(parser, type_number, locals)?;
-            parser.group(locals)
-        }
-        _ => Err(parser.unexpected()),
-    }
+    parser.enter();
+    named_local(parser, type_number, locals)?;
+    parser.group(locals)
 }
 
 // A local with a name, where a name stands next.
@@ -379,14 +366,9 @@ fn named_local(
     ensures shrinks { IfOk result (λ _. length parser.new.rest.now ≤ length parser.old.rest.now) }
 {
     match parser.rest {
-        [Token::Name(name), rest @ ..] => {
+        [Token::Name(name), ..] => {
             let parameters = parser.parameter_count(type_number)?;
-            let number = parameters.saturating_add(locals.len());
-            declare(&mut parser.locals, *name, number, parser.rest.len())?;
-            parser.rest = rest;
-            let t = parser.val_type()?;
-            locals.push(t)?;
-            Ok(())
+            parser.local(*name, parameters.saturating_add(locals.len()), locals)
         }
         _ => Ok(()),
     }
@@ -397,46 +379,32 @@ fn table(parser: &mut Parser<'_>, draft: &mut Draft) -> Result<(), Failure>
     ensures again { Follows (λ _. (drafted draft.new, state_of parser.new)) result (defined_at table_at with_table (drafted draft.old, state_of parser.old)) }
     ensures shrinks { IfOk result (λ _. length parser.new.rest.now ≤ length parser.old.rest.now) }
 {
-    let _name = parser.name();
-    let number = next_number(draft.imported.tables, draft.tables.len());
-    inline_exports(parser, draft, number.map(ExportDescription::Table))?;
-    let item = table_item(parser)?;
+    heading(parser, draft, Kind::Table)?;
+    let item = table_limits(parser)?;
     draft.tables.push(item)?;
     Ok(())
 }
 
+// The limits of a table, whose elements are functions.
 #[tactic(auto, unfolding(crate::specs::ReadingModule::table_at))]
-fn table_item(parser: &mut Parser<'_>) -> Result<Limits, Failure>
+fn table_limits(parser: &mut Parser<'_>) -> Result<Limits, Failure>
     ensures again { Follows (λ l. (l, state_of parser.new)) result (table_at (state_of parser.old)) }
     ensures shrinks { IfOk result (λ _. length parser.new.rest.now ≤ length parser.old.rest.now) }
 {
     let limits = parser.limits()?;
     parser.funcref()?;
-    parser.close()?;
     Ok(limits)
 }
 
 #[tactic(auto, unfolding(crate::specs::ReadingModule::defined_at))]
 fn memory(parser: &mut Parser<'_>, draft: &mut Draft) -> Result<(), Failure>
-    ensures again { Follows (λ _. (drafted draft.new, state_of parser.new)) result (defined_at memory_at with_memory (drafted draft.old, state_of parser.old)) }
+    ensures again { Follows (λ _. (drafted draft.new, state_of parser.new)) result (defined_at limits_at with_memory (drafted draft.old, state_of parser.old)) }
     ensures shrinks { IfOk result (λ _. length parser.new.rest.now ≤ length parser.old.rest.now) }
 {
-    let _name = parser.name();
-    let number = next_number(draft.imported.memories, draft.memories.len());
-    inline_exports(parser, draft, number.map(ExportDescription::Memory))?;
-    let item = memory_item(parser)?;
-    draft.memories.push(item)?;
-    Ok(())
-}
-
-#[tactic(auto, unfolding(crate::specs::ReadingModule::memory_at))]
-fn memory_item(parser: &mut Parser<'_>) -> Result<Limits, Failure>
-    ensures again { Follows (λ l. (l, state_of parser.new)) result (memory_at (state_of parser.old)) }
-    ensures shrinks { IfOk result (λ _. length parser.new.rest.now ≤ length parser.old.rest.now) }
-{
+    heading(parser, draft, Kind::Memory)?;
     let limits = parser.limits()?;
-    parser.close()?;
-    Ok(limits)
+    draft.memories.push(limits)?;
+    Ok(())
 }
 
 #[tactic(auto, unfolding(crate::specs::ReadingModule::defined_at))]
@@ -444,9 +412,7 @@ fn global(parser: &mut Parser<'_>, draft: &mut Draft) -> Result<(), Failure>
     ensures again { (n : ℕ) → Follows (λ _. (drafted draft.new, state_of parser.new)) result (defined_at (global_at n) with_global (drafted draft.old, state_of parser.old)) }
     ensures shrinks { IfOk result (λ _. length parser.new.rest.now ≤ length parser.old.rest.now) }
 {
-    let _name = parser.name();
-    let number = next_number(draft.imported.globals, draft.globals.len());
-    inline_exports(parser, draft, number.map(ExportDescription::Global))?;
+    heading(parser, draft, Kind::Global)?;
     let item = global_item(parser)?;
     draft.globals.push(item)?;
     Ok(())
@@ -459,7 +425,6 @@ fn global_item(parser: &mut Parser<'_>) -> Result<Global, Failure>
 {
     let global_type = parser.global_type()?;
     let initial = sequence(parser, ROOM)?;
-    parser.close()?;
     Ok(Global {
         global_type,
         initial,
@@ -467,25 +432,15 @@ fn global_item(parser: &mut Parser<'_>) -> Result<Global, Failure>
 }
 
 fn start(parser: &mut Parser<'_>, draft: &mut Draft) -> Result<(), Failure>
-    ensures again { Follows (λ _. (drafted draft.new, state_of parser.new)) result ((if is_some draft.old.start then None else added start_at with_start (drafted draft.old, state_of parser.old))) }
+    ensures again { Follows (λ _. (drafted draft.new, state_of parser.new)) result ((if is_some draft.old.start then None else added number_at with_start (drafted draft.old, state_of parser.old))) }
     ensures shrinks { IfOk result (λ _. length parser.new.rest.now ≤ length parser.old.rest.now) }
 {
     if draft.start.is_some() {
         return Err(parser.fault(Wrong::Syntax));
     }
-    let n = start_item(parser)?;
+    let n = parser.index(Kind::Function)?;
     draft.start = Some(n);
     Ok(())
-}
-
-#[tactic(auto, unfolding(crate::specs::ReadingModule::start_at))]
-fn start_item(parser: &mut Parser<'_>) -> Result<u32, Failure>
-    ensures again { Follows (λ n. (n, state_of parser.new)) result (start_at (state_of parser.old)) }
-    ensures shrinks { IfOk result (λ _. length parser.new.rest.now ≤ length parser.old.rest.now) }
-{
-    let n = parser.function_index()?;
-    parser.close()?;
-    Ok(n)
 }
 
 // ---- segments
@@ -496,42 +451,43 @@ fn offset(parser: &mut Parser<'_>) -> Result<Body, Failure>
     ensures again { (n : ℕ) → Follows (λ b. (b, state_of parser.new)) result (offset_at n (state_of parser.old)) }
     ensures shrinks { IfOk result (λ _. length parser.new.rest.now ≤ length parser.old.rest.now) }
 {
-    match parser.rest {
-        [Token::Open, Token::Key(Keyword::Offset), rest @ ..] => {
-            parser.rest = rest;
-            let body = sequence(parser, INNER_ROOM)?;
-            parser.close()?;
-            Ok(body)
-        }
-        _ => {
-            let mut instrs = Vec::new(parser.alloc);
-            folded(parser, ROOM, &mut instrs)?;
-            Ok(Body::from(instrs))
-        }
+    if is_offset(parser) {
+        return parenthesized_offset(parser);
+    }
+    let mut instrs = Vec::new(parser.alloc);
+    folded(parser, ROOM, &mut instrs)?;
+    Ok(Body::from(instrs))
+}
+
+fn is_offset(parser: &Parser<'_>) -> bool
+    ensures { result ≡ offset_first (toks_of parser.now.source.now parser.now.rest.now) }
+{
+    match parser.opening() {
+        Some(Keyword::Offset) => true,
+        _ => false,
     }
 }
 
-// The number of a table, which is 0 where none stands.
+// What stands in `(offset ..)`.
+#[tactic(auto, unfolding(crate::specs::ReadingModule::inner_offset_at))]
+fn parenthesized_offset(parser: &mut Parser<'_>) -> Result<Body, Failure>
+    ensures again { (n : ℕ) → Follows (λ b. (b, state_of parser.new)) result (inner_offset_at n (state_of parser.old)) }
+    ensures shrinks { IfOk result (λ _. length parser.new.rest.now ≤ length parser.old.rest.now) }
+{
+    parser.enter();
+    let body = sequence(parser, INNER_ROOM)?;
+    parser.close()?;
+    Ok(body)
+}
+
+// The number of a thing of this kind, which is 0 where none stands.
 #[tactic(auto, unfolding(crate::specs::ReadingModule::number_or_0_at))]
-fn table_number(parser: &mut Parser<'_>) -> Result<u32, Failure>
+fn number_or_0(parser: &mut Parser<'_>, kind: Kind) -> Result<u32, Failure>
     ensures again { Follows (λ n. (n, state_of parser.new)) result (number_or_0_at (state_of parser.old)) }
     ensures shrinks { IfOk result (λ _. length parser.new.rest.now ≤ length parser.old.rest.now) }
 {
     if parser.is_index() {
-        parser.table_index()
-    } else {
-        Ok(0)
-    }
-}
-
-// The number of a memory, which is 0 where none stands.
-#[tactic(auto, unfolding(crate::specs::ReadingModule::number_or_0_at))]
-fn memory_number(parser: &mut Parser<'_>) -> Result<u32, Failure>
-    ensures again { Follows (λ n. (n, state_of parser.new)) result (number_or_0_at (state_of parser.old)) }
-    ensures shrinks { IfOk result (λ _. length parser.new.rest.now ≤ length parser.old.rest.now) }
-{
-    if parser.is_index() {
-        parser.memory_index()
+        parser.index(kind)
     } else {
         Ok(0)
     }
@@ -551,10 +507,9 @@ fn element_item(parser: &mut Parser<'_>) -> Result<Element, Failure>
     ensures again { (n : ℕ) → Follows (λ e. (e, state_of parser.new)) result (element_at n (state_of parser.old)) }
     ensures shrinks { IfOk result (λ _. length parser.new.rest.now ≤ length parser.old.rest.now) }
 {
-    let table = table_number(parser)?;
+    let table = number_or_0(parser, Kind::Table)?;
     let offset = offset(parser)?;
     let functions = functions(parser)?;
-    parser.close()?;
     Ok(Element {
         table,
         offset,
@@ -570,7 +525,7 @@ fn functions(parser: &mut Parser<'_>) -> Result<Vec<u32>, Failure>
 {
     let mut functions = Vec::new(parser.alloc);
     'each: while parser.is_index() {
-        let n = parser.function_index()?;
+        let n = parser.index(Kind::Function)?;
         functions.push(n)?;
     }
     Ok(functions)
@@ -590,10 +545,9 @@ fn segment_item(parser: &mut Parser<'_>) -> Result<Data, Failure>
     ensures again { (n : ℕ) → Follows (λ d. (d, state_of parser.new)) result (segment_at n (state_of parser.old)) }
     ensures shrinks { IfOk result (λ _. length parser.new.rest.now ≤ length parser.old.rest.now) }
 {
-    let memory = memory_number(parser)?;
+    let memory = number_or_0(parser, Kind::Memory)?;
     let offset = offset(parser)?;
     let bytes = bytes(parser)?;
-    parser.close()?;
     Ok(Data {
         memory,
         offset,

@@ -5,7 +5,7 @@ ghost use Rattle.wasm_ast.specs.declared.module.Module.{Module as AnyModule};
 ghost use Rattle.wasm_ast.specs.Limits.{IsWithinLimits};
 ghost use Rattle.wat_asm.specs.Follows.{Follows, IsRead};
 ghost use Rattle.wat_asm.specs.Reading.{state_of};
-ghost use Rattle.wat_asm.specs.ReadingModule.{drafted, fields_at, is_empty, module_at, module_open_at, nameless, type_first, type_step, types_at, whole_at};
+ghost use Rattle.wat_asm.specs.ReadingModule.{drafted, fields_at, is_empty, module_at, module_open_at, nameless, only_at, type_step, types_at, whole_at};
 ghost use Rattle.wat_asm.specs.Tokens.{toks_of};
 
 use crate::fault::{Failure, Wrong};
@@ -25,7 +25,15 @@ pub fn parse(alloc: Global, source: &[u8], tokens: &[Token]) -> Result<Module, F
         → IsWithinLimits m → IsRead (λ x. x) result m }
 {
     let names = declared(alloc, tokens)?;
-    let module = module(alloc, source, &names, tokens)?;
+    limited(alloc, source, &names, tokens)
+}
+
+// The module, whose names are known, if it is within the limits.
+fn limited(alloc: Global, source: &[u8], names: &Names, tokens: &[Token]) -> Result<Module, Failure>
+    ensures within { IfOk result (λ m. IsWithinLimits m) }
+    ensures again { (n : ℕ) (m : AnyModule) → module_at n (toks_of source.now tokens.now) ≡ Some m → IsWithinLimits m → IsRead (λ x. x) result m }
+{
+    let module = module(alloc, source, names, tokens)?;
     if within_limits(&module) {
         Ok(module)
     } else {
@@ -39,9 +47,18 @@ fn module(alloc: Global, source: &[u8], names: &Names, tokens: &[Token]) -> Resu
 {
     let mut parser = Parser::new(alloc, source, names, tokens);
     let mut draft = Draft::new(alloc);
-    whole(&mut parser, &mut draft)?;
-    if is_at_end(&parser) {
-        Ok(draft.into_module(parser.types))
+    only(&mut parser, &mut draft)?;
+    Ok(draft.into_module(parser.types))
+}
+
+// A module's fields, between its parentheses, and nothing behind them.
+#[tactic(auto, unfolding(crate::specs::ReadingModule::only_at))]
+fn only(parser: &mut Parser<'_>, draft: &mut Draft) -> Result<(), Failure>
+    ensures again { (n : ℕ) → Follows (λ _. (drafted draft.new, state_of parser.new)) result (only_at n (drafted draft.old, state_of parser.old)) }
+{
+    whole(parser, draft)?;
+    if is_at_end(parser) {
+        Ok(())
     } else {
         Err(parser.unexpected())
     }
@@ -86,19 +103,10 @@ fn open_module(parser: &mut Parser<'_>) -> Result<(), Failure>
 fn types(parser: &mut Parser<'_>) -> Result<(), Failure>
     ensures { (n : ℕ) → Follows (λ _. state_of parser.new) result (types_at n (state_of parser.old)) }
 {
-    'each: while is_type(parser) {
+    'each: while parser.is_type() {
         one_type(parser)?;
     }
     Ok(())
-}
-
-fn is_type(parser: &Parser<'_>) -> bool
-    ensures { type_first (toks_of parser.now.source.now parser.now.rest.now) ≡ Some result }
-{
-    match parser.rest {
-        [Token::Open, Token::Key(Keyword::FuncType), ..] => true,
-        _ => false,
-    }
 }
 
 #[tactic(auto, unfolding(crate::specs::ReadingModule::type_step))]
@@ -106,15 +114,10 @@ fn one_type(parser: &mut Parser<'_>) -> Result<(), Failure>
     ensures again { (n : ℕ) → Follows (λ u. (u, state_of parser.new)) result (type_step n (tt, state_of parser.old)) }
     ensures shrinks { IfOk result (λ _. length parser.new.rest.now < length parser.old.rest.now) }
 {
-    match parser.rest {
-        [Token::Open, Token::Key(Keyword::FuncType), rest @ ..] => {
-            parser.rest = rest;
-            let t = parser.defined_type()?;
-            parser.types.push(t)?;
-            Ok(())
-        }
-        _ => Err(parser.unexpected()),
-    }
+    parser.enter();
+    let t = parser.defined_type()?;
+    parser.types.push(t)?;
+    parser.close()
 }
 
 // All other fields.

@@ -3,7 +3,7 @@
 ghost use Rattle.std.specs.Prelude.{◌≡◌, ◌↔◌, ◌<◌, ◌≤◌, ℕ, ◌+◌, ◌-◌, ◌^◌, min, drop, true, IfOk, IsOk, IsSome, IsErrOf, OnOk, OnErr, Ok, None, Some};
 ghost use Rattle.wat_asm.specs.declared.fault.Wrong.TheVariants.{DuplicateName};
 ghost use Rattle.wat_asm.specs.declared.parser.names.Names.{Names as AnyNames};
-ghost use Rattle.wat_asm.specs.Names.{AreDeclared, AreSame, Declares, DeclaresAll, DeclaresBrought, DeclaresField, DeclaresFirst, DeclaresNext, HasNoNames, HasNone, number_of};
+ghost use Rattle.wat_asm.specs.Names.{AreDeclared, AreSame, Declares, DeclaresAll, DeclaresBrought, DeclaresField, DeclaresFirst, DeclaresNext, HasNoNames, HasNone, number_of, space_of};
 ghost use Rattle.wat_asm.specs.ReadingModule.{nameless};
 
 use crate::fault::{Failure, Wrong};
@@ -95,6 +95,16 @@ pub fn declare(space: &mut Space, name: u32, number: usize, left: usize) -> Resu
     }
 }
 
+/// What a module numbers.
+#[derive(Clone, Copy)]
+pub enum Kind {
+    Type,
+    Function,
+    Table,
+    Memory,
+    Global,
+}
+
 /// What the fields of a module name, imports counted first (Core 1.0, 6.6.1).
 #[derive(Drop)]
 pub struct Names {
@@ -116,6 +126,19 @@ impl Names {
             tables: Series::new(alloc),
             memories: Series::new(alloc),
             globals: Series::new(alloc),
+        }
+    }
+
+    /// The names of this kind.
+    pub fn space(&self, kind: Kind) -> &Space
+        ensures { result.now ≡ space_of self.now kind }
+    {
+        match kind {
+            Kind::Type => &self.types.space,
+            Kind::Function => &self.functions.space,
+            Kind::Table => &self.tables.space,
+            Kind::Memory => &self.memories.space,
+            Kind::Global => &self.globals.space,
         }
     }
 

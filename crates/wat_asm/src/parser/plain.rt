@@ -11,6 +11,7 @@ ghost use Rattle.wat_asm.specs.Tokens.{tok_of};
 use crate::fault::{Failure, Wrong};
 use crate::keyword::Keyword;
 use crate::lexer::Token;
+use crate::parser::names::Kind;
 use crate::parser::tokens::Parser;
 use crate::parser::types::ParameterNames;
 use wasm_ast::{
@@ -40,7 +41,7 @@ impl<'a> Parser<'a> {
             Keyword::Load(load) => self.load(load),
             Keyword::Store(store) => self.store(store),
             Keyword::Call => {
-                let n = self.function_index()?;
+                let n = self.index(Kind::Function)?;
                 Ok(Instr::Call(n))
             }
             Keyword::CallIndirect => {
@@ -80,11 +81,11 @@ impl<'a> Parser<'a> {
                 Ok(Instr::Plain(Plain::Variable(Variable::LocalTee(n))))
             }
             Keyword::GlobalGet => {
-                let n = self.global_index()?;
+                let n = self.index(Kind::Global)?;
                 Ok(Instr::Plain(Plain::Variable(Variable::GlobalGet(n))))
             }
             Keyword::GlobalSet => {
-                let n = self.global_index()?;
+                let n = self.index(Kind::Global)?;
                 Ok(Instr::Plain(Plain::Variable(Variable::GlobalSet(n))))
             }
             _ => Err(self.fault(Wrong::Syntax)),

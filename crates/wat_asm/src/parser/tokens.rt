@@ -1,16 +1,16 @@
 //! What is still to be read, and the readers of single tokens.
 
-ghost use Rattle.std.specs.Prelude.{◌≡◌, ◌<◌, ◌≤◌, [], Bool, Some, length, IfOk};
+ghost use Rattle.std.specs.Prelude.{◌≡◌, ◌<◌, ◌≤◌, ℕ, [], Bool, Some, None, length, IfOk};
 ghost use Rattle.wat_asm.specs.Follows.{Follows};
-ghost use Rattle.wat_asm.specs.Reading.{State, closed_at, funcref_at, name_at, number_at, number_first, open_first, state_of, text_at, unnamed_at};
-ghost use Rattle.wat_asm.specs.Names.{AtName, IsFound, number_of};
+ghost use Rattle.wat_asm.specs.Reading.{State, closed_at, funcref_at, inside, name_at, number_at, number_first, open_first, opened_at, opening, state_of, text_at, type_first, unnamed_at};
+ghost use Rattle.wat_asm.specs.Names.{AtName, IsFound, number_of, space_of};
 ghost use Rattle.wat_asm.specs.Tokens.{toks_of};
 
 use crate::fault::{Failure, Wrong};
 use crate::keyword::Keyword;
 use crate::lexer::{Token, string};
 use crate::parser::equal_types::EqualTypes;
-use crate::parser::names::{Names, Space};
+use crate::parser::names::{Kind, Names, Space};
 use std::alloc::Global;
 use wasm_ast::{FuncType, Name};
 
@@ -93,6 +93,60 @@ impl<'a> Parser<'a> {
             }
             _ => Err(self.unexpected()),
         }
+    }
+
+    /// The keyword behind the parenthesis that stands next, if one does.
+    pub fn opening(&self) -> Option<Keyword>
+        ensures { result ≡ opening (toks_of self.now.source.now self.now.rest.now) }
+    {
+        match self.rest {
+            [Token::Open, Token::Key(keyword), ..] => Some(*keyword),
+            _ => None,
+        }
+    }
+
+    /// Passes the parenthesis and the keyword that stand next.
+    pub fn enter(&mut self)
+        ensures again { state_of self.new ≡ inside (state_of self.old) }
+        ensures shrinks { length self.new.rest.now ≤ length self.old.rest.now }
+    {
+        if let [_, _, rest @ ..] = self.rest {
+            self.rest = rest;
+        }
+    }
+
+    /// Passes a parenthesis and a keyword, which it returns.
+    #[tactic(auto, unfolding(crate::specs::Reading::opened_at))]
+    pub fn opened(&mut self) -> Result<Keyword, Failure>
+        ensures again { Follows (λ k. (k, state_of self.new)) result (opened_at (state_of self.old)) }
+        ensures shrinks { IfOk result (λ _. length self.new.rest.now < length self.old.rest.now) }
+    {
+        match self.rest {
+            [Token::Open, Token::Key(keyword), rest @ ..] => {
+                self.rest = rest;
+                Ok(*keyword)
+            }
+            _ => Err(self.unexpected()),
+        }
+    }
+
+    /// Whether a type, or its use by its number, stands next.
+    pub fn is_type(&self) -> bool
+        ensures { result ≡ type_first (toks_of self.now.source.now self.now.rest.now) }
+    {
+        match self.opening() {
+            Some(Keyword::FuncType) => true,
+            _ => false,
+        }
+    }
+
+    /// No parameter and no local has a name from now on.
+    pub fn forget_locals(&mut self)
+        ensures again { state_of self.new ≡ state_of self.old }
+        ensures shrinks { self.new.rest.now ≡ self.old.rest.now }
+        ensures none { (q : ℕ) → number_of self.new.locals q ≡ None }
+    {
+        self.locals = Space::new(self.alloc);
     }
 
     /// Whether an opening parenthesis stands next.
@@ -180,58 +234,14 @@ impl<'a> Parser<'a> {
         }
     }
 
-    /// The number of a type (Core 1.0, 6.6.1).
-    pub fn type_index(&mut self) -> Result<u32, Failure>
-        ensures named { AtName (λ name. IsFound result (number_of self.old.names.now.types.space name) (length self.old.rest.now)) self.old.rest.now }
+    /// The number of a thing of this kind (Core 1.0, 6.6.1).
+    pub fn index(&mut self, kind: Kind) -> Result<u32, Failure>
+        ensures named { AtName (λ name. IsFound result (number_of (space_of self.old.names.now kind) name) (length self.old.rest.now)) self.old.rest.now }
         ensures again { Follows (λ n. (n, state_of self.new)) result (number_at (state_of self.old)) }
         ensures shrinks { IfOk result (λ _. length self.new.rest.now < length self.old.rest.now) }
     {
         let names = self.names;
-        let found = self.found_in(&names.types.space);
-        self.found(found)
-    }
-
-    /// The number of a function (Core 1.0, 6.6.1).
-    pub fn function_index(&mut self) -> Result<u32, Failure>
-        ensures named { AtName (λ name. IsFound result (number_of self.old.names.now.functions.space name) (length self.old.rest.now)) self.old.rest.now }
-        ensures again { Follows (λ n. (n, state_of self.new)) result (number_at (state_of self.old)) }
-        ensures shrinks { IfOk result (λ _. length self.new.rest.now < length self.old.rest.now) }
-    {
-        let names = self.names;
-        let found = self.found_in(&names.functions.space);
-        self.found(found)
-    }
-
-    /// The number of a table (Core 1.0, 6.6.1).
-    pub fn table_index(&mut self) -> Result<u32, Failure>
-        ensures named { AtName (λ name. IsFound result (number_of self.old.names.now.tables.space name) (length self.old.rest.now)) self.old.rest.now }
-        ensures again { Follows (λ n. (n, state_of self.new)) result (number_at (state_of self.old)) }
-        ensures shrinks { IfOk result (λ _. length self.new.rest.now < length self.old.rest.now) }
-    {
-        let names = self.names;
-        let found = self.found_in(&names.tables.space);
-        self.found(found)
-    }
-
-    /// The number of a memory (Core 1.0, 6.6.1).
-    pub fn memory_index(&mut self) -> Result<u32, Failure>
-        ensures named { AtName (λ name. IsFound result (number_of self.old.names.now.memories.space name) (length self.old.rest.now)) self.old.rest.now }
-        ensures again { Follows (λ n. (n, state_of self.new)) result (number_at (state_of self.old)) }
-        ensures shrinks { IfOk result (λ _. length self.new.rest.now < length self.old.rest.now) }
-    {
-        let names = self.names;
-        let found = self.found_in(&names.memories.space);
-        self.found(found)
-    }
-
-    /// The number of a global (Core 1.0, 6.6.1).
-    pub fn global_index(&mut self) -> Result<u32, Failure>
-        ensures named { AtName (λ name. IsFound result (number_of self.old.names.now.globals.space name) (length self.old.rest.now)) self.old.rest.now }
-        ensures again { Follows (λ n. (n, state_of self.new)) result (number_at (state_of self.old)) }
-        ensures shrinks { IfOk result (λ _. length self.new.rest.now < length self.old.rest.now) }
-    {
-        let names = self.names;
-        let found = self.found_in(&names.globals.space);
+        let found = self.found_in(names.space(kind));
         self.found(found)
     }
 

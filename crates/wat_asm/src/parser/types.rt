@@ -2,23 +2,30 @@
 
 ghost use Rattle.std.specs.Prelude.{◌≡◌, ◌<◌, ◌≤◌, ℕ, Some, length, IfOk};
 ghost use Rattle.wat_asm.specs.Follows.{Follows};
-ghost use Rattle.wat_asm.specs.Reading.{block_type_at, defined_type_at, func_at, global_type_at, group_at, limits_at, maximum_at, mut_first, mut_type_at, nameless_at, param_first, param_group_at, params_at, result_first, result_group_at, results_at, signature_at, signature_first, state_of, type_use_at, val_type_at, val_type_first, val_types_at};
+ghost use Rattle.wat_asm.specs.Reading.{block_type_at, defined_type_at, func_at, global_type_at, group_at, group_first, group_step, groups_at, limits_at, maximum_at, mut_first, mut_type_at, named_use_at, nameless_at, signature_at, signature_first, state_of, type_use_at, val_type_at, val_type_first, val_types_at};
 ghost use Rattle.wat_asm.specs.Tokens.{toks_of};
 
 use crate::fault::{Failure, Wrong};
 use crate::keyword::Keyword;
 use crate::lexer::Token;
-use crate::parser::names::{Space, declare};
+use crate::parser::names::{Kind, declare};
 use crate::parser::tokens::Parser;
 use wasm_ast::{BlockType, FuncType, GlobalType, Limits, Mutability, Sequence, ValType};
 
 /// What the names of parameters are for.
-#[derive(Clone, Copy, Debug)]
+#[derive(Clone, Copy)]
 pub enum ParameterNames {
     /// They may stand, and the function's instructions may refer to them.
     Bound,
     /// None may stand.
     Refused,
+}
+
+// Parameters or results, which may be several groups one after another.
+#[derive(Clone, Copy)]
+enum Group {
+    Parameters(ParameterNames),
+    Results,
 }
 
 impl<'a> Parser<'a> {
@@ -66,18 +73,16 @@ impl<'a> Parser<'a> {
         ensures again { 0 < parentheses → Follows (λ t. (t, state_of self.new)) result (block_type_at (state_of self.old)) }
         ensures shrinks { IfOk result (λ _. length self.new.rest.now ≤ length self.old.rest.now) }
     {
-        match self.rest {
-            [Token::Open, Token::Key(Keyword::Result), rest @ ..] => {
-                if parentheses == 0 {
-                    return Err(self.fault(Wrong::OverLimit));
-                }
-                self.rest = rest;
-                let t = self.val_type()?;
-                self.close()?;
-                Ok(Some(t))
-            }
-            _ => Ok(None),
+        if !self.is_group(Group::Results) {
+            return Ok(None);
         }
+        if parentheses == 0 {
+            return Err(self.fault(Wrong::OverLimit));
+        }
+        self.enter();
+        let t = self.val_type()?;
+        self.close()?;
+        Ok(Some(t))
     }
 
     /// Limits (Core 1.0, 6.4.4).
@@ -109,29 +114,25 @@ impl<'a> Parser<'a> {
     fn is_mut(&self) -> bool
         ensures { result ≡ mut_first (toks_of self.now.source.now self.now.rest.now) }
     {
-        match self.rest {
-            [Token::Open, Token::Key(Keyword::Mut), ..] => true,
+        match self.opening() {
+            Some(Keyword::Mut) => true,
             _ => false,
         }
     }
 
+    // What stands in `(mut ..)`.
     #[tactic(auto, unfolding(crate::specs::Reading::mut_type_at))]
     fn mut_type(&mut self) -> Result<GlobalType, Failure>
         ensures again { Follows (λ t. (t, state_of self.new)) result (mut_type_at (state_of self.old)) }
         ensures shrinks { IfOk result (λ _. length self.new.rest.now ≤ length self.old.rest.now) }
     {
-        match self.rest {
-            [Token::Open, Token::Key(Keyword::Mut), rest @ ..] => {
-                self.rest = rest;
-                let value = self.val_type()?;
-                self.close()?;
-                Ok(GlobalType {
-                    mutability: Mutability::Variable,
-                    value,
-                })
-            }
-            _ => Err(self.unexpected()),
-        }
+        self.enter();
+        let value = self.val_type()?;
+        self.close()?;
+        Ok(GlobalType {
+            mutability: Mutability::Variable,
+            value,
+        })
     }
 
     /// The type of a global (Core 1.0, 6.4.7).
@@ -154,9 +155,9 @@ impl<'a> Parser<'a> {
     pub fn is_signature(&self) -> bool
         ensures { result ≡ signature_first (toks_of self.now.source.now self.now.rest.now) }
     {
-        match self.rest {
-            [Token::Open, Token::Key(Keyword::Param), ..] => true,
-            [Token::Open, Token::Key(Keyword::Result), ..] => true,
+        match self.opening() {
+            Some(Keyword::Param) => true,
+            Some(Keyword::Result) => true,
             _ => false,
         }
     }
@@ -169,82 +170,89 @@ impl<'a> Parser<'a> {
     {
         let mut parameters = Vec::new(self.alloc);
         let mut results = Vec::new(self.alloc);
-        self.parameters(names, &mut parameters)?;
-        self.results(&mut results)?;
+        self.groups(Group::Parameters(names), &mut parameters)?;
+        self.groups(Group::Results, &mut results)?;
         Ok(FuncType {
             parameters: Sequence::from(parameters),
             results: Sequence::from(results),
         })
     }
 
-    fn is_parameters(&self) -> bool
-        ensures { param_first (toks_of self.now.source.now self.now.rest.now) ≡ Some result }
+    // Whether a group of this kind stands next.
+    fn is_group(&self, group: Group) -> bool
+        ensures { group_first group (toks_of self.now.source.now self.now.rest.now) ≡ Some result }
     {
-        match self.rest {
-            [Token::Open, Token::Key(Keyword::Param), ..] => true,
-            _ => false,
+        match group {
+            Group::Parameters(_) => match self.opening() {
+                Some(Keyword::Param) => true,
+                _ => false,
+            },
+            Group::Results => match self.opening() {
+                Some(Keyword::Result) => true,
+                _ => false,
+            },
         }
     }
 
-    // All groups of parameters that stand next.
-    #[tactic(auto, unfolding(crate::specs::Reading::params_at))]
-    fn parameters(
-        &mut self,
-        names: ParameterNames,
-        parameters: &mut Vec<ValType>,
-    ) -> Result<(), Failure>
-        ensures again { (n : ℕ) → Follows (λ _. (parameters.new.items, state_of self.new)) result (params_at n (parameters.old.items, state_of self.old)) }
+    // All groups of this kind that stand next: what is in them is added to these types.
+    #[tactic(auto, unfolding(crate::specs::Reading::groups_at))]
+    fn groups(&mut self, group: Group, types: &mut Vec<ValType>) -> Result<(), Failure>
+        ensures again { (n : ℕ) → Follows (λ _. (types.new.items, state_of self.new)) result (groups_at (group_first group) n (types.old.items, state_of self.old)) }
         ensures shrinks { IfOk result (λ _. length self.new.rest.now ≤ length self.old.rest.now) }
     {
-        'each: while self.is_parameters() {
-            self.parameter_group(names, parameters)?;
+        'each: while self.is_group(group) {
+            self.one_group(group, types)?;
         }
         Ok(())
     }
 
-    // A group of parameters.
-    #[tactic(auto, unfolding(crate::specs::Reading::param_group_at))]
-    fn parameter_group(
-        &mut self,
-        names: ParameterNames,
-        parameters: &mut Vec<ValType>,
-    ) -> Result<(), Failure>
-        ensures again { (n : ℕ) → Follows (λ _. (parameters.new.items, state_of self.new)) result (param_group_at n (parameters.old.items, state_of self.old)) }
+    // A group of this kind, which stands next.
+    #[tactic(auto, unfolding(crate::specs::Reading::group_step))]
+    fn one_group(&mut self, group: Group, types: &mut Vec<ValType>) -> Result<(), Failure>
+        ensures again { (n : ℕ) → Follows (λ _. (types.new.items, state_of self.new)) result (group_step n (types.old.items, state_of self.old)) }
         ensures shrinks { IfOk result (λ _. length self.new.rest.now < length self.old.rest.now) }
     {
-        match self.rest {
-            [Token::Open, Token::Key(Keyword::Param), rest @ ..] => {
-                self.rest = rest;
-                self.named_parameter(names, parameters)?;
-                self.group(parameters)
-            }
-            _ => Err(self.unexpected()),
-        }
+        self.enter();
+        self.named_type(group, types)?;
+        self.group(types)
     }
 
-    // A parameter with a name, where a name stands next.
+    // A type with a name, where a name stands next.
     #[tactic(auto, unfolding(crate::specs::Reading::nameless_at, crate::specs::Reading::unnamed_at))]
-    fn named_parameter(
-        &mut self,
-        names: ParameterNames,
-        parameters: &mut Vec<ValType>,
-    ) -> Result<(), Failure>
-        ensures again { Follows (λ _. (parameters.new.items, state_of self.new)) result (nameless_at (parameters.old.items, state_of self.old)) }
+    fn named_type(&mut self, group: Group, types: &mut Vec<ValType>) -> Result<(), Failure>
+        ensures again { Follows (λ _. (types.new.items, state_of self.new)) result (nameless_at (types.old.items, state_of self.old)) }
         ensures shrinks { IfOk result (λ _. length self.new.rest.now ≤ length self.old.rest.now) }
     {
         match self.rest {
-            [Token::Name(name), rest @ ..] => {
-                if let ParameterNames::Refused = names {
-                    return Err(self.fault(Wrong::Syntax));
-                }
-                declare(&mut self.locals, *name, parameters.len(), self.rest.len())?;
-                self.rest = rest;
-                let t = self.val_type()?;
-                parameters.push(t)?;
-                Ok(())
-            }
+            [Token::Name(name), ..] => self.bind(group, *name, types),
             _ => Ok(()),
         }
+    }
+
+    // The type that stands behind this name, which the function's instructions may refer to from now on.
+    fn bind(&mut self, group: Group, name: u32, types: &mut Vec<ValType>) -> Result<(), Failure>
+        ensures { IfOk result (λ _. length self.new.rest.now ≤ length self.old.rest.now) }
+    {
+        let Group::Parameters(ParameterNames::Bound) = group else {
+            return Err(self.fault(Wrong::Syntax));
+        };
+        self.local(name, types.len(), types)
+    }
+
+    /// A parameter or a local: its name, which stands for this number from now on, and its type, which is added to these.
+    pub fn local(
+        &mut self,
+        name: u32,
+        number: usize,
+        types: &mut Vec<ValType>,
+    ) -> Result<(), Failure>
+        ensures { IfOk result (λ _. length self.new.rest.now ≤ length self.old.rest.now) }
+    {
+        declare(&mut self.locals, name, number, self.rest.len())?;
+        let _name = self.name();
+        let t = self.val_type()?;
+        types.push(t)?;
+        Ok(())
     }
 
     /// Value types, which are added to these, and the parenthesis that closes their group.
@@ -257,41 +265,6 @@ impl<'a> Parser<'a> {
         self.close()
     }
 
-    fn is_results(&self) -> bool
-        ensures { result_first (toks_of self.now.source.now self.now.rest.now) ≡ Some result }
-    {
-        match self.rest {
-            [Token::Open, Token::Key(Keyword::Result), ..] => true,
-            _ => false,
-        }
-    }
-
-    // All groups of results that stand next.
-    #[tactic(auto, unfolding(crate::specs::Reading::results_at))]
-    fn results(&mut self, results: &mut Vec<ValType>) -> Result<(), Failure>
-        ensures again { (n : ℕ) → Follows (λ _. (results.new.items, state_of self.new)) result (results_at n (results.old.items, state_of self.old)) }
-        ensures shrinks { IfOk result (λ _. length self.new.rest.now ≤ length self.old.rest.now) }
-    {
-        'each: while self.is_results() {
-            self.result_group(results)?;
-        }
-        Ok(())
-    }
-
-    #[tactic(auto, unfolding(crate::specs::Reading::result_group_at))]
-    fn result_group(&mut self, results: &mut Vec<ValType>) -> Result<(), Failure>
-        ensures again { (n : ℕ) → Follows (λ _. (results.new.items, state_of self.new)) result (result_group_at n (results.old.items, state_of self.old)) }
-        ensures shrinks { IfOk result (λ _. length self.new.rest.now < length self.old.rest.now) }
-    {
-        match self.rest {
-            [Token::Open, Token::Key(Keyword::Result), rest @ ..] => {
-                self.rest = rest;
-                self.group(results)
-            }
-            _ => Err(self.unexpected()),
-        }
-    }
-
     /// The use of a type, with room for so many more parentheses: its number (Core 1.0, 6.6.3). Where only parameters and
     /// results stand, it is the first type that is equal to them, and where there is none, a new one behind all others.
     #[tactic(auto, unfolding(crate::specs::Reading::type_use_at))]
@@ -302,21 +275,26 @@ impl<'a> Parser<'a> {
         if parentheses == 0 && self.is_open() {
             return Err(self.fault(Wrong::OverLimit));
         }
-        match self.rest {
-            [Token::Open, Token::Key(Keyword::FuncType), rest @ ..] => {
-                self.rest = rest;
-                let number = self.type_index()?;
-                self.close()?;
-                if self.is_signature() {
-                    self.agree(names, number)?;
-                }
-                Ok(number)
-            }
-            _ => {
-                let t = self.signature(names)?;
-                self.number_of_type(t)
-            }
+        if self.is_type() {
+            return self.named_use(names);
         }
+        let t = self.signature(names)?;
+        self.number_of_type(t)
+    }
+
+    // The use of a type by its number or name.
+    #[tactic(auto, unfolding(crate::specs::Reading::named_use_at))]
+    fn named_use(&mut self, names: ParameterNames) -> Result<u32, Failure>
+        ensures again { Follows (λ n. (n, state_of self.new)) result (named_use_at (state_of self.old)) }
+        ensures shrinks { IfOk result (λ _. length self.new.rest.now ≤ length self.old.rest.now) }
+    {
+        self.enter();
+        let number = self.index(Kind::Type)?;
+        self.close()?;
+        if self.is_signature() {
+            self.agree(names, number)?;
+        }
+        Ok(number)
     }
 
     // Reads the parameters and results beside the number of a type, which have to be the type's.
@@ -325,10 +303,21 @@ impl<'a> Parser<'a> {
     {
         let fault = self.fault(Wrong::TypeUse);
         let t = self.signature(names)?;
+        if self.is_numbered(number, &t)? {
+            Ok(())
+        } else {
+            Err(fault)
+        }
+    }
+
+    // Whether the type with this number is this one.
+    fn is_numbered(&mut self, number: u32, t: &FuncType) -> Result<bool, Failure>
+        ensures { self.new.rest.now ≡ self.old.rest.now }
+    {
         self.read_all_types()?;
         match self.types.get(number as usize) {
-            Some(named) => { if *named == t { Ok(()) } else { Err(fault) } }
-            None => Err(fault),
+            Some(named) => Ok(*named == *t),
+            None => Ok(false),
         }
     }
 
@@ -336,14 +325,22 @@ impl<'a> Parser<'a> {
     fn number_of_type(&mut self, t: FuncType) -> Result<u32, Failure>
         ensures shrinks { self.new.rest.now ≡ self.old.rest.now }
     {
+        let number = self.number_of_equal(&t)?;
+        if number as usize == self.types.len() {
+            self.types.push(t)?;
+        }
+        Ok(number)
+    }
+
+    // The number of the first type that is equal to this one, and the next number where there is none.
+    fn number_of_equal(&mut self, t: &FuncType) -> Result<u32, Failure>
+        ensures { self.new.rest.now ≡ self.old.rest.now }
+    {
         self.read_all_types()?;
         let Ok(next) = u32::try_from(self.types.len()) else {
             return Err(self.fault(Wrong::OverLimit));
         };
-        let number = self.equal_types.first(self.alloc, &t, next)?;
-        if number == next {
-            self.types.push(t)?;
-        }
+        let number = self.equal_types.first(self.alloc, t, next)?;
         Ok(number)
     }
 
@@ -372,7 +369,7 @@ impl<'a> Parser<'a> {
         }
     }
 
-    /// A type that the module defines, behind its keyword (Core 1.0, 6.6.2).
+    /// A type that the module defines, behind its keyword and without the last parenthesis (Core 1.0, 6.6.2).
     #[tactic(auto, unfolding(crate::specs::Reading::defined_type_at))]
     pub fn defined_type(&mut self) -> Result<FuncType, Failure>
         ensures again { (n : ℕ) → Follows (λ t. (t, state_of self.new)) result (defined_type_at n (state_of self.old)) }
@@ -380,9 +377,8 @@ impl<'a> Parser<'a> {
     {
         let _name = self.name();
         self.open_func()?;
-        self.locals = Space::new(self.alloc);
+        self.forget_locals();
         let t = self.signature(ParameterNames::Bound)?;
-        self.close()?;
         self.close()?;
         Ok(t)
     }
@@ -396,29 +392,32 @@ impl<'a> Parser<'a> {
             return Ok(());
         }
         let mut reader = Parser::new(self.alloc, self.source, self.names, self.rest);
-        'each: while let [_, rest @ ..] = reader.rest {
-            if reader.is_defined_type() {
-                reader.rest = rest;
-                reader.later_type(&mut self.types)?;
-            } else {
-                reader.rest = rest;
-            }
-        }
+        reader.later_types(&mut self.types)?;
         self.are_types_read = true;
         self.equal_types.add(self.alloc, self.types.as_slice())?;
         Ok(())
     }
 
-    // The definition of a type, behind its opening parenthesis, is added to these.
-    fn later_type(&mut self, types: &mut Vec<FuncType>) -> Result<(), Failure>
-        ensures shrinks { IfOk result (λ _. length self.new.rest.now ≤ length self.old.rest.now) }
-    {
-        if let [_, rest @ ..] = self.rest {
-            self.rest = rest;
-            let t = self.defined_type()?;
-            types.push(t)?;
+    // The types that are defined from here on are added to these.
+    fn later_types(&mut self, types: &mut Vec<FuncType>) -> Result<(), Failure> {
+        'each: while let [_, rest @ ..] = self.rest {
+            if self.is_defined_type() {
+                self.later_type(types)?;
+            } else {
+                self.rest = rest;
+            }
         }
         Ok(())
+    }
+
+    // The definition of a type is added to these.
+    fn later_type(&mut self, types: &mut Vec<FuncType>) -> Result<(), Failure>
+        ensures { IfOk result (λ _. length self.new.rest.now < length self.old.rest.now) }
+    {
+        self.enter();
+        let t = self.defined_type()?;
+        types.push(t)?;
+        self.close()
     }
 
     // Whether the definition of a type begins here, and not a use of one.

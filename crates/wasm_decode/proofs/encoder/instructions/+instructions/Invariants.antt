@@ -1,4 +1,4 @@
-use Rattle.std.proofs.Common.{◌≡◌, ◌++◌, ◌+◌, ◌*◌, drop}
+use Rattle.std.proofs.Common.{◌≡◌, ◌++◌, ◌+◌, ◌*◌, drop, max}
 use Rattle.wasm_ast.specs.Code.{size_of}
 use Rattle.wasm_ast.specs.View.{code_of}
 use Rattle.wasm_ast.specs.declared.body.Body.TheDeep.{deep-Instr}
@@ -6,16 +6,19 @@ use Rattle.wasm_decode.specs.Canonical.{code_bytes}
 use Rattle.wasm_decode.proofs.encoder.instructions.+instructions.Given as goal
 
 abbrev pub decreases-write_body : goal.decreases-write_body
-decreases-write_body l = 2 * size_of l.body.now
+decreases-write_body l = 3 * size_of l.body.now
 
 abbrev pub decreases-write_instr : goal.decreases-write_instr
-decreases-write_instr l = 2 * deep-Instr l.instr.now
+decreases-write_instr l = 3 * deep-Instr l.instr.now
 
 abbrev pub decreases-write_block : goal.decreases-write_block
-decreases-write_block l = 2 * size_of l.body.now + 1
+decreases-write_block l = 3 * size_of l.body.now + 1
+
+abbrev pub decreases-write_choice : goal.decreases-write_choice
+decreases-write_choice l = 3 * max (size_of l.body.now) (size_of l.other.now) + 2
 
 abbrev pub decreases-write_else : goal.decreases-write_else
-decreases-write_else l = 2 * size_of l.arm.now + 1
+decreases-write_else l = 3 * size_of l.arm.now + 1
 
 abbrev pub invariant-write_body-loop-instr : goal.invariant-write_body-loop-instr
 invariant-write_body-loop-instr l =

@@ -4,41 +4,53 @@ use Rattle.wat_asm.specs.ReadingCode.{goes_on, instr_step, inner_at}
 use Rattle.wat_asm.proofs.Repeats.{Onward}
 use Rattle.wat_asm.proofs.parser.code.+parser.Given as goal
 
-abbrev pub decreases-instructions : goal.decreases-instructions
-decreases-instructions l = 8 * length l.parser.now.rest.now + 4
+abbrev pub decreases-folded : goal.decreases-folded
+decreases-folded l = 10 * length l.parser.now.rest.now + 1
 
 abbrev pub decreases-instruction : goal.decreases-instruction
-decreases-instruction l = 8 * length l.parser.now.rest.now + 3
+decreases-instruction l = 10 * length l.parser.now.rest.now + 1
 
-abbrev pub decreases-typed_body : goal.decreases-typed_body
-decreases-typed_body l = 8 * length l.parser.now.rest.now + 6
-
-abbrev pub decreases-choice : goal.decreases-choice
-decreases-choice l = 8 * length l.parser.now.rest.now + 7
-
-abbrev pub decreases-else_arm : goal.decreases-else_arm
-decreases-else_arm l = 8 * length l.parser.now.rest.now + 5
-
-abbrev pub decreases-inner : goal.decreases-inner
-decreases-inner l = 8 * length l.parser.now.rest.now + 5
-
-abbrev pub decreases-folded : goal.decreases-folded
-decreases-folded l = 8 * length l.parser.now.rest.now + 3
-
-abbrev pub decreases-unfolded : goal.decreases-unfolded
-decreases-unfolded l = 8 * length l.parser.now.rest.now + 8
+abbrev pub decreases-instructions : goal.decreases-instructions
+decreases-instructions l = 10 * length l.parser.now.rest.now + 2
 
 abbrev pub decreases-operands : goal.decreases-operands
-decreases-operands l = 8 * length l.parser.now.rest.now + 4
+decreases-operands l = 10 * length l.parser.now.rest.now + 2
 
-abbrev pub decreases-folded_choice : goal.decreases-folded_choice
-decreases-folded_choice l = 8 * length l.parser.now.rest.now + 7
+abbrev pub decreases-inner : goal.decreases-inner
+decreases-inner l = 10 * length l.parser.now.rest.now + 3
+
+abbrev pub decreases-typed_body : goal.decreases-typed_body
+decreases-typed_body l = 10 * length l.parser.now.rest.now + 4
+
+abbrev pub decreases-arm : goal.decreases-arm
+decreases-arm l = 10 * length l.parser.now.rest.now + 5
+
+abbrev pub decreases-else_arm : goal.decreases-else_arm
+decreases-else_arm l = 10 * length l.parser.now.rest.now + 3
+
+abbrev pub decreases-other_arm : goal.decreases-other_arm
+decreases-other_arm l = 10 * length l.parser.now.rest.now + 5
+
+abbrev pub decreases-block : goal.decreases-block
+decreases-block l = 10 * length l.parser.now.rest.now + 5
+
+abbrev pub decreases-choice : goal.decreases-choice
+decreases-choice l = 10 * length l.parser.now.rest.now + 6
 
 abbrev pub decreases-then_arm : goal.decreases-then_arm
-decreases-then_arm l = 8 * length l.parser.now.rest.now + 6
+decreases-then_arm l = 10 * length l.parser.now.rest.now + 6
 
 abbrev pub decreases-folded_else : goal.decreases-folded_else
-decreases-folded_else l = 8 * length l.parser.now.rest.now + 6
+decreases-folded_else l = 10 * length l.parser.now.rest.now + 6
+
+abbrev pub decreases-folded_choice : goal.decreases-folded_choice
+decreases-folded_choice l = 10 * length l.parser.now.rest.now + 7
+
+abbrev pub decreases-unfolded : goal.decreases-unfolded
+decreases-unfolded l = 10 * length l.parser.now.rest.now + 8
+
+abbrev pub decreases-linear : goal.decreases-linear
+decreases-linear l = 10 * length l.parser.now.rest.now + 8
 
 abbrev pub invariant-instructions-each : goal.invariant-instructions-each
 invariant-instructions-each l = record {

@@ -22,7 +22,7 @@ each-preserved c =
       less = omega (arith, c.in_ok-n.ensures.shrinks);
       onward = rw c.in_ok-push.ensures.items (loop_steps number_first (item_step number_at) (c.new-functions.result.items, state_of c.args.parser.now) (c.each.functions.items, state_of c.each.parser) _
           on
-          (item_said number_at c.each.functions.items (state_of c.each.parser) (state_of c.function_index.new.self) c.in_ok-n.n c.in_ok-n.ensures.again)
+          (item_said number_at c.each.functions.items (state_of c.each.parser) (state_of c.index.new.self) c.in_ok-n.n c.in_ok-n.ensures.again)
           c.each.invariant.onward);
     }
 

@@ -1,0 +1,23 @@
+(module
+  (import "pregel" "vertex_id" (func $vertex_id (result i64)))
+  (import "pregel" "superstep" (func $superstep (result i64)))
+  (import "pregel" "num_vertices" (func $num_vertices (result i64)))
+  (import "pregel" "get_value" (func $get_value (result i64)))
+  (import "pregel" "set_value" (func $set_value (param i64)))
+  (import "pregel" "next_message" (func $next_message (result i32)))
+  (import "pregel" "message_value" (func $message_value (result i64)))
+  (import "pregel" "next_edge" (func $next_edge (result i32)))
+  (import "pregel" "edge_target" (func $edge_target (result i64)))
+  (import "pregel" "edge_value" (func $edge_value (result i64)))
+  (import "pregel" "send" (func $send (param i64 i64)))
+  (import "pregel" "aggregate" (func $aggregate (param i32 i64)))
+  (import "pregel" "aggregated" (func $aggregated (param i32) (result i64)))
+  (import "pregel" "vote_to_halt" (func $vote_to_halt))
+  (memory 1)
+  (global $large (mut i64) i64.const 5)
+  (global $small (mut i32) i32.const 6)
+  (func $compute (export "compute") (local i64 i32 i64)
+    □
+  )
+  □
+)

@@ -1,0 +1,247 @@
+//! Modules in the binary format (Core 1.0, section 5).
+//!
+//! A file begins with a comment. Behind it a line `= QUESTION FRAME` asks a question of each case up to the next such
+//! line; the case's text stands where the frame has `..`. The question `decode` shows the module that the bytes spell,
+//! `alike` the fault that each of several bytes has in the frame, `encode` the shortest spelling of the same module,
+//! `length` how long that of a text's module is, and `damage` what becomes of the fronts of the bytes and of their
+//! changes.
+
+mod damage;
+mod sized;
+
+use crate::cases::{is_case, named, spelled};
+use crate::modules::{printed, spelling};
+use anyhow::Result;
+use console::CommandFault;
+use damage::damaged;
+use sized::sized_bytes;
+use std::alloc::{AllocError, Global};
+use std::fs;
+use std::rt::Files;
+use wasm_ast::Module;
+use wasm_decode::decode;
+use wat_asm::assemble;
+
+const FILES: [&str; 6] = [
+    "binary_modules.txt",
+    "binary_sections.txt",
+    "binary_code.txt",
+    "binary_limits.txt",
+    "binary_encoded.txt",
+    "binary_damaged.txt",
+];
+
+// From so many on, neighbouring words that are equal stand as one.
+const MANY: usize = 10;
+
+type Answer = Result<String, CommandFault<'static>>;
+
+#[derive(Clone, Copy)]
+struct Frame<'a> {
+    question: &'a str,
+    front: &'a str,
+    back: &'a str,
+}
+
+impl<'a> Frame<'a> {
+    fn new(line: &'a str) -> Frame<'a> {
+        let (question, frame) = line.split_once(' ').unwrap_or((line, ""));
+        let (front, back) = frame.split_once("..").unwrap_or((frame, ""));
+        Frame {
+            question,
+            front,
+            back,
+        }
+    }
+
+    fn filled(&self, alloc: Global, text: &str) -> Result<String, AllocError> {
+        format!(in alloc; "{}{text}{}", self.front, self.back)
+    }
+
+    fn bytes(&self, alloc: Global, text: &str) -> Result<Vec<u8>, AllocError> {
+        let line = self.filled(alloc, text)?;
+        sized_bytes(alloc, line.as_str())
+    }
+}
+
+pub fn show(rt: &(impl Files + Print + AllocGlobal)) -> Result<()> {
+    for file in FILES {
+        show_file(rt, file)?;
+    }
+    Ok(())
+}
+
+fn show_file(rt: &(impl Files + Print + AllocGlobal), file: &str) -> Result<()> {
+    let text = fs::read_to_string(rt, file)?;
+    for part in text.as_str().split("\n= ") {
+        show_part(rt, part)?;
+    }
+    Ok(())
+}
+
+// A question with its frame, and a line for each case behind it.
+fn show_part(rt: &(impl Print + AllocGlobal), part: &str) -> Result<()> {
+    let (question, cases) = part.split_once('\n').unwrap_or((part, ""));
+    let frame = Frame::new(question);
+    for case in cases.lines().filter(|line| is_case(line)) {
+        show_case(rt, frame, case)?;
+    }
+    Ok(())
+}
+
+fn show_case(rt: &(impl Print + AllocGlobal), frame: Frame, line: &str) -> Result<()> {
+    let (name, text) = named(line);
+    match answer(rt.alloc(), frame, text) {
+        Ok(answer) => println!(rt; "{name}: {answer}")?,
+        Err(fault) => println!(rt; "{name}: {fault}")?,
+    }
+    Ok(())
+}
+
+fn answer(alloc: Global, frame: Frame, text: &str) -> Answer {
+    match frame.question {
+        "alike" => return alike(alloc, frame, text),
+        "length" => return length(alloc, frame, text),
+        _ => {}
+    }
+    let bytes = frame.bytes(alloc, text)?;
+    match frame.question {
+        "decode" => decoded(alloc, bytes.as_slice()),
+        "encode" => encoded(alloc, bytes.as_slice()),
+        _ => damaged(alloc, bytes.as_slice()),
+    }
+}
+
+// The text of the module that the bytes spell.
+fn decoded(alloc: Global, bytes: &[u8]) -> Answer {
+    match decode(alloc, bytes) {
+        Ok(module) => shown(alloc, &module),
+        Err(fault) => Err(CommandFault::from(fault)),
+    }
+}
+
+fn shown(alloc: Global, module: &Module) -> Answer {
+    let text = printed(alloc, module)?;
+    Ok(on_one_line(alloc, text.as_str())?)
+}
+
+// The words of a text with a blank between them.
+fn on_one_line(alloc: Global, text: &str) -> Result<String, AllocError> {
+    let mut line = String::new(alloc);
+    let mut run = Run {
+        word: String::new(alloc),
+        count: 0,
+    };
+    for word in text.split_ascii_whitespace() {
+        run.take(word, &mut line)?;
+    }
+    run.write(&mut line)?;
+    Ok(line)
+}
+
+// Words that are equal, one behind another.
+#[derive(Drop)]
+struct Run {
+    word: String,
+    count: usize,
+}
+
+impl Run {
+    // Counts the word, or writes the run and begins one of this word.
+    fn take(&mut self, word: &str, line: &mut String) -> Result<(), AllocError> {
+        if word != self.word.as_str() {
+            self.write(line)?;
+            self.word.clear();
+            self.word.push_str(word)?;
+            self.count = 0;
+        }
+        self.count = self.count.saturating_add(1);
+        Ok(())
+    }
+
+    // Appends the words, as `⟦N|WORD⟧` where they are many.
+    fn write(&self, line: &mut String) -> Result<(), AllocError> {
+        if self.count >= MANY {
+            push_blank(line)?;
+            return write!(line, "⟦{}|{}⟧", self.count, self.word);
+        }
+        for _ in 0..self.count {
+            push_blank(line)?;
+            line.push_str(self.word.as_str())?;
+        }
+        Ok(())
+    }
+}
+
+// Appends a blank where something stands before it.
+fn push_blank(line: &mut String) -> Result<(), AllocError> {
+    if line.is_empty() {
+        Ok(())
+    } else {
+        line.push(' ')
+    }
+}
+
+// What is told of each of the bytes in the frame, or the first byte of which something else is.
+fn alike(alloc: Global, frame: Frame, text: &str) -> Answer {
+    let (first, others) = text.split_once(' ').unwrap_or((text, ""));
+    let told = told_of(alloc, frame, first)?;
+    for byte in others.split_ascii_whitespace() {
+        if told_of(alloc, frame, byte)?.as_str() != told.as_str() {
+            return Ok(format!(in alloc; "otherwise at {byte}")?);
+        }
+    }
+    Ok(told)
+}
+
+fn told_of(alloc: Global, frame: Frame, text: &str) -> Result<String, AllocError> {
+    let bytes = frame.bytes(alloc, text)?;
+    match decode(alloc, bytes.as_slice()) {
+        Ok(_) => String::from_str(alloc, "a module"),
+        Err(fault) => format!(in alloc; "{}", CommandFault::from(fault)),
+    }
+}
+
+// The shortest spelling of the module that the bytes spell.
+fn encoded(alloc: Global, bytes: &[u8]) -> Answer {
+    match decode(alloc, bytes) {
+        Ok(module) => spelled_again(alloc, &module, bytes),
+        Err(fault) => Err(CommandFault::from(fault)),
+    }
+}
+
+fn spelled_again(alloc: Global, module: &Module, bytes: &[u8]) -> Answer {
+    let again = spelling(alloc, module)?;
+    if again.as_slice() == bytes {
+        return Ok(String::from_str(alloc, "the same bytes")?);
+    }
+    Ok(in_hexadecimal(alloc, again.as_slice())?)
+}
+
+fn in_hexadecimal(alloc: Global, bytes: &[u8]) -> Result<String, AllocError> {
+    let mut text = String::new(alloc);
+    for byte in bytes {
+        push_blank(&mut text)?;
+        write!(text, "{byte:02X}")?;
+    }
+    Ok(text)
+}
+
+// How many bytes the shortest spelling of a text's module takes.
+fn length(alloc: Global, frame: Frame, text: &str) -> Answer {
+    let line = frame.filled(alloc, text)?;
+    let text = spelled(alloc, line.as_str())?;
+    length_of(alloc, text.as_str())
+}
+
+fn length_of(alloc: Global, text: &str) -> Answer {
+    match assemble(alloc, text) {
+        Ok(module) => length_told(alloc, &module),
+        Err(fault) => Err(CommandFault::from(fault)),
+    }
+}
+
+fn length_told(alloc: Global, module: &Module) -> Answer {
+    let bytes = spelling(alloc, module)?;
+    Ok(format!(in alloc; "{} bytes", bytes.len())?)
+}

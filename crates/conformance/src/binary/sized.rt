@@ -1,0 +1,53 @@
+//! Bytes with sizes before them.
+
+use crate::cases::{push_digits, spelled};
+use leb::write_u32;
+use std::alloc::{AllocError, Global};
+use std::mem;
+
+/// The bytes that a line spells, as `cases::bytes` has it, where `[ .. ]` is the number of the bytes in it, in LEB128,
+/// and those bytes. Brackets stand between blanks.
+pub fn sized_bytes(alloc: Global, line: &str) -> Result<Vec<u8>, AllocError> {
+    let text = spelled(alloc, line)?;
+    of_words(alloc, text.as_str())
+}
+
+fn of_words(alloc: Global, text: &str) -> Result<Vec<u8>, AllocError> {
+    let mut outside = Vec::new(alloc);
+    let mut bytes = Vec::new(alloc);
+    for word in text.split_ascii_whitespace() {
+        take(alloc, word, &mut outside, &mut bytes)?;
+    }
+    Ok(bytes)
+}
+
+fn take(
+    alloc: Global,
+    word: &str,
+    outside: &mut Vec<Vec<u8>>,
+    bytes: &mut Vec<u8>,
+) -> Result<(), AllocError> {
+    match word {
+        "[" => open(alloc, outside, bytes),
+        "]" => close(outside, bytes),
+        _ => push_digits(word, bytes),
+    }
+}
+
+// Puts aside the bytes that stand outside.
+fn open(alloc: Global, outside: &mut Vec<Vec<u8>>, bytes: &mut Vec<u8>) -> Result<(), AllocError> {
+    let before = mem::replace(bytes, Vec::new(alloc));
+    outside.push(before)?;
+    Ok(())
+}
+
+// Puts the bytes behind those outside, and their number between.
+fn close(outside: &mut Vec<Vec<u8>>, bytes: &mut Vec<u8>) -> Result<(), AllocError> {
+    let Some(mut before) = outside.pop() else {
+        return Ok(());
+    };
+    write_u32(&mut before, u32::try_from(bytes.len()).unwrap_or(0))?;
+    before.extend_from_slice(bytes)?;
+    *bytes = before;
+    Ok(())
+}

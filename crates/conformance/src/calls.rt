@@ -1,0 +1,129 @@
+//! Compute calls of modules as text (Core 1.0, section 4), answered by the slow walk over the valid module and, where it
+//! is in the bounded profile, by `interp` too.
+//!
+//! `BODY | with FIELDS | input LINES | within UNITS`, the body and the fields standing in the two holes `□` of the frame,
+//! which a line `frame: FILE` sets; a frame that is no file's name stands for itself. Without `input` the vertex is that
+//! of `calls-vertex.txt`, and without `within` a call may take 1000 units.
+
+pub mod alike;
+mod forms;
+
+use crate::cases::{is_case, named, spelled};
+use crate::modules::valid_of;
+use anyhow::Result;
+use console::{CallFault, CommandFault, Input};
+use forms::both_answers;
+use std::alloc::{AllocError, Global};
+use std::fs;
+use std::rt::Files;
+
+const FILES: [&str; 6] = [
+    "calls-numbers.txt",
+    "calls-control.txt",
+    "calls-functions.txt",
+    "calls-memories.txt",
+    "calls-host.txt",
+    "calls-modules.txt",
+];
+
+const ENOUGH: u128 = 1000;
+
+#[derive(Clone, Copy)]
+struct Case<'a> {
+    body: &'a str,
+    fields: &'a str,
+    input: &'a str,
+    budget: u128,
+}
+
+impl<'a> Case<'a> {
+    fn new(text: &'a str, vertex: &'a str) -> Case<'a> {
+        let mut case = Case {
+            body: "",
+            fields: "",
+            input: vertex,
+            budget: ENOUGH,
+        };
+        for part in text.split(" | ") {
+            case.add(part);
+        }
+        case
+    }
+
+    fn add(&mut self, part: &'a str) {
+        if let Some(fields) = part.strip_prefix("with ") {
+            self.fields = fields;
+        } else if let Some(lines) = part.strip_prefix("input ") {
+            self.input = lines;
+        } else if let Some(units) = part.strip_prefix("within ") {
+            self.budget = units.parse::<u128>().unwrap_or(0);
+        } else {
+            self.body = part;
+        }
+    }
+
+    fn in_frame(&self, alloc: Global, frame: &str) -> Result<String, AllocError> {
+        let (front, others) = frame.split_once('□').unwrap_or((frame, ""));
+        let (middle, back) = others.split_once('□').unwrap_or((others, ""));
+        format!(in alloc; "{front}{}{middle}{}{back}", self.body, self.fields)
+    }
+}
+
+pub fn show(rt: &(impl Files + Print + AllocGlobal)) -> Result<()> {
+    let vertex = fs::read_to_string(rt, "calls-vertex.txt")?;
+    for file in FILES {
+        show_file(rt, file, vertex.as_str())?;
+    }
+    Ok(())
+}
+
+fn show_file(rt: &(impl Files + Print + AllocGlobal), file: &str, vertex: &str) -> Result<()> {
+    let text = fs::read_to_string(rt, file)?;
+    let mut frame = String::new(rt.alloc());
+    for line in text.as_str().lines().filter(|line| is_case(line)) {
+        match line.strip_prefix("frame: ") {
+            Some(next) => frame = frame_of(rt, next)?,
+            None => show_case(rt, frame.as_str(), line, vertex)?,
+        }
+    }
+    Ok(())
+}
+
+fn frame_of(rt: &(impl Files + AllocGlobal), text: &str) -> Result<String> {
+    if text.ends_with(".wat") {
+        return Ok(fs::read_to_string(rt, text)?);
+    }
+    Ok(String::from_str(rt.alloc(), text)?)
+}
+
+fn show_case(rt: &(impl Print + AllocGlobal), frame: &str, line: &str, vertex: &str) -> Result<()> {
+    let (name, rest) = named(line);
+    let text = spelled(rt.alloc(), if rest.is_empty() { name } else { rest })?;
+    let answer = answer(rt.alloc(), frame, Case::new(text.as_str(), vertex));
+    tell(rt, name, answer)
+}
+
+/// Prints what is answered at a name, or the line of the fault.
+fn tell(
+    rt: &(impl Print + AllocGlobal),
+    name: &str,
+    answer: Result<String, CommandFault<'static>>,
+) -> Result<()> {
+    let line = match answer {
+        Ok(answer) => answer,
+        Err(fault) => format!(in rt.alloc(); "{fault}")?,
+    };
+    println!(rt; "{name}: {line}")?;
+    Ok(())
+}
+
+fn answer(alloc: Global, frame: &str, case: Case) -> Result<String, CommandFault<'static>> {
+    let text = case.in_frame(alloc, frame)?;
+    answer_of_text(alloc, text.as_str(), case)
+}
+
+fn answer_of_text(alloc: Global, text: &str, case: Case) -> Result<String, CommandFault<'static>> {
+    let input = Input::read(alloc, case.input).map_err(CallFault::Input)?;
+    let valid = valid_of(alloc, text)?;
+    Ok(both_answers(alloc, valid, &input.call_input(), case.budget)?)
+}

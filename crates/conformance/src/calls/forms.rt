@@ -1,0 +1,95 @@
+//! The forms of a compute call, each with its answer on one line: the outcome's lines, or why there is none.
+
+ghost use Rattle.std.specs.Prelude.{◌≡◌};
+
+use crate::slow_walk;
+use bounded_profile::{Verified, verify};
+use console::outcome_text;
+use host_calls::{CallInput, CallOutcome};
+use interp::{RunFault, Scratch};
+use std::alloc::{AllocError, Global};
+use std::fmt::Debug;
+use validate::Valid;
+use wasm_ast::Module;
+
+/// The answer of both forms, where the module is in the bounded profile, and else of the slow form.
+pub fn both_answers(
+    alloc: Global,
+    valid: Valid,
+    input: &CallInput,
+    budget: u128,
+) -> Result<String, AllocError> {
+    let slow = slow_answer(alloc, valid.module(), input, budget)?;
+    match verify(alloc, valid).ok() {
+        Some(verified) => compared(alloc, slow, fast_answer(alloc, &verified, input, budget)),
+        None => Ok(slow),
+    }
+}
+
+fn compared(
+    alloc: Global,
+    slow: String,
+    fast: Result<String, AllocError>,
+) -> Result<String, AllocError> {
+    let fast = fast?;
+    if slow.as_str() == fast.as_str() {
+        Ok(slow)
+    } else {
+        format!(in alloc; "{slow}, but fast {fast}")
+    }
+}
+
+pub fn slow_answer(
+    alloc: Global,
+    module: &Module,
+    input: &CallInput,
+    budget: u128,
+) -> Result<String, AllocError> {
+    told(alloc, slow_walk::run(alloc, module, input, budget))
+}
+
+/// The answer of the second of two calls, to which the first leaves its room.
+pub fn fast_answer(
+    alloc: Global,
+    verified: &Verified,
+    input: &CallInput,
+    budget: u128,
+) -> Result<String, AllocError> {
+    let mut scratch = Scratch::new(alloc, verified)?;
+    let _ = fast_run(alloc, verified, input, &mut scratch, budget);
+    told(
+        alloc,
+        fast_run(alloc, verified, input, &mut scratch, budget),
+    )
+}
+
+fn fast_run(
+    alloc: Global,
+    verified: &Verified,
+    input: &CallInput,
+    scratch: &mut Scratch,
+    budget: u128,
+) -> Result<CallOutcome, RunFault>
+    requires { scratch.old ≡ verified.now }
+    ensures { scratch.new ≡ scratch.old }
+{
+    interp::run(alloc, verified, input, scratch, budget)
+}
+
+fn told<F: Debug + Drop>(
+    alloc: Global,
+    ended: Result<CallOutcome, F>,
+) -> Result<String, AllocError> {
+    match ended {
+        Ok(outcome) => on_one_line(alloc, &outcome),
+        Err(fault) => format!(in alloc; "{fault:?}"),
+    }
+}
+
+fn on_one_line(alloc: Global, outcome: &CallOutcome) -> Result<String, AllocError> {
+    let text = outcome_text(alloc, outcome)?;
+    let text = text.as_str().trim_end();
+    text.chars()
+        .map(|c| if c == '\n' { ' ' } else { c })
+        .collect(alloc)
+}

@@ -1,0 +1,122 @@
+//! Command lines as they are typed after `pregel`, over lent files: the status and what is told, and then each file that
+//! was written; or why the words are refused. A line that ends in ` into N` tells a writer that has room for N bytes.
+//!
+//! `body BODY` is `verify` of the module that has the body in the frame of `frame.wat`, and `engine MODULE INPUT` is what a
+//! call of a module's bytes with an input's text writes, or how it is refused.
+
+mod lent_files;
+
+use crate::cases::{is_case, one_line};
+use anyhow::Result;
+use clap::error::ErrorKind;
+use console::{Options, call, command, options, refuse};
+use lent_files::{LentFiles, lent_files};
+use std::alloc::{AllocError, Global};
+use std::rt::Files;
+use std::{fs, iter, str};
+
+pub fn show(rt: &(impl Files + Print + AllocGlobal)) -> Result<()> {
+    let mut files = lent_files(rt)?;
+    show_cases(rt, &mut files)
+}
+
+fn show_cases(rt: &(impl Files + Print + AllocGlobal), files: &mut LentFiles) -> Result<()> {
+    let text = fs::read_to_string(rt, "commands.txt")?;
+    for case in text.as_str().lines().filter(|line| is_case(line)) {
+        let answer = answer(rt.alloc(), case, files)?;
+        println!(rt; "{case}: {answer}")?;
+    }
+    Ok(())
+}
+
+fn answer(alloc: Global, case: &str, files: &mut LentFiles) -> Result<String> {
+    if let Some(body) = case.strip_prefix("body ") {
+        let frame = str::from_utf8(files.bytes_of("frame.wat")?)?;
+        return bounds(alloc, frame, body);
+    }
+    if let Some(names) = case.strip_prefix("engine ") {
+        return called(alloc, names, files);
+    }
+    let (line, room) = case.split_once(" into ").unwrap_or((case, ""));
+    carried_out(alloc, line, room, files)
+}
+
+fn carried_out(alloc: Global, line: &str, room: &str, files: &mut LentFiles) -> Result<String> {
+    let words: Vec<&str> = iter::once("pregel")
+        .chain(line.split_ascii_whitespace())
+        .collect(alloc)?;
+    read_and_carried_out(alloc, words.as_slice(), room, files)
+}
+
+fn read_and_carried_out(
+    alloc: Global,
+    words: &[&str],
+    room: &str,
+    files: &mut LentFiles,
+) -> Result<String> {
+    match options(alloc, words) {
+        Ok(options) if room.is_empty() => told(alloc, options, files),
+        Ok(options) => Ok(told_in(alloc, options, files, room.parse::<usize>()?)?),
+        Err(error) => Ok(String::from_str(alloc, refused(error.kind()))?),
+    }
+}
+
+fn refused(kind: ErrorKind) -> &'static str {
+    match kind {
+        ErrorKind::DisplayHelp => "help",
+        ErrorKind::InvalidSubcommand => "unknown command",
+        ErrorKind::MissingRequiredArgument => "missing argument",
+        ErrorKind::UnknownArgument => "unknown argument",
+        _ => "refused",
+    }
+}
+
+fn told(alloc: Global, options: Options, files: &mut LentFiles) -> Result<String> {
+    files.forget_written();
+    let mut out = Vec::new(alloc);
+    let status = command(alloc, options, files, &mut out)?;
+    shown(alloc, status, out.as_slice(), files)
+}
+
+fn shown(alloc: Global, status: u8, out: &[u8], files: &LentFiles) -> Result<String> {
+    let told = one_line(alloc, str::from_utf8(out)?)?;
+    let mut shown = format!(in alloc; "{status} {told}")?;
+    files.tell_written(&mut shown)?;
+    Ok(shown)
+}
+
+fn told_in(
+    alloc: Global,
+    options: Options,
+    files: &mut LentFiles,
+    room: usize,
+) -> Result<String, AllocError> {
+    let mut room = vec![in alloc; 0u8; room]?;
+    match command(alloc, options, files, &mut room.as_mut_slice()) {
+        Ok(status) => format!(in alloc; "{status}"),
+        Err(fault) => format!(in alloc; "{fault}"),
+    }
+}
+
+fn bounds(alloc: Global, frame: &str, body: &str) -> Result<String> {
+    let (before, after) = frame.split_once('□').unwrap_or((frame, ""));
+    let module = format!(in alloc; "{before}{body}{after}")?;
+    let mut files = LentFiles::new(alloc);
+    files.lend("built.wat", module.into_bytes())?;
+    carried_out(alloc, "verify built.wat", "", &mut files)
+}
+
+fn called(alloc: Global, names: &str, files: &LentFiles) -> Result<String> {
+    let (module, input) = names.split_once(' ').unwrap_or((names, ""));
+    let module = files.bytes_of(module)?;
+    let input = str::from_utf8(files.bytes_of(input)?)?;
+    written(alloc, module, input)
+}
+
+fn written(alloc: Global, module: &[u8], input: &str) -> Result<String> {
+    let mut out = Vec::new(alloc);
+    if let Err(fault) = call(alloc, module, input, &mut out) {
+        refuse(&fault, &mut out)?;
+    }
+    Ok(one_line(alloc, str::from_utf8(out.as_slice())?)?)
+}

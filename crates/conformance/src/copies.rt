@@ -1,0 +1,76 @@
+//! Copies, and `==`: `NAME: PART | OTHER` compares the module of `whole.wat` with a copy of the one where OTHER stands in
+//! the place of PART.
+
+use crate::cases::{is_case, named};
+use anyhow::Result;
+use std::alloc::{AllocError, Global};
+use std::fs;
+use std::rt::Files;
+use wasm_ast::Module;
+use wat_asm::assemble;
+
+pub fn show(rt: &(impl Files + Print + AllocGlobal)) -> Result<()> {
+    let whole = fs::read_to_string(rt, "whole.wat")?;
+    show_changes(rt, whole.as_str())
+}
+
+fn show_changes(rt: &(impl Files + Print + AllocGlobal), whole: &str) -> Result<()> {
+    let cases = fs::read_to_string(rt, "copies.txt")?;
+    for line in cases.as_str().lines() {
+        if is_case(line) {
+            let (name, case) = named(line);
+            let answer = answer(rt.alloc(), whole, case)?;
+            println!(rt; "{name}: {answer}")?;
+        }
+    }
+    Ok(())
+}
+
+fn answer(alloc: Global, whole: &str, case: &str) -> Result<&'static str, AllocError> {
+    let (part, other) = case.split_once(" | ").unwrap_or((case, case));
+    let Some((before, after)) = whole.split_once(part) else {
+        return Ok("no such part");
+    };
+    let changed = format!(in alloc; "{before}{other}{after}")?;
+    match assemble(alloc, whole) {
+        Ok(module) => compared_with(alloc, &module, changed.as_str()),
+        Err(_) => Ok("no module"),
+    }
+}
+
+fn compared_with(
+    alloc: Global,
+    module: &Module,
+    changed: &str,
+) -> Result<&'static str, AllocError> {
+    match assemble(alloc, changed) {
+        Ok(other) => compared(alloc, module, &other),
+        Err(_) => Ok("no module"),
+    }
+}
+
+fn compared(alloc: Global, module: &Module, other: &Module) -> Result<&'static str, AllocError> {
+    let are_copied = are_bodies_copied(alloc, other)?;
+    match other.copy(alloc) {
+        Ok(copy) if are_copied && copy == *other => Ok(told(module, &copy)),
+        Ok(_) => Ok("no copy"),
+        Err(error) => Err(error),
+    }
+}
+
+fn are_bodies_copied(alloc: Global, module: &Module) -> Result<bool, AllocError> {
+    for function in module.functions.as_slice() {
+        if function.body.copy(alloc)? != function.body {
+            return Ok(false);
+        }
+    }
+    Ok(true)
+}
+
+fn told(left: &Module, right: &Module) -> &'static str {
+    match (left == right, right != left) {
+        (true, false) => "equal",
+        (false, true) => "differ",
+        _ => "neither",
+    }
+}

@@ -1,0 +1,59 @@
+//! What functions cost: for each function of a module, the imported first, its size with its calls unfolded, `-` where it
+//! passes the limit, and then its rank; or functions that call each other.
+
+ghost use Rattle.cost.specs.Ranks.{IsRanking};
+
+use crate::cases::show_texts;
+use crate::modules::of_valid;
+use anyhow::Result;
+use cost::{CostFault, Ranks, ranks, unfolded};
+use std::alloc::{AllocError, Global};
+use std::rt::Files;
+use validate::Valid;
+use wasm_ast::{ImportDescription, Module};
+
+pub fn show(rt: &(impl Files + Print + AllocGlobal)) -> Result<()> {
+    show_texts(rt, "costs.txt", answer)?;
+    println!(rt; "want of memory: {}", CostFault::OutOfMemory)?;
+    Ok(())
+}
+
+fn answer(alloc: Global, text: &str) -> Result<String, AllocError> {
+    of_valid(alloc, text, costs)
+}
+
+fn costs(alloc: Global, valid: &Valid) -> Result<String, AllocError> {
+    match ranks(alloc, valid) {
+        Ok(ranks) => sizes_and_ranks(alloc, valid, &ranks),
+        Err(fault) => format!(in alloc; "{fault}"),
+    }
+}
+
+fn sizes_and_ranks(alloc: Global, valid: &Valid, ranks: &Ranks) -> Result<String, AllocError>
+    requires { IsRanking valid.now ranks.now }
+{
+    let count = function_count(valid.module());
+    let mut text = String::from_str(alloc, "sizes")?;
+    for function in 0..count {
+        match unfolded(valid, ranks, function) {
+            Some(size) => write!(text, " {size}")?,
+            None => text.push_str(" -")?,
+        }
+    }
+    text.push_str(" ranks")?;
+    for function in 0..count {
+        write!(text, " {}", ranks.rank(function))?;
+    }
+    Ok(text)
+}
+
+fn function_count(module: &Module) -> u32 {
+    let imported = module
+        .imports
+        .as_slice()
+        .iter()
+        .filter(|import| matches!(import.description, ImportDescription::Function(_)))
+        .count();
+    let count = imported.saturating_add(module.functions.as_slice().len());
+    u32::try_from(count).unwrap_or(0)
+}

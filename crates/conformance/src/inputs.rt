@@ -1,0 +1,55 @@
+//! Inputs of calls. `input TEXT` tells the id, the superstep, the count and the value, then the messages, and then the edges
+//! as `TARGET:VALUE`; `slots TEXT` tells what each slot was aggregated to; a text that means none tells its first bad line.
+
+use crate::cases::{is_case, spelled};
+use anyhow::Result;
+use console::{CallFault, Input, Refusal};
+use std::alloc::{AllocError, Global};
+use std::fs;
+use std::rt::Files;
+
+pub fn show(rt: &(impl Files + Print + AllocGlobal)) -> Result<()> {
+    let text = fs::read_to_string(rt, "inputs.txt")?;
+    for case in text.as_str().lines().filter(|line| is_case(line)) {
+        let answer = answer(rt.alloc(), case)?;
+        println!(rt; "{case}: {answer}")?;
+    }
+    Ok(())
+}
+
+fn answer(alloc: Global, case: &str) -> Result<String, AllocError> {
+    let (kind, spelling) = case.split_once(' ').unwrap_or((case, ""));
+    let text = spelled(alloc, spelling)?;
+    told(alloc, kind, text.as_str())
+}
+
+fn told(alloc: Global, kind: &str, text: &str) -> Result<String, AllocError> {
+    match Input::read(alloc, text) {
+        Ok(input) if kind == "slots" => slots(alloc, &input),
+        Ok(input) => meaning(alloc, &input),
+        Err(fault) => format!(in alloc; "{}", Refusal(&CallFault::Input(fault))),
+    }
+}
+
+fn meaning(alloc: Global, input: &Input) -> Result<String, AllocError> {
+    let input = input.call_input();
+    let (id, superstep) = (input.id, input.superstep);
+    let (count, value) = (input.count, input.value);
+    let mut text = format!(in alloc; "{id} {superstep} {count} {value}")?;
+    for value in input.messages {
+        write!(text, " {value}")?;
+    }
+    for (target, value) in input.edges {
+        write!(text, " {target}:{value}")?;
+    }
+    Ok(text)
+}
+
+fn slots(alloc: Global, input: &Input) -> Result<String, AllocError> {
+    let mut text = String::new(alloc);
+    for (slot, value) in input.call_input().aggregated.iter().enumerate() {
+        let space = if slot == 0 { "" } else { " " };
+        write!(text, "{space}{value}")?;
+    }
+    Ok(text)
+}

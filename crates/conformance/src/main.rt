@@ -1,0 +1,68 @@
+//! What the public calls answer, case by case: each line of a file of `data/` is a case, and prints one line, which
+//! `stdout` has beforehand.
+#![tactic(auto)]
+
+mod binary;
+mod calls;
+mod cases;
+mod commands;
+mod copies;
+mod costs;
+mod graphs;
+mod host_functions;
+mod inboxes;
+mod inputs;
+mod leb_numbers;
+mod limits;
+mod modules;
+mod numeric;
+mod profile;
+mod samples;
+mod slow_walk;
+mod texts;
+mod validation;
+mod widths;
+
+use anyhow::Result;
+use std::rt::Files;
+
+fn main(rt: HostRuntime) -> Result<()> {
+    syntax(&rt)?;
+    formats(&rt)?;
+    judgements(&rt)?;
+    runs(&rt)
+}
+
+// Values and copies of the syntax.
+fn syntax(rt: &(impl Files + Print + AllocGlobal)) -> Result<()> {
+    numeric::show(rt)?;
+    widths::show(rt)?;
+    limits::show(rt)?;
+    copies::show(rt)
+}
+
+// Modules as bytes and as text.
+fn formats(rt: &(impl Files + Print + AllocGlobal)) -> Result<()> {
+    leb_numbers::show(rt)?;
+    binary::show(rt)?;
+    texts::show(rt)?;
+    samples::show(rt)
+}
+
+// Which modules are valid, which are in the bounded profile, and what calls can cost.
+fn judgements(rt: &(impl Files + Print + AllocGlobal)) -> Result<()> {
+    validation::show(rt)?;
+    profile::show(rt)?;
+    costs::show(rt)
+}
+
+// Compute calls, graphs, inboxes, and the console.
+fn runs(rt: &(impl Files + Print + AllocGlobal)) -> Result<()> {
+    host_functions::show(rt)?;
+    calls::show(rt)?;
+    calls::alike::show(rt)?;
+    graphs::show(rt)?;
+    inboxes::show(rt)?;
+    inputs::show(rt)?;
+    commands::show(rt)
+}

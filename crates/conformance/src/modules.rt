@@ -1,0 +1,102 @@
+//! Modules as cases spell them. Each is owned by one function here, and lent to what tells of it.
+
+use crate::cases::bytes;
+use console::CommandFault;
+use std::alloc::{AllocError, Global};
+use validate::{Valid, validate};
+use wasm_ast::{Module, within_limits};
+use wasm_decode::{EncodeFault, decode, encode};
+use wat_asm::{assemble, print};
+
+/// The module that a text spells, or bytes, which begin with `00 61 73 6D`.
+pub fn module_of(alloc: Global, text: &str) -> Result<Module, CommandFault<'static>> {
+    if text.starts_with("00 61 73 6D") {
+        let bytes = bytes(alloc, text)?;
+        decoded(alloc, bytes.as_slice())
+    } else {
+        assembled(alloc, text)
+    }
+}
+
+fn decoded(alloc: Global, bytes: &[u8]) -> Result<Module, CommandFault<'static>> {
+    match decode(alloc, bytes) {
+        Ok(module) => Ok(module),
+        Err(fault) => Err(CommandFault::from(fault)),
+    }
+}
+
+fn assembled(alloc: Global, text: &str) -> Result<Module, CommandFault<'static>> {
+    match assemble(alloc, text) {
+        Ok(module) => Ok(module),
+        Err(fault) => Err(CommandFault::from(fault)),
+    }
+}
+
+/// The same, where it is valid.
+pub fn valid_of(alloc: Global, text: &str) -> Result<Valid, CommandFault<'static>> {
+    let module = module_of(alloc, text)?;
+    match validate(alloc, module) {
+        Ok(valid) => Ok(valid),
+        Err(fault) => Err(CommandFault::from(fault)),
+    }
+}
+
+/// What `answer` tells of the module that a text spells, or the console's line for its fault.
+pub fn of_module<F: Fn(Global, &Module) -> Result<String, AllocError>>(
+    alloc: Global,
+    text: &str,
+    answer: F,
+) -> Result<String, AllocError>
+    requires { F.IsAlwaysCallable answer }
+{
+    match module_of(alloc, text) {
+        Ok(module) => answer(alloc, &module),
+        Err(fault) => line_of(alloc, fault),
+    }
+}
+
+/// What `answer` tells of the valid module that a text spells, or the console's line for its fault.
+pub fn of_valid<F: Fn(Global, &Valid) -> Result<String, AllocError>>(
+    alloc: Global,
+    text: &str,
+    answer: F,
+) -> Result<String, AllocError>
+    requires { F.IsAlwaysCallable answer }
+{
+    match valid_of(alloc, text) {
+        Ok(valid) => answer(alloc, &valid),
+        Err(fault) => line_of(alloc, fault),
+    }
+}
+
+/// The console's line for a fault.
+pub fn line_of(alloc: Global, fault: CommandFault<'static>) -> Result<String, AllocError> {
+    format!(in alloc; "{fault}")
+}
+
+/// The module as `print` has it.
+pub fn printed(alloc: Global, module: &Module) -> Result<String, AllocError> {
+    if within_limits(module) {
+        print(alloc, module)
+    } else {
+        String::from_str(alloc, "a module past the limits")
+    }
+}
+
+/// The module's shortest spelling.
+pub fn spelling(alloc: Global, module: &Module) -> Result<Vec<u8>, EncodeFault> {
+    if within_limits(module) {
+        encode(alloc, module)
+    } else {
+        Err(EncodeFault::OverLimit)
+    }
+}
+
+/// The console's line for a fault, and the words of the fault's own library where they are others.
+pub fn agreed(alloc: Global, line: String, own: String) -> Result<String, AllocError> {
+    if line.as_str() == own.as_str() {
+        Ok(line)
+    } else {
+        format!(in alloc; "{line}, in other words {own}")
+    }
+}

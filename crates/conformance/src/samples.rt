@@ -1,0 +1,44 @@
+//! Whole programs in files: whether what is printed of a module spells that module again, and how long the module is in the
+//! binary format.
+
+use crate::cases::show_texts;
+use crate::modules::{of_module, printed, spelling};
+use anyhow::Result;
+use std::alloc::{AllocError, Global};
+use std::rt::Files;
+use wasm_ast::Module;
+use wat_asm::assemble;
+
+pub fn show(rt: &(impl Files + Print + AllocGlobal)) -> Result<()> {
+    show_texts(rt, "samples.txt", answer)
+}
+
+fn answer(alloc: Global, text: &str) -> Result<String, AllocError> {
+    of_module(alloc, text, again_and_length)
+}
+
+fn again_and_length(alloc: Global, module: &Module) -> Result<String, AllocError> {
+    let again = again(alloc, module)?;
+    match spelling(alloc, module) {
+        Ok(bytes) => format!(in alloc; "{again}, {} bytes", bytes.len()),
+        Err(_) => format!(in alloc; "{again}, not spelled"),
+    }
+}
+
+// Whether what is printed spells the module, of which the same is printed once more.
+fn again(alloc: Global, module: &Module) -> Result<&'static str, AllocError> {
+    let text = printed(alloc, module)?;
+    match assemble(alloc, text.as_str()) {
+        Ok(spelled) if spelled == *module => is_printed(alloc, &spelled, text.as_str()),
+        _ => Ok("another"),
+    }
+}
+
+fn is_printed(alloc: Global, module: &Module, text: &str) -> Result<&'static str, AllocError> {
+    let once_more = printed(alloc, module)?;
+    Ok(if once_more.as_str() == text {
+        "same"
+    } else {
+        "another text"
+    })
+}

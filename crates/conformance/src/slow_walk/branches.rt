@@ -1,0 +1,132 @@
+//! Blocks, branches and frames (Core 1.0, 4.4.5 and 4.4.7).
+
+use super::operands::pop_i32;
+use super::{Layer, Stop, Walk};
+use std::mem::replace;
+use wasm_ast::{Body, Branch, FuncType, Function, Instr, Value};
+
+impl<'a> Walk<'a, '_> {
+    /// An instruction that goes on elsewhere.
+    pub fn branch(&mut self, branch: &Branch) -> Result<(), Stop> {
+        match branch {
+            Branch::Br(label) => self.jump(*label as usize),
+            Branch::BrIf(label) => {
+                if pop_i32(&mut self.operands)? == 0 {
+                    return Ok(());
+                }
+                self.jump(*label as usize)
+            }
+            Branch::BrTable(labels, other) => {
+                let place = pop_i32(&mut self.operands)? as usize;
+                let label = labels.as_slice().get(place).copied().unwrap_or(*other);
+                self.jump(label as usize)
+            }
+            Branch::Return => self.jump(self.labels()),
+        }
+    }
+
+    /// How many labels the innermost frame has.
+    fn labels(&self) -> usize {
+        let layers = self.layers.iter().rev();
+        layers.take_while(|layer| layer.locals.is_none()).count()
+    }
+
+    /// To a label or, past them all, out of the frame.
+    fn jump(&mut self, label: usize) -> Result<(), Stop> {
+        let top = self.operands.pop();
+        for _ in 0..label {
+            match self.layers.pop() {
+                Some(layer) if layer.locals.is_none() => {}
+                _ => return Err(Stop::Stuck),
+            }
+        }
+        self.arrive(top)
+    }
+
+    /// At the innermost layer, with an operand where it keeps one.
+    fn arrive(&mut self, top: Option<Value>) -> Result<(), Stop> {
+        let layer = self.layers.pop().ok_or(Stop::Stuck)?;
+        let keeps = layer.keeps;
+        self.code = layer.target;
+        self.operands = layer.operands;
+        if let Some(locals) = layer.locals {
+            self.locals = locals;
+        }
+        if keeps {
+            self.operands.push(top.ok_or(Stop::Stuck)?)?;
+        }
+        Ok(())
+    }
+
+    /// Goes on after the innermost layer, with all operands.
+    pub fn leave(&mut self) -> Result<(), Stop> {
+        let layer = self.layers.pop().ok_or(Stop::Stuck)?;
+        self.code = layer.after;
+        let mut given = replace(&mut self.operands, layer.operands);
+        if let Some(locals) = layer.locals {
+            self.locals = locals;
+        }
+        self.operands.append(&mut given)?;
+        Ok(())
+    }
+
+    /// Begins a sequence in a label.
+    pub fn open(&mut self, keeps: bool, target: &'a [Instr], body: &'a Body) -> Result<(), Stop> {
+        let layer = Layer {
+            keeps,
+            operands: replace(&mut self.operands, Vec::new(self.alloc)),
+            locals: None,
+            target,
+            after: self.code,
+        };
+        self.layers.push(layer)?;
+        self.code = body.as_slice();
+        Ok(())
+    }
+
+    /// Begins one of two sequences.
+    pub fn choose(
+        &mut self,
+        keeps: bool,
+        then_body: &'a Body,
+        else_body: &'a Body,
+    ) -> Result<(), Stop> {
+        let body = match pop_i32(&mut self.operands)? {
+            0 => else_body,
+            _ => then_body,
+        };
+        self.open(keeps, self.code, body)
+    }
+
+    /// Begins a function in a frame.
+    pub fn enter(&mut self, function: &'a Function) -> Result<(), Stop> {
+        let types = self.module.types.as_slice();
+        let func_type = types.get(function.type_number as usize).ok_or(Stop::Stuck)?;
+        let locals = self.fresh_locals(func_type, function)?;
+        let layer = Layer {
+            keeps: !func_type.results.as_slice().is_empty(),
+            operands: replace(&mut self.operands, Vec::new(self.alloc)),
+            locals: Some(replace(&mut self.locals, locals)),
+            target: self.code,
+            after: self.code,
+        };
+        self.layers.push(layer)?;
+        self.code = function.body.as_slice();
+        Ok(())
+    }
+
+    /// The arguments, which are taken off the operands, and a zero for each other local.
+    fn fresh_locals(
+        &mut self,
+        func_type: &FuncType,
+        function: &Function,
+    ) -> Result<Vec<Value>, Stop> {
+        let count = func_type.parameters.as_slice().len();
+        let lower = self.operands.len().checked_sub(count);
+        let mut locals = self.operands.split_off(lower.ok_or(Stop::Stuck)?)?;
+        for one in function.locals.as_slice() {
+            locals.push(Value::zero(*one))?;
+        }
+        Ok(locals)
+    }
+}

@@ -1,0 +1,82 @@
+//! Which modules are valid (Core 1.0, section 3): `ok`, or `no valid`, a rule that the module breaks and the place.
+
+use crate::cases::show_texts;
+use crate::modules::{agreed, line_of, module_of};
+use anyhow::Result;
+use console::CommandFault;
+use std::alloc::{AllocError, Global};
+use std::mem;
+use std::rt::Files;
+use validate::{ValidFault, validate};
+use wasm_ast::{Body, Function, Instr, Module, Sequence};
+
+pub fn show(rt: &(impl Files + Print + AllocGlobal)) -> Result<()> {
+    show_texts(rt, "validation.txt", answer)?;
+    show_texts(rt, "validation-in-a-block.txt", answer_in_a_block)?;
+    let told = told(rt.alloc(), ValidFault::OutOfMemory)?;
+    println!(rt; "want of memory: {told}")?;
+    Ok(())
+}
+
+fn answer(alloc: Global, text: &str) -> Result<String, AllocError> {
+    match module_of(alloc, text) {
+        Ok(module) => validity(alloc, module),
+        Err(fault) => line_of(alloc, fault),
+    }
+}
+
+fn validity(alloc: Global, module: Module) -> Result<String, AllocError> {
+    match validate(alloc, module) {
+        Ok(_) => String::from_str(alloc, "ok"),
+        Err(fault) => told(alloc, fault),
+    }
+}
+
+fn told(alloc: Global, fault: ValidFault) -> Result<String, AllocError> {
+    let own = format!(in alloc; "no valid {fault}")?;
+    let line = format!(in alloc; "{}", CommandFault::from(fault))?;
+    agreed(alloc, line, own)
+}
+
+// The same of the module with each body in one block more. So blocks can stand deeper inside each other than any text or
+// bytes may have them.
+fn answer_in_a_block(alloc: Global, text: &str) -> Result<String, AllocError> {
+    match module_of(alloc, text) {
+        Ok(module) => validity_in_blocks(alloc, module),
+        Err(fault) => line_of(alloc, fault),
+    }
+}
+
+fn validity_in_blocks(alloc: Global, mut module: Module) -> Result<String, AllocError> {
+    put_in_blocks(alloc, &mut module)?;
+    validity(alloc, module)
+}
+
+fn put_in_blocks(alloc: Global, module: &mut Module) -> Result<(), AllocError> {
+    let functions = mem::replace(&mut module.functions, Sequence::empty(alloc));
+    module.functions = in_blocks(alloc, functions.into_vec())?;
+    Ok(())
+}
+
+fn in_blocks(alloc: Global, functions: Vec<Function>) -> Result<Sequence<Function>, AllocError> {
+    let mut deeper = Vec::new(alloc);
+    for function in functions {
+        deeper.push(in_a_block(alloc, function)?)?;
+    }
+    Ok(Sequence::from(deeper))
+}
+
+fn in_a_block(alloc: Global, function: Function) -> Result<Function, AllocError> {
+    let Function {
+        type_number,
+        locals,
+        body,
+    } = function;
+    let mut instrs = Vec::new(alloc);
+    instrs.push(Instr::Block(None, body))?;
+    Ok(Function {
+        type_number,
+        locals,
+        body: Body::from(instrs),
+    })
+}

@@ -2,7 +2,7 @@
 
 ghost use Rattle.std.specs.Prelude.{◌≡◌, ◌<◌, ◌≤◌, ℕ, Bool, Some, None, length, IfOk, is_some, if◌then◌else◌};
 ghost use Rattle.wat_asm.specs.Follows.{Follows};
-ghost use Rattle.wat_asm.specs.Reading.{group_step, groups_at, limits_at, local_first, nameless_at, number_at, state_of};
+ghost use Rattle.wat_asm.specs.Reading.{group_step, groups_at, limits_at, local_first, number_at, state_of};
 ghost use Rattle.wat_asm.specs.ReadingModule.{added, bytes_at, defined_at, drafted, element_at, export_at, export_description_at, exported_at, field_at, field_first, field_step, function_at, global_at, has_definition, heading_at, import_at, import_description_at, imported_at, inline_at, inline_first, inner_offset_at, number_or_0_at, numbers_at, offset_at, offset_first, segment_at, table_at, text_first, with_element, with_export, with_function, with_global, with_import, with_memory, with_segment, with_start, with_table};
 ghost use Rattle.wat_asm.specs.Tokens.{toks_of};
 
@@ -11,7 +11,7 @@ use crate::keyword::Keyword;
 use crate::lexer::Token;
 use crate::parser::code::{Room, folded, sequence};
 use crate::parser::draft::Draft;
-use crate::parser::names::Kind;
+use crate::parser::names::{Kind, declare};
 use crate::parser::tokens::Parser;
 use crate::parser::types::ParameterNames;
 use wasm_ast::{
@@ -340,8 +340,8 @@ fn is_locals(parser: &Parser<'_>) -> bool
     }
 }
 
-// A group of locals, which stands next.
-#[tactic(auto, unfolding(crate::specs::Reading::group_step))]
+// A group of locals, which stands next: several types, or a name and one type.
+#[tactic(auto, unfolding(crate::specs::Reading::group_step, crate::specs::Reading::nameless_at))]
 fn local_group(
     parser: &mut Parser<'_>,
     type_number: u32,
@@ -351,27 +351,27 @@ fn local_group(
     ensures shrinks { IfOk result (λ _. length parser.new.rest.now < length parser.old.rest.now) }
 {
     parser.enter();
-    named_local(parser, type_number, locals)?;
-    parser.group(locals)
+    let left = parser.rest.len();
+    match parser.name() {
+        Some(name) => named_local(parser, type_number, name, left, locals),
+        None => parser.group(locals),
+    }
 }
 
-// A local with a name, where a name stands next.
-#[tactic(auto, unfolding(crate::specs::Reading::nameless_at, crate::specs::Reading::unnamed_at))]
+// A local with this name, behind the parameters of its function's type. `left` tokens are left where the name stands.
 fn named_local(
     parser: &mut Parser<'_>,
     type_number: u32,
+    name: u32,
+    left: usize,
     locals: &mut Vec<ValType>,
 ) -> Result<(), Failure>
-    ensures again { Follows (λ _. (locals.new.items, state_of parser.new)) result (nameless_at (locals.old.items, state_of parser.old)) }
-    ensures shrinks { IfOk result (λ _. length parser.new.rest.now ≤ length parser.old.rest.now) }
+    ensures { IfOk result (λ _. length parser.new.rest.now < length parser.old.rest.now) }
 {
-    match parser.rest {
-        [Token::Name(name), ..] => {
-            let parameters = parser.parameter_count(type_number)?;
-            parser.local(*name, parameters.saturating_add(locals.len()), locals)
-        }
-        _ => Ok(()),
-    }
+    let parameters = parser.parameter_count(type_number)?;
+    let number = parameters.saturating_add(locals.len());
+    declare(&mut parser.locals, name, number, left)?;
+    parser.one_type(locals)
 }
 
 #[tactic(auto, unfolding(crate::specs::ReadingModule::defined_at))]

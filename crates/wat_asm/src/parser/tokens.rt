@@ -175,7 +175,7 @@ impl<'a> Parser<'a> {
     /// A name, where one stands next.
     #[tactic(auto, unfolding(crate::specs::Reading::unnamed_at))]
     pub fn name(&mut self) -> Option<u32>
-        ensures again { (s : State) → unnamed_at (state_of self.old) ≡ Some s → state_of self.new ≡ s }
+        ensures again { (s : State) → unnamed_at (state_of self.old) ≡ Some s → (result ≡ None) × (state_of self.new ≡ s) }
         ensures shrinks { length self.new.rest.now ≤ length self.old.rest.now }
     {
         match self.rest {

@@ -54,9 +54,9 @@ impl<'a> Parser<'a> {
         }
     }
 
-    /// All value types that stand next are added to these.
+    // All value types that stand next are added to these.
     #[tactic(auto, unfolding(crate::specs::Reading::val_types_at))]
-    pub fn val_types(&mut self, types: &mut Vec<ValType>) -> Result<(), Failure>
+    fn val_types(&mut self, types: &mut Vec<ValType>) -> Result<(), Failure>
         ensures again { (n : ℕ) → Follows (λ _. (types.new.items, state_of self.new)) result (val_types_at n (types.old.items, state_of self.old)) }
         ensures shrinks { IfOk result (λ _. length self.new.rest.now ≤ length self.old.rest.now) }
     {
@@ -206,53 +206,44 @@ impl<'a> Parser<'a> {
         Ok(())
     }
 
-    // A group of this kind, which stands next.
-    #[tactic(auto, unfolding(crate::specs::Reading::group_step))]
+    // A group of this kind, which stands next: several types, or a name and one type.
+    #[tactic(auto, unfolding(crate::specs::Reading::group_step, crate::specs::Reading::nameless_at))]
     fn one_group(&mut self, group: Group, types: &mut Vec<ValType>) -> Result<(), Failure>
         ensures again { (n : ℕ) → Follows (λ _. (types.new.items, state_of self.new)) result (group_step n (types.old.items, state_of self.old)) }
         ensures shrinks { IfOk result (λ _. length self.new.rest.now < length self.old.rest.now) }
     {
         self.enter();
-        self.named_type(group, types)?;
-        self.group(types)
-    }
-
-    // A type with a name, where a name stands next.
-    #[tactic(auto, unfolding(crate::specs::Reading::nameless_at, crate::specs::Reading::unnamed_at))]
-    fn named_type(&mut self, group: Group, types: &mut Vec<ValType>) -> Result<(), Failure>
-        ensures again { Follows (λ _. (types.new.items, state_of self.new)) result (nameless_at (types.old.items, state_of self.old)) }
-        ensures shrinks { IfOk result (λ _. length self.new.rest.now ≤ length self.old.rest.now) }
-    {
-        match self.rest {
-            [Token::Name(name), ..] => self.bind(group, *name, types),
-            _ => Ok(()),
+        let left = self.rest.len();
+        match self.name() {
+            Some(name) => self.bind(group, name, left, types),
+            None => self.group(types),
         }
     }
 
-    // The type that stands behind this name, which the function's instructions may refer to from now on.
-    fn bind(&mut self, group: Group, name: u32, types: &mut Vec<ValType>) -> Result<(), Failure>
-        ensures { IfOk result (λ _. length self.new.rest.now ≤ length self.old.rest.now) }
-    {
-        let Group::Parameters(ParameterNames::Bound) = group else {
-            return Err(self.fault(Wrong::Syntax));
-        };
-        self.local(name, types.len(), types)
-    }
-
-    /// A parameter or a local: its name, which stands for this number from now on, and its type, which is added to these.
-    pub fn local(
+    // A parameter with this name, if one may stand in such a group. `left` tokens are left where the name stands.
+    fn bind(
         &mut self,
+        group: Group,
         name: u32,
-        number: usize,
+        left: usize,
         types: &mut Vec<ValType>,
     ) -> Result<(), Failure>
-        ensures { IfOk result (λ _. length self.new.rest.now ≤ length self.old.rest.now) }
+        ensures { IfOk result (λ _. length self.new.rest.now < length self.old.rest.now) }
     {
-        declare(&mut self.locals, name, number, self.rest.len())?;
-        let _name = self.name();
+        let Group::Parameters(ParameterNames::Bound) = group else {
+            return Err(Failure::Fault(Wrong::Syntax, left));
+        };
+        declare(&mut self.locals, name, types.len(), left)?;
+        self.one_type(types)
+    }
+
+    /// The one type of a group with a name, which is added to these, and the parenthesis that closes the group.
+    pub fn one_type(&mut self, types: &mut Vec<ValType>) -> Result<(), Failure>
+        ensures { IfOk result (λ _. length self.new.rest.now < length self.old.rest.now) }
+    {
         let t = self.val_type()?;
         types.push(t)?;
-        Ok(())
+        self.close()
     }
 
     /// Value types, which are added to these, and the parenthesis that closes their group.

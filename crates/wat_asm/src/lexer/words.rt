@@ -20,7 +20,7 @@ const OFFSET: &[u8] = b"offset=";
 const ALIGN: &[u8] = b"align=";
 
 // How words of the format begin that are not taken: of floating point, and of later versions.
-const UNSUPPORTED: [&str; 31] = [
+const UNSUPPORTED: [&str; 35] = [
     "f32",
     "f64",
     "i32.trunc_",
@@ -52,6 +52,10 @@ const UNSUPPORTED: [&str; 31] = [
     "rethrow",
     "try",
     "catch",
+    "delegate",
+    "atomic.",
+    "i32.atomic.",
+    "i64.atomic.",
 ];
 
 fn is_unsupported(word: &[u8]) -> bool {

@@ -200,9 +200,12 @@ impl Names {
         ensures unnamed { nameless tokens.now ≡ true → result ≡ Ok tt }
     {
         match tokens {
-            [Token::Open, Token::Key(kind), Token::Name(name), ..] => {
-                self.declare(*kind, Some(*name), tokens.len())
-            }
+            [
+                Token::Open,
+                Token::Key(kind),
+                Token::Name(name),
+                behind @ ..,
+            ] => { self.declare(*kind, Some(*name), behind.len().saturating_add(1)) }
             [Token::Open, Token::Key(kind), ..] => self.declare(*kind, None, tokens.len()),
             _ => Ok(()),
         }

@@ -3,6 +3,7 @@
 ghost use Rattle.std.specs.Prelude.{◌≡◌, ◌∷◌, ℕ, List, OnOk, string_bytes};
 ghost use Rattle.std.specs.List.{AllByRecursion};
 ghost use Rattle.wasm_ast.specs.declared.module.Function.{Function as AnyFunction};
+ghost use Rattle.wasm_ast.specs.declared.module.ImportDescription.TheVariants as import;
 ghost use Rattle.wasm_ast.specs.declared.module.Global.{Global as AnyGlobal};
 ghost use Rattle.wasm_ast.specs.declared.module.Element.{Element as AnyElement};
 ghost use Rattle.wasm_ast.specs.declared.module.Data.{Data as AnyData};
@@ -115,24 +116,43 @@ fn write_import_description(
     ensures { OnOk result (Adds (string_bytes text.old) (string_bytes text.new) (import_description description)) }
 {
     match description {
-        ImportDescription::Function(type_number) => {
-            write_opening(text, Gap::Space, Keyword::Func)?;
-            write_type_use(text, type_number)?;
-        }
-        ImportDescription::Table(limits) => {
-            write_opening(text, Gap::Space, Keyword::Table)?;
-            write_limits(text, limits)?;
-            write_keyword(text, Gap::Space, Keyword::Funcref)?;
-        }
-        ImportDescription::Memory(limits) => {
-            write_opening(text, Gap::Space, Keyword::Memory)?;
-            write_limits(text, limits)?;
-        }
-        ImportDescription::Global(global) => {
-            write_opening(text, Gap::Space, Keyword::Global)?;
-            write_global_type(text, global)?;
-        }
+        ImportDescription::Function(type_number) => write_imported_function(text, type_number),
+        ImportDescription::Table(limits) => write_imported_table(text, limits),
+        ImportDescription::Memory(limits) => write_imported_memory(text, limits),
+        ImportDescription::Global(global) => write_imported_global(text, global),
     }
+}
+
+fn write_imported_function(text: &mut String, type_number: u32) -> Result<(), AllocError>
+    ensures { OnOk result (Adds (string_bytes text.old) (string_bytes text.new) (import_description (import.Function type_number))) }
+{
+    write_opening(text, Gap::Space, Keyword::Func)?;
+    write_type_use(text, type_number)?;
+    write_closing(text)
+}
+
+fn write_imported_table(text: &mut String, table: Limits) -> Result<(), AllocError>
+    ensures { OnOk result (Adds (string_bytes text.old) (string_bytes text.new) (import_description (import.Table table))) }
+{
+    write_opening(text, Gap::Space, Keyword::Table)?;
+    write_limits(text, table)?;
+    write_keyword(text, Gap::Space, Keyword::Funcref)?;
+    write_closing(text)
+}
+
+fn write_imported_memory(text: &mut String, memory: Limits) -> Result<(), AllocError>
+    ensures { OnOk result (Adds (string_bytes text.old) (string_bytes text.new) (import_description (import.Memory memory))) }
+{
+    write_opening(text, Gap::Space, Keyword::Memory)?;
+    write_limits(text, memory)?;
+    write_closing(text)
+}
+
+fn write_imported_global(text: &mut String, global: GlobalType) -> Result<(), AllocError>
+    ensures { OnOk result (Adds (string_bytes text.old) (string_bytes text.new) (import_description (import.Global global))) }
+{
+    write_opening(text, Gap::Space, Keyword::Global)?;
+    write_global_type(text, global)?;
     write_closing(text)
 }
 

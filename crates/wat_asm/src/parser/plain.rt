@@ -3,6 +3,8 @@
 ghost use Rattle.std.specs.Prelude.{◌≡◌, ◌<◌, ◌≤◌, ℕ, List, Some, length, IfOk};
 ghost use Rattle.wasm_ast.specs.declared.types.Value.{Value as AnyValue};
 ghost use Rattle.wasm_ast.specs.declared.types.ValType.TheVariants.{I32, I64};
+ghost use Rattle.wasm_ast.specs.declared.body.Instr.TheVariants as instr;
+ghost use Rattle.wasm_ast.specs.declared.plain.Plain.TheVariants as leaf;
 ghost use Rattle.wat_asm.specs.Follows.{Follows};
 ghost use Rattle.wat_asm.specs.Reading.{state_of};
 ghost use Rattle.wat_asm.specs.ReadingCode.{alignment_at, branch_table_at, constant_at, constant_of, exponent, load_at, memory_argument_at, offset_at, plain_at, store_at, variable_at};
@@ -62,31 +64,39 @@ impl<'a> Parser<'a> {
     }
 
     // An access to a local or a global.
-    #[tactic(auto, unfolding(crate::specs::ReadingCode::variable_at))]
     fn variable(&mut self, keyword: Keyword) -> Result<Instr, Failure>
         ensures again { Follows (λ i. (i, state_of self.new)) result (variable_at keyword (state_of self.old)) }
+        ensures shrinks { IfOk result (λ _. length self.new.rest.now ≤ length self.old.rest.now) }
+    {
+        let access = self.access(keyword)?;
+        Ok(Instr::Plain(Plain::Variable(access)))
+    }
+
+    #[tactic(auto, unfolding(crate::specs::ReadingCode::variable_at))]
+    fn access(&mut self, keyword: Keyword) -> Result<Variable, Failure>
+        ensures again { Follows (λ v. (instr.Plain (leaf.Variable v), state_of self.new)) result (variable_at keyword (state_of self.old)) }
         ensures shrinks { IfOk result (λ _. length self.new.rest.now ≤ length self.old.rest.now) }
     {
         match keyword {
             Keyword::LocalGet => {
                 let n = self.local_index()?;
-                Ok(Instr::Plain(Plain::Variable(Variable::LocalGet(n))))
+                Ok(Variable::LocalGet(n))
             }
             Keyword::LocalSet => {
                 let n = self.local_index()?;
-                Ok(Instr::Plain(Plain::Variable(Variable::LocalSet(n))))
+                Ok(Variable::LocalSet(n))
             }
             Keyword::LocalTee => {
                 let n = self.local_index()?;
-                Ok(Instr::Plain(Plain::Variable(Variable::LocalTee(n))))
+                Ok(Variable::LocalTee(n))
             }
             Keyword::GlobalGet => {
                 let n = self.index(Kind::Global)?;
-                Ok(Instr::Plain(Plain::Variable(Variable::GlobalGet(n))))
+                Ok(Variable::GlobalGet(n))
             }
             Keyword::GlobalSet => {
                 let n = self.index(Kind::Global)?;
-                Ok(Instr::Plain(Plain::Variable(Variable::GlobalSet(n))))
+                Ok(Variable::GlobalSet(n))
             }
             _ => Err(self.fault(Wrong::Syntax)),
         }

@@ -1,18 +1,18 @@
 -- One order of letters, and the concatenation by source.
-use Rattle.std.proofs.Common.{◌≡◌, ℕ, List, [], ◌∷◌, ◌++◌, Contains, arith, inl, inr, ◌⊎◌, refl, sym, ap}
+use Rattle.std.proofs.Common.{◌≡◌, ℕ, List, [], ◌∷◌, ◌++◌, Contains, arith, inl, inr, ◌⊎◌, cond, not, refl, sym, ap}
 use Rattle.std.proofs.lemmas.Cmp.{tied_itself}
 use Rattle.std.proofs.lemmas.List.{map-append}
 use Rattle.std.proofs.lemmas.List.Elements.{filter-append, All-contains, Contains-append_cases, Contains-get_or, Contains-append_right, Contains-push_cases}
-use Rattle.std.proofs.lemmas.List.Sorted.{Contains-permutation, IsPermutation-sym, IsPermutation-trans}
+use Rattle.std.proofs.lemmas.List.Sorted.{Contains-permutation, IsPermutation-sym, IsPermutation-trans, sum_by-IsPermutation}
 use Rattle.std.proofs.lemmas.Map.Keys.{sorted_tail}
 use Rattle.std.proofs.lemmas.Map.Views.{All-after_first}
 use Rattle.std.specs.Cmp.{IsTotalOrder}
-use Rattle.std.specs.List.{flat_map}
+use Rattle.std.specs.List.{flat_map, list_any}
 use Rattle.std.specs.List.Sorted.{IsPermutation, IsStrictlySortedBy}
 use Rattle.std.specs.declared.cmp.Ordering.{Ordering}
 use Rattle.std.specs.declared.cmp.Ordering.TheVariants.{Less}
 use Rattle.inbox.specs.declared.letters.Letter.{Letter}
-use Rattle.inbox.specs.Merging.{IsBySource, inbox_of}
+use Rattle.inbox.specs.Merging.{IsBySource, dropped_of, goes_to, inbox_of}
 use Rattle.inbox.proofs.Order.{source_total}
 
 -- what a list contains stands at its head or in its tail
@@ -53,6 +53,9 @@ pub one_order : (letters shuffled ordered other : List Letter) → IsPermutation
 one_order letters shuffled ordered other moved by by' =
     let there : IsPermutation ordered other = IsPermutation-trans _ _ _ (IsPermutation-trans _ _ _ (IsPermutation-sym _ _ by.same) moved) by'.same in
     same_sorted source_total ordered other by.rising by'.rising (λ z. Contains-permutation _ _ z there) (λ z. Contains-permutation _ _ z (IsPermutation-sym _ _ there))
+
+pub same_dropped : (letters shuffled : List Letter) (ids : List ℕ) → IsPermutation letters shuffled → dropped_of shuffled ids ≡ dropped_of letters ids
+same_dropped letters shuffled ids moved = sum_by-IsPermutation (λ letter. cond (not (list_any (goes_to letter) ids)) 1 0) letters shuffled moved
 
 pub inbox_of-flat_map : (sources : List ℕ) (sent_by : ℕ → List Letter) (id : ℕ) → inbox_of (flat_map sent_by sources) id ≡ flat_map (λ source. inbox_of (sent_by source) id) sources
 inbox_of-flat_map [] sent_by id = refl

@@ -11,6 +11,8 @@ mod letters;
 mod merging;
 
 pub use inboxes::Inbox;
-pub use laws::{inboxes_are_concatenated_by_source, letters_have_one_order};
+pub use laws::{
+    inboxes_are_concatenated_by_source, letters_drop_alike_in_any_order, letters_have_one_order,
+};
 pub use letters::Letter;
 pub use merging::merge;

@@ -1,9 +1,8 @@
-use Rattle.std.proofs.Common.{◌≡◌, map, not, cond, arith, rules, ◌∙◌}
+use Rattle.std.proofs.Common.{◌≡◌, map, arith, rules, ◌∙◌}
 use Rattle.std.proofs.lemmas.Grind.{common_steps}
-use Rattle.std.proofs.lemmas.List.Sorted.{sum_by-IsPermutation}
-use Rattle.std.specs.List.{list_any}
-use Rattle.inbox.specs.Merging.{goes_to, dropped_of}
+use Rattle.inbox.specs.Merging.{dropped_of}
 use Rattle.inbox.proofs.Delivery.{replicate-empty}
+use Rattle.inbox.proofs.OneOrder.{same_dropped}
 use Rattle.inbox.proofs.merging.merge.Goals as goal
 
 pub loop-letter-init : goal.loop-letter-init
@@ -12,4 +11,4 @@ loop-letter-init c = record { inboxes = c.in_ok-inboxes.ensures ∙ replicate-em
 pub returns-clause-dropped : goal.returns-clause-dropped
 returns-clause-dropped c =
     let all : c.loop-letter.dropped ≡ dropped_of (map (λ letter. letter.now) c.in_ok-ordered.ordered.items) c.args.ids.now = grind (arith, common_steps) in
-    all ∙ sum_by-IsPermutation (λ letter. cond (not (list_any (goes_to letter) c.args.ids.now)) 1 0) _ _ c.in_ok-ordered.ensures.same
+    all ∙ same_dropped c.args.letters.now _ c.args.ids.now c.in_ok-ordered.ensures.same

@@ -18,7 +18,7 @@ use Rattle.validate.specs.Constants.{ConstantTyped}
 
 -- ---- types (3.2)
 
--- at most one result (3.2.3)
+-- at most one result (3.2.2)
 abbrev pub TypeHolds : FuncType → Type 0
 TypeHolds t = length t.results ≤ 1
 
@@ -27,11 +27,11 @@ abbrev pub MaximumHolds : ℕ → Option ℕ → Type 0
 MaximumHolds minimum None = ⊤
 MaximumHolds minimum (Some maximum) = minimum ≤ maximum
 
--- 3.2.4: each number of 32 bits is within the range of tables
+-- 3.2.3: each number of 32 bits is within the range of tables
 abbrev pub TableHolds : Limits → Type 0
 TableHolds t = MaximumHolds t.minimum t.maximum
 
--- how many pages a memory of 32-bit addresses has at most (3.2.5)
+-- how many pages a memory of 32-bit addresses has at most (3.2.4)
 abbrev pub max_pages : ℕ
 max_pages = 65536
 
@@ -39,7 +39,7 @@ abbrev pub IsWithinPages : Option ℕ → Type 0
 IsWithinPages None = ⊤
 IsWithinPages (Some pages) = pages ≤ max_pages
 
--- 3.2.5
+-- 3.2.4
 pub record MemoryHolds (t : Limits) : Type 0 where
   pub minimum : t.minimum ≤ max_pages
   pub maximum : IsWithinPages t.maximum

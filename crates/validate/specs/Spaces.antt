@@ -25,7 +25,7 @@ pub record Spaces : Type 0 where
 abbrev pub function_type : Spaces → ℕ → Option FuncType
 function_type s f = option_and_then (λ n. slice_get s.types n) (slice_get s.functions f)
 
--- what a function of the type gives, where it gives one value at most (3.2.3)
+-- what a function of the type gives, where it gives one value at most (3.2.2)
 abbrev pub first_type : List ValType → Option ValType
 first_type [] = None
 first_type (t ∷ ts) = Some t

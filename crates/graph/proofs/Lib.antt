@@ -1,4 +1,5 @@
 pub mod Collecting
+pub mod Counting
 pub mod Cut
 pub mod Numbers
 pub mod Placing

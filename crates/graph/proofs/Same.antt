@@ -14,7 +14,7 @@ In z [] = ⊥
 In z (x ∷ xs) = (z ≡ x) ⊎ In z xs
 
 -- each key is below those after it, by recursion
-abbrev Rises : {X : Type 0} → (X → ℕ) → List X → Type 0
+abbrev pub Rises : {X : Type 0} → (X → ℕ) → List X → Type 0
 Rises key [] = Unit {0}
 Rises key (x ∷ xs) = AllByRecursion (λ y. key x < key y) xs × Rises key xs
 
@@ -35,7 +35,7 @@ pub length_map_here : {X : Type 0} (key : X → ℕ) (xs : List X) → length (m
 length_map_here key [] = refl
 length_map_here key (x ∷ xs) = ap suc (length_map_here key xs)
 
-rises_from : {X : Type 0} (key : X → ℕ) (xs : List X) → IsStrictlyIncreasing (map key xs) → Rises key xs
+pub rises_from : {X : Type 0} (key : X → ℕ) (xs : List X) → IsStrictlyIncreasing (map key xs) → Rises key xs
 rises_from key xs h =
     let pairs = AllPairs-from_increasing (map key xs) h in
     rises key xs (λ i j before below. pairs i j 0 before (rw (length_map_here key xs) below))

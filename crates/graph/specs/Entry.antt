@@ -1,8 +1,9 @@
 -- A graph as a list: its vertices with their edges.
-use Rattle.std.specs.Prelude.{◌<◌, ◌^◌, ◌==◌, ◌%◌, ℕ, ℤ, List, map, filter}
-use Rattle.std.specs.List.{All, range_with_len}
+use Rattle.std.specs.Prelude.{◌<◌, ◌≤◌, ◌^◌, ◌==◌, ◌%◌, ℕ, ℤ, List, length, map, filter}
+use Rattle.std.specs.List.{All, range_with_len, sum_by}
 use Rattle.std.specs.List.Sorted.{IsStrictlyIncreasing}
 use Rattle.graph.specs.declared.vertex.Edge.{Edge}
+use Rattle.graph.specs.declared.vertex.TheConstants.{MAX_VERTICES, MAX_EDGES}
 use Rattle.graph.specs.declared.vertex.Vertex.{Vertex}
 
 -- a vertex with its value and its edges, each the target and the edge's value
@@ -43,6 +44,15 @@ edges_from edges id = map end_of (filter (λ edge. edge.from == id) edges)
 -- numbers that a signed number of 64 bits can be
 abbrev pub is_in_range : ℕ → Type 0
 is_in_range id = id < 2 ^ 63
+
+-- how many edges the vertices have, together
+abbrev pub edge_count : List Entry → ℕ
+edge_count graph = sum_by (λ entry. length entry.edges) graph
+
+-- There are no more vertices, and no more edges, than a graph may have.
+pub record FitsLimits (graph : List Entry) : Type 0 where
+  pub vertices : length graph ≤ MAX_VERTICES
+  pub edges : edge_count graph ≤ MAX_EDGES
 
 -- What is so of every graph: ids rise, and the ids of vertices and targets are in range.
 pub record IsProper (graph : List Entry) : Type 0 where

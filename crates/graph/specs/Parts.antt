@@ -3,11 +3,12 @@ use Rattle.std.specs.Prelude.{List}
 use Rattle.std.specs.List.{flat_map}
 use Rattle.std.specs.List.Sorted.{IsPermutation}
 use Rattle.graph.specs.declared.parts.Part.{Part}
-use Rattle.graph.specs.Entry.{Entry, IsProper, entries_of}
+use Rattle.graph.specs.Entry.{Entry, FitsLimits, IsProper, entries_of}
 
 abbrev pub part_entries : Part → List Entry
 part_entries part = entries_of part.vertices.items
 
--- the vertices of these parts are together those of a graph
+-- the vertices of these parts are together those of a graph, and no more than it may have
 abbrev pub AreParts : List Part → Type 0
-AreParts parts = (graph : List Entry) × IsProper graph × IsPermutation (flat_map part_entries parts) graph
+AreParts parts =
+    (graph : List Entry) × IsProper graph × FitsLimits graph × IsPermutation (flat_map part_entries parts) graph

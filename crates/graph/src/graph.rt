@@ -3,7 +3,7 @@
 ghost use Rattle.std.specs.Prelude.{◌≡◌, ◌≢◌, List, IfOk, IfErr, MatchResult};
 ghost use Rattle.graph.specs.declared.fault.GraphFault.TheVariants.{OutOfMemory};
 ghost use Rattle.graph.specs.Collected.{Says};
-ghost use Rattle.graph.specs.Entry.{Entry, IsProper, entries_of, entry_of};
+ghost use Rattle.graph.specs.Entry.{Entry, FitsLimits, IsProper, entries_of, entry_of};
 ghost use Rattle.graph.specs.Graph.{IsGraphText, IsWithinLimits};
 ghost use Rattle.graph.specs.Said.{lines_of};
 
@@ -26,13 +26,14 @@ pub struct Graph {
 
 impl Model for Graph {
     ghost use Rattle.std.specs.Prelude.{List};
-    ghost use Rattle.graph.specs.Entry.{Entry, IsProper, entries_of};
+    ghost use Rattle.graph.specs.Entry.{Entry, FitsLimits, IsProper, entries_of};
 
     ghost Value = { List Entry };
 
     ghost view = { λ graph. entries_of graph.vertices.items };
 
-    ghost invariant = { λ graph. IsProper (entries_of graph.vertices.items) };
+    ghost invariant = { λ graph. IsProper (entries_of graph.vertices.items)
+        × FitsLimits (entries_of graph.vertices.items) };
 }
 
 impl Graph {
@@ -63,6 +64,7 @@ impl Graph {
     pub fn vertices(&self) -> &[Vertex]
         ensures same { entries_of result.now ≡ self.now }
         ensures proper { IsProper self.now }
+        ensures limits { FitsLimits self.now }
     {
         &self.vertices
     }
@@ -71,13 +73,16 @@ impl Graph {
     pub fn into_vertices(self) -> Vec<Vertex>
         ensures same { entries_of result.items ≡ self }
         ensures proper { IsProper self }
+        ensures limits { FitsLimits self }
     {
         self.vertices
     }
 
-    /// The graph that has these vertices, which stand by rising id and have all ids in range.
+    /// The graph that has these vertices, which stand by rising id, have all ids in range, and are no more, with no more
+    /// edges, than a graph may have.
     pub fn from_vertices(vertices: Vec<Vertex>) -> Graph
-        requires { IsProper (entries_of vertices.items) }
+        requires proper { IsProper (entries_of vertices.items) }
+        requires limits { FitsLimits (entries_of vertices.items) }
         ensures { result ≡ entries_of vertices.items }
     {
         Graph { vertices }

@@ -1,13 +1,16 @@
 use Rattle.std.proofs.Common.{List, subst, sym, ◌∙◌}
-use Rattle.graph.specs.Entry.{Entry, IsProper, entries_of}
+use Rattle.graph.specs.Entry.{Entry, FitsLimits, IsProper, entries_of}
 use Rattle.graph.proofs.Splitting.{joins_to}
 use Rattle.graph.proofs.parts.join.Goals as goal
 
 pub from_vertices-requires : goal.from_vertices-requires
 from_vertices-requires c =
-    let same = joins_to c.args.parts.items (entries_of c.in_ok-vertices.vertices.items) (entries_of c.sort_by_id.new.vertices.items) c.requires.0 c.requires.1 c.requires.2
+    let same = joins_to c.args.parts.items (entries_of c.in_ok-vertices.vertices.items) (entries_of c.sort_by_id.new.vertices.items) c.requires.0 c.requires.1 c.requires.3
     c.in_ok-vertices.ensures c.sort_by_id.ensures.permutation c.sort_by_id.ensures.sorted in
-    subst (λ (graph : List Entry). IsProper graph) (sym same) c.requires.1
+    record {
+      proper = subst (λ (graph : List Entry). IsProper graph) (sym same) c.requires.1;
+      limits = subst (λ (graph : List Entry). FitsLimits graph) (sym same) c.requires.2;
+    }
 
 pub returns : goal.returns
 returns c = λ graph proper whole.

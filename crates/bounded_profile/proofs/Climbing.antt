@@ -14,12 +14,13 @@ use Rattle.wasm_ast.specs.declared.module.Module.{Module}
 use Rattle.wasm_ast.specs.Code.{Code}
 use Rattle.wasm_ast.specs.Code as code
 use Rattle.cost.specs.Calls.{calls_of}
+use Rattle.cost.specs.LeastUnits.{plain_least, branch_least, call_least}
 use Rattle.cost.specs.Sizes.{code_size}
 use Rattle.bounded_profile.specs.declared.arity.Arity.{Arity}
 use Rattle.bounded_profile.specs.declared.climb.Climb.{Climb}
 use Rattle.bounded_profile.specs.Arities.{arity_table, plain_arity, variable_arity, memory_arity, branch_arity, call_arity, result_count, block_arity, test_arity}
 use Rattle.bounded_profile.specs.Heights.{after, peak}
-use Rattle.bounded_profile.specs.Climbs.{greatest, ground_level, height_at, reaching, stepping, with_call, with_code}
+use Rattle.bounded_profile.specs.inside.Climbs.{greatest, ground_level, height_at, reaching, stepping, with_call, with_code}
 
 -- ---- instructions give one operand at most
 
@@ -95,21 +96,24 @@ module _ (m : Module) (heights sizes : ℕ → ℕ) (narrow : (f : ℕ) → (cal
   at_least (code.choice t body other rest) here = omega arith
 
   -- code stands no higher than its size above its start
-  pub bounded : (c : Code) (here : ℕ) → AllByRecursion IsSmall (calls_of c) → peak m heights c here ≤ here + code_size sizes c
+  pub bounded : (c : Code) (here : ℕ) → AllByRecursion IsSmall (calls_of c) → peak m heights c here ≤ here + code_size m sizes c
   bounded code.end here s = omega arith
   bounded (code.plain p rest) here s =
+      let w = plain_least p in
       let g = plain_gives p in
       let h = bounded rest (after (plain_arity p) here) s in
-      omega (arith, g, h)
+      omega (arith, g, w, h)
   bounded (code.branch b rest) here s =
+      let w = branch_least b in
       let g = branch_gives b in
       let h = bounded rest (after (branch_arity b) here) s in
-      omega (arith, g, h)
+      omega (arith, g, w, h)
   bounded (code.call f rest) here s =
+      let w = call_least m f in
       let g = narrow f in
       let a = s.0 in
       let h = bounded rest (after (call_arity m f) here) s.1 in
-      omega (arith, g, a, h)
+      omega (arith, g, w, a, h)
   bounded (code.call_indirect t rest) here s = let h = bounded rest here s in omega (arith, h)
   bounded (code.unreachable rest) here s = let h = bounded rest here s in omega (arith, h)
   bounded (code.block t body rest) here s =
@@ -149,24 +153,27 @@ module _ (m : Module) (heights sizes : ℕ → ℕ) (narrow : (f : ℕ) → (cal
     small_too : (xs : List ℕ) → AllByRecursion IsKnown xs → AllByRecursion IsSmall xs
     small_too xs = weaker IsKnown IsSmall (λ f k. k.1) xs
 
-    pub climbs : (c : Code) (s : Climb) → AllByRecursion IsKnown (calls_of c) → s.here ≤ s.most → s.here + code_size sizes c ≤ greatest → (with_code (arity_table m) table s c).most ≡ max s.most (peak m heights c s.here)
+    pub climbs : (c : Code) (s : Climb) → AllByRecursion IsKnown (calls_of c) → s.here ≤ s.most → s.here + code_size m sizes c ≤ greatest → (with_code (arity_table m) table s c).most ≡ max s.most (peak m heights c s.here)
     climbs code.end s k low small = omega (arith, low)
     climbs (code.plain p rest) s k low small =
+        let w = plain_least p in
         let g = plain_gives p in
-        let h = climbs rest (stepping (plain_arity p) s) k (omega arith) (omega (arith, g, small)) in
-        one s.here s.most _ _ low (stepped rest (plain_arity p) s.here s.most _ (omega (arith, g, small)) h)
+        let h = climbs rest (stepping (plain_arity p) s) k (omega arith) (omega (arith, g, w, small)) in
+        one s.here s.most _ _ low (stepped rest (plain_arity p) s.here s.most _ (omega (arith, g, w, small)) h)
     climbs (code.branch b rest) s k low small =
+        let w = branch_least b in
         let g = branch_gives b in
-        let h = climbs rest (stepping (branch_arity b) s) k (omega arith) (omega (arith, g, small)) in
-        one s.here s.most _ _ low (stepped rest (branch_arity b) s.here s.most _ (omega (arith, g, small)) h)
+        let h = climbs rest (stepping (branch_arity b) s) k (omega arith) (omega (arith, g, w, small)) in
+        one s.here s.most _ _ low (stepped rest (branch_arity b) s.here s.most _ (omega (arith, g, w, small)) h)
     climbs (code.call f rest) s k low small =
+        let w = call_least m f in
         let g = narrow f in
         let a = call_arity m f in
         let e = k.0.0 in
         let u = k.0.1 in
-        let h = climbs rest (with_call (arity_table m) table f s) k.1 (omega arith) (omega (arith, g, small)) in
-        let n = stepped rest a s.here (max (min (s.here - a.takes + height_at table f) greatest) s.most) _ (omega (arith, g, small)) h in
-        called s.here s.most (s.here - a.takes) (heights f) _ _ low (omega (arith, u, small)) (subst (λ x. (with_code (arity_table m) table s (code.call f rest)).most ≡ max (max (min (s.here - a.takes + x) greatest) s.most) (peak m heights rest (after a s.here))) e n)
+        let h = climbs rest (with_call (arity_table m) table f s) k.1 (omega arith) (omega (arith, g, w, small)) in
+        let n = stepped rest a s.here (max (min (s.here - a.takes + height_at table f) greatest) s.most) _ (omega (arith, g, w, small)) h in
+        called s.here s.most (s.here - a.takes) (heights f) _ _ low (omega (arith, u, w, small)) (subst (λ x. (with_code (arity_table m) table s (code.call f rest)).most ≡ max (max (min (s.here - a.takes + x) greatest) s.most) (peak m heights rest (after a s.here))) e n)
     climbs (code.call_indirect t rest) s k low small =
         one s.here s.most _ _ low (climbs rest s k low (omega (arith, small)))
     climbs (code.unreachable rest) s k low small =

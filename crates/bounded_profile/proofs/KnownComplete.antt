@@ -33,7 +33,7 @@ use Rattle.bounded_profile.specs.Kinds.{Kind, Any, Is, Forgets, AllForget, Met, 
 use Rattle.bounded_profile.specs.Known.{Context, known, Changes, division_premise, PlainKnown, VariableKnown, MemoryKnown, takes_slot, parameter_wants, CallKnown, CallIndirectKnown, Forgetting, Known}
 use Rattle.bounded_profile.specs.Memory.{memory_bytes}
 use Rattle.bounded_profile.specs.Shapes.{Everywhere, NotUnreachable, LastIfBranch}
-use Rattle.bounded_profile.specs.Tracking.{asks_of, asked, setting_of, host_called, fits, below, take_one, take_each, change, forget_each, forget_result, unknowns, plain_step, branch_step, take_parameters, call_step, call_indirect_step, holds_then, check}
+use Rattle.bounded_profile.specs.inside.Tracking.{asks_of, asked, setting_of, host_called, fits, below, take_one, take_each, change, forget_each, forget_result, unknowns, plain_step, branch_step, take_parameters, call_step, call_indirect_step, holds_then, check}
 use Rattle.bounded_profile.proofs.KnownKinds.{demand_of, if_demand, operand_of, kinds_unknown, both_from, met_from, values_taken, either_way}
 use Rattle.bounded_profile.proofs.KnownSound.{Where, context_of, same_host, slot_taken}
 

@@ -13,7 +13,7 @@ use Rattle.bounded_profile.specs.declared.constants.demands.Demand.TheVariants a
 use Rattle.bounded_profile.specs.declared.constants.operands.Operand.{Operand}
 use Rattle.bounded_profile.specs.declared.constants.operands.Operand.TheVariants as operand
 use Rattle.bounded_profile.specs.Kinds.{Kind, Any, Is, Forgets, AllForget, Met, wants, kinds}
-use Rattle.bounded_profile.specs.Tracking.{is_met, top, below, take_each, forget_each, unknowns}
+use Rattle.bounded_profile.specs.inside.Tracking.{is_met, top, below, take_each, forget_each, unknowns}
 
 -- ---- wants without types
 

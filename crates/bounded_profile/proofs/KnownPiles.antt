@@ -4,7 +4,7 @@ use Rattle.std.proofs.lemmas.List.{reverse-append, at_drop_more}
 use Rattle.wasm_ast.specs.declared.types.ValType.{ValType}
 use Rattle.wasm_ast.specs.declared.types.ValType.TheVariants.{I32}
 use Rattle.bounded_profile.specs.declared.constants.operands.Operand.{Operand}
-use Rattle.bounded_profile.specs.Tracking.{top, below, forget_each}
+use Rattle.bounded_profile.specs.inside.Tracking.{top, below, forget_each}
 
 pub piled : (less more : List Operand) (o : Operand) → more ≡ less ++ o ∷ [] → reverse more ≡ o ∷ reverse less
 piled less more o e = ap reverse e ∙ reverse-append less (o ∷ [])

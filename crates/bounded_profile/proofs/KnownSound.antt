@@ -45,7 +45,7 @@ use Rattle.bounded_profile.specs.Hosts.{host_call_at}
 use Rattle.bounded_profile.specs.Kinds.{Kind, Any, Is, AllForget, Meets, AllMeet, wants, kinds}
 use Rattle.bounded_profile.specs.Known.{Context, known, Changes, Leaves, division_premise, PlainKnown, VariableKnown, MemoryKnown, LabelTakes, BranchKnown, takes_slot, parameter_wants, CallKnown, CallIndirectKnown, Forgetting, Known}
 use Rattle.bounded_profile.specs.Memory.{memory_bytes}
-use Rattle.bounded_profile.specs.Tracking.{asks_of, asked, setting_of, imported_call, host_called, is_met, fits, top, below, take_one, take_each, change, forget_each, forget_result, unknowns, plain_step, branch_step, take_parameters, call_step, call_indirect_step, holds_then, check}
+use Rattle.bounded_profile.specs.inside.Tracking.{asks_of, asked, setting_of, imported_call, host_called, is_met, fits, top, below, take_one, take_each, change, forget_each, forget_result, unknowns, plain_step, branch_step, take_parameters, call_step, call_indirect_step, holds_then, check}
 use Rattle.bounded_profile.proofs.KnownKinds.{want_type, demand_of, if_type, if_demand, value_types, kind_type, operand_of, kind_of, as_kinds, given_kinds, kinds_unknown, forget_none, forget_any, forget_one, forget_all, nothing_forgets, both_to, met_to, values_then, values_taken, either_way}
 
 -- where code stands

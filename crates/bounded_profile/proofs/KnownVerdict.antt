@@ -10,16 +10,18 @@ use Rattle.validate.specs.Spaces.{spaces_of, first_type}
 use Rattle.validate.specs.Instructions as valid
 use Rattle.validate.specs.Modules.{FunctionTyped}
 use Rattle.bounded_profile.specs.declared.constants.asks.Asks.{Asks}
+use Rattle.bounded_profile.specs.declared.constants.asks.Asks.TheVariants.{All}
 use Rattle.bounded_profile.specs.declared.constants.fault.ConstantsFault.{ConstantsFault}
 use Rattle.bounded_profile.specs.declared.constants.fault.ConstantsFault.TheVariants as fault
-use Rattle.bounded_profile.specs.ConstantsFaults.{Says, Settles}
+use Rattle.bounded_profile.specs.inside.ConstantsFaults.{Says, Settles}
 use Rattle.bounded_profile.specs.Kinds.{kinds}
 use Rattle.bounded_profile.specs.Known.{FunctionKnown, ConstantsKnown}
-use Rattle.bounded_profile.specs.Profile.{NoUnreachable, NothingAfterBranches}
+use Rattle.bounded_profile.specs.Profile.{NoUnreachable, NothingAfterBranches, asks_all}
 use Rattle.bounded_profile.specs.Shapes.{Everywhere, NotUnreachable, LastIfBranch}
-use Rattle.bounded_profile.specs.Tracking.{asks_of, Setting, setting_of, holds_then, check, Passes}
+use Rattle.bounded_profile.specs.inside.Tracking.{asks_of, Setting, setting_of, holds_then, check, Passes}
 use Rattle.bounded_profile.proofs.KnownSound.{Where, context_of, sound, inside_known}
 use Rattle.bounded_profile.proofs.KnownComplete.{complete}
+use Rattle.bounded_profile.proofs.KnownFewer.{all_pass_too}
 
 -- where the body of a function of this type stands
 abbrev where_of : Asks → Module → Function → FuncType → Where
@@ -58,6 +60,10 @@ refused a m n (Ok u) e v l h k = tt
 refused a m n (Err fault.OutOfMemory) e v l h k = refl
 refused a m n (Err (fault.Breaks place)) e v l h k =
     absurd (h (subst (λ (x : Module). AllByRecursion (Passes (setting_of a x)) x.functions) (sym e) (all_pass a m m.functions v l k)))
+
+-- where all constants are known, so are those of each rule
+pub fewer : (a : Asks) (m : Module) → AllByRecursion (FunctionTyped (spaces_of m)) m.functions → NoUnreachable m → NothingAfterBranches m → ConstantsKnown asks_all m → ConstantsKnown (asks_of a) m
+fewer a m t v l k = all_known a m m.functions t (all_pass_too a m m.functions (all_pass All m m.functions v l k))
 
 -- a function of this type, by the answer for its body
 pub settled : (t : Setting) (f : Function) (u : FuncType) (outcome : Option ValType) (labels : List (Option ValType)) (r : Result (Unit {0}) ConstantsFault) → slice_get t.types f.type_number ≡ Some u → outcome ≡ first_type u.results → labels ≡ [] → Says (check f.body t (outcome ∷ reverse labels) []) r → Settles (Passes t f) r

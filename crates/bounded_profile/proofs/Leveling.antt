@@ -28,8 +28,8 @@ use Rattle.bounded_profile.specs.Arities.{type_arity, known_arity, arity_table, 
 use Rattle.bounded_profile.specs.Facts.{IsHeightAt}
 use Rattle.bounded_profile.specs.Profile.{SizeWithin}
 use Rattle.bounded_profile.specs.Heights.{after, peak, peak_in, AreHeights}
-use Rattle.bounded_profile.specs.Levels.{AreTold, AreToldBelow}
-use Rattle.bounded_profile.specs.Climbs.{ground_level, height_at, with_code}
+use Rattle.bounded_profile.specs.inside.Levels.{AreTold, AreToldBelow}
+use Rattle.bounded_profile.specs.inside.Climbs.{ground_level, height_at, with_code}
 use Rattle.bounded_profile.proofs.Climbing.{parts, weaker, bounded, IsKnown, climbs}
 
 -- ---- lists of functions
@@ -91,19 +91,19 @@ unfolded m (suc n) f = peak_in m (unfolded m n) (body_of m f)
 
 -- ---- each call is no larger than the code that makes it
 
-calls_small : (sizes : ℕ → ℕ) (n : ℕ) (c : Code) → code_size sizes c ≤ n → AllByRecursion (λ f. sizes f ≤ n) (calls_of c)
-calls_small sizes n code.end h = tt
-calls_small sizes n (code.plain p rest) h = calls_small sizes n rest (omega arith)
-calls_small sizes n (code.branch b rest) h = calls_small sizes n rest (omega arith)
-calls_small sizes n (code.call f rest) h = (omega arith, calls_small sizes n rest (omega arith))
-calls_small sizes n (code.call_indirect t rest) h = calls_small sizes n rest (omega arith)
-calls_small sizes n (code.unreachable rest) h = calls_small sizes n rest (omega arith)
-calls_small sizes n (code.block t body rest) h =
-    joined (λ f. sizes f ≤ n) (calls_of body) (calls_of rest) (calls_small sizes n body (omega arith)) (calls_small sizes n rest (omega arith))
-calls_small sizes n (code.loop t body rest) h =
-    joined (λ f. sizes f ≤ n) (calls_of body) (calls_of rest) (calls_small sizes n body (omega arith)) (calls_small sizes n rest (omega arith))
-calls_small sizes n (code.choice t body other rest) h =
-    joined (λ f. sizes f ≤ n) (calls_of body) (calls_of other ++ calls_of rest) (calls_small sizes n body (omega arith)) (joined (λ f. sizes f ≤ n) (calls_of other) (calls_of rest) (calls_small sizes n other (omega arith)) (calls_small sizes n rest (omega arith)))
+calls_small : (m : Module) (sizes : ℕ → ℕ) (n : ℕ) (c : Code) → code_size m sizes c ≤ n → AllByRecursion (λ f. sizes f ≤ n) (calls_of c)
+calls_small m sizes n code.end h = tt
+calls_small m sizes n (code.plain p rest) h = calls_small m sizes n rest (omega arith)
+calls_small m sizes n (code.branch b rest) h = calls_small m sizes n rest (omega arith)
+calls_small m sizes n (code.call f rest) h = (omega arith, calls_small m sizes n rest (omega arith))
+calls_small m sizes n (code.call_indirect t rest) h = calls_small m sizes n rest (omega arith)
+calls_small m sizes n (code.unreachable rest) h = calls_small m sizes n rest (omega arith)
+calls_small m sizes n (code.block t body rest) h =
+    joined (λ f. sizes f ≤ n) (calls_of body) (calls_of rest) (calls_small m sizes n body (omega arith)) (calls_small m sizes n rest (omega arith))
+calls_small m sizes n (code.loop t body rest) h =
+    joined (λ f. sizes f ≤ n) (calls_of body) (calls_of rest) (calls_small m sizes n body (omega arith)) (calls_small m sizes n rest (omega arith))
+calls_small m sizes n (code.choice t body other rest) h =
+    joined (λ f. sizes f ≤ n) (calls_of body) (calls_of other ++ calls_of rest) (calls_small m sizes n body (omega arith)) (joined (λ f. sizes f ≤ n) (calls_of other) (calls_of rest) (calls_small m sizes n other (omega arith)) (calls_small m sizes n rest (omega arith)))
 
 module _ (m : Module) (rank : ℕ → ℕ) (falls : (f g : ℕ) → Calls (callees m) f g → rank g < rank f) where
   below : (f : ℕ) → AllByRecursion (λ g. rank g < rank f) (callees m f)
@@ -122,7 +122,7 @@ module _ (m : Module) (rank : ℕ → ℕ) (falls : (f g : ℕ) → Calls (calle
       agree_in m (unfolded m (rank f)) (λ g. unfolded m (suc (rank g)) g) (body_of m f) (weaker (λ g. rank g < rank f) (λ g. unfolded m (rank f) g ≡ unfolded m (suc (rank g)) g) (λ g b. deep (rank f) (suc (rank g)) g b (omega arith)) (callees m f) (below f))
 
   module _ (heights sizes : ℕ → ℕ) (high : AreHeights m heights) (sized : AreSizes m sizes) (narrow : (f : ℕ) → (call_arity m f).gives ≤ 1) where
-    bounded_in : (b : Option Code) → AllByRecursion (λ g. heights g ≤ sizes g) (calls_in b) → peak_in m heights b ≤ size_in sizes b
+    bounded_in : (b : Option Code) → AllByRecursion (λ g. heights g ≤ sizes g) (calls_in b) → peak_in m heights b ≤ size_in m sizes b
     bounded_in None h = omega arith
     bounded_in (Some c) h = let b = bounded m heights sizes narrow c 0 h in omega (arith, b)
 
@@ -142,9 +142,9 @@ module _ (m : Module) (rank : ℕ → ℕ) (falls : (f g : ℕ) → Calls (calle
     pub told_at : (told : List ℕ) (f : ℕ) (c : Code) → body_of m f ≡ Some c → sizes f ≤ max_size → ((g : ℕ) → rank g < rank f → sizes g ≤ max_size → height_at told g ≡ heights g) → (with_code (arity_table m) told ground_level c).most ≡ heights f
     told_at told f c is h t =
         let d : heights f ≡ peak m heights c 0 = high f ∙ ap (peak_in m heights) is in
-        let e : sizes f ≡ code_size sizes c = sized f ∙ ap (size_in sizes) is in
+        let e : sizes f ≡ code_size m sizes c = sized f ∙ ap (size_in m sizes) is in
         let lower = subst (λ b. AllByRecursion (λ g. rank g < rank f) (calls_in b)) is (below f) in
-        let less = calls_small sizes max_size c (omega (arith, e, h)) in
+        let less = calls_small m sizes max_size c (omega (arith, e, h)) in
         let known = weaker (λ g. (rank g < rank f) × (sizes g ≤ max_size)) (IsKnown m heights sizes narrow told) (λ g b. (t g b.0 b.1, small g)) (calls_of c) (both (λ g. rank g < rank f) (λ g. sizes g ≤ max_size) (calls_of c) lower less) in
         let i = climbs m heights sizes narrow told c ground_level known (omega arith) (omega (arith, e, h)) in
         omega (arith, d, i)

@@ -2,10 +2,13 @@ pub mod KnownPiles
 pub mod KnownKinds
 pub mod KnownSound
 pub mod KnownComplete
+pub mod KnownFewer
 pub mod KnownVerdict
 pub mod Climbing
 pub mod Leveling
 pub mod Walking
 pub mod Refusals
 pub mod Computing
-pub mod Opening
+pub mod HostTable
+pub mod LoopEnds
+pub mod Nested

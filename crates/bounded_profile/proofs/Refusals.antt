@@ -8,9 +8,8 @@ use Rattle.bounded_profile.specs.declared.facts.Facts.{Facts}
 use Rattle.bounded_profile.specs.Compute.{IsComputeNumber}
 use Rattle.bounded_profile.specs.Facts.{AreFacts, AreFactsAt}
 use Rattle.bounded_profile.specs.Faults.{Denies, ShowsCycle, Refuses}
-use Rattle.bounded_profile.specs.Known.{ConstantsKnown}
-use Rattle.bounded_profile.specs.Profile.{IsBounded, AddressesWithin, DivisorsKnown, SizeWithin, asks_all}
-use Rattle.bounded_profile.specs.Stages.{PartsHold, ShapesHold, CallsHold}
+use Rattle.bounded_profile.specs.Profile.{IsBounded, AddressesWithin, AllKnown, SizeWithin}
+use Rattle.bounded_profile.specs.inside.Stages.{PartsHold, ShapesHold, CallsHold}
 
 -- what is denied of a part is denied of the whole
 pub part_denied : (e : ProfileFault) (p q : Type 0) → (p → q) → Denies e q → Denies e p
@@ -34,8 +33,8 @@ only_memory m (fault.Breaks rule place) r b = absurd (r b)
 only_memory m (fault.Cycle functions) r b = absurd (b.acyclic functions.items r.0)
 only_memory m fault.OutOfMemory r b = refl
 
-pub bounded : (m : Module) (n : ℕ) → PartsHold m → IsComputeNumber m n → ShapesHold m → AddressesWithin m → DivisorsKnown m → CallsHold m n → ConstantsKnown asks_all m → IsBounded m
-bounded m n p c s a d l k = record {
+pub bounded : (m : Module) (n : ℕ) → PartsHold m → IsComputeNumber m n → ShapesHold m → AddressesWithin m → CallsHold m n → AllKnown m → IsBounded m
+bounded m n p c s a l k = record {
   imports = p.imports;
   compute = c.compute;
   start = p.start;
@@ -46,11 +45,9 @@ bounded m n p c s a d l k = record {
   ordered = s.ordered;
   loops = s.loops;
   addresses = a;
-  divisors = d;
-  acyclic = l.acyclic;
-  slots = l.slots;
-  size = subst (SizeWithin m) (sym c.here) l.size;
   constants = k;
+  acyclic = l.acyclic;
+  size = subst (SizeWithin m) (sym c.here) l.size;
 }
 
 -- facts of the function with the number of `compute`

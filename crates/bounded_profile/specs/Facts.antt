@@ -12,6 +12,10 @@ use Rattle.bounded_profile.specs.declared.facts.Facts.{Facts}
 abbrev pub IsSizeAt : Module → ℕ → ℕ → Type 0
 IsSizeAt m function size = (sizes : ℕ → ℕ) × AreSizes m sizes × (sizes function ≡ size)
 
+-- the size of `compute`, its calls unfolded
+abbrev pub IsSizeOfCompute : Module → ℕ → Type 0
+IsSizeOfCompute m size = (compute : HasCompute m) → IsSizeAt m compute.number size
+
 -- one more than the deepest of those that each function calls; 0 for an imported function
 abbrev pub AreDepths : Module → (ℕ → ℕ) → Type 0
 AreDepths m depths = (f : ℕ) → depths f ≡ height depths (body_of m f)
@@ -26,6 +30,7 @@ IsHeightAt m function most = (heights : ℕ → ℕ) × AreHeights m heights × 
 
 -- the facts are those of this function
 pub record AreFactsAt (m : Module) (function : ℕ) (facts : Facts) : Type 0 where
+  pub number : facts.compute ≡ function
   pub size : IsSizeAt m function facts.size
   pub operands : IsHeightAt m function facts.max_operands
   pub frames : IsDepthAt m function facts.max_frames

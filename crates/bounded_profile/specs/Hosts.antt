@@ -7,7 +7,7 @@ use Rattle.wasm_ast.specs.declared.module.Import.{Import}
 use Rattle.wasm_ast.specs.declared.module.Module.{Module}
 use Rattle.wasm_ast.specs.Limits.{is_function}
 use Rattle.host_calls.specs.declared.imports.HostCall.{HostCall}
-use Rattle.host_calls.specs.Imports.{BringsIn, call_named}
+use Rattle.host_calls.specs.Imports.{BringsIn, call_of}
 
 -- the import is a function of module `pregel` by its name and its type
 pub record IsHostImport (m : Module) (i : Import) : Type 0 where
@@ -18,10 +18,6 @@ pub record IsHostImport (m : Module) (i : Import) : Type 0 where
   pub typed : slice_get m.types type_number ≡ Some function_type
   pub brings_in : BringsIn i.«module» i.name function_type host_call
 
--- the host's function that the import brings in, by its names
-abbrev pub call_of : Import → Option HostCall
-call_of i = call_named i.«module» i.name
-
 -- the host's function with this number, by the import's names
 abbrev pub host_call_at : Module → ℕ → Option HostCall
 host_call_at m f = option_and_then call_of (slice_get (filter is_function m.imports) f)
@@ -29,6 +25,10 @@ host_call_at m f = option_and_then call_of (slice_get (filter is_function m.impo
 -- the host's function for each imported function
 abbrev pub host_table : Module → List (Option HostCall)
 host_table m = map call_of (filter is_function m.imports)
+
+-- these are the host's functions that the module imports, in order: each imported function is one of them
+abbrev pub AreHostCalls : Module → List HostCall → Type 0
+AreHostCalls m calls = host_table m ≡ map Some calls
 
 abbrev pub call_at : List (Option HostCall) → ℕ → Option HostCall
 call_at table f = option_flatten (slice_get table f)

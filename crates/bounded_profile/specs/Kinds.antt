@@ -2,6 +2,7 @@
 use Rattle.std.specs.Prelude.{◌≡◌, ◌≢◌, ℕ, ◌+◌, ◌<◌, ◌≤◌, List, [], ◌∷◌, Option, Some, None}
 use Rattle.wasm_ast.specs.declared.types.ValType.{ValType}
 use Rattle.wasm_ast.specs.declared.types.ValType.TheVariants.{I32, I64}
+use Rattle.host_calls.specs.declared.call.TheConstants.{SLOTS}
 use Rattle.bounded_profile.specs.declared.wants.Premise.{Premise}
 use Rattle.bounded_profile.specs.declared.wants.Premise.TheVariants.{Reaches, Divides, DividesSigned, IsSlot}
 use Rattle.bounded_profile.specs.declared.wants.Want.{Want}
@@ -30,16 +31,12 @@ abbrev pub minus_one : ValType → ℕ
 minus_one I32 = 4294967295
 minus_one I64 = 18446744073709551615
 
--- how many slots there are
-abbrev pub slots : ℕ
-slots = 8
-
 -- the constant meets the premise, where the memory has so many bytes: nothing here wraps
 abbrev pub Met : ℕ → ValType → Premise → ℕ → Type 0
 Met bytes t (Reaches offset width) address = address + offset + width ≤ bytes
 Met bytes t Divides n = n ≢ 0
 Met bytes t DividesSigned n = (n ≢ 0) × (n ≢ minus_one t)
-Met bytes t IsSlot n = n < slots
+Met bytes t IsSlot n = n < SLOTS
 
 -- The operand is what is wanted. A known one is no value of which the type alone is known until that is forgotten.
 abbrev pub Meets : ℕ → Want → Kind → Type 0

@@ -1,16 +1,18 @@
-pub mod Kinds
-pub mod Hosts
-pub mod Known
-pub mod Shapes
-pub mod Memory
+-- What a reader has to believe, in this order. The profile, one definition a rule, and what the rules are made of: the
+-- host's functions, the shapes of code and its loops, what is known of operands, and the memory.
 pub mod Profile
-pub mod Tracking
-pub mod ConstantsFaults
+pub mod Hosts
+pub mod Shapes
+pub mod Kinds
+pub mod Known
+pub mod Memory
+-- What a refusal says, and what is told of a module in the profile: the number of `compute`, its size, and how many
+-- operands and frames a call of it has at most.
 pub mod Faults
+pub mod FaultText
 pub mod Compute
 pub mod Arities
 pub mod Heights
-pub mod Climbs
-pub mod Levels
 pub mod Facts
-pub mod Stages
+-- what only mirrors the code, for its proofs
+pub mod inside

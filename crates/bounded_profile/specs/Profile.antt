@@ -1,5 +1,5 @@
 -- Modules of which each call ends within a bound that can be told beforehand.
-use Rattle.std.specs.Prelude.{◌≡◌, ℕ, ◌-◌, ◌≤◌, Bool, true, false, [], slice_get, Contains, Some, None, codes}
+use Rattle.std.specs.Prelude.{◌≡◌, ℕ, ◌-◌, ◌≤◌, Bool, true, [], slice_get, Contains, Some, None, codes}
 use Rattle.std.specs.List.{AllByRecursion}
 use Rattle.wasm_ast.specs.declared.types.FuncType.{FuncType}
 use Rattle.wasm_ast.specs.declared.module.ExportDescription.TheVariants as export
@@ -12,11 +12,10 @@ use Rattle.cost.specs.Calls.{callees}
 use Rattle.cost.specs.Cycles.{Acyclic}
 use Rattle.cost.specs.Sizes.{AreSizes, max_size}
 use Rattle.bounded_profile.specs.declared.wants.Premise.{Premise}
-use Rattle.bounded_profile.specs.declared.wants.Premise.TheVariants.{Reaches, Divides, DividesSigned, IsSlot}
 use Rattle.bounded_profile.specs.Hosts.{IsHostImport, host_call_at}
 use Rattle.bounded_profile.specs.Known.{ConstantsKnown}
 use Rattle.bounded_profile.specs.Memory.{MinimumsWithin, SegmentsWithin}
-use Rattle.bounded_profile.specs.Shapes.{Everywhere, NotIndirect, NotUnreachable, NotGrow, LastIfBranch, LoopOpens}
+use Rattle.bounded_profile.specs.Shapes.{Everywhere, NotIndirect, NotUnreachable, NotGrow, LastIfBranch, LoopTakes}
 
 -- P1: each import is a function of the host
 abbrev pub ImportsHostCalls : Module → Type 0
@@ -29,6 +28,10 @@ compute_export f = record { name = codes "compute"; description = export.Functio
 abbrev pub plain_type : FuncType
 plain_type = record { parameters = []; results = [] }
 
+-- the function is of no parameters and no results
+abbrev pub HasPlainType : Module → Function → Type 0
+HasPlainType m function = slice_get m.types function.type_number ≡ Some plain_type
+
 -- P2: `compute` is a function that the module defines, of no parameters and no results
 pub record HasCompute (m : Module) : Type 0 where
   pub number : ℕ
@@ -36,7 +39,7 @@ pub record HasCompute (m : Module) : Type 0 where
   pub exported : Contains m.exports (compute_export number)
   pub past_imports : imported_functions m.imports ≤ number
   pub defined : slice_get m.functions (number - imported_functions m.imports) ≡ Some function
-  pub typed : slice_get m.types function.type_number ≡ Some plain_type
+  pub typed : HasPlainType m function
 
 -- P3
 abbrev pub NoStart : Module → Type 0
@@ -67,47 +70,29 @@ NothingAfterBranches m = EachBody LastIfBranch m
 
 -- P9
 abbrev pub LoopsTakeItems : Module → Type 0
-LoopsTakeItems m = EachBody (LoopOpens (host_call_at m)) m
+LoopsTakeItems m = EachBody (LoopTakes (host_call_at m)) m
 
-abbrev pub asks_addresses : Premise → Bool
-asks_addresses (Reaches offset width) = true
-asks_addresses _ = false
-
--- P10: the memory is small, and what is read, written and laid in it lies in it
+-- P10 beside loads and stores: the memory is small, and the data segments lie in it
 pub record AddressesWithin (m : Module) : Type 0 where
   pub minimums : MinimumsWithin m
-  pub accesses : ConstantsKnown asks_addresses m
   pub segments : SegmentsWithin m
 
-abbrev pub asks_divisors : Premise → Bool
-asks_divisors Divides = true
-asks_divisors DividesSigned = true
-asks_divisors _ = false
+abbrev pub asks_all : Premise → Bool
+asks_all p = true
 
--- P11
-abbrev pub DivisorsKnown : Module → Type 0
-DivisorsKnown m = ConstantsKnown asks_divisors m
+-- P10's loads and stores, P11 and P13, in one typing: addresses, divisors and slots are known constants
+abbrev pub AllKnown : Module → Type 0
+AllKnown m = ConstantsKnown asks_all m
 
 -- P12
 abbrev pub NoCycles : Module → Type 0
 NoCycles m = Acyclic (callees m)
 
-abbrev pub asks_slots : Premise → Bool
-asks_slots IsSlot = true
-asks_slots _ = false
-
--- P13
-abbrev pub SlotsKnown : Module → Type 0
-SlotsKnown m = ConstantsKnown asks_slots m
-
 -- P14: there are sizes, one for each function, where no function calls itself
 abbrev pub SizeWithin : Module → ℕ → Type 0
 SizeWithin m f = (sizes : ℕ → ℕ) → AreSizes m sizes → sizes f ≤ max_size
 
-abbrev pub asks_all : Premise → Bool
-asks_all p = true
-
--- all of them, and the constants of P10, P11 and P13 in one typing
+-- all of them
 pub record IsBounded (m : Module) : Type 0 where
   pub imports : ImportsHostCalls m
   pub compute : HasCompute m
@@ -119,8 +104,6 @@ pub record IsBounded (m : Module) : Type 0 where
   pub ordered : NothingAfterBranches m
   pub loops : LoopsTakeItems m
   pub addresses : AddressesWithin m
-  pub divisors : DivisorsKnown m
+  pub constants : AllKnown m
   pub acyclic : NoCycles m
-  pub slots : SlotsKnown m
   pub size : SizeWithin m compute.number
-  pub constants : ConstantsKnown asks_all m

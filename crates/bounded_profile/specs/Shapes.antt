@@ -1,16 +1,18 @@
 -- Which instructions code has, and in which order.
-use Rattle.std.specs.Prelude.{◌≡◌, ℕ, ◌≤◌, ⊤, Option, Some}
+use Rattle.std.specs.Prelude.{◌≡◌, ◌≢◌, ℕ, ◌+◌, ◌≤◌, ◌⊎◌, ⊤, Option, Some}
+use Rattle.std.specs.List.{AllByRecursion}
 use Rattle.wasm_ast.specs.declared.types.ValType.TheVariants.{I32}
 use Rattle.wasm_ast.specs.declared.numeric.Numeric.TheVariants as numeric
 use Rattle.wasm_ast.specs.declared.plain.Memory.TheVariants as memory
 use Rattle.wasm_ast.specs.declared.plain.Plain.TheVariants as plain
+use Rattle.wasm_ast.specs.declared.plain.Branch.{Branch}
 use Rattle.wasm_ast.specs.declared.plain.Branch.TheVariants as branch
 use Rattle.wasm_ast.specs.Code.{Code}
 use Rattle.wasm_ast.specs.Code as code
 use Rattle.host_calls.specs.declared.imports.HostCall.{HostCall}
 use Rattle.host_calls.specs.declared.imports.HostCall.TheVariants.{NextMessage, NextEdge}
 use Rattle.bounded_profile.specs.declared.shapes.Shape.{Shape}
-use Rattle.bounded_profile.specs.declared.shapes.Shape.TheVariants.{Direct, Reached, Steady, Ordered, Opening}
+use Rattle.bounded_profile.specs.declared.shapes.Shape.TheVariants.{Direct, Reached, Steady, Ordered, Taking}
 
 -- P holds of the code from each instruction on, to the end of its sequence
 abbrev pub Everywhere : (Code → Type 0) → Code → Type 0
@@ -59,9 +61,52 @@ pub record OpensWithItem (calls : ℕ → Option HostCall) (body : Code) : Type 
   pub takes : TakesItem (calls function)
   pub leaves : 1 ≤ label
 
-abbrev pub LoopOpens : (ℕ → Option HostCall) → Code → Type 0
-LoopOpens calls (code.loop t body rest) = OpensWithItem calls body
-LoopOpens calls _ = ⊤
+-- no branch names the label with this number
+abbrev pub BranchNamesNot : ℕ → Branch → Type 0
+BranchNamesNot n (branch.Br l) = l ≢ n
+BranchNamesNot n (branch.BrIf l) = l ≢ n
+BranchNamesNot n (branch.BrTable ls l) = AllByRecursion (λ k. k ≢ n) ls × (l ≢ n)
+BranchNamesNot n branch.Return = ⊤
+
+-- no branch in the code, at any depth, names the label with this number, counted from where the code stands
+abbrev pub NamesNot : ℕ → Code → Type 0
+NamesNot n code.end = ⊤
+NamesNot n (code.plain p rest) = NamesNot n rest
+NamesNot n (code.branch b rest) = BranchNamesNot n b × NamesNot n rest
+NamesNot n (code.call f rest) = NamesNot n rest
+NamesNot n (code.call_indirect t rest) = NamesNot n rest
+NamesNot n (code.unreachable rest) = NamesNot n rest
+NamesNot n (code.block t body rest) = NamesNot (n + 1) body × NamesNot n rest
+NamesNot n (code.loop t body rest) = NamesNot (n + 1) body × NamesNot n rest
+NamesNot n (code.choice t body other rest) = NamesNot (n + 1) body × NamesNot (n + 1) other × NamesNot n rest
+
+-- a sequence, and then another
+abbrev pub followed : Code → Code → Code
+followed code.end next = next
+followed (code.plain p rest) next = code.plain p (followed rest next)
+followed (code.branch b rest) next = code.branch b (followed rest next)
+followed (code.call f rest) next = code.call f (followed rest next)
+followed (code.call_indirect t rest) next = code.call_indirect t (followed rest next)
+followed (code.unreachable rest) next = code.unreachable (followed rest next)
+followed (code.block t body rest) next = code.block t body (followed rest next)
+followed (code.loop t body rest) next = code.loop t body (followed rest next)
+followed (code.choice t body other rest) next = code.choice t body other (followed rest next)
+
+-- the code takes an item at its end, and goes back to the loop where there was one; no other branch goes back
+pub record ClosesWithItem (calls : ℕ → Option HostCall) (body : Code) : Type 0 where
+  pub front : Code
+  pub function : ℕ
+  pub closes : body ≡ followed front (code.call function (code.branch (branch.BrIf 0) code.end))
+  pub takes : TakesItem (calls function)
+  pub alone : NamesNot 0 front
+
+-- the body of a loop takes an item each time round: first, or last
+abbrev pub TakesItems : (ℕ → Option HostCall) → Code → Type 0
+TakesItems calls body = OpensWithItem calls body ⊎ ClosesWithItem calls body
+
+abbrev pub LoopTakes : (ℕ → Option HostCall) → Code → Type 0
+LoopTakes calls (code.loop t body rest) = TakesItems calls body
+LoopTakes calls _ = ⊤
 
 -- the rule holds of the code from its first instruction on
 abbrev pub Keeps : (ℕ → Option HostCall) → Shape → Code → Type 0
@@ -69,4 +114,4 @@ Keeps calls Direct = NotIndirect
 Keeps calls Reached = NotUnreachable
 Keeps calls Steady = NotGrow
 Keeps calls Ordered = LastIfBranch
-Keeps calls Opening = LoopOpens calls
+Keeps calls Taking = LoopTakes calls

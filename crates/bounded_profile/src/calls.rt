@@ -5,7 +5,7 @@ ghost use Rattle.cost.specs.Calls.{callees};
 ghost use Rattle.cost.specs.Ranks.{IsRanking};
 ghost use Rattle.bounded_profile.specs.Faults.{Denies, ShowsCycle};
 ghost use Rattle.bounded_profile.specs.Profile.{NoCycles, SizeWithin};
-ghost use Rattle.bounded_profile.specs.Facts.{IsSizeAt};
+ghost use Rattle.bounded_profile.specs.inside.Stages.{SizeHolds};
 
 use crate::fault::{ProfileFault, ProfileRule};
 use crate::module_rules::NOWHERE;
@@ -16,7 +16,8 @@ use validate::Valid;
 /// P12: the ranks of the functions, where none calls itself.
 pub fn check_cycles(alloc: Global, valid: &Valid) -> Result<Ranks, ProfileFault>
     ensures ranked { IfOk result (IsRanking valid.now) }
-    ensures decided { MatchResult result (λ _. NoCycles valid.now) (ShowsCycle (callees valid.now)) }
+    ensures decided { MatchResult result (λ _. NoCycles valid.now)
+        (ShowsCycle (callees valid.now)) }
 {
     Ok(ranks(alloc, valid)?)
 }
@@ -24,7 +25,7 @@ pub fn check_cycles(alloc: Global, valid: &Valid) -> Result<Ranks, ProfileFault>
 /// P14: the size of the function, its calls unfolded, where it is at most `cost::MAX_SIZE`.
 pub fn check_size(valid: &Valid, ranks: &Ranks, function: u32) -> Result<u32, ProfileFault>
     requires { IsRanking valid.now ranks.now }
-    ensures { MatchResult result (λ size. SizeWithin valid.now function × IsSizeAt valid.now function size)
+    ensures { MatchResult result (SizeHolds valid.now function)
         (λ e. Denies e (SizeWithin valid.now function)) }
 {
     has_one_sizing(valid, ranks);

@@ -1,10 +1,8 @@
 //! The height of the operands along code.
 
 ghost use Rattle.std.specs.Prelude.{◌≡◌};
-ghost use Rattle.wasm_ast.specs.Code.{end};
-ghost use Rattle.wasm_ast.specs.View.{then_code};
 ghost use Rattle.bounded_profile.specs.Arities.{block_arity};
-ghost use Rattle.bounded_profile.specs.Climbs.{ground_level, reaching, stepping, with_call, with_code};
+ghost use Rattle.bounded_profile.specs.inside.Climbs.{reaching, stepping, with_call, most_along, with_instr};
 
 use crate::arity::{Arity, TEST, arity_at, branch_arity, plain_arity, result_count};
 use crate::height_table::HeightTable;
@@ -44,7 +42,8 @@ impl Climb {
 
     // The arguments are gone while the function runs.
     fn call(&mut self, callees: Callees, function: u32)
-        ensures { self.new ≡ with_call callees.entry.arities.now callees.entry.heights.now function self.old }
+        ensures { self.new
+            ≡ with_call callees.entry.arities.now callees.entry.heights.now function self.old }
     {
         let arity = arity_at(callees.arities, function);
         let left = self.here.saturating_sub(arity.takes);
@@ -64,7 +63,8 @@ impl Climb {
     /// The greatest height in code that begins with no operands.
     #[cycle(code)]
     pub fn most_along(callees: Callees, body: &Body) -> usize
-        ensures { result ≡ (with_code callees.entry.arities.now callees.entry.heights.now ground_level body.now).most }
+        ensures { result
+            ≡ most_along callees.entry.arities.now callees.entry.heights.now body.now }
     {
         let mut climb = Climb { here: 0, most: 0 };
         for instr in body.as_slice() {
@@ -75,7 +75,8 @@ impl Climb {
 
     #[cycle(code)]
     fn add_instr(&mut self, callees: Callees, instr: &Instr)
-        ensures { self.new ≡ with_code callees.entry.arities.now callees.entry.heights.now self.old (then_code instr.now end) }
+        ensures { self.new
+            ≡ with_instr callees.entry.arities.now callees.entry.heights.now instr.now self.old }
     {
         match instr {
             Instr::Plain(plain) => self.step(plain_arity(*plain)),

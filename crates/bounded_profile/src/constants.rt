@@ -10,11 +10,10 @@ mod operands;
 mod setting;
 
 ghost use Rattle.std.specs.Prelude.{OnOk, IsOkUnless};
-ghost use Rattle.std.specs.List.{AllByRecursion};
 ghost use Rattle.bounded_profile.specs.Known.{ConstantsKnown};
-ghost use Rattle.bounded_profile.specs.Profile.{NoUnreachable, NothingAfterBranches};
-ghost use Rattle.bounded_profile.specs.Tracking.{asks_of, setting_of, Passes};
-ghost use Rattle.bounded_profile.specs.ConstantsFaults.{Settles};
+ghost use Rattle.bounded_profile.specs.Profile.{AllKnown, NoUnreachable, NothingAfterBranches};
+ghost use Rattle.bounded_profile.specs.inside.Tracking.{asks_of, AllPass};
+ghost use Rattle.bounded_profile.specs.inside.ConstantsFaults.{Settles};
 
 use self::bodies::check_bodies;
 use self::setting::ModuleSetting;
@@ -34,13 +33,15 @@ pub fn check_constants(alloc: Global, valid: &Valid, asks: Asks) -> Result<(), C
     requires reached { NoUnreachable valid.now }
     requires ordered { NothingAfterBranches valid.now }
     ensures accepted { OnOk result (ConstantsKnown (asks_of asks) valid.now) }
-    ensures refused { ConstantsKnown (asks_of asks) valid.now → IsOkUnless result ConstantsFault.OutOfMemory }
+    ensures refused { ConstantsKnown (asks_of asks) valid.now
+        → IsOkUnless result ConstantsFault.OutOfMemory }
+    ensures all { AllKnown valid.now → IsOkUnless result ConstantsFault.OutOfMemory }
 {
     check_module(alloc, valid.module(), asks)
 }
 
 fn check_module(alloc: Global, module: &Module, asks: Asks) -> Result<(), ConstantsFault>
-    ensures { Settles (AllByRecursion (Passes (setting_of asks «module».now)) «module».now.functions) result }
+    ensures { Settles (AllPass asks «module».now) result }
 {
     let setting = ModuleSetting::new(alloc, module, asks)?;
     check_bodies(alloc, module.functions.as_slice(), &setting)

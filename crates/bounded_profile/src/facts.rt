@@ -3,6 +3,8 @@
 /// How large a call of `compute` can get.
 #[derive(Clone, Copy)]
 pub struct Facts {
+    /// The number of `compute`.
+    pub compute: u32,
     /// The size of `compute`, its calls unfolded.
     pub size: u32,
     /// The greatest height of the operands of all functions that run.

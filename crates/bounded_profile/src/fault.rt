@@ -1,8 +1,10 @@
 //! Why a module is not in the bounded profile.
 
-ghost use Rattle.std.specs.Prelude.{◌≡◌};
+ghost use Rattle.std.specs.Prelude.{◌≡◌, Some};
+ghost use Rattle.std.specs.Fmt.{DisplaysOnOk};
 ghost use Rattle.bounded_profile.specs.declared.fault.ProfileFault.TheVariants.{OutOfMemory};
 ghost use Rattle.bounded_profile.specs.Faults.{cost_fault};
+ghost use Rattle.bounded_profile.specs.FaultText.{cycle_text, fault_text, rule_word};
 
 use cost::CostFault;
 use std::alloc::{AllocError, AllocFailed};
@@ -10,8 +12,8 @@ use std::error::Error;
 use std::fmt;
 use validate::Place;
 
-/// A rule of the bounded profile. It is shown as its name.
-#[derive(Clone, Copy, Debug)]
+/// A rule of the bounded profile.
+#[derive(Clone, Copy)]
 pub enum ProfileRule {
     /// Every import is a function of the host, with its type.
     P1,
@@ -43,9 +45,12 @@ pub enum ProfileRule {
     P14,
 }
 
-impl fmt::Display for ProfileRule {
-    fn fmt<W: fmt::Write>(&self, f: &mut fmt::Formatter<W>) -> fmt::Result {
-        f.write_str(match self {
+impl ProfileRule {
+    // The rule's name.
+    fn word(self) -> &'static str
+        ensures { result.now ≡ rule_word self }
+    {
+        match self {
             ProfileRule::P1 => "P1",
             ProfileRule::P2 => "P2",
             ProfileRule::P3 => "P3",
@@ -60,12 +65,12 @@ impl fmt::Display for ProfileRule {
             ProfileRule::P12 => "P12",
             ProfileRule::P13 => "P13",
             ProfileRule::P14 => "P14",
-        })
+        }
     }
 }
 
 /// Why a module is not in the bounded profile. It is shown as the rule and the place; a cycle as `P12` and its numbers.
-#[derive(Debug, Drop)]
+#[derive(Drop)]
 pub enum ProfileFault {
     /// The module breaks the rule at this place.
     Breaks(ProfileRule, Place),
@@ -76,21 +81,35 @@ pub enum ProfileFault {
 }
 
 impl fmt::Display for ProfileFault {
+    ghost output = { λ fault. Some (fault_text fault) };
+
     fn fmt<W: fmt::Write>(&self, f: &mut fmt::Formatter<W>) -> fmt::Result {
         match self {
-            ProfileFault::Breaks(rule, place) => write!(f, "{rule} {place}"),
+            ProfileFault::Breaks(rule, place) => {
+                let word = rule.word();
+                write!(f, "{word} {place}")
+            }
             ProfileFault::Cycle(functions) => write_cycle(functions, f),
             ProfileFault::OutOfMemory => f.write_str("OutOfMemory - -"),
         }
     }
 }
 
-fn write_cycle<W: fmt::Write>(functions: &[u32], f: &mut fmt::Formatter<W>) -> fmt::Result {
-    write!(f, "{}", ProfileRule::P12)?;
+// The rule and the numbers of the functions.
+fn write_cycle<W: fmt::Write>(functions: &[u32], f: &mut fmt::Formatter<W>) -> fmt::Result
+    ensures { DisplaysOnOk W.write_str_gives f.old result (Some (cycle_text functions.now)) f.new }
+{
+    f.write_str("P12")?;
     for function in functions {
         write!(f, " {function}")?;
     }
     Ok(())
+}
+
+impl fmt::Debug for ProfileFault {
+    fn fmt<W: fmt::Write>(&self, f: &mut fmt::Formatter<W>) -> fmt::Result {
+        write!(f, "{self}")
+    }
 }
 
 impl Error for ProfileFault {}

@@ -1,7 +1,7 @@
 //! The heights of functions by number.
 
 ghost use Rattle.std.specs.Prelude.{◌≡◌, ◌<◌, length, set, replicate, IfOk};
-ghost use Rattle.bounded_profile.specs.Climbs.{height_at};
+ghost use Rattle.bounded_profile.specs.inside.Climbs.{height_at};
 
 use std::alloc::{AllocError, Global};
 use std::marker::Model;

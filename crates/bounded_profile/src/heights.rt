@@ -3,9 +3,9 @@
 ghost use Rattle.std.specs.Prelude.{◌≡◌, ◌-◌, ◌≤◌, IfOk, length};
 ghost use Rattle.cost.specs.Ranks.{IsRanking};
 ghost use Rattle.bounded_profile.specs.Arities.{arity_table};
-ghost use Rattle.bounded_profile.specs.Climbs.{ground_level, with_code};
+ghost use Rattle.bounded_profile.specs.inside.Climbs.{most_along};
 ghost use Rattle.bounded_profile.specs.Facts.{IsHeightAt};
-ghost use Rattle.bounded_profile.specs.Levels.{AreTold};
+ghost use Rattle.bounded_profile.specs.inside.Levels.{AreTold};
 ghost use Rattle.bounded_profile.specs.Profile.{SizeWithin};
 
 use crate::arity::{Arity, arity_table};
@@ -67,7 +67,7 @@ fn add_heights(
 
 // The greatest height in code that begins with no operands.
 fn height_along(arities: &[Arity], heights: &HeightTable, body: &Body) -> usize
-    ensures { result ≡ (with_code arities.now heights.now ground_level body.now).most }
+    ensures { result ≡ most_along arities.now heights.now body.now }
 {
     Climb::most_along(Callees { arities, heights }, body)
 }

@@ -1,10 +1,12 @@
 //! The host's functions that a module imports.
 
-ghost use Rattle.std.specs.Prelude.{◌≡◌, IfOk};
+ghost use Rattle.std.specs.Prelude.{◌≡◌, Some, IfOk};
 ghost use Rattle.wasm_ast.specs.Limits.{is_function};
-ghost use Rattle.bounded_profile.specs.Hosts.{host_table, call_at};
+ghost use Rattle.host_calls.specs.Imports.{call_of};
+ghost use Rattle.bounded_profile.specs.Hosts.{host_table, call_at, AreHostCalls};
+ghost use Rattle.bounded_profile.specs.Profile.{ImportsHostCalls};
 
-use host_calls::HostCall;
+use host_calls::{HostCall, each_import_is_one_call};
 use std::alloc::{AllocError, Global};
 use wasm_ast::{Import, ImportDescription, Module};
 
@@ -19,6 +21,22 @@ pub fn host_table(alloc: Global, module: &Module) -> Result<Vec<Option<HostCall>
         }
     }
     Ok(table)
+}
+
+/// The same where each import is a function of the host.
+pub fn host_calls(alloc: Global, module: &Module) -> Result<Vec<HostCall>, AllocError>
+    requires { ImportsHostCalls «module».now }
+    ensures { IfOk result (λ calls. AreHostCalls «module».now calls.items) }
+{
+    each_import_is_one_call();
+    let mut calls = Vec::new(alloc);
+    for import in module.imports.as_slice() {
+        match HostCall::named(import.module.as_str(), import.name.as_str()) {
+            Some(call) => calls.push(call)?,
+            None => unreachable!(),
+        }
+    }
+    Ok(calls)
 }
 
 fn is_function(import: &Import) -> bool

@@ -10,6 +10,7 @@ mod fault;
 mod height_table;
 mod heights;
 mod hosts;
+mod loops;
 mod memory_rules;
 mod module_rules;
 mod rules;

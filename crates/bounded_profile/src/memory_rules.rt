@@ -132,7 +132,8 @@ fn constant_at(first: &Instr) -> Option<u64>
     }
 }
 
-fn number_of(value: Value) -> u64
+/// The number that stands for the constant, read unsigned.
+pub fn number_of(value: Value) -> u64
     ensures { result ≡ number_of value }
 {
     match value {

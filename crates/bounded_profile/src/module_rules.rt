@@ -1,12 +1,12 @@
 //! Rules on the parts of a module other than its code.
 
-ghost use Rattle.std.specs.Prelude.{◌≡◌, ◌↔◌, Some, IfSome, IfNone, MatchResult, IsTrue, slice_get};
+ghost use Rattle.std.specs.Prelude.{◌≡◌, ◌↔◌, IfSome, IfNone, MatchResult, IsTrue};
 ghost use Rattle.wasm_ast.specs.Limits.{imported_functions};
 ghost use Rattle.validate.specs.Modules.{IsTyped};
 ghost use Rattle.bounded_profile.specs.Compute.{exported_compute, IsDefinedPlain, IsComputeNumber};
 ghost use Rattle.bounded_profile.specs.Faults.{Denies, Settles};
 ghost use Rattle.bounded_profile.specs.Hosts.{IsHostImport};
-ghost use Rattle.bounded_profile.specs.Profile.{ImportsHostCalls, HasCompute, NoStart, NoElements, plain_type};
+ghost use Rattle.bounded_profile.specs.Profile.{ImportsHostCalls, HasCompute, HasPlainType, NoStart, NoElements, plain_type};
 
 use crate::fault::{ProfileFault, ProfileRule};
 use host_calls::HostCall;
@@ -61,7 +61,8 @@ fn host_import(module: &Module, import: &Import) -> Option<HostCall>
 /// P2: the number of the exported function `compute`, which the module defines, and which takes and gives nothing.
 pub fn find_compute(module: &Module) -> Result<u32, ProfileFault>
     requires { IsTyped «module».now }
-    ensures { MatchResult result (IsComputeNumber «module».now) (λ e. Denies e (HasCompute «module».now)) }
+    ensures { MatchResult result (IsComputeNumber «module».now)
+        (λ e. Denies e (HasCompute «module».now)) }
 {
     match exported_compute(module.exports.as_slice()) {
         Some(number) => {
@@ -116,7 +117,7 @@ pub fn imported_count(imports: &[Import]) -> usize
 }
 
 fn is_of_plain_type(module: &Module, function: &Function) -> bool
-    ensures { IsTrue result ↔ (slice_get «module».now.types function.now.type_number ≡ Some plain_type) }
+    ensures { IsTrue result ↔ HasPlainType «module».now function.now }
 {
     match module.types.as_slice().get(function.type_number as usize) {
         Some(func_type) => is_plain(func_type),

@@ -1,14 +1,15 @@
 //! The rules of the bounded profile, in order.
 
 ghost use Rattle.std.specs.Prelude.{MatchResult};
+ghost use Rattle.wasm_ast.specs.Limits.{IsWithinLimits};
 ghost use Rattle.validate.specs.Modules.{IsTyped};
-ghost use Rattle.bounded_profile.specs.Tracking.{asks_of};
+ghost use Rattle.bounded_profile.specs.inside.Tracking.{asks_of};
 ghost use Rattle.bounded_profile.specs.Compute.{IsComputeNumber};
-ghost use Rattle.bounded_profile.specs.Facts.{AreFacts, AreFactsAt};
-ghost use Rattle.bounded_profile.specs.Faults.{Denies, Settles, Refuses};
+ghost use Rattle.bounded_profile.specs.Facts.{AreFacts};
+ghost use Rattle.bounded_profile.specs.Faults.{Denies, Refuses};
 ghost use Rattle.bounded_profile.specs.Known.{ConstantsKnown};
-ghost use Rattle.bounded_profile.specs.Profile.{IsBounded, AddressesWithin, NoUnreachable, NothingAfterBranches, SizeWithin, NoCycles};
-ghost use Rattle.bounded_profile.specs.Stages.{PartsHold, ShapesHold, CallsHold};
+ghost use Rattle.bounded_profile.specs.Profile.{IsBounded, AddressesWithin, NoUnreachable, NothingAfterBranches};
+ghost use Rattle.bounded_profile.specs.inside.Stages.{PartsHoldAt, ShapesHold, CallsHoldWith};
 
 use crate::calls::{check_cycles, check_size};
 use crate::constants::{Asks, ConstantsFault, check_constants};
@@ -25,7 +26,8 @@ use wasm_ast::Module;
 
 /// What is told of the module, where it keeps all rules.
 pub fn check_rules(alloc: Global, valid: &Valid) -> Result<Facts, ProfileFault>
-    ensures { MatchResult result (λ facts. IsBounded valid.now × AreFacts valid.now facts) (Refuses valid.now) }
+    ensures { MatchResult result (λ facts. IsBounded valid.now × AreFacts valid.now facts)
+        (Refuses valid.now) }
 {
     let module = valid.module();
     let compute = check_parts(module)?;
@@ -41,7 +43,7 @@ pub fn check_rules(alloc: Global, valid: &Valid) -> Result<Facts, ProfileFault>
 // P1 to P4, and the number of `compute`.
 fn check_parts(module: &Module) -> Result<u32, ProfileFault>
     requires { IsTyped «module».now }
-    ensures { MatchResult result (λ compute. PartsHold «module».now × IsComputeNumber «module».now compute)
+    ensures { MatchResult result (PartsHoldAt «module».now)
         (λ e. Denies e (IsBounded «module».now)) }
 {
     check_imports(module)?;
@@ -53,14 +55,16 @@ fn check_parts(module: &Module) -> Result<u32, ProfileFault>
 
 // P5 to P9.
 fn check_shapes(alloc: Global, module: &Module) -> Result<(), ProfileFault>
-    ensures { MatchResult result (λ _. ShapesHold «module».now) (λ e. Denies e (IsBounded «module».now)) }
+    requires { IsWithinLimits «module».now }
+    ensures { MatchResult result (λ _. ShapesHold «module».now)
+        (λ e. Denies e (IsBounded «module».now)) }
 {
     let hosts = host_table(alloc, module)?;
     check_shape(Shape::Direct, &hosts, module)?;
     check_shape(Shape::Reached, &hosts, module)?;
     check_shape(Shape::Steady, &hosts, module)?;
     check_shape(Shape::Ordered, &hosts, module)?;
-    check_shape(Shape::Opening, &hosts, module)?;
+    check_shape(Shape::Taking, &hosts, module)?;
     Ok(())
 }
 
@@ -68,7 +72,8 @@ fn check_shapes(alloc: Global, module: &Module) -> Result<(), ProfileFault>
 fn check_memory(alloc: Global, valid: &Valid) -> Result<(), ProfileFault>
     requires reached { NoUnreachable valid.now }
     requires ordered { NothingAfterBranches valid.now }
-    ensures { Settles (AddressesWithin valid.now) result }
+    ensures { MatchResult result (λ _. AddressesWithin valid.now)
+        (λ e. Denies e (IsBounded valid.now)) }
 {
     let module = valid.module();
     check_minimums(module)?;
@@ -82,7 +87,7 @@ fn check_calls(alloc: Global, valid: &Valid, compute: u32) -> Result<Facts, Prof
     requires number { IsComputeNumber valid.now compute }
     requires reached { NoUnreachable valid.now }
     requires ordered { NothingAfterBranches valid.now }
-    ensures { MatchResult result (λ facts. CallsHold valid.now compute × AreFactsAt valid.now compute facts) (Refuses valid.now) }
+    ensures { MatchResult result (CallsHoldWith valid.now compute) (Refuses valid.now) }
 {
     let ranks = check_cycles(alloc, valid)?;
     check_known(alloc, valid, Asks::Slots, ProfileRule::P13)?;
@@ -90,6 +95,7 @@ fn check_calls(alloc: Global, valid: &Valid, compute: u32) -> Result<Facts, Prof
     let max_operands = operand_height(alloc, valid, &ranks, compute)?;
     let max_frames = ranks.rank(compute);
     Ok(Facts {
+        compute,
         size,
         max_operands,
         max_frames,
@@ -105,7 +111,8 @@ fn check_known(
 ) -> Result<(), ProfileFault>
     requires reached { NoUnreachable valid.now }
     requires ordered { NothingAfterBranches valid.now }
-    ensures { Settles (ConstantsKnown (asks_of asks) valid.now) result }
+    ensures { MatchResult result (λ _. ConstantsKnown (asks_of asks) valid.now)
+        (λ e. Denies e (IsBounded valid.now)) }
 {
     match check_constants(alloc, valid, asks) {
         Ok(()) => Ok(()),

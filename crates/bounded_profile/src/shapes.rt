@@ -3,17 +3,18 @@
 
 ghost use Rattle.std.specs.Prelude.{◌≡◌, ◌↔◌, IsTrue, IsFalse};
 ghost use Rattle.wasm_ast.specs.Code.{Code, end};
+ghost use Rattle.wasm_ast.specs.Limits.{IsBodyWithin, IsWithinLimits};
 ghost use Rattle.wasm_ast.specs.View.{then_code};
 ghost use Rattle.bounded_profile.specs.Faults.{Settles};
 ghost use Rattle.bounded_profile.specs.Hosts.{call_at};
 ghost use Rattle.bounded_profile.specs.Profile.{EachBody};
-ghost use Rattle.bounded_profile.specs.Shapes.{Everywhere, Keeps, LastIfBranch, OpensWithItem, TakesItem};
+ghost use Rattle.bounded_profile.specs.Shapes.{Everywhere, Keeps, LastIfBranch};
 
 use crate::fault::{ProfileFault, ProfileRule};
-use crate::hosts::call_at;
+use crate::loops::takes_items;
 use host_calls::HostCall;
 use validate::Place;
-use wasm_ast::{Body, Branch, Instr, Memory, Module, Numeric, Plain, ValType};
+use wasm_ast::{Body, Branch, Instr, Memory, Module, Plain};
 
 /// A rule on instructions.
 #[derive(Clone, Copy)]
@@ -26,8 +27,8 @@ pub enum Shape {
     Steady,
     /// P8: nothing stands after `br`, `br_table` or `return` in a sequence.
     Ordered,
-    /// P9: each loop begins by taking an item, and leaves where there is none.
-    Opening,
+    /// P9: each loop takes an item each time round, first or last.
+    Taking,
 }
 
 impl Shape {
@@ -37,7 +38,7 @@ impl Shape {
             Shape::Reached => ProfileRule::P6,
             Shape::Steady => ProfileRule::P7,
             Shape::Ordered => ProfileRule::P8,
-            Shape::Opening => ProfileRule::P9,
+            Shape::Taking => ProfileRule::P9,
         }
     }
 
@@ -55,6 +56,7 @@ impl Shape {
 
     /// Whether the instruction keeps the rule, which may be the last of its sequence.
     fn is_kept(self, hosts: &[Option<HostCall>], instr: &Instr, is_last: bool) -> bool
+        requires { IsBodyWithin (then_code instr.now end) }
         ensures { (rest : Code) → (IsTrue is_last ↔ (rest ≡ end))
             → (IsTrue result ↔ Keeps (call_at hosts.now) self (then_code instr.now rest)) }
     {
@@ -63,8 +65,8 @@ impl Shape {
             Shape::Reached => !matches!(instr, Instr::Unreachable),
             Shape::Steady => !matches!(instr, Instr::Plain(Plain::Memory(Memory::Grow))),
             Shape::Ordered => is_last || !always_branches(instr),
-            Shape::Opening => match instr {
-                Instr::Loop(_, body) => opens_with_item(hosts, body),
+            Shape::Taking => match instr {
+                Instr::Loop(_, body) => takes_items(hosts, body),
                 _ => true,
             },
         }
@@ -72,8 +74,10 @@ impl Shape {
 }
 
 fn always_branches(instr: &Instr) -> bool
-    ensures always { IsTrue result → (rest : Code) → LastIfBranch (then_code instr.now rest) ↔ (rest ≡ end) }
-    ensures not_always { IsFalse result → (rest : Code) → LastIfBranch (then_code instr.now rest) }
+    ensures always { IsTrue result → (rest : Code)
+        → LastIfBranch (then_code instr.now rest) ↔ (rest ≡ end) }
+    ensures not_always { IsFalse result → (rest : Code)
+        → LastIfBranch (then_code instr.now rest) }
 {
     match instr {
         Instr::Branch(Branch::BrIf(_)) => false,
@@ -82,31 +86,11 @@ fn always_branches(instr: &Instr) -> bool
     }
 }
 
-// Whether the body of a loop begins by taking an item, and leaves the loop where there is none.
-fn opens_with_item(hosts: &[Option<HostCall>], body: &Body) -> bool
-    ensures { IsTrue result ↔ OpensWithItem (call_at hosts.now) body.now }
-{
-    match body.as_slice() {
-        [
-            Instr::Call(function),
-            Instr::Plain(Plain::Numeric(Numeric::Eqz(ValType::I32))),
-            Instr::Branch(Branch::BrIf(label)),
-            ..
-        ] => *label >= 1 && takes_item(call_at(hosts, *function)),
-        _ => false,
-    }
-}
-
-fn takes_item(call: Option<HostCall>) -> bool
-    ensures { IsTrue result ↔ TakesItem call }
-{
-    matches!(call, Some(HostCall::NextMessage | HostCall::NextEdge))
-}
-
 // Whether the code keeps the rule. `next` is the number of its first instruction, and then of the instruction after it;
 // where the rule is broken, of the first that breaks it.
 #[cycle(code)]
 fn is_kept_in(shape: Shape, hosts: &[Option<HostCall>], body: &Body, next: &mut u32) -> bool
+    requires { IsBodyWithin body.now }
     ensures { IsTrue result ↔ Everywhere (Keeps (call_at hosts.now) shape) body.now }
 {
     let instrs = body.as_slice();
@@ -127,6 +111,7 @@ fn is_kept_at(
     is_last: bool,
     next: &mut u32,
 ) -> bool
+    requires { IsBodyWithin (then_code instr.now end) }
     ensures { (rest : Code) → (IsTrue is_last ↔ (rest ≡ end))
         → ((IsTrue result × Everywhere (Keeps (call_at hosts.now) shape) rest)
         ↔ Everywhere (Keeps (call_at hosts.now) shape) (then_code instr.now rest)) }
@@ -151,12 +136,13 @@ fn is_kept_at(
 /// Whether each function of the module keeps the rule, called or not. `hosts` are the host's functions that it imports.
 /// The place is that of the first instruction that breaks it; for P8 of the first that stands after a branch.
 ///
-/// It takes time by the length of the code.
+/// It takes time by the length of the code, and by how deep loops that take an item last stand in one another.
 pub fn check_shape(
     shape: Shape,
     hosts: &[Option<HostCall>],
     module: &Module,
 ) -> Result<(), ProfileFault>
+    requires { IsWithinLimits «module».now }
     ensures { Settles (EachBody (Keeps (call_at hosts.now) shape) «module».now) result }
 {
     for (index, function) in module.functions.as_slice().iter().enumerate() {

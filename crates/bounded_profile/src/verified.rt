@@ -2,13 +2,17 @@
 
 ghost use Rattle.std.specs.Prelude.{◌≡◌, IfOk, IfErr, OnOk, IsOkUnless};
 ghost use Rattle.validate.specs.Modules.{IsTyped};
-ghost use Rattle.bounded_profile.specs.Facts.{IsSizeAt, IsHeightAt, IsDepthAt};
+ghost use Rattle.bounded_profile.specs.Compute.{IsComputeNumber};
+ghost use Rattle.bounded_profile.specs.Facts.{IsSizeOfCompute, IsHeightAt, IsDepthAt};
 ghost use Rattle.bounded_profile.specs.Faults.{Refuses};
+ghost use Rattle.bounded_profile.specs.Hosts.{AreHostCalls};
 ghost use Rattle.bounded_profile.specs.Profile.{IsBounded, HasCompute};
 
 use crate::facts::Facts;
 use crate::fault::ProfileFault;
+use crate::hosts::host_calls;
 use crate::rules::check_rules;
+use host_calls::HostCall;
 use std::alloc::{AllocError, Global};
 use std::marker::Model;
 use validate::{Valid, validate};
@@ -19,11 +23,13 @@ use wasm_ast::Module;
 pub struct Verified {
     valid: Valid,
     facts: Facts,
+    calls: Vec<HostCall>,
 }
 
 impl Model for Verified {
     ghost use Rattle.wasm_ast.specs.declared.module.Module.{Module as AnyModule};
     ghost use Rattle.bounded_profile.specs.Facts.{AreFacts};
+    ghost use Rattle.bounded_profile.specs.Hosts.{AreHostCalls};
     ghost use Rattle.bounded_profile.specs.Profile.{IsBounded};
     ghost use Rattle.wasm_ast.specs.contracts.module.Module as module_type;
 
@@ -33,7 +39,9 @@ impl Model for Verified {
 
     ghost view = { λ verified. verified.valid };
 
-    ghost invariant = { λ verified. IsBounded verified.valid × AreFacts verified.valid verified.facts };
+    ghost invariant = { λ verified. IsBounded verified.valid
+        × AreFacts verified.valid verified.facts
+        × AreHostCalls verified.valid verified.calls.items };
 }
 
 impl Verified {
@@ -46,9 +54,23 @@ impl Verified {
         self.valid.module()
     }
 
+    /// The number of `compute`; it takes no memory.
+    pub fn compute(&self) -> u32
+        ensures { IsComputeNumber self.now result }
+    {
+        self.facts.compute
+    }
+
+    /// The host's function of each imported function, in order; it takes no memory.
+    pub fn host_calls(&self) -> &[HostCall]
+        ensures { AreHostCalls self.now result.now }
+    {
+        self.calls.as_slice()
+    }
+
     /// The size of `compute`, its calls unfolded (`cost::unfolded`).
     pub fn size(&self) -> u32
-        ensures { (compute : HasCompute self.now) → IsSizeAt self.now compute.number result }
+        ensures { IsSizeOfCompute self.now result }
     {
         self.facts.size
     }
@@ -72,11 +94,14 @@ impl Verified {
     pub fn copy(&self, alloc: Global) -> Result<Verified, AllocError>
         ensures { IfOk result (λ copy. copy ≡ self.now) }
     {
+        let mut calls = Vec::new(alloc);
+        calls.extend_from_slice(self.calls.as_slice())?;
         let module = self.valid.module().copy(alloc)?;
         match validate(alloc, module) {
             Ok(valid) => Ok(Verified {
                 valid,
                 facts: self.facts,
+                calls,
             }),
             // The module is valid: there was no memory to see that.
             Err(_) => Err(AllocError),
@@ -96,5 +121,10 @@ pub fn verify(alloc: Global, valid: Valid) -> Result<Verified, ProfileFault>
     ensures told { IfErr result (Refuses valid) }
 {
     let facts = check_rules(alloc, &valid)?;
-    Ok(Verified { valid, facts })
+    let calls = host_calls(alloc, valid.module())?;
+    Ok(Verified {
+        valid,
+        facts,
+        calls,
+    })
 }

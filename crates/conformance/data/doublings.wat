@@ -17,4 +17,6 @@
   (func $16 call $15 call $15)
   (func $17 call $16 call $16)
   (func $18 call $17 call $17)
-  (func $19 call $18 call $18))
+  (func $19 call $18 call $18)
+  (func $20 call $19 call $19)
+  (func $21 call $20 call $20))

@@ -11,7 +11,7 @@ mod forms;
 use crate::cases::{is_case, named, spelled};
 use crate::modules::valid_of;
 use anyhow::Result;
-use console::{CallFault, CommandFault, Input};
+use console::{CommandFault, Input};
 use forms::both_answers;
 use std::alloc::{AllocError, Global};
 use std::fs;
@@ -123,7 +123,7 @@ fn answer(alloc: Global, frame: &str, case: Case) -> Result<String, CommandFault
 }
 
 fn answer_of_text(alloc: Global, text: &str, case: Case) -> Result<String, CommandFault<'static>> {
-    let input = Input::read(alloc, case.input).map_err(CallFault::Input)?;
+    let input = Input::read(alloc, case.input)?;
     let valid = valid_of(alloc, text)?;
     Ok(both_answers(alloc, valid, &input.call_input(), case.budget)?)
 }

@@ -1,15 +1,16 @@
 //! Command lines as they are typed after `pregel`, over lent files: the status and what is told, and then each file that
-//! was written; or why the words are refused. A line that ends in ` into N` tells a writer that has room for N bytes.
+//! was written; or why the words are refused. A line that ends in ` into N` tells a writer that has room for N bytes,
+//! and shows what it took where it failed.
 //!
 //! `body BODY` is `verify` of the module that has the body in the frame of `frame.wat`, and `engine MODULE INPUT` is what a
-//! call of a module's bytes with an input's text writes, or how it is refused.
+//! call of a module's bytes with an input's text tells, or how it is refused.
 
 mod lent_files;
 
 use crate::cases::{is_case, one_line};
 use anyhow::Result;
 use clap::error::ErrorKind;
-use console::{Options, call, command, options, refuse};
+use console::{Options, Source, call, command, options, refusal_line};
 use lent_files::{LentFiles, lent_files};
 use std::alloc::{AllocError, Global};
 use std::rt::Files;
@@ -56,7 +57,7 @@ fn read_and_carried_out(
 ) -> Result<String> {
     match options(alloc, words) {
         Ok(options) if room.is_empty() => told(alloc, options, files),
-        Ok(options) => Ok(told_in(alloc, options, files, room.parse::<usize>()?)?),
+        Ok(options) => told_in(alloc, options, files, room.parse::<usize>()?),
         Err(error) => Ok(String::from_str(alloc, refused(error.kind()))?),
     }
 }
@@ -85,16 +86,14 @@ fn shown(alloc: Global, status: u8, out: &[u8], files: &LentFiles) -> Result<Str
     Ok(shown)
 }
 
-fn told_in(
-    alloc: Global,
-    options: Options,
-    files: &mut LentFiles,
-    room: usize,
-) -> Result<String, AllocError> {
+fn told_in(alloc: Global, options: Options, files: &mut LentFiles, room: usize) -> Result<String> {
     let mut room = vec![in alloc; 0u8; room]?;
     match command(alloc, options, files, &mut room.as_mut_slice()) {
-        Ok(status) => format!(in alloc; "{status}"),
-        Err(fault) => format!(in alloc; "{fault}"),
+        Ok(status) => Ok(format!(in alloc; "{status}")?),
+        Err(fault) => {
+            let begun = str::from_utf8(room.as_slice())?;
+            Ok(format!(in alloc; "{fault} behind `{begun}`")?)
+        }
     }
 }
 
@@ -108,15 +107,15 @@ fn bounds(alloc: Global, frame: &str, body: &str) -> Result<String> {
 
 fn called(alloc: Global, names: &str, files: &LentFiles) -> Result<String> {
     let (module, input) = names.split_once(' ').unwrap_or((names, ""));
-    let module = files.bytes_of(module)?;
+    let module = Source::Binary(Vec::from_slice(alloc, files.bytes_of(module)?)?);
     let input = str::from_utf8(files.bytes_of(input)?)?;
-    written(alloc, module, input)
+    answered(alloc, &module, input)
 }
 
-fn written(alloc: Global, module: &[u8], input: &str) -> Result<String> {
-    let mut out = Vec::new(alloc);
-    if let Err(fault) = call(alloc, module, input, &mut out) {
-        refuse(&fault, &mut out)?;
-    }
-    Ok(one_line(alloc, str::from_utf8(out.as_slice())?)?)
+fn answered(alloc: Global, module: &Source, input: &str) -> Result<String> {
+    let told = match call(alloc, module, input) {
+        Ok(lines) => lines,
+        Err(fault) => refusal_line(alloc, &fault)?,
+    };
+    Ok(one_line(alloc, told.as_str())?)
 }

@@ -3,7 +3,7 @@
 
 use crate::cases::{is_case, spelled};
 use anyhow::Result;
-use console::{CallFault, Input, Refusal};
+use console::{CommandFault, Input};
 use std::alloc::{AllocError, Global};
 use std::fs;
 use std::rt::Files;
@@ -27,7 +27,7 @@ fn told(alloc: Global, kind: &str, text: &str) -> Result<String, AllocError> {
     match Input::read(alloc, text) {
         Ok(input) if kind == "slots" => slots(alloc, &input),
         Ok(input) => meaning(alloc, &input),
-        Err(fault) => format!(in alloc; "{}", Refusal(&CallFault::Input(fault))),
+        Err(fault) => format!(in alloc; "{}", CommandFault::Input(fault)),
     }
 }
 

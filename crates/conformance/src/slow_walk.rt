@@ -9,6 +9,7 @@ mod operands;
 mod plain;
 mod start;
 
+use cost::{branch_units, host_units, plain_units};
 use host::call_host;
 use host_calls::{CallInput, CallOutcome, CallState, HostCall};
 use plain::act_plain;
@@ -107,12 +108,22 @@ impl<'a> Walk<'a, '_> {
         let Some((first, rest)) = whole.split_first() else {
             return self.leave();
         };
-        self.units = self.units.saturating_add(u128::from(first.units()));
+        self.units = self.units.saturating_add(u128::from(self.weight(first)));
         if self.units > budget {
             return Err(Stop::Budget);
         }
         self.code = rest;
         self.take(first, whole)
+    }
+
+    /// What the instruction counts.
+    fn weight(&self, instr: &Instr) -> u32 {
+        match instr {
+            Instr::Plain(plain) => plain_units(*plain),
+            Instr::Branch(branch) => branch_units(branch),
+            Instr::Call(number) => host_units(self.imports.get(*number as usize).copied()),
+            _ => 1,
+        }
     }
 
     /// Takes the first instruction of a sequence.

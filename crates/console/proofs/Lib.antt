@@ -1,5 +1,6 @@
 pub mod InputLines
 pub mod Meanings
 pub mod Faults
-pub mod ReadModules
-pub mod Told
+pub mod Ids
+pub mod Disks
+pub mod Telling

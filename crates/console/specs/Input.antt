@@ -1,12 +1,11 @@
 -- What the text of an input means.
-use Rattle.std.specs.Prelude.{◌≡◌, ℕ, pos, Bool, true, List, [], ◌∷◌, ◌++◌, unwrap_or, is_none}
+use Rattle.std.specs.Prelude.{◌≡◌, ℕ, pos, true, List, [], ◌∷◌, unwrap_or}
 use Rattle.std.specs.Option.{option_to_list}
 use Rattle.std.specs.List.{All}
 use Rattle.host_calls.specs.declared.call.CallInput.{CallInput}
 use Rattle.console.specs.declared.input.Input.{Input}
 use Rattle.console.specs.declared.input_line.Line.{Line}
-use Rattle.console.specs.declared.input_line.Line.TheVariants.{Id, Superstep, Count, Value}
-use Rattle.console.specs.InputSays.{AreInput, lines_of, is_good, all_ids, all_supersteps, all_counts, all_values, all_messages, all_edges, all_slots, id_by, superstep_by, count_by, value_by, message_by, edge_by, slot_by, slot_starts, slots_after}
+use Rattle.console.specs.InputSays.{AreInput, lines_of, is_good, all_ids, all_supersteps, all_counts, all_values, all_messages, all_edges, all_slots, slot_starts, slots_after}
 
 -- what was said, or else this
 abbrev pub said_or : {A : Type 0} → A → List A → A
@@ -37,25 +36,6 @@ pub record Says (lines : List Line) (input : Input) : Type 0 where
   pub messages : input.messages.items ≡ all_messages lines
   pub edges : input.edges.items ≡ all_edges lines
   pub aggregated : input.aggregated ≡ slots_after slot_starts (all_slots lines)
-
--- a good line's saying was added to what is kept
-pub record Adds (line : Line) (old new : Input) : Type 0 where
-  pub good : is_good line ≡ true
-  pub id : option_to_list new.id ≡ option_to_list old.id ++ id_by line
-  pub superstep : option_to_list new.superstep ≡ option_to_list old.superstep ++ superstep_by line
-  pub count : option_to_list new.count ≡ option_to_list old.count ++ count_by line
-  pub value : option_to_list new.value ≡ option_to_list old.value ++ value_by line
-  pub messages : new.messages.items ≡ old.messages.items ++ message_by line
-  pub edges : new.edges.items ≡ old.edges.items ++ edge_by line
-  pub aggregated : new.aggregated ≡ slots_after old.aggregated (slot_by line)
-
--- the line may be added: it is good, and what may be said once was not said
-abbrev pub fits : Line → Input → Bool
-fits (Id id) input = is_none input.id
-fits (Superstep superstep) input = is_none input.superstep
-fits (Count count) input = is_none input.count
-fits (Value value) input = is_none input.value
-fits line input = is_good line
 
 -- what is lent for a call is what is kept, and where that is nothing, 0, or a count of 1
 pub record Lends (kept : Input) (input : CallInput) : Type 0 where

@@ -1,11 +1,17 @@
+-- What a reader has to believe, in this order: what the lines of an input say, and which input its text means and why it
+-- means none.
 pub mod InputLine
 pub mod InputSays
 pub mod Input
 pub mod InputFaults
+-- what is told of an outcome and of a fault
 pub mod Lines
 pub mod Refusal
-pub mod Engine
+-- files, and the modules in them
 pub mod Disk
 pub mod Modules
-pub mod CommandFaults
+-- what a call answers, and what a command tells
+pub mod Engine
 pub mod Program
+-- what only mirrors the code, for its proofs
+pub mod inside

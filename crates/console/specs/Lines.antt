@@ -1,8 +1,16 @@
--- How a call's outcome is printed.
-use Rattle.std.specs.Prelude.{ℕ, ℤ, Bool, true, false, List, [], ◌∷◌, ◌++◌, codes}
+-- What is told, and how a call's outcome is printed.
+use Rattle.std.specs.Prelude.{◌≡◌, ℕ, ℤ, Bool, true, false, List, [], ◌∷◌, ◌++◌, codes, Result, String, string_bytes, IfOk}
 use Rattle.std.specs.List.{flat_map}
 use Rattle.std.specs.Fmt.{decimal, signed_decimal}
 use Rattle.host_calls.specs.declared.call.CallOutcome.{CallOutcome}
+
+-- the bytes of the text that is answered have this property
+abbrev pub IfTold : {Z E : Type 0} → Result (String Z) E → (List ℕ → Type 0) → Type 0
+IfTold answer P = IfOk answer (λ text. P (string_bytes text))
+
+-- these bytes were put behind a text
+abbrev pub Gains : {Z : Type 0} → (old new : String Z) → List ℕ → Type 0
+Gains old new bytes = string_bytes new ≡ string_bytes old ++ bytes
 
 abbrev pub line : List ℕ → List ℕ
 line text = text ++ 10 ∷ []
@@ -28,8 +36,6 @@ state_lines value halted units =
 -- the value, whether the vertex is active, the units, and then sends and contributions in their order
 abbrev pub outcome_lines : CallOutcome → List ℕ
 outcome_lines outcome =
-    line (codes "value " ++ signed_decimal outcome.value)
-    ++ line (codes "active " ++ decimal (active_digit outcome.halted))
-    ++ line (codes "units " ++ decimal outcome.units)
+    state_lines outcome.value outcome.halted outcome.units
     ++ flat_map send_line outcome.sends.items
     ++ flat_map give_line outcome.contributions.items

@@ -1,103 +1,104 @@
-//! Why a call has no answer.
+//! Why a command is not carried out.
 
 ghost use Rattle.std.specs.Prelude.{◌≡◌};
-ghost use Rattle.console.specs.declared.fault.CallFault.TheVariants as call;
+ghost use Rattle.console.specs.Refusal.{status_of};
+ghost use Rattle.console.specs.declared.fault.CommandFault.TheVariants as command;
 
 use crate::input::InputFault;
-use crate::refusal::Refusal;
 use bounded_profile::ProfileFault;
-use interp::RunFault;
 use std::alloc::AllocError;
-use std::error::Error;
-use std::{fmt, io};
 use validate::ValidFault;
-use wasm_decode::DecodeFault;
+use wasm_decode::{DecodeFault, EncodeFault};
+use wat_asm::TextFault;
 
-/// Why a call has no answer. Each step tells its own want of memory. It is shown as its refusal.
+/// Why a command is not carried out. Each step tells its own want of memory. It is displayed as the line that tells of it,
+/// without its end.
 #[derive(Drop)]
-pub enum CallFault {
+pub enum CommandFault<'a> {
     /// The bytes spell no module.
     Decode(DecodeFault),
+    /// The text is no module's.
+    Text(TextFault),
     /// The module is not valid.
     Invalid(ValidFault),
     /// The module is not in the bounded profile.
     Unbounded(ProfileFault),
     /// The text means no input.
     Input(InputFault),
-    /// The call takes more units than it may.
-    Run(RunFault),
-    /// Memory ran out for a file, or for what is to be written.
+    /// Memory ran out in the call.
+    Run,
+    /// The module is not spelled: its shortest spelling takes more than 1,048,576 bytes.
+    Encode(EncodeFault),
+    /// The file at this path cannot be read, or is not the text that it should be.
+    Unread(&'a str),
+    /// The file at this path cannot be written.
+    Unwritable(&'a str),
+    /// Memory ran out for a file, or for what is to be told.
     OutOfMemory,
-    /// The answer was not written whole.
-    Write,
 }
 
-impl fmt::Display for CallFault {
-    fn fmt<W: fmt::Write>(&self, f: &mut fmt::Formatter<W>) -> fmt::Result {
-        write!(f, "{}", Refusal(self))
+/// The status of the process: 4 for a file's fault, and 1 for any other.
+pub fn status_of(fault: &CommandFault) -> u8
+    ensures { result ≡ status_of fault.now }
+{
+    match fault {
+        CommandFault::Unread(_) | CommandFault::Unwritable(_) => 4,
+        _ => 1,
     }
 }
 
-impl fmt::Debug for CallFault {
-    fn fmt<W: fmt::Write>(&self, f: &mut fmt::Formatter<W>) -> fmt::Result {
-        write!(f, "{}", Refusal(self))
+impl From<DecodeFault> for CommandFault<'_> {
+    ghost from_gives = { λ cause fault. fault ≡ command.Decode cause };
+
+    fn from(cause: DecodeFault) -> Self {
+        CommandFault::Decode(cause)
     }
 }
 
-impl Error for CallFault {}
+impl From<TextFault> for CommandFault<'_> {
+    ghost from_gives = { λ cause fault. fault ≡ command.Text cause };
 
-impl From<DecodeFault> for CallFault {
-    ghost from_gives = { λ cause fault. fault ≡ call.Decode cause };
-
-    fn from(cause: DecodeFault) -> CallFault {
-        CallFault::Decode(cause)
+    fn from(cause: TextFault) -> Self {
+        CommandFault::Text(cause)
     }
 }
 
-impl From<ValidFault> for CallFault {
-    ghost from_gives = { λ cause fault. fault ≡ call.Invalid cause };
+impl From<ValidFault> for CommandFault<'_> {
+    ghost from_gives = { λ cause fault. fault ≡ command.Invalid cause };
 
-    fn from(cause: ValidFault) -> CallFault {
-        CallFault::Invalid(cause)
+    fn from(cause: ValidFault) -> Self {
+        CommandFault::Invalid(cause)
     }
 }
 
-impl From<ProfileFault> for CallFault {
-    ghost from_gives = { λ cause fault. fault ≡ call.Unbounded cause };
+impl From<ProfileFault> for CommandFault<'_> {
+    ghost from_gives = { λ cause fault. fault ≡ command.Unbounded cause };
 
-    fn from(cause: ProfileFault) -> CallFault {
-        CallFault::Unbounded(cause)
+    fn from(cause: ProfileFault) -> Self {
+        CommandFault::Unbounded(cause)
     }
 }
 
-impl From<InputFault> for CallFault {
-    ghost from_gives = { λ cause fault. fault ≡ call.Input cause };
+impl From<InputFault> for CommandFault<'_> {
+    ghost from_gives = { λ cause fault. fault ≡ command.Input cause };
 
-    fn from(cause: InputFault) -> CallFault {
-        CallFault::Input(cause)
+    fn from(cause: InputFault) -> Self {
+        CommandFault::Input(cause)
     }
 }
 
-impl From<RunFault> for CallFault {
-    ghost from_gives = { λ cause fault. fault ≡ call.Run cause };
+impl From<EncodeFault> for CommandFault<'_> {
+    ghost from_gives = { λ cause fault. fault ≡ command.Encode cause };
 
-    fn from(cause: RunFault) -> CallFault {
-        CallFault::Run(cause)
+    fn from(cause: EncodeFault) -> Self {
+        CommandFault::Encode(cause)
     }
 }
 
-impl From<AllocError> for CallFault {
-    ghost from_gives = { λ _ fault. fault ≡ call.OutOfMemory };
+impl From<AllocError> for CommandFault<'_> {
+    ghost from_gives = { λ _ fault. fault ≡ command.OutOfMemory };
 
-    fn from(_: AllocError) -> CallFault {
-        CallFault::OutOfMemory
-    }
-}
-
-impl From<io::Error> for CallFault {
-    ghost from_gives = { λ _ fault. fault ≡ call.Write };
-
-    fn from(_: io::Error) -> CallFault {
-        CallFault::Write
+    fn from(_: AllocError) -> Self {
+        CommandFault::OutOfMemory
     }
 }

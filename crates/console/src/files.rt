@@ -1,7 +1,7 @@
 //! Where files come from, and where they go.
 
-ghost use Rattle.std.specs.Prelude.{◌≡◌, Some, None, OnOk, IfErr, MatchResult};
-ghost use Rattle.console.specs.Disk.{Disk, Stays, unknown};
+ghost use Rattle.std.specs.Prelude.{◌≡◌, Some, None, OnErr, OnOk, IfErr, MatchResult};
+ghost use Rattle.console.specs.Disk.{Disk, Stays, Tries, Writes, unknown};
 
 use std::alloc::Global;
 use std::{fs, io};
@@ -20,19 +20,22 @@ pub enum FileFault {
 
 /// What files are read from and written to.
 pub trait Files {
-    /// What may be found at a path, where writing may fail, and what was written last.
+    /// What may be found at a path, where writing may fail, and what was written, in order.
     ghost disk: { Self → Disk };
 
     /// The bytes of the file at a path.
     fn read(&mut self, alloc: Global, path: &str) -> Result<Vec<u8>, FileFault>
-        ensures found { MatchResult result (λ bytes. (disk self.old).holds path.now (Some bytes.items))
+        ensures found { MatchResult result
+            (λ bytes. (disk self.old).holds path.now (Some bytes.items))
             (λ fault. fault ≡ FileFault.Device → (disk self.old).holds path.now None) }
         ensures kept { Stays (disk self.old) (disk self.new) };
 
     /// Makes these bytes the file at a path, in place of what it held. After a fault the file may hold some of them.
     fn write(&mut self, path: &str, bytes: &[u8]) -> Result<(), FileFault>
-        ensures written { OnOk result ((disk self.new).wrote path.now bytes.now) }
-        ensures refused { IfErr result (λ fault. fault ≡ FileFault.Device → (disk self.old).refuses path.now) };
+        ensures written { OnOk result (Writes path.now bytes.now (disk self.old) (disk self.new)) }
+        ensures tried { OnErr result (Tries path.now bytes.now (disk self.old) (disk self.new)) }
+        ensures refused { IfErr result
+            (λ fault. fault ≡ FileFault.Device → (disk self.old).refuses path.now) };
 }
 
 /// The files of the system.

@@ -5,7 +5,8 @@ ghost use Rattle.std.specs.Option.{is_some};
 ghost use Rattle.std.specs.Prelude.{Some, None, []};
 ghost use Rattle.console.specs.declared.input.InputFault.TheVariants as told;
 ghost use Rattle.console.specs.InputSays.{lines_of};
-ghost use Rattle.console.specs.Input.{Adds, Lends, Says, fits};
+ghost use Rattle.console.specs.Input.{Lends, Says};
+ghost use Rattle.console.specs.inside.Adding.{Adds, fits};
 ghost use Rattle.console.specs.InputFaults.{IsInputFault};
 
 use crate::input_line::{Line, line_of};
@@ -142,7 +143,8 @@ impl Input {
 // Says what may be said once.
 fn say_once<T: Drop>(place: &mut Option<T>, said: T, number: usize) -> Result<(), InputFault>
     ensures { MatchResult result (λ _. (place.old ≡ None) × (place.new ≡ Some said))
-        (λ fault. (fault ≡ told.Line number) × (is_some place.old ≡ true) × (place.new ≡ place.old)) }
+        (λ fault. (fault ≡ told.Line number) × (is_some place.old ≡ true)
+        × (place.new ≡ place.old)) }
 {
     if place.is_some() {
         return Err(InputFault::Line(number));

@@ -12,7 +12,8 @@ use wasm_decode::spells_one_module;
 
 /// The bytes of a module and the text of an input have one answer.
 pub fn one_answer()
-    ensures { (bytes text a b : List ℕ) → IsAnswer bytes text a → IsAnswer bytes text b → a ≡ b }
+    ensures { (bytes text a b : List ℕ)
+        → IsAnswer false bytes text a → IsAnswer false bytes text b → a ≡ b }
 {
     spells_one_module();
     one_outcome();

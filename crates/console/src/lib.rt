@@ -2,7 +2,6 @@
 //! round them.
 #![tactic(auto)]
 
-mod command_fault;
 mod command_line;
 mod engine;
 mod fault;
@@ -13,19 +12,19 @@ mod laws;
 mod lines;
 mod modules;
 mod program;
-mod reading;
 mod refusal;
 mod request;
+mod sources;
 
-pub use command_fault::CommandFault;
 pub use command_line::options;
-pub use engine::{answer, call, load};
-pub use fault::CallFault;
+pub use engine::{call, load};
+pub use fault::CommandFault;
 pub use files::{FileFault, Files, SystemFiles};
 pub use input::{Input, InputFault};
 pub use laws::{means_one_module, means_what_lines_say, one_answer};
 pub use lines::outcome_text;
-pub use modules::{load_module, read_module};
-pub use program::{ServeFault, command};
-pub use refusal::{Refusal, refuse};
+pub use modules::module_of;
+pub use program::command;
+pub use refusal::refusal_line;
 pub use request::Options;
+pub use sources::Source;

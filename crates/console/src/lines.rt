@@ -1,8 +1,8 @@
 //! The lines of an outcome.
 
-ghost use Rattle.std.specs.Prelude.{◌≡◌, ◌++◌, IfOk, OnOk, string_bytes};
+ghost use Rattle.std.specs.Prelude.{◌≡◌, IfOk, OnOk, string_bytes};
 ghost use Rattle.std.specs.List.{flat_map};
-ghost use Rattle.console.specs.Lines.{active_digit, give_line, outcome_lines, send_line, state_lines};
+ghost use Rattle.console.specs.Lines.{Gains, active_digit, give_line, outcome_lines, send_line, state_lines};
 
 use host_calls::CallOutcome;
 use std::alloc::{AllocError, Global};
@@ -24,7 +24,7 @@ pub fn outcome_text(alloc: Global, outcome: &CallOutcome) -> Result<String, Allo
 
 // The lines that each outcome has.
 fn push_state(text: &mut String, value: i64, halted: bool, units: u128) -> Result<(), AllocError>
-    ensures { OnOk result (string_bytes text.new ≡ string_bytes text.old ++ state_lines value halted units) }
+    ensures { OnOk result (Gains text.old text.new (state_lines value halted units)) }
 {
     writeln!(text, "value {value}")?;
     let active = active_digit(halted);
@@ -39,7 +39,7 @@ fn active_digit(halted: bool) -> u8
 }
 
 fn push_sends(text: &mut String, sends: &[(i64, i64)]) -> Result<(), AllocError>
-    ensures { OnOk result (string_bytes text.new ≡ string_bytes text.old ++ flat_map send_line sends.now) }
+    ensures { OnOk result (Gains text.old text.new (flat_map send_line sends.now)) }
 {
     for (target, value) in sends {
         writeln!(text, "send {target} {value}")?;
@@ -48,7 +48,7 @@ fn push_sends(text: &mut String, sends: &[(i64, i64)]) -> Result<(), AllocError>
 }
 
 fn push_contributions(text: &mut String, contributions: &[(u32, i64)]) -> Result<(), AllocError>
-    ensures { OnOk result (string_bytes text.new ≡ string_bytes text.old ++ flat_map give_line contributions.now) }
+    ensures { OnOk result (Gains text.old text.new (flat_map give_line contributions.now)) }
 {
     for (slot, value) in contributions {
         writeln!(text, "give {slot} {value}")?;

@@ -1,84 +1,45 @@
-//! Modules in files.
+//! The module that a text or bytes spell.
 
-ghost use Rattle.std.specs.Prelude.{◌≡◌, true, false, MatchResult};
-ghost use Rattle.console.specs.Disk.{Stays};
-ghost use Rattle.console.specs.Modules.{IsLoadedAt, IsModuleAt, is_text_path};
-ghost use Rattle.console.specs.Program.{IsNoModuleAt, IsNotLoadedAt};
+ghost use Rattle.std.specs.Prelude.{◌≡◌, MatchResult, false, string_bytes, true};
+ghost use Rattle.wasm_ast.specs.declared.module.Module.{Module as AnyModule};
+ghost use Rattle.console.specs.Modules.{IsSpelledBy, MeansBy};
+ghost use Rattle.console.specs.Engine.{IsWant, RefusesModule, content, is_text};
 
-use crate::command_fault::CommandFault;
-use crate::files::Files;
-use crate::reading::{read, read_text};
-use bounded_profile::{Verified, verify};
+use crate::fault::CommandFault;
+use crate::sources::Source;
 use std::alloc::Global;
-use validate::validate;
 use wasm_ast::Module;
 use wasm_decode::decode;
 use wat_asm::assemble;
 
-/// The module in a file: a file whose path ends in `.wat` has its text (Core 1.0, section 6), any other its bytes
-/// (section 5).
-pub fn read_module<'a, F: Files>(
-    alloc: Global,
-    path: &'a str,
-    files: &mut F,
-) -> Result<Module, CommandFault<'a>>
-    ensures found { MatchResult result (IsModuleAt (F.disk files.old) path.now) (IsNoModuleAt (F.disk files.old) path.now) }
-    ensures kept { Stays (F.disk files.old) (F.disk files.new) }
+/// The module that a text or bytes spell.
+pub fn module_of<'a>(alloc: Global, source: &Source) -> Result<Module, CommandFault<'a>>
+    ensures found { MatchResult result (MeansBy (is_text source.now) (content source.now))
+        (RefusesModule (is_text source.now) (content source.now)) }
+    // The one module that is spelled so is found, unless memory runs out.
+    ensures only { (m : AnyModule) → IsSpelledBy (is_text source.now) (content source.now) m
+        → MatchResult result (λ x. x ≡ m) IsWant }
 {
-    if is_text_path(path) {
-        assembled(alloc, path, files)
-    } else {
-        decoded(alloc, path, files)
+    match source {
+        Source::Text(text) => assembled(alloc, text.as_str()),
+        Source::Binary(bytes) => decoded(alloc, bytes.as_slice()),
     }
 }
 
-/// The module in a file, where it is valid (section 3) and in the bounded profile.
-pub fn load_module<'a, F: Files>(
-    alloc: Global,
-    path: &'a str,
-    files: &mut F,
-) -> Result<Verified, CommandFault<'a>>
-    ensures found { MatchResult result (λ verified. IsLoadedAt (F.disk files.old) path.now verified)
-        (IsNotLoadedAt (F.disk files.old) path.now) }
-    ensures kept { Stays (F.disk files.old) (F.disk files.new) }
+fn assembled<'a>(alloc: Global, text: &str) -> Result<Module, CommandFault<'a>>
+    ensures found { MatchResult result (MeansBy true text.now) (RefusesModule true text.now) }
+    ensures only { (m : AnyModule) → IsSpelledBy true text.now m
+        → MatchResult result (λ x. x ≡ m) IsWant }
 {
-    let module = read_module(alloc, path, files)?;
-    let valid = validate(alloc, module)?;
-    let verified = verify(alloc, valid)?;
-    Ok(verified)
-}
-
-#[tactic(auto, using(std::proofs::lemmas::Str::Pattern::ends_text))]
-fn is_text_path(path: &str) -> bool
-    ensures { result ≡ is_text_path path.now }
-{
-    path.ends_with(".wat")
-}
-
-fn assembled<'a, F: Files>(
-    alloc: Global,
-    path: &'a str,
-    files: &mut F,
-) -> Result<Module, CommandFault<'a>>
-    requires { is_text_path path.now ≡ true }
-    ensures found { MatchResult result (IsModuleAt (F.disk files.old) path.now) (IsNoModuleAt (F.disk files.old) path.now) }
-    ensures kept { Stays (F.disk files.old) (F.disk files.new) }
-{
-    let text = read_text(alloc, path, files)?;
-    let module = assemble(alloc, text.as_str())?;
+    let module = assemble(alloc, text)?;
     Ok(module)
 }
 
-fn decoded<'a, F: Files>(
-    alloc: Global,
-    path: &'a str,
-    files: &mut F,
-) -> Result<Module, CommandFault<'a>>
-    requires { is_text_path path.now ≡ false }
-    ensures found { MatchResult result (IsModuleAt (F.disk files.old) path.now) (IsNoModuleAt (F.disk files.old) path.now) }
-    ensures kept { Stays (F.disk files.old) (F.disk files.new) }
+fn decoded<'a>(alloc: Global, bytes: &[u8]) -> Result<Module, CommandFault<'a>>
+    ensures found { MatchResult result (MeansBy false bytes.now) (RefusesModule false bytes.now) }
+    ensures only { (m : AnyModule) → IsSpelledBy false bytes.now m
+        → MatchResult result (λ x. x ≡ m) IsWant }
 {
-    let bytes = read(alloc, path, files)?;
-    let module = decode(alloc, bytes.as_slice())?;
+    let module = decode(alloc, bytes)?;
     Ok(module)
 }

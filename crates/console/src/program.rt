@@ -1,254 +1,226 @@
 //! The program behind `main`.
 
-ghost use Rattle.std.specs.Prelude.{◌≡◌, ◌≢◌, List, ℕ, false, IfOk, IfErr, OnOk};
-ghost use Rattle.std.specs.Io.KnownBytes.{Appends, Keeps};
+ghost use Rattle.std.specs.Prelude.{◌≡◌, ◌⊎◌, List, ℕ, false, IfOk, IfErr, MatchResult, OnErr, string_bytes};
 ghost use Rattle.wasm_ast.specs.Limits.{IsWithinLimits};
-ghost use Rattle.wat_asm.specs.Layout.{layout};
-ghost use Rattle.console.specs.CommandFaults.{fault_text, status_of};
-ghost use Rattle.console.specs.Disk.{Stays};
-ghost use Rattle.console.specs.Lines.{line};
-ghost use Rattle.console.specs.Program.{Answered, IsAnswerCause, IsAssembleCause, IsBeforeWriting, IsBoundsLine, IsCallCause, IsCause, IsPrintCause, IsUnspelled, IsUntold, IsVerifyCause, bounds_line, length_line, TellsAnswer, TellsBounds, TellsLayout, TellsLength, TellsOutcome, TellsSpelling, Told, writes_file};
+ghost use Rattle.wasm_decode.specs.Canonical.{canonical};
+ghost use Rattle.console.specs.Disk.{Stays, Tries};
+ghost use Rattle.console.specs.Lines.{IfTold};
+ghost use Rattle.console.specs.Modules.{IsModuleAt};
+ghost use Rattle.console.specs.Engine.{RefusesLoad, RefusesModule};
+ghost use Rattle.console.specs.Program.{Answered, IsBoundsLine, IsCause, IsRefusedAt, IsTold, IsUnassembled, IsUncalled, IsUnspelled, MayTry, StaysBeforeWriting, TellsBounds, TellsLayout, TellsLength, TellsOutcome, TellsSpelling, Told, TriesSpelling, bounds_line, length_line, writes_file};
+ghost use Rattle.console.specs.inside.Answering.{IsFaultTold};
 
-use crate::command_fault::{CommandFault, status_of};
-use crate::engine::answer;
-use crate::fault::CallFault;
+use crate::engine::{call, load};
+use crate::fault::{CommandFault, status_of};
 use crate::files::Files;
-use crate::modules::{load_module, read_module};
-use crate::reading::{read_text, write};
+use crate::modules::module_of;
+use crate::refusal::refusal_line;
 use crate::request::Options;
+use crate::sources::{read_source, read_text, write};
 use bounded_profile::Verified;
-use std::alloc::Global;
-use std::io::{self, Write};
-use thiserror::Error;
+use graph::{Output, Unwritten, put};
+use std::alloc::{AllocError, Global};
 use wasm_ast::Module;
 use wasm_decode::encode;
 use wat_asm::print;
-
-/// Why the program could not tell how it went.
-#[derive(Clone, Copy, Debug, Error)]
-pub enum ServeFault {
-    /// Writing failed.
-    #[error("writing failed")]
-    Write,
-}
 
 /// Does what the options ask for, and writes the answer or, as one line, its refusal.
 ///
 /// It answers the status for the process: 0 where there is an answer, 1 where the module, the input or the call was
 /// refused, and 4 where a file cannot be read or written, which `no file PATH` tells. A module's file whose path ends in
-/// `.wat` is text, any other is binary; text that is not in UTF-8 cannot be read.
+/// `.wat` is text, any other is binary; text that is not in UTF-8 cannot be read. It fails only where the writer failed,
+/// and then a beginning of what was to be told was written.
 ///
-/// `call` answers with the outcome's lines; the module is looked at before the input's file. `verify` answers
-/// `ok size S operands M frames F`. `asm` writes the module's canonical spelling to the other file, and answers
-/// `ok LENGTH`. `print` answers with the module's text. These two do not ask that the module is valid, and the others ask
-/// that it is and that it is in the bounded profile. A refusal is one of the module's and the input's own, or want of
-/// memory.
-pub fn command<F: Files, W: Write>(
+/// `call` answers with the outcome's lines; the module is looked at before it is told that the input's file cannot be
+/// read. `verify` answers `ok size S operands M frames F`. `asm` writes the module's canonical spelling to the other file,
+/// and answers `ok LENGTH`. `print` answers with the module's text. These two do not ask that the module is valid, and the
+/// others ask that it is and that it is in the bounded profile. A refusal is one of the module's and the input's own, or
+/// want of memory.
+pub fn command<F: Files, O: Output>(
     alloc: Global,
     options: Options<'_>,
     files: &mut F,
-    out: &mut W,
-) -> Result<u8, ServeFault>
-    ensures told { IfOk result (λ status. (told : List ℕ)
+    out: &mut O,
+) -> Result<u8, Unwritten>
+    ensures told { (status : ℕ) × (told : List ℕ)
         × Told (F.disk files.old) (F.disk files.new) options.entry status told
-        × Appends (W.contents out.old) (W.contents out.new) told) }
+        × IsTold (O.contents out.old) (O.contents out.new) status told result }
+    ensures failed { OnErr result (O.has_failed out.new) }
     // No command but `asm` writes a file.
     ensures kept { writes_file options.entry ≡ false → Stays (F.disk files.old) (F.disk files.new) }
 {
-    match carry_out(alloc, options, files, out) {
-        Ok(()) => Ok(0),
-        Err(fault) => tell(&fault, out),
+    match carry_out(alloc, options, files) {
+        Ok(text) => tell(0, text.as_bytes(), out),
+        Err(fault) => refuse(alloc, &fault, out),
     }
 }
 
-// A writer that failed is told nothing more.
-fn tell<W: Write>(fault: &CommandFault, out: &mut W) -> Result<u8, ServeFault>
-    ensures { IfOk result (λ status. (status ≡ status_of fault.now) × (fault.now ≢ CommandFault.Call CallFault.Write)
-        × Appends (W.contents out.old) (W.contents out.new) (line (fault_text fault.now))) }
+// Writes what is told with a status.
+fn tell<O: Output>(status: u8, told: &[u8], out: &mut O) -> Result<u8, Unwritten>
+    ensures told { IsTold (O.contents out.old) (O.contents out.new) status told.now result }
+    ensures failed { OnErr result (O.has_failed out.new) }
 {
-    if let CommandFault::Call(CallFault::Write) = fault {
-        return Err(ServeFault::Write);
-    }
-    match writeln!(out, "{fault}") {
-        Ok(()) => Ok(status_of(fault)),
-        Err(_) => Err(ServeFault::Write),
+    put(told, out)?;
+    Ok(status)
+}
+
+// Tells the fault, or, where there is no memory for its line, that memory ran out.
+fn refuse<O: Output>(alloc: Global, fault: &CommandFault, out: &mut O) -> Result<u8, Unwritten>
+    ensures told { IsFaultTold (O.contents out.old) (O.contents out.new) fault.now result }
+    ensures failed { OnErr result (O.has_failed out.new) }
+{
+    match refusal_line(alloc, fault) {
+        Ok(text) => tell(status_of(fault), text.as_bytes(), out),
+        Err(_) => tell(1, b"no memory\n", out),
     }
 }
 
-fn carry_out<'a, F: Files, W: Write>(
+// What is told of a command.
+fn carry_out<'a, F: Files>(
     alloc: Global,
     options: Options<'a>,
     files: &mut F,
-    out: &mut W,
-) -> Result<(), CommandFault<'a>>
-    ensures answered { OnOk result ((told : List ℕ) × Answered (F.disk files.old) (F.disk files.new) options.entry told
-        × Appends (W.contents out.old) (W.contents out.new) told) }
+) -> Result<String, CommandFault<'a>>
+    ensures answered { IfTold result
+        (Answered (F.disk files.old) (F.disk files.new) options.entry) }
     ensures kept { writes_file options.entry ≡ false → Stays (F.disk files.old) (F.disk files.new) }
     ensures refused { IfErr result (IsCause (F.disk files.old) options.entry) }
-    ensures before { IfErr result (λ fault. IsBeforeWriting fault → Stays (F.disk files.old) (F.disk files.new)) }
-    ensures unwritten { IfErr result (λ fault. fault ≢ CommandFault.Call CallFault.Write
-        → Keeps (W.contents out.old) (W.contents out.new)) }
+    ensures before { IfErr result (StaysBeforeWriting (F.disk files.old) (F.disk files.new)) }
+    ensures tried { OnErr result (MayTry (F.disk files.old) (F.disk files.new) options.entry) }
 {
     match options {
-        Options::Call { module, input } => call_files(alloc, module, input, files, out),
-        Options::Assemble { module, binary } => assemble_file(alloc, module, binary, files, out),
-        Options::Print { module } => print_file(alloc, module, files, out),
-        Options::Verify { module } => verify_file(alloc, module, files, out),
+        Options::Call { module, input } => call_files(alloc, module, input, files),
+        Options::Assemble { module, binary } => assemble_file(alloc, module, binary, files),
+        Options::Print { module } => print_file(alloc, module, files),
+        Options::Verify { module } => verify_file(alloc, module, files),
     }
 }
 
 // Calls the module in one file with the input in another.
-fn call_files<'a, F: Files, W: Write>(
+fn call_files<'a, F: Files>(
     alloc: Global,
     module: &'a str,
     input: &'a str,
     files: &mut F,
-    out: &mut W,
-) -> Result<(), CommandFault<'a>>
-    ensures answered { OnOk result ((told : List ℕ) × TellsOutcome (F.disk files.old) «module».now input.now told
-        × Appends (W.contents out.old) (W.contents out.new) told) }
+) -> Result<String, CommandFault<'a>>
+    ensures answered { IfTold result (TellsOutcome (F.disk files.old) «module».now input.now) }
     ensures kept { Stays (F.disk files.old) (F.disk files.new) }
-    ensures refused { IfErr result (IsCallCause (F.disk files.old) «module».now input.now) }
-    ensures unwritten { IfErr result (λ fault. fault ≢ CommandFault.Call CallFault.Write
-        → Keeps (W.contents out.old) (W.contents out.new)) }
+    ensures refused { IfErr result (IsUncalled (F.disk files.old) «module».now input.now) }
 {
-    let verified = load_module(alloc, module, files)?;
-    call_module(alloc, &verified, input, files, out)
-}
-
-// Calls a module with the input in a file.
-fn call_module<'a, F: Files, W: Write>(
-    alloc: Global,
-    verified: &Verified,
-    input: &'a str,
-    files: &mut F,
-    out: &mut W,
-) -> Result<(), CommandFault<'a>>
-    ensures answered { OnOk result ((told : List ℕ) × TellsAnswer (F.disk files.old) verified.now input.now told
-        × Appends (W.contents out.old) (W.contents out.new) told) }
-    ensures kept { Stays (F.disk files.old) (F.disk files.new) }
-    ensures refused { IfErr result (IsAnswerCause (F.disk files.old) verified.now input.now) }
-    ensures unwritten { IfErr result (λ fault. fault ≢ CommandFault.Call CallFault.Write
-        → Keeps (W.contents out.old) (W.contents out.new)) }
-{
-    let text = read_text(alloc, input, files)?;
-    answer(alloc, verified, text.as_str(), out)?;
-    Ok(())
+    let source = read_source(alloc, module, files)?;
+    match read_text(alloc, input, files) {
+        Ok(text) => call(alloc, &source, text.as_str()),
+        Err(fault) => {
+            load(alloc, &source)?;
+            Err(fault)
+        }
+    }
 }
 
 // Writes the module in one file to another, in the binary format.
-fn assemble_file<'a, F: Files, W: Write>(
+fn assemble_file<'a, F: Files>(
     alloc: Global,
     path: &'a str,
     binary: &'a str,
     files: &mut F,
-    out: &mut W,
-) -> Result<(), CommandFault<'a>>
-    ensures answered { OnOk result ((told : List ℕ)
-        × TellsLength (F.disk files.old) (F.disk files.new) path.now binary.now told
-        × Appends (W.contents out.old) (W.contents out.new) told) }
-    ensures refused { IfErr result (IsAssembleCause (F.disk files.old) path.now binary.now) }
-    ensures before { IfErr result (λ fault. IsBeforeWriting fault → Stays (F.disk files.old) (F.disk files.new)) }
-    ensures unwritten { IfErr result (λ fault. fault ≢ CommandFault.Call CallFault.Write
-        → Keeps (W.contents out.old) (W.contents out.new)) }
+) -> Result<String, CommandFault<'a>>
+    ensures answered { IfTold result
+        (TellsLength (F.disk files.old) (F.disk files.new) path.now binary.now) }
+    ensures refused { IfErr result (IsUnassembled (F.disk files.old) path.now binary.now) }
+    ensures before { IfErr result (StaysBeforeWriting (F.disk files.old) (F.disk files.new)) }
+    ensures tried { OnErr result (Stays (F.disk files.old) (F.disk files.new)
+        ⊎ TriesSpelling (F.disk files.old) (F.disk files.new) path.now binary.now) }
 {
     let module = read_module(alloc, path, files)?;
-    write_module(alloc, &module, binary, files, out)
+    write_module(alloc, &module, binary, files)
 }
 
-// Writes a module to a file, in the binary format.
-fn write_module<'a, F: Files, W: Write>(
+// The module in a file.
+fn read_module<'a, F: Files>(
+    alloc: Global,
+    path: &'a str,
+    files: &mut F,
+) -> Result<Module, CommandFault<'a>>
+    ensures found { MatchResult result (IsModuleAt (F.disk files.old) path.now)
+        (IsRefusedAt (F.disk files.old) path.now RefusesModule) }
+    ensures kept { Stays (F.disk files.old) (F.disk files.new) }
+{
+    let source = read_source(alloc, path, files)?;
+    module_of(alloc, &source)
+}
+
+// Writes a module to a file, in the binary format. What is told of it is made before.
+fn write_module<'a, F: Files>(
     alloc: Global,
     module: &Module,
     binary: &'a str,
     files: &mut F,
-    out: &mut W,
-) -> Result<(), CommandFault<'a>>
+) -> Result<String, CommandFault<'a>>
     requires { IsWithinLimits «module».now }
-    ensures answered { OnOk result ((told : List ℕ) × TellsSpelling (F.disk files.new) «module».now binary.now told
-        × Appends (W.contents out.old) (W.contents out.new) told) }
+    ensures answered { IfTold result
+        (TellsSpelling (F.disk files.old) (F.disk files.new) «module».now binary.now) }
     ensures refused { IfErr result (IsUnspelled (F.disk files.old) binary.now «module».now) }
-    ensures before { IfErr result (λ fault. IsBeforeWriting fault → Stays (F.disk files.old) (F.disk files.new)) }
-    ensures unwritten { IfErr result (λ fault. fault ≢ CommandFault.Call CallFault.Write
-        → Keeps (W.contents out.old) (W.contents out.new)) }
+    ensures before { IfErr result (StaysBeforeWriting (F.disk files.old) (F.disk files.new)) }
+    ensures tried { OnErr result
+        (Tries binary.now (canonical «module».now) (F.disk files.old) (F.disk files.new)) }
 {
     let bytes = encode(alloc, module)?;
+    let told = length_text(alloc, bytes.len())?;
     write(binary, bytes.as_slice(), files)?;
-    tell_length(bytes.len(), out)?;
-    Ok(())
+    Ok(told)
 }
 
-fn tell_length<W: Write>(length: usize, out: &mut W) -> io::Result<()>
-    ensures { OnOk result (Appends (W.contents out.old) (W.contents out.new) (length_line length)) }
+fn length_text(alloc: Global, length: usize) -> Result<String, AllocError>
+    ensures { IfOk result (λ text. string_bytes text ≡ length_line length) }
 {
-    writeln!(out, "ok {length}")
+    let mut text = String::new(alloc);
+    writeln!(text, "ok {length}")?;
+    Ok(text)
 }
 
 // Prints the module in a file.
-fn print_file<'a, F: Files, W: Write>(
+fn print_file<'a, F: Files>(
     alloc: Global,
     path: &'a str,
     files: &mut F,
-    out: &mut W,
-) -> Result<(), CommandFault<'a>>
-    ensures answered { OnOk result ((told : List ℕ) × TellsLayout (F.disk files.old) path.now told
-        × Appends (W.contents out.old) (W.contents out.new) told) }
+) -> Result<String, CommandFault<'a>>
+    ensures answered { IfTold result (TellsLayout (F.disk files.old) path.now) }
     ensures kept { Stays (F.disk files.old) (F.disk files.new) }
-    ensures refused { IfErr result (IsPrintCause (F.disk files.old) path.now) }
-    ensures unwritten { IfErr result (λ fault. fault ≢ CommandFault.Call CallFault.Write
-        → Keeps (W.contents out.old) (W.contents out.new)) }
+    ensures refused { IfErr result (IsRefusedAt (F.disk files.old) path.now RefusesModule) }
 {
     let module = read_module(alloc, path, files)?;
-    print_module(alloc, &module, out)
-}
-
-fn print_module<'a, W: Write>(
-    alloc: Global,
-    module: &Module,
-    out: &mut W,
-) -> Result<(), CommandFault<'a>>
-    requires { IsWithinLimits «module».now }
-    ensures answered { OnOk result (Appends (W.contents out.old) (W.contents out.new) (layout «module».now)) }
-    ensures refused { IfErr result IsUntold }
-    ensures unwritten { IfErr result (λ fault. fault ≢ CommandFault.Call CallFault.Write
-        → Keeps (W.contents out.old) (W.contents out.new)) }
-{
-    let text = print(alloc, module)?;
-    out.write_all(text.as_bytes())?;
-    Ok(())
+    let text = print(alloc, &module)?;
+    Ok(text)
 }
 
 // Tells the bounds of the module in a file.
-fn verify_file<'a, F: Files, W: Write>(
+fn verify_file<'a, F: Files>(
     alloc: Global,
     path: &'a str,
     files: &mut F,
-    out: &mut W,
-) -> Result<(), CommandFault<'a>>
-    ensures answered { OnOk result ((told : List ℕ) × TellsBounds (F.disk files.old) path.now told
-        × Appends (W.contents out.old) (W.contents out.new) told) }
+) -> Result<String, CommandFault<'a>>
+    ensures answered { IfTold result (TellsBounds (F.disk files.old) path.now) }
     ensures kept { Stays (F.disk files.old) (F.disk files.new) }
-    ensures refused { IfErr result (IsVerifyCause (F.disk files.old) path.now) }
-    ensures unwritten { IfErr result (λ fault. fault ≢ CommandFault.Call CallFault.Write
-        → Keeps (W.contents out.old) (W.contents out.new)) }
+    ensures refused { IfErr result (IsRefusedAt (F.disk files.old) path.now RefusesLoad) }
 {
-    let verified = load_module(alloc, path, files)?;
-    verify_module(&verified, out)
+    let source = read_source(alloc, path, files)?;
+    let verified = load(alloc, &source)?;
+    let text = bounds_of(alloc, &verified)?;
+    Ok(text)
 }
 
-// Tells a module's bounds.
-fn verify_module<'a, W: Write>(verified: &Verified, out: &mut W) -> Result<(), CommandFault<'a>>
-    ensures answered { OnOk result ((told : List ℕ) × IsBoundsLine verified.now told
-        × Appends (W.contents out.old) (W.contents out.new) told) }
-    ensures refused { IfErr result (λ fault. fault ≡ CommandFault.Call CallFault.Write) }
+// A module's bounds.
+fn bounds_of(alloc: Global, verified: &Verified) -> Result<String, AllocError>
+    ensures { IfTold result (IsBoundsLine verified.now) }
 {
     let (size, operands) = (verified.size(), verified.max_operands());
-    tell_bounds(size, operands, verified.max_frames(), out)?;
-    Ok(())
+    bounds_text(alloc, size, operands, verified.max_frames())
 }
 
-fn tell_bounds<W: Write>(size: u32, operands: u32, frames: u32, out: &mut W) -> io::Result<()>
-    ensures { OnOk result (Appends (W.contents out.old) (W.contents out.new) (bounds_line size operands frames)) }
+fn bounds_text(alloc: Global, size: u32, operands: u32, frames: u32) -> Result<String, AllocError>
+    ensures { IfOk result (λ text. string_bytes text ≡ bounds_line size operands frames) }
 {
-    writeln!(out, "ok size {size} operands {operands} frames {frames}")
+    let mut text = String::new(alloc);
+    writeln!(text, "ok size {size} operands {operands} frames {frames}")?;
+    Ok(text)
 }

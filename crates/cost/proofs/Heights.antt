@@ -2,8 +2,8 @@
 use Rattle.std.proofs.Common.{◌≡◌, ℕ, zero, suc, ◌+◌, ◌<◌, ◌≤◌, min, max, List, [], ◌∷◌, length, get_or, Option, Some, None, refl, ap, arith}
 use Rattle.std.specs.Prelude.{sum_by}
 use Rattle.std.proofs.lemmas.List.Sums.{sum_by-cons}
-use Rattle.cost.specs.Outline.{Summary, cap}
-use Rattle.cost.specs.Outlines.{calls_at, height_at}
+use Rattle.cost.specs.inside.Outline.{Summary, cap}
+use Rattle.cost.specs.inside.Outlines.{calls_at, height_at}
 use Rattle.cost.specs.Heights.{most}
 
 greater : (a b c d : ℕ) → a ≡ b → c ≡ d → max a c ≡ max b d

@@ -4,3 +4,4 @@ pub mod Walking
 pub mod Bodies
 pub mod Ranking
 pub mod Sizing
+pub mod Weighing

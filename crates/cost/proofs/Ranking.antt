@@ -13,9 +13,10 @@ use Rattle.cost.specs.declared.table.Mark.TheVariants.{Unseen, Open}
 use Rattle.cost.specs.declared.outline.Outlines.{Outlines}
 use Rattle.cost.specs.Calls.{Calls, callees, body_of, calls_in, calls_of}
 use Rattle.cost.specs.Heights.{height}
-use Rattle.cost.specs.Outline.{cap}
-use Rattle.cost.specs.Outlines.{AreOutlines, count_of, outline_at, calls_at, own_at, height_at, called}
-use Rattle.cost.specs.Marks.{mark_at, rank_at, size_at, IsDone, unfinished_weight, Settled, Finished}
+use Rattle.cost.specs.inside.Outline.{cap}
+use Rattle.cost.specs.inside.Outlines.{AreOutlines, count_of, outline_at, calls_at, own_at, height_at, called}
+use Rattle.cost.specs.Marks.{mark_at, rank_at, size_at}
+use Rattle.cost.specs.inside.Walks.{IsDone, unfinished_weight, Settled, Finished}
 use Rattle.cost.specs.Ranks.{IsRanking}
 use Rattle.cost.proofs.Heights.{most_least}
 use Rattle.cost.specs.declared.fault.CostFault.{CostFault}

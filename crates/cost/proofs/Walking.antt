@@ -11,9 +11,10 @@ use Rattle.cost.specs.declared.table.Mark.TheVariants.{Unseen, Open, Done}
 use Rattle.cost.specs.declared.outline.Outlines.{Outlines}
 use Rattle.cost.specs.Calls.{Calls}
 use Rattle.cost.specs.Heights.{most}
-use Rattle.cost.specs.Outline.{cap}
-use Rattle.cost.specs.Outlines.{outline_at, own_at, height_at, called, AreSizesOf}
-use Rattle.cost.specs.Marks.{mark_at, rank_in, size_in, rank_at, size_at, IsDone, unseen_weight, unseen, unfinished_weight, unfinished, Settled, Walked}
+use Rattle.cost.specs.inside.Outline.{cap}
+use Rattle.cost.specs.inside.Outlines.{outline_at, own_at, height_at, called, AreSizesOf}
+use Rattle.cost.specs.Marks.{mark_at, rank_in, size_in, rank_at, size_at}
+use Rattle.cost.specs.inside.Walks.{IsDone, unseen_weight, unseen, unfinished_weight, unfinished, Settled, Walked}
 use Rattle.cost.proofs.Heights.{height_agree, height_within, most_within, capped_sum}
 
 same_or_not : (a b : ℕ) → (a ≡ b) ⊎ (a ≢ b)

@@ -4,7 +4,7 @@ ghost use Rattle.std.specs.Prelude.{◌≡◌, ◌<◌, ◌≤◌, ◌++◌, ℕ
 ghost use Rattle.cost.specs.Calls.{Calls};
 ghost use Rattle.cost.specs.Cycles.{LeastFirst};
 ghost use Rattle.cost.specs.Faults.{Explains};
-ghost use Rattle.cost.specs.Stops.{Leaves, Targets};
+ghost use Rattle.cost.specs.inside.Stops.{Leaves, Targets};
 
 use crate::fault::CostFault;
 

@@ -10,9 +10,11 @@ mod outline;
 mod size;
 mod table;
 mod walk;
+mod weights;
 
 pub use fault::CostFault;
-pub use laws::{has_one_sizing, ranks_exclude_cycles};
+pub use laws::{has_one_sizing, ranks_exclude_cycles, units_are_counted};
 pub use order::ranks;
 pub use size::{MAX_SIZE, unfolded};
 pub use table::Ranks;
+pub use weights::{branch_units, host_units, plain_units};

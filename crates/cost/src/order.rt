@@ -5,8 +5,8 @@ ghost use Rattle.cost.specs.Calls.{callees};
 ghost use Rattle.cost.specs.Cycles.{Acyclic};
 ghost use Rattle.cost.specs.Faults.{Explains};
 ghost use Rattle.cost.specs.Ranks.{IsRanking};
-ghost use Rattle.cost.specs.Marks.{Finished};
-ghost use Rattle.cost.specs.Outlines.{called, count_of};
+ghost use Rattle.cost.specs.inside.Walks.{Finished};
+ghost use Rattle.cost.specs.inside.Outlines.{called, count_of};
 
 use crate::cycle::explain;
 use crate::fault::CostFault;

@@ -1,15 +1,15 @@
 //! Functions in outline: how much their own instructions count, and what they call.
 
-ghost use Rattle.std.specs.Prelude.{◌≡◌, map, IfOk, OnOk};
+ghost use Rattle.std.specs.Prelude.{◌≡◌, IfOk, OnOk};
 ghost use Rattle.std.specs.Option.{option_copied};
 ghost use Rattle.wasm_ast.specs.Code.{end};
 ghost use Rattle.wasm_ast.specs.Limits.{imported_functions};
 ghost use Rattle.wasm_ast.specs.View.{then_code};
-ghost use Rattle.wasm_ast.specs.declared.module.Function.{Function as AnyFunction};
-ghost use Rattle.cost.specs.Outline.{nothing, with_units, with_call, with_code};
-ghost use Rattle.cost.specs.Outlines.{AreOutlines, outline_at, own_at, called};
+ghost use Rattle.cost.specs.inside.Outline.{nothing, with_units, with_call, with_code};
+ghost use Rattle.cost.specs.inside.Outlines.{AreOutlines, outlines_of, outline_at, own_at, called};
 
 use crate::size::MAX_SIZE;
+use crate::weights::Weights;
 use std::alloc::{AllocError, Global};
 use std::marker::Model;
 use validate::Valid;
@@ -28,7 +28,7 @@ pub struct Outline {
 }
 
 impl Model for Outline {
-    ghost use Rattle.cost.specs.Outline.{Summary};
+    ghost use Rattle.cost.specs.inside.Outline.{Summary};
 
     ghost Value = { Summary };
 
@@ -65,38 +65,39 @@ impl Outline {
     }
 
     #[cycle(code)]
-    fn add_code(&mut self, body: &Body) -> Result<(), AllocError>
-        ensures { OnOk result (self.new ≡ with_code self.old body.now) }
+    fn add_code(&mut self, weights: &Weights, body: &Body) -> Result<(), AllocError>
+        ensures { OnOk result (self.new ≡ with_code weights.now self.old body.now) }
     {
         for instr in body.as_slice() {
-            self.add_instr(instr)?;
+            self.add_instr(weights, instr)?;
         }
         Ok(())
     }
 
     #[cycle(code)]
-    fn add_instr(&mut self, instr: &Instr) -> Result<(), AllocError>
-        ensures { OnOk result (self.new ≡ with_code self.old (then_code instr.now end)) }
+    fn add_instr(&mut self, weights: &Weights, instr: &Instr) -> Result<(), AllocError>
+        ensures { OnOk result (self.new
+            ≡ with_code weights.now self.old (then_code instr.now end)) }
     {
-        self.add_units(instr.units());
+        self.add_units(weights.units(instr));
         match instr {
             Instr::Plain(_) | Instr::Branch(_) | Instr::CallIndirect(_) | Instr::Unreachable => {}
             Instr::Call(function) => self.add_call(*function)?,
-            Instr::Block(_, body) | Instr::Loop(_, body) => self.add_code(body)?,
+            Instr::Block(_, body) | Instr::Loop(_, body) => self.add_code(weights, body)?,
             Instr::If(_, body, other) => {
-                self.add_code(body)?;
-                self.add_code(other)?;
+                self.add_code(weights, body)?;
+                self.add_code(weights, other)?;
             }
         }
         Ok(())
     }
 }
 
-fn outline_of(alloc: Global, body: &Body) -> Result<Outline, AllocError>
-    ensures { IfOk result (λ outline. outline ≡ with_code nothing body.now) }
+fn outline_of(alloc: Global, weights: &Weights, body: &Body) -> Result<Outline, AllocError>
+    ensures { IfOk result (λ outline. outline ≡ with_code weights.now nothing body.now) }
 {
     let mut outline = Outline::empty(alloc);
-    outline.add_code(body)?;
+    outline.add_code(weights, body)?;
     Ok(outline)
 }
 
@@ -113,9 +114,10 @@ impl Outlines {
         ensures { IfOk result (AreOutlines valid.now) }
     {
         let inner = valid.module();
+        let weights = Weights::of(alloc, inner)?;
         Ok(Outlines {
             imported: imported_count(inner.imports.as_slice()),
-            defined: outlines_of(alloc, inner.functions.as_slice())?,
+            defined: outlines_of(alloc, &weights, inner.functions.as_slice())?,
         })
     }
 
@@ -161,12 +163,16 @@ fn imported_count(imports: &[Import]) -> usize
         .count()
 }
 
-fn outlines_of(alloc: Global, functions: &[Function]) -> Result<Vec<Outline>, AllocError>
-    ensures { IfOk result (λ os. os.items ≡ map (λ (f : AnyFunction). with_code nothing f.body) functions.now) }
+fn outlines_of(
+    alloc: Global,
+    weights: &Weights,
+    functions: &[Function],
+) -> Result<Vec<Outline>, AllocError>
+    ensures { IfOk result (λ os. os.items ≡ outlines_of weights.now functions.now) }
 {
     let mut outlines = Vec::new(alloc);
     for function in functions {
-        outlines.push(outline_of(alloc, &function.body)?)?;
+        outlines.push(outline_of(alloc, weights, &function.body)?)?;
     }
     Ok(outlines)
 }

@@ -7,9 +7,9 @@ use crate::table::Ranks;
 use validate::Valid;
 
 /// The largest size that is told.
-pub const MAX_SIZE: u32 = 1_048_576;
+pub const MAX_SIZE: u32 = 8_388_608;
 
-/// The size of the function with its calls unfolded: each instruction counts its units (`wasm_ast::Instr::units`), a
+/// The size of the function with its calls unfolded: each instruction counts its units by the table of weights, a
 /// block, loop or `if` also what it holds, and a call of a function that the module defines also the body of that
 /// function. There is no answer exactly where the size passes `MAX_SIZE`. The size of an imported function is 0.
 ///

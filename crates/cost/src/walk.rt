@@ -3,10 +3,11 @@
 ghost use Rattle.std.specs.Prelude.{◌≡◌, ◌+◌, ◌<◌, ◌^◌, ℕ, length, min, sum_by, IfErr, OnOk};
 ghost use Rattle.cost.specs.declared.table.Mark.TheVariants.{Open};
 ghost use Rattle.cost.specs.Heights.{most};
-ghost use Rattle.cost.specs.Outline.{cap};
-ghost use Rattle.cost.specs.Outlines.{outline_at, called, height_at};
-ghost use Rattle.cost.specs.Marks.{mark_at, rank_at, size_at, Settled, Walked};
-ghost use Rattle.cost.specs.Stops.{Leaves, Targets};
+ghost use Rattle.cost.specs.inside.Outline.{cap};
+ghost use Rattle.cost.specs.inside.Outlines.{outline_at, called, height_at};
+ghost use Rattle.cost.specs.Marks.{mark_at, rank_at, size_at};
+ghost use Rattle.cost.specs.inside.Walks.{Settled, Walked};
+ghost use Rattle.cost.specs.inside.Stops.{Leaves, Targets};
 
 use crate::cycle::{Stop, extend};
 use crate::outline::{CAP, Outlines};

@@ -7,7 +7,7 @@ use Rattle.std.proofs.lemmas.List.FromFn.{length-enumerate_from, get_or-enumerat
 use Rattle.std.proofs.lemmas.Grind.{flat_map-append}
 use Rattle.graph.specs.declared.collect.Collected.{Collected}
 use Rattle.graph.specs.declared.line.Line.{Line}
-use Rattle.graph.specs.Collected.{CanBeSaid, Says}
+use Rattle.graph.specs.inside.Collected.{CanBeSaid, Says}
 use Rattle.graph.specs.Line.{line_of}
 use Rattle.graph.specs.Said.{all_declared, all_edges, declared_by, lines_of, said_by}
 

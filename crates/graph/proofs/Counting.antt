@@ -1,7 +1,6 @@
 -- A graph that a text within the limits means is within them.
-use Rattle.std.proofs.Common.{inl, inr, ◌≡◌, ℕ, ◌+◌, ◌<◌, ◌≤◌, true, cond, eqb, List, [], ◌∷◌, length, map, refl, ap, sym, ◌∙◌, arith}
-use Rattle.std.specs.List.{All, AllByRecursion, filter}
-use Rattle.std.specs.List.Sorted.{IsPermutation}
+use Rattle.std.proofs.Common.{inl, inr, ◌≡◌, ℕ, ◌+◌, ◌<◌, ◌≤◌, cond, eqb, List, [], ◌∷◌, length, refl, ap, arith}
+use Rattle.std.specs.List.{AllByRecursion}
 use Rattle.std.proofs.lemmas.Bool.{ne_eqb}
 use Rattle.std.proofs.lemmas.Bool.Decides.{eqb_tells}
 use Rattle.std.proofs.lemmas.List.{length-map}
@@ -10,10 +9,10 @@ use Rattle.std.proofs.lemmas.List.Sorted.{length_permutation}
 use Rattle.std.proofs.lemmas.List.Sums.{sum_by-cons}
 use Rattle.graph.specs.declared.line.Line.{Line}
 use Rattle.graph.specs.declared.vertex.Edge.{Edge}
-use Rattle.graph.specs.Entry.{Entry, FitsLimits, edge_count, edges_from, end_of, head_of, heads, id_at}
+use Rattle.graph.specs.Entry.{Entry, FitsLimits, edge_count, edges_from, head_of, heads, id_at}
 use Rattle.graph.specs.Graph.{AreWithinLimits, IsSaid}
 use Rattle.graph.specs.Said.{all_declared, all_edges}
-use Rattle.graph.proofs.Same.{Rises, equal, rises_from}
+use Rattle.graph.proofs.Same.{Rises, rises_from}
 
 -- how many of the vertices have this id
 abbrev having : ℕ → List Entry → ℕ

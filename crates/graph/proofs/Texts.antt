@@ -8,11 +8,11 @@ use Rattle.std.proofs.lemmas.List.Sorted.{All-permutation, IsPermutation-map, Is
 use Rattle.graph.specs.declared.collect.Collected.{Collected}
 use Rattle.graph.specs.declared.line.Line.{Line}
 use Rattle.graph.specs.declared.vertex.Edge.{Edge}
-use Rattle.graph.specs.Collected.{Says, bare}
+use Rattle.graph.specs.inside.Collected.{Says, bare}
 use Rattle.graph.specs.Entry.{Entry, edges_from, entries_of, head_of, heads, ids}
 use Rattle.graph.specs.Graph.{IsSaid}
 use Rattle.graph.specs.Line.{is_good}
-use Rattle.graph.specs.Placed.{AreEndsAmong, with_edges}
+use Rattle.graph.specs.inside.Placed.{AreEndsAmong, with_edges}
 use Rattle.graph.specs.Said.{all_declared, all_edges}
 use Rattle.graph.proofs.Same.{rising_same, sorted_same}
 

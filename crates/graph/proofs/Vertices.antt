@@ -12,7 +12,7 @@ use Rattle.std.proofs.lemmas.Map.Keys.{non_decreasing_from_sorted, sorted_from_s
 use Rattle.graph.specs.declared.vertex.Edge.{Edge}
 use Rattle.graph.specs.declared.vertex.Vertex.{Vertex}
 use Rattle.graph.specs.Entry.{Entry, end_of, entries_of, entry_of, ids, vertex_id}
-use Rattle.graph.specs.Placed.{none, push_end, set_edge}
+use Rattle.graph.specs.inside.Placed.{none, push_end, set_edge}
 
 pub ids_entries : (vertices : List Vertex) → ids (entries_of vertices) ≡ map vertex_id vertices
 ids_entries [] = refl

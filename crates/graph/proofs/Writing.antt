@@ -5,7 +5,8 @@ use Rattle.std.specs.Io.KnownBytes.{Appends, Keeps}
 use Rattle.std.proofs.lemmas.List.{append-nil, drop_more, take-append-drop, take_all}
 use Rattle.std.proofs.lemmas.Grind.{flat_map-append}
 use Rattle.std.proofs.Math.Seq.{take-add, take-append_seam}
-use Rattle.graph.specs.Print.{HasBegun, value_line, value_lines}
+use Rattle.graph.specs.Output.{HasBegun, HasTaken}
+use Rattle.graph.specs.Print.{value_line, value_lines}
 
 -- So many of the bytes were written.
 pub record IsWritten (old new : Option (List ℕ)) (bytes : List ℕ) (done : ℕ) : Type 0 where
@@ -33,14 +34,13 @@ written_none known bytes = record { within = omega arith; appends = appends_noth
 
 -- so many of the bytes that were left
 pub written_more : (old middle new : Option (List ℕ)) (bytes : List ℕ) (done count : ℕ) → IsWritten old middle bytes done
-    → count ≤ length (take (length bytes - done) (drop done bytes)) → Appends middle new (take count (take (length bytes - done) (drop done bytes)))
-    → IsWritten old new bytes (done + count)
-written_more old middle new bytes done count written few appends =
+    → HasTaken middle new (take (length bytes - done) (drop done bytes)) count → IsWritten old new bytes (done + count)
+written_more old middle new bytes done count written taken =
     let left : take (length bytes - done) (drop done bytes) ≡ drop done bytes = take_all (length bytes - done) (drop done bytes) (omega (arith, length-drop done bytes)) in
-    let within = rw left at few in
+    let within = rw left at taken.within in
     record {
       within = omega (arith, length-drop done bytes, written.within);
-      appends = rw (take-add done count bytes) (appends_more old middle new (take done bytes) (take count (drop done bytes)) written.appends (rw left at appends));
+      appends = rw (take-add done count bytes) (appends_more old middle new (take done bytes) (take count (drop done bytes)) written.appends (rw left at taken.appends));
     }
 
 pub written_begun : (old middle new : Option (List ℕ)) (bytes : List ℕ) (done : ℕ) → IsWritten old middle bytes done → Keeps middle new → HasBegun old new bytes

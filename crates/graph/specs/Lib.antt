@@ -1,10 +1,14 @@
-pub mod Collected
-pub mod Entry
+-- What a reader has to believe, in this order: what stands in a line, which numbers it writes, what it means, and which
+-- graph the lines of a text say.
 pub mod Fields
-pub mod Graph
-pub mod Line
 pub mod Number
-pub mod Parts
-pub mod Placed
-pub mod Print
+pub mod Line
 pub mod Said
+pub mod Entry
+pub mod Graph
+-- the parts of a graph, and what is printed
+pub mod Parts
+pub mod Output
+pub mod Print
+-- what only mirrors the code, for its proofs
+pub mod inside

@@ -1,9 +1,8 @@
 //! What the lines of a text say, line by line.
 
-ghost use Rattle.std.specs.Prelude.{◌≡◌, ◌≢◌, ◌≤◌, ◌++◌, ◌∷◌, [], List, IfOk, IfErr, OnOk, length};
+ghost use Rattle.std.specs.Prelude.{◌≢◌, IfOk, IfErr, OnOk};
 ghost use Rattle.graph.specs.declared.fault.GraphFault.TheVariants.{OutOfMemory};
-ghost use Rattle.graph.specs.declared.line.Line.{Line as AnyLine};
-ghost use Rattle.graph.specs.Collected.{AddsEdge, AddsVertex, CanBeSaid, Says};
+ghost use Rattle.graph.specs.inside.Collected.{AddsEdge, AddsLine, AddsVertex, CanBeSaid, IsFullOfEdges, IsFullOfVertices, RefusesLine, Says};
 ghost use Rattle.graph.specs.Entry.{entry_of};
 ghost use Rattle.graph.specs.Said.{lines_of};
 
@@ -37,9 +36,8 @@ pub fn collect(alloc: Global, text: &str) -> Result<Collected, GraphFault>
 impl Collected {
     // Adds what the line of this number says.
     fn add(&mut self, alloc: Global, number: usize, line: Line) -> Result<(), GraphFault>
-        ensures says { OnOk result ((before : List AnyLine) → Says before self.old → Says (before ++ line ∷ []) self.new) }
-        ensures only { IfErr result (λ told. told ≢ OutOfMemory → (before : List AnyLine) → Says before self.old
-            → ¬ CanBeSaid (before ++ line ∷ [])) }
+        ensures says { OnOk result (AddsLine line self.old self.new) }
+        ensures only { IfErr result (λ told. told ≢ OutOfMemory → RefusesLine line self.old) }
     {
         match line {
             Line::Blank => Ok(()),
@@ -62,7 +60,7 @@ impl Collected {
 
     fn add_vertex(&mut self, number: usize, vertex: Vertex) -> Result<(), GraphFault>
         ensures added { OnOk result (AddsVertex self.old self.new (entry_of vertex)) }
-        ensures only { IfErr result (λ told. told ≢ OutOfMemory → MAX_VERTICES ≤ length self.old.vertices.items) }
+        ensures only { IfErr result (λ told. told ≢ OutOfMemory → IsFullOfVertices self.old) }
     {
         if self.vertices.len() >= MAX_VERTICES {
             return Err(GraphFault::OverLimit(number));
@@ -73,7 +71,7 @@ impl Collected {
 
     fn add_edge(&mut self, number: usize, edge: Edge) -> Result<(), GraphFault>
         ensures added { OnOk result (AddsEdge self.old self.new edge) }
-        ensures only { IfErr result (λ told. told ≢ OutOfMemory → MAX_EDGES ≤ length self.old.edges.items) }
+        ensures only { IfErr result (λ told. told ≢ OutOfMemory → IsFullOfEdges self.old) }
     {
         if self.edges.len() >= MAX_EDGES {
             return Err(GraphFault::OverLimit(number));

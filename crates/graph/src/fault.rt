@@ -4,6 +4,7 @@ ghost use Rattle.std.specs.Prelude.{◌≡◌};
 ghost use Rattle.graph.specs.declared.fault.GraphFault.TheVariants as fault;
 ghost use Rattle.graph.specs.declared.fault.PrintFault.TheVariants as print_fault;
 
+use crate::output::Unwritten;
 use std::alloc::{AllocError, AllocFailed};
 use thiserror::Error;
 
@@ -62,5 +63,13 @@ impl From<AllocError> for PrintFault {
 
     fn from(_: AllocError) -> PrintFault {
         PrintFault::OutOfMemory
+    }
+}
+
+impl From<Unwritten> for PrintFault {
+    ghost from_gives = { λ _ told. told ≡ print_fault.Device };
+
+    fn from(_: Unwritten) -> PrintFault {
+        PrintFault::Device
     }
 }

@@ -2,9 +2,9 @@
 
 ghost use Rattle.std.specs.Prelude.{◌≡◌, ◌≢◌, List, IfOk, IfErr, MatchResult};
 ghost use Rattle.graph.specs.declared.fault.GraphFault.TheVariants.{OutOfMemory};
-ghost use Rattle.graph.specs.Collected.{Says};
+ghost use Rattle.graph.specs.inside.Collected.{Says};
 ghost use Rattle.graph.specs.Entry.{Entry, FitsLimits, IsProper, entries_of, entry_of};
-ghost use Rattle.graph.specs.Graph.{IsGraphText, IsWithinLimits};
+ghost use Rattle.graph.specs.Graph.{IsGraphText, IsWithinLimits, MeansNoGraph};
 ghost use Rattle.graph.specs.Said.{lines_of};
 
 use crate::collect::{Collected, collect};
@@ -47,7 +47,8 @@ impl Graph {
     /// Lines are tried from the top, and in a line the faults in this order: `Line`, `Number`, `OverLimit` (more than
     /// 1,000,000 vertices or 10,000,000 edges), `DuplicateVertex`. `UnknownEnd` comes last, at its first line.
     pub fn read(alloc: Global, text: &str) -> Result<Graph, GraphFault>
-        ensures found { IfOk result (λ graph. IsGraphText text.now graph × IsWithinLimits text.now) }
+        ensures found { IfOk result (λ graph. IsGraphText text.now graph
+            × IsWithinLimits text.now) }
         // The graph that the text means is read, unless memory runs out.
         ensures only { (graph : List Entry) → IsGraphText text.now graph → IsWithinLimits text.now
             → MatchResult result (λ read. read ≡ graph) (λ fault. fault ≡ OutOfMemory) }
@@ -101,7 +102,7 @@ impl Graph {
 fn joined(alloc: Global, text: &str, collected: Collected) -> Result<Vec<Vertex>, GraphFault>
     requires { Says (lines_of text.now) collected }
     ensures found { IfOk result (λ vertices. IsGraphText text.now (entries_of vertices.items)) }
-    ensures only { IfErr result (λ told. told ≢ OutOfMemory → (graph : List Entry) → ¬ IsGraphText text.now graph) }
+    ensures only { IfErr result (λ told. told ≢ OutOfMemory → MeansNoGraph text.now) }
 {
     let mut vertices = collected.vertices;
     sort_by_id(&mut vertices);

@@ -1,10 +1,9 @@
 //! The parts of a graph.
 
-ghost use Rattle.std.specs.Prelude.{◌≡◌, ◌%◌, ◌<◌, ◌++◌, ◌∷◌, [], List, IfOk, OnOk, length, map, slice_index_or, slice_set};
-ghost use Rattle.std.specs.List.{flat_map};
+ghost use Rattle.std.specs.Prelude.{◌≡◌, ◌%◌, ◌<◌, [], List, IfOk, OnOk, length, map};
 ghost use Rattle.std.specs.List.Sorted.{IsPermutation};
 ghost use Rattle.graph.specs.Entry.{Entry, IsProper, entries_of, entry_of, parts_of};
-ghost use Rattle.graph.specs.Parts.{AreParts, part_entries};
+ghost use Rattle.graph.specs.Parts.{AreParts, HasOneMoreAt, all_entries, part_entries};
 
 use crate::graph::Graph;
 use crate::rising::sort_by_id;
@@ -30,7 +29,7 @@ pub fn part_of(id: u64, parts: u32) -> u32
 pub fn split(alloc: Global, graph: Graph, parts: u32) -> Result<Vec<Part>, AllocError>
     requires { 0 < parts }
     ensures parts { IfOk result (λ split. map part_entries split.items ≡ parts_of parts graph) }
-    ensures whole { IfOk result (λ split. IsPermutation (flat_map part_entries split.items) graph) }
+    ensures whole { IfOk result (λ split. IsPermutation (all_entries split.items) graph) }
 {
     let mut split = empty_parts(alloc, parts)?;
     for vertex in graph.into_vertices() {
@@ -43,7 +42,7 @@ pub fn split(alloc: Global, graph: Graph, parts: u32) -> Result<Vec<Part>, Alloc
 /// The graph whose parts these are, in any order. The edges are moved, not copied.
 pub fn join(alloc: Global, parts: Vec<Part>) -> Result<Graph, AllocError>
     requires { AreParts parts.items }
-    ensures { (graph : List Entry) → IsProper graph → IsPermutation (flat_map part_entries parts.items) graph
+    ensures { (graph : List Entry) → IsProper graph → IsPermutation (all_entries parts.items) graph
         → IfOk result (λ joined. joined ≡ graph) }
 {
     let mut vertices = together(alloc, parts)?;
@@ -65,8 +64,7 @@ fn empty_parts(alloc: Global, count: u32) -> Result<Vec<Part>, AllocError>
 
 fn push_vertex(parts: &mut Vec<Part>, place: usize, vertex: Vertex) -> Result<(), AllocError>
     requires { place < length parts.old.items }
-    ensures { OnOk result (map part_entries parts.new.items ≡ slice_set (map part_entries parts.old.items) place
-        (slice_index_or (map part_entries parts.old.items) place [] ++ entry_of vertex ∷ [])) }
+    ensures { OnOk result (HasOneMoreAt place parts.old.items parts.new.items (entry_of vertex)) }
 {
     let part = &mut parts[place];
     part.vertices.push(vertex)?;
@@ -75,7 +73,7 @@ fn push_vertex(parts: &mut Vec<Part>, place: usize, vertex: Vertex) -> Result<()
 
 // The vertices of all parts, one part after another.
 fn together(alloc: Global, parts: Vec<Part>) -> Result<Vec<Vertex>, AllocError>
-    ensures { IfOk result (λ vertices. entries_of vertices.items ≡ flat_map part_entries parts.items) }
+    ensures { IfOk result (λ vertices. entries_of vertices.items ≡ all_entries parts.items) }
 {
     let mut vertices = Vec::new(alloc);
     for part in parts {

@@ -1,11 +1,11 @@
 //! The edges, at the vertices that they leave.
 
-ghost use Rattle.std.specs.Prelude.{◌≡◌, ◌≢◌, ◌++◌, ◌∷◌, [], ◌<◌, MatchOption, length, map, slice_index, IfErr, IfOk, OnOk};
+ghost use Rattle.std.specs.Prelude.{◌≡◌, ◌≢◌, ◌<◌, MatchOption, length, map, IfErr, IfOk, OnOk};
 ghost use Rattle.std.specs.List.{Contains};
 ghost use Rattle.std.specs.List.Sorted.{IsStrictlyIncreasing};
 ghost use Rattle.graph.specs.declared.fault.GraphFault.TheVariants.{OutOfMemory};
 ghost use Rattle.graph.specs.Entry.{entries_of, ids, vertex_id};
-ghost use Rattle.graph.specs.Placed.{AreEndsAmong, set_edge, with_edges};
+ghost use Rattle.graph.specs.inside.Placed.{HaveEnds, LeavesAt, PlacesEdge, PlacesEdges, StandsAt};
 
 use crate::fault::GraphFault;
 use crate::fault_lines::line_of_edge;
@@ -23,9 +23,10 @@ pub fn place_edges(
     vertices: &mut Vec<Vertex>,
 ) -> Result<(), GraphFault>
     requires { IsStrictlyIncreasing (ids (entries_of vertices.old.items)) }
-    ensures placed { OnOk result (entries_of vertices.new.items ≡ map (with_edges edges.now) (entries_of vertices.old.items)) }
-    ensures ends { OnOk result (AreEndsAmong (ids (entries_of vertices.old.items)) edges.now) }
-    ensures only { IfErr result (λ told. told ≢ OutOfMemory → ¬ AreEndsAmong (ids (entries_of vertices.old.items)) edges.now) }
+    ensures placed { OnOk result (PlacesEdges edges.now vertices.old.items vertices.new.items) }
+    ensures ends { OnOk result (HaveEnds vertices.old.items edges.now) }
+    ensures only { IfErr result (λ told. told ≢ OutOfMemory
+        → ¬ HaveEnds vertices.old.items edges.now) }
 {
     let ids = ids_of(alloc, vertices)?;
     for index in 0..edges.len() {
@@ -49,7 +50,7 @@ fn ids_of(alloc: Global, vertices: &[Vertex]) -> Result<Vec<u64>, AllocError>
 fn source_of(ids: &[u64], edge: Edge) -> Option<usize>
     requires { IsStrictlyIncreasing ids.now }
     ensures { MatchOption result (Contains ids.now edge.from → ¬ Contains ids.now edge.target)
-        (λ place. (place < length ids.now) × (slice_index ids.now place ≡ edge.from) × Contains ids.now edge.target) }
+        (LeavesAt ids.now edge) }
 {
     place_of(ids, edge.target)?;
     place_of(ids, edge.from)
@@ -58,14 +59,14 @@ fn source_of(ids: &[u64], edge: Edge) -> Option<usize>
 // Where an id stands among ids that rise.
 fn place_of(ids: &[u64], id: u64) -> Option<usize>
     requires { IsStrictlyIncreasing ids.now }
-    ensures { MatchOption result (¬ Contains ids.now id) (λ place. (place < length ids.now) × (slice_index ids.now place ≡ id)) }
+    ensures { MatchOption result (¬ Contains ids.now id) (StandsAt ids.now id) }
 {
     ids.binary_search(&id).ok()
 }
 
 fn push_edge(vertices: &mut Vec<Vertex>, source: usize, edge: Edge) -> Result<(), GraphFault>
     requires { source < length vertices.old.items }
-    ensures pushed { OnOk result (entries_of vertices.new.items ≡ set_edge (entries_of vertices.old.items) source edge) }
+    ensures pushed { OnOk result (PlacesEdge source vertices.old.items vertices.new.items edge) }
     ensures only { IfErr result (λ told. told ≡ OutOfMemory) }
 {
     let vertex = &mut vertices[source];

@@ -8,7 +8,8 @@ use crate::vertex::Vertex;
 
 /// Puts the vertices in the order of their ids. It takes no memory.
 pub fn sort_by_id(vertices: &mut Vec<Vertex>)
-    ensures permutation { IsPermutation (entries_of vertices.old.items) (entries_of vertices.new.items) }
+    ensures permutation { IsPermutation
+        (entries_of vertices.old.items) (entries_of vertices.new.items) }
     ensures sorted { IsNonDecreasing (ids (entries_of vertices.new.items)) }
 {
     vertices.sort_unstable_by_key(|vertex| vertex.id);

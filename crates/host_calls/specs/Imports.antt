@@ -2,6 +2,7 @@
 use Rattle.std.specs.Prelude.{◌≡◌, ℕ, List, [], ◌∷◌, Option, find, codes, if◌then◌else◌, None, bytes_eq}
 use Rattle.wasm_ast.specs.declared.types.ValType.TheVariants.{I32, I64}
 use Rattle.wasm_ast.specs.declared.types.FuncType.{FuncType}
+use Rattle.wasm_ast.specs.declared.module.Import.{Import}
 use Rattle.host_calls.specs.declared.imports.HostCall.{HostCall}
 use Rattle.host_calls.specs.declared.imports.HostCall.TheVariants.{VertexId, Superstep, NumVertices, GetValue, SetValue, NextMessage, MessageValue, NextEdge, EdgeTarget, EdgeValue, Send, Aggregate, Aggregated, VoteToHalt}
 
@@ -52,6 +53,10 @@ all_calls =
 abbrev pub call_named : List ℕ → List ℕ → Option HostCall
 call_named «module» name =
     if bytes_eq «module» module_name then find (λ call. bytes_eq (name_of call) name) all_calls else None
+
+-- the call that the import brings in by its module and its name, whatever its type
+abbrev pub call_of : Import → Option HostCall
+call_of i = call_named i.«module» i.name
 
 -- An import of this module, name and type brings in the call.
 pub record BringsIn («module» name : List ℕ) (func_type : FuncType) (call : HostCall) : Type 0 where

@@ -51,7 +51,8 @@ impl HostCall {
     /// The one that an import of this module, name and type brings in, if there is one.
     pub fn of_import(module: &str, name: &str, func_type: &FuncType) -> Option<HostCall>
         ensures found { IfSome result (BringsIn «module».now name.now func_type.now) }
-        ensures none { IfNone result ((call : AnyCall) → BringsIn «module».now name.now func_type.now call → ⊥) }
+        ensures none { IfNone result ((call : AnyCall)
+            → BringsIn «module».now name.now func_type.now call → ⊥) }
     {
         let call = HostCall::named(module, name)?;
         if call.has_type(func_type) {

@@ -22,10 +22,12 @@ pub fn letters_drop_alike_in_any_order()
 /// Where each source's letters are taken in the order of sending, and the sources as they rise, an
 /// inbox is the concatenation of what each source sent to it.
 pub fn inboxes_are_concatenated_by_source()
-    ensures ordered { (sources : List ℕ) (sent_by : ℕ → List AnyLetter) → IsStrictlySortedBy nat_cmp sources
+    ensures ordered { (sources : List ℕ) (sent_by : ℕ → List AnyLetter)
+        → IsStrictlySortedBy nat_cmp sources
         → ((source : ℕ) → All (λ letter. letter.from ≡ source) (sent_by source))
         → ((source : ℕ) → IsStrictlySortedBy (λ a b. nat_cmp a.seq b.seq) (sent_by source))
         → IsStrictlySortedBy source_cmp (flat_map sent_by sources) }
     ensures inbox { (sources : List ℕ) (sent_by : ℕ → List AnyLetter) (id : ℕ)
-        → inbox_of (flat_map sent_by sources) id ≡ flat_map (λ source. inbox_of (sent_by source) id) sources }
+        → inbox_of (flat_map sent_by sources) id
+        ≡ flat_map (λ source. inbox_of (sent_by source) id) sources }
 {}

@@ -39,7 +39,8 @@ pub fn merge(
 // The letters by source, and those of one source in the order of sending.
 fn by_source(alloc: Global, letters: &[Letter]) -> Result<Vec<&Letter>, AllocError>
     requires { IsDistinct are_one letters.now }
-    ensures { IfOk result (λ ordered. IsBySource letters.now (map (λ letter. letter.now) ordered.items)) }
+    ensures { IfOk result (λ ordered.
+        IsBySource letters.now (map (λ letter. letter.now) ordered.items)) }
 {
     let mut ordered: Vec<&Letter> = letters.iter().collect(alloc)?;
     ordered.sort_unstable_by_key(|letter| (letter.from, letter.seq));
@@ -60,7 +61,8 @@ fn empty_inboxes(alloc: Global, count: usize) -> Result<Vec<Inbox>, AllocError>
 fn deliver(letter: &Letter, ids: &[u64], inboxes: &mut [Inbox]) -> Result<bool, AllocError>
     requires rising { IsStrictlyIncreasing ids.now }
     requires one_each { length inboxes.old ≡ length ids.now }
-    ensures delivered { OnOk result ((sent : List AnyLetter) → inboxes.old ≡ map (inbox_of sent) ids.now
+    ensures delivered { OnOk result ((sent : List AnyLetter)
+        → inboxes.old ≡ map (inbox_of sent) ids.now
         → inboxes.new ≡ map (inbox_of (sent ++ letter.now ∷ [])) ids.now) }
     ensures found { IfOk result (λ found. found ≡ list_any (goes_to letter.now) ids.now) }
 {

@@ -18,11 +18,13 @@ use Rattle.wasm_ast.specs.declared.plain.Branch.{Branch}
 use Rattle.wasm_ast.specs.declared.plain.Branch.TheVariants as branch
 use Rattle.wasm_ast.specs.declared.module.Function.{Function}
 use Rattle.wasm_ast.specs.declared.module.Module.{Module}
+use Rattle.wasm_ast.specs.declared.body.Instr.TheVariants as instr
 use Rattle.wasm_ast.specs.Code.{Code}
 use Rattle.wasm_ast.specs.Code as code
 use Rattle.wasm_ast.specs.Numeric.{bits_of, conversion_from, division_traps, division_value}
 use Rattle.wasm_ast.specs.Values.{zero_of}
 use Rattle.wasm_ast.specs.Widths.{store_type}
+use Rattle.cost.specs.LeastUnits.{units_least}
 use Rattle.host_calls.specs.declared.imports.HostCall.{HostCall}
 use Rattle.host_calls.specs.Effects.{HostEffect, host_effect}
 use Rattle.host_calls.specs.Effects as host
@@ -31,8 +33,8 @@ use Rattle.interp.specs.Configuration.{State, with_locals, with_globals, tick, E
 use Rattle.interp.specs.Effects.{value, popped, numeric_effect, discard, select, pushed, variable_effect, load_effect, store_effect, memory_effect, effect, lifted}
 use Rattle.interp.specs.Machine as machine
 use Rattle.interp.specs.Machine.{Machine, Running, Done, Trapped, Stuck, Layer, Label, Frame, Callee, defined, functions_of, landed, arrive, jump, back, leave, label_of, taking, branch_unless_zero, take_branch, gives_one, after_effect, take_call, next_units, take_next, first, carry, advance, run}
-use Rattle.interp.specs.Place.{Place, running}
-use Rattle.interp.specs.Walk.{left_of}
+use Rattle.interp.specs.inside.Place.{Place, running}
+use Rattle.interp.specs.inside.Walk.{left_of}
 
 -- ---- effects leave the count as it is
 
@@ -209,10 +211,10 @@ module _ (k n : ℕ) where
   within_next m vs (code.loop t body is) ls st e h = (e, h)
   within_next m vs (code.choice t body other is) ls st e h = within_taking vs st.count _ e (λ i us. (e, h))
 
-ticked : (m : Module) (vs : List Value) (next : Code) (ls : List Layer) (st : State) → Within (st.count + next_units next) (suc (length ls)) (take_next m vs next ls (tick (next_units next) st))
-ticked m vs next ls st = within_next (st.count + next_units next) (suc (length ls)) m vs next ls (tick (next_units next) st) refl (omega arith)
+ticked : (m : Module) (vs : List Value) (next : Code) (ls : List Layer) (st : State) → Within (st.count + next_units m next) (suc (length ls)) (take_next m vs next ls (tick (next_units m next) st))
+ticked m vs next ls st = within_next (st.count + next_units m next) (suc (length ls)) m vs next ls (tick (next_units m next) st) refl (omega arith)
 
-pub within : (m : Module) (vs : List Value) (next : Code) (ls : List Layer) (st : State) → Within (st.count + next_units next) (suc (length ls)) (advance m (Running vs next ls st))
+pub within : (m : Module) (vs : List Value) (next : Code) (ls : List Layer) (st : State) → Within (st.count + next_units m next) (suc (length ls)) (advance m (Running vs next ls st))
 within m vs code.end ls st = within_leave (st.count + 0) (suc (length ls)) vs ls st (omega arith) (omega arith)
 within m vs (code.plain p is) ls st = ticked m vs (code.plain p is) ls st
 within m vs (code.branch b is) ls st = ticked m vs (code.branch b is) ls st
@@ -246,7 +248,7 @@ counted_more j k (Stuck c) h g = omega (arith, h, g)
 
 counted_step : (m : Module) (k : ℕ) (x : Machine) → Counted k x → Counted k (advance m x)
 counted_step m k (Running vs is ls st) c =
-    counted_more k (st.count + next_units is) (advance m (Running vs is ls st)) (omega (arith, c)) (counted_within (st.count + next_units is) (suc (length ls)) _ (within m vs is ls st))
+    counted_more k (st.count + next_units m is) (advance m (Running vs is ls st)) (omega (arith, c)) (counted_within (st.count + next_units m is) (suc (length ls)) _ (within m vs is ls st))
 counted_step m k (Done st) c = c
 counted_step m k (Trapped n) c = c
 counted_step m k (Stuck n) c = c
@@ -256,9 +258,9 @@ counted_run m zero k x c = c
 counted_run m (suc n) k x c = counted_run m n k (advance m x) (counted_step m k x c)
 
 -- after an instruction its units are counted
-pub counted_after : (m : Module) (n : ℕ) (vs : List Value) (next : Code) (ls : List Layer) (st : State) → Counted (st.count + next_units next) (run m (suc n) (Running vs next ls st))
+pub counted_after : (m : Module) (n : ℕ) (vs : List Value) (next : Code) (ls : List Layer) (st : State) → Counted (st.count + next_units m next) (run m (suc n) (Running vs next ls st))
 counted_after m n vs next ls st =
-    counted_run m n (st.count + next_units next) (advance m (Running vs next ls st)) (counted_within (st.count + next_units next) (suc (length ls)) _ (within m vs next ls st))
+    counted_run m n (st.count + next_units m next) (advance m (Running vs next ls st)) (counted_within (st.count + next_units m next) (suc (length ls)) _ (within m vs next ls st))
 
 -- ---- nearer to the end
 
@@ -268,38 +270,38 @@ Nearer b n (Done st) = Unit {0}
 Nearer b n (Trapped c) = Unit {0}
 Nearer b n (Stuck c) = Unit {0}
 
-nearer_within : (b c n : ℕ) (x : Machine) → c + 1 ≤ b → Within (c + 1) (suc n) x → Nearer b (2 * (b - c) + n) x
-nearer_within b c n (Running vs is ls st) h w = omega (arith, w.0, w.1, h)
-nearer_within b c n (Done st) h w = tt
-nearer_within b c n (Trapped k) h w = tt
-nearer_within b c n (Stuck k) h w = tt
+nearer_within : (b c u n : ℕ) (x : Machine) → 1 ≤ u → c + u ≤ b → Within (c + u) (suc n) x → Nearer b (2 * (b - c) + n) x
+nearer_within b c u n (Running vs is ls st) l h w = omega (arith, w.0, w.1, l, h)
+nearer_within b c u n (Done st) l h w = tt
+nearer_within b c u n (Trapped k) l h w = tt
+nearer_within b c u n (Stuck k) l h w = tt
 
 nearer_leave : (b : ℕ) (vs : List Value) (ls : List Layer) (st : State) → Nearer b (2 * (b - st.count) + length ls) (leave vs ls st)
 nearer_leave b vs [] st = tt
 nearer_leave b vs (Label keeps us t a ∷ ls) st = omega arith
 nearer_leave b vs (Frame keeps xs us a ∷ ls) st = omega arith
 
-nearer_counted : (m : Module) (b : ℕ) (vs : List Value) (next : Code) (ls : List Layer) (st : State) → next_units next ≡ 1 → st.count + 1 ≤ b → Nearer b (2 * (b - st.count) + length ls) (advance m (Running vs next ls st))
-nearer_counted m b vs next ls st e h =
-    nearer_within b st.count (length ls) (advance m (Running vs next ls st)) h (subst (λ (u : ℕ). Within (st.count + u) (suc (length ls)) (advance m (Running vs next ls st))) e (within m vs next ls st))
+nearer_counted : (m : Module) (b : ℕ) (vs : List Value) (next : Code) (ls : List Layer) (st : State) → 1 ≤ next_units m next → st.count + next_units m next ≤ b → Nearer b (2 * (b - st.count) + length ls) (advance m (Running vs next ls st))
+nearer_counted m b vs next ls st l h =
+    nearer_within b st.count (next_units m next) (length ls) (advance m (Running vs next ls st)) l h (within m vs next ls st)
 
-nearer : (m : Module) (b : ℕ) (vs : List Value) (next : Code) (ls : List Layer) (st : State) → st.count + next_units next ≤ b → Nearer b (2 * (b - st.count) + length ls) (advance m (Running vs next ls st))
+nearer : (m : Module) (b : ℕ) (vs : List Value) (next : Code) (ls : List Layer) (st : State) → st.count + next_units m next ≤ b → Nearer b (2 * (b - st.count) + length ls) (advance m (Running vs next ls st))
 nearer m b vs code.end ls st h = nearer_leave b vs ls st
-nearer m b vs (code.plain p is) ls st h = nearer_counted m b vs (code.plain p is) ls st refl h
-nearer m b vs (code.branch c is) ls st h = nearer_counted m b vs (code.branch c is) ls st refl h
-nearer m b vs (code.call f is) ls st h = nearer_counted m b vs (code.call f is) ls st refl h
-nearer m b vs (code.call_indirect t is) ls st h = nearer_counted m b vs (code.call_indirect t is) ls st refl h
-nearer m b vs (code.unreachable is) ls st h = nearer_counted m b vs (code.unreachable is) ls st refl h
-nearer m b vs (code.block t body is) ls st h = nearer_counted m b vs (code.block t body is) ls st refl h
-nearer m b vs (code.loop t body is) ls st h = nearer_counted m b vs (code.loop t body is) ls st refl h
-nearer m b vs (code.choice t body other is) ls st h = nearer_counted m b vs (code.choice t body other is) ls st refl h
+nearer m b vs (code.plain p is) ls st h = nearer_counted m b vs (code.plain p is) ls st (units_least m (instr.Plain p)) h
+nearer m b vs (code.branch c is) ls st h = nearer_counted m b vs (code.branch c is) ls st (units_least m (instr.Branch c)) h
+nearer m b vs (code.call f is) ls st h = nearer_counted m b vs (code.call f is) ls st (units_least m (instr.Call f)) h
+nearer m b vs (code.call_indirect t is) ls st h = nearer_counted m b vs (code.call_indirect t is) ls st (units_least m (instr.CallIndirect t)) h
+nearer m b vs (code.unreachable is) ls st h = nearer_counted m b vs (code.unreachable is) ls st (units_least m instr.Unreachable) h
+nearer m b vs (code.block t body is) ls st h = nearer_counted m b vs (code.block t body is) ls st (units_least m (instr.Block t body)) h
+nearer m b vs (code.loop t body is) ls st h = nearer_counted m b vs (code.loop t body is) ls st (units_least m (instr.Loop t body)) h
+nearer m b vs (code.choice t body other is) ls st h = nearer_counted m b vs (code.choice t body other is) ls st (units_least m (instr.If t body other)) h
 
-pub falls : (m : Module) (b : ℕ) (p q : Place) → advance m (running p) ≡ running q → p.state.count + next_units p.code ≤ b → left_of b q < left_of b p
+pub falls : (m : Module) (b : ℕ) (p q : Place) → advance m (running p) ≡ running q → p.state.count + next_units m p.code ≤ b → left_of b q < left_of b p
 falls m b p q e h = subst (λ (x : Machine). Nearer b (left_of b p) x) e (nearer m b p.values p.code p.layers p.state h)
 
 -- the count where the step came
-pub counted_running : (m : Module) (p q : Place) → advance m (running p) ≡ running q → q.state.count ≡ p.state.count + next_units p.code
-counted_running m p q e = (subst (λ (x : Machine). Within (p.state.count + next_units p.code) (suc (length p.layers)) x) e (within m p.values p.code p.layers p.state)).0
+pub counted_running : (m : Module) (p q : Place) → advance m (running p) ≡ running q → q.state.count ≡ p.state.count + next_units m p.code
+counted_running m p q e = (subst (λ (x : Machine). Within (p.state.count + next_units m p.code) (suc (length p.layers)) x) e (within m p.values p.code p.layers p.state)).0
 
-pub counted_over : (m : Module) (p : Place) (x : Machine) → advance m (running p) ≡ x → Within (p.state.count + next_units p.code) (suc (length p.layers)) x
-counted_over m p x e = subst (λ (x : Machine). Within (p.state.count + next_units p.code) (suc (length p.layers)) x) e (within m p.values p.code p.layers p.state)
+pub counted_over : (m : Module) (p : Place) (x : Machine) → advance m (running p) ≡ x → Within (p.state.count + next_units m p.code) (suc (length p.layers)) x
+counted_over m p x e = subst (λ (x : Machine). Within (p.state.count + next_units m p.code) (suc (length p.layers)) x) e (within m p.values p.code p.layers p.state)

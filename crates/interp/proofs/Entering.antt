@@ -11,6 +11,8 @@ use Rattle.wasm_ast.specs.Code.{Code}
 use Rattle.wasm_ast.specs.Code as code
 use Rattle.wasm_ast.specs.Values.{zero_of}
 use Rattle.host_calls.specs.declared.imports.HostCall.{HostCall}
+use Rattle.cost.specs.Weights.{call_units}
+use Rattle.cost.specs.LeastUnits.{call_least}
 use Rattle.host_calls.specs.Imports.{type_of_call}
 use Rattle.bounded_profile.specs.declared.wants.Want.TheVariants as want
 use Rattle.validate.specs.Spaces.{first_type}
@@ -29,7 +31,7 @@ use Rattle.interp.proofs.Plains.{context}
 use Rattle.interp.proofs.Hosts.{host_given}
 use Rattle.interp.proofs.Callees.{IsHostFunction, IsDefinedFunction}
 use Rattle.interp.proofs.Lengths.{changes_length, host_length, defined_length, kinds_count}
-use Rattle.interp.proofs.Reach.{IsLow, Reach, Reaches, GoodCode, larger}
+use Rattle.interp.proofs.Reach.{IsLow, Named, Reach, Reaches, GoodCode, larger}
 use Rattle.interp.proofs.Calling.{inside, call}
 use Rattle.interp.proofs.Codes.{acts}
 
@@ -74,24 +76,24 @@ module _ (m : Module) (H F : ℕ) (lo : List ValType) (o : Option ValType) (labe
   host_changes f t g from to c =
       subst (λ (u : FuncType). TypedCall (Some g.call) u from to) g.typed (subst (λ (hc : Option HostCall). TypedCall hc t from to) g.named c)
 
-  host_good : (f s : ℕ) (t : FuncType) (g : IsHostFunction m f t) (from to : List Kind) → TypedCall (host_call_at m f) t from to → (vs : List Value) (is : Code) (ls : List Layer) (st : State) → HasKinds vs from → Sound m lo st → IsLow H F (Running vs (code.call f is) ls st) → Reaches m H F (context m lo o labels) (1 + s) (Running vs (code.call f is) ls st) is ls st to
+  host_good : (f s : ℕ) (t : FuncType) (g : IsHostFunction m f t) (from to : List Kind) → TypedCall (host_call_at m f) t from to → (vs : List Value) (is : Code) (ls : List Layer) (st : State) → HasKinds vs from → Sound m lo st → IsLow H F (Running vs (code.call f is) ls st) → Reaches m H F (context m lo o labels) (Named (code.call f code.end)) (call_units m f + s) (Running vs (code.call f is) ls st) is ls st to
   host_good f s t g from to c vs is ls st h sound low =
       let d = host_changes f t g from to c in
       let r = takes (memory_bytes m) (call_wants (context m lo o labels) (Some g.call) (type_of_call g.call).parameters) vs from d.0 d.1 h in
-      let given = subst (λ (ks : List Kind). Given m lo (call_effect g.call vs (tick 1 st)) (tick 1 st) ks) (sym d.2) (host_given m lo g.call o labels vs r.0 (tick 1 st) d.0 r.1 r.2 (ticked m lo st sound)) in
-      larger m H F (context m lo o labels) 1 (1 + s) _ is ls st to (omega arith)
-      (acts m H F (context m lo o labels) (Running vs (code.call f is) ls st) (call_effect g.call vs (tick 1 st)) (st.count + 1) is ls st to low (ap (λ (x : Option Callee). take_call m x vs is ls (tick 1 st)) g.called) given)
+      let given = subst (λ (ks : List Kind). Given m lo (call_effect g.call vs (tick (call_units m f) st)) (tick (call_units m f) st) ks) (sym d.2) (host_given m lo g.call o labels vs r.0 (tick (call_units m f) st) d.0 r.1 r.2 (ticked m lo (call_units m f) st sound)) in
+      larger m H F (context m lo o labels) (Named (code.call f code.end)) (Named (code.call f code.end)) (λ l k. k) (call_units m f) (call_units m f + s) _ is ls st to (omega arith)
+      (acts m H F (call_units m f) (call_least m f) (context m lo o labels) (Named (code.call f code.end)) (Running vs (code.call f is) ls st) (call_effect g.call vs (tick (call_units m f) st)) (st.count + call_units m f) is ls st to low (ap (λ (x : Option Callee). take_call m x vs is ls (tick (call_units m f) st)) g.called) given)
 
   -- ---- calls of the module's functions
 
   defined_changes : (f : ℕ) (t : FuncType) (g : IsDefinedFunction m f t) (from to : List Kind) → TypedCall (host_call_at m f) t from to → TypedCall None t from to
   defined_changes f t g from to c = subst (λ (hc : Option HostCall). TypedCall hc t from to) g.unnamed c
 
-  enters : (f : ℕ) (t : FuncType) (g : IsDefinedFunction m f t) (vs : List Value) (is : Code) (ls : List Layer) (st : State) → length t.parameters ≤ length vs → advance m (Running vs (code.call f is) ls st) ≡ Running [] g.function.body (Frame (gives_one t.results) st.locals (drop (length t.parameters) vs) is ∷ ls) (with_locals (tick 1 st) (reverse (take (length t.parameters) vs) ++ map zero_of g.function.locals))
+  enters : (f : ℕ) (t : FuncType) (g : IsDefinedFunction m f t) (vs : List Value) (is : Code) (ls : List Layer) (st : State) → length t.parameters ≤ length vs → advance m (Running vs (code.call f is) ls st) ≡ Running [] g.function.body (Frame (gives_one t.results) st.locals (drop (length t.parameters) vs) is ∷ ls) (with_locals (tick (call_units m f) st) (reverse (take (length t.parameters) vs) ++ map zero_of g.function.locals))
   enters f t g vs is ls st n =
-      ap (λ (x : Option Callee). take_call m x vs is ls (tick 1 st)) g.called
-      ∙ ap (λ (x : Option FuncType). enter g.function x vs is ls (tick 1 st)) g.typed
-      ∙ ap (λ (b : Bool). if b then Running [] g.function.body (Frame (gives_one t.results) st.locals (drop (length t.parameters) vs) is ∷ ls) (with_locals (tick 1 st) (reverse (take (length t.parameters) vs) ++ map zero_of g.function.locals)) else Stuck (st.count + 1)) (le-leb (length t.parameters) (length vs) n)
+      ap (λ (x : Option Callee). take_call m x vs is ls (tick (call_units m f) st)) g.called
+      ∙ ap (λ (x : Option FuncType). enter g.function x vs is ls (tick (call_units m f) st)) g.typed
+      ∙ ap (λ (b : Bool). if b then Running [] g.function.body (Frame (gives_one t.results) st.locals (drop (length t.parameters) vs) is ∷ ls) (with_locals (tick (call_units m f) st) (reverse (take (length t.parameters) vs) ++ map zero_of g.function.locals)) else Stuck (st.count + call_units m f)) (le-leb (length t.parameters) (length vs) n)
 
   -- by their types, the lowest first
   own_arguments : (t : FuncType) (vs : List Value) (below : List Kind) → Arguments (reverse t.parameters) vs below → (length t.parameters ≤ length vs) × HasTypes (reverse (take (length t.parameters) vs)) t.parameters × HasKinds (drop (length t.parameters) vs) below × (length vs ≡ length t.parameters + length (drop (length t.parameters) vs))
@@ -104,7 +106,7 @@ module _ (m : Module) (H F : ℕ) (lo : List ValType) (o : Option ValType) (labe
   entered : (f s hf df r : ℕ) (t : FuncType) (g : IsDefinedFunction m f t) → GoodCode m H F (inside m (t.parameters ++ g.function.locals) (first_type t.results)) s hf df g.function.body [] (kinds (first_type t.results))
       → (from to : List Kind) → TypedCall (host_call_at m f) t from to → (vs : List Value) (is : Code) (ls : List Layer) (st : State) → HasKinds vs from → Sound m lo st → IsLow H F (Running vs (code.call f is) ls st)
       → beneath ls + (length vs - length t.parameters + hf) ≤ H → beneath ls + length to ≤ H → callers ls + r ≤ F → df < r → 1 ≤ df
-      → Reaches m H F (context m lo o labels) (1 + s) (Running vs (code.call f is) ls st) is ls st to
+      → Reaches m H F (context m lo o labels) (Named (code.call f code.end)) (call_units m f + s) (Running vs (code.call f is) ls st) is ls st to
   entered f s hf df r t g good from to c vs is ls st h sound low room after shallow less one =
       let d = defined_changes f t g from to c in
       let k = takes (memory_bytes m) (map want.Value (reverse t.parameters)) vs from d.0 d.1 h in
@@ -112,19 +114,19 @@ module _ (m : Module) (H F : ℕ) (lo : List ValType) (o : Option ValType) (labe
       let us = drop (length t.parameters) vs in
       let zs = reverse (take (length t.parameters) vs) ++ map zero_of g.function.locals in
       let inner = Frame (gives_one t.results) st.locals us is ∷ ls in
-      let there = with_locals (tick 1 st) zs in
+      let there = with_locals (tick (call_units m f) st) zs in
       let inner_sound : Sound m (t.parameters ++ g.function.locals) there = record {
         locals_typed = types-append (reverse (take (length t.parameters) vs)) (map zero_of g.function.locals) t.parameters g.function.locals a.1 (zeros_typed g.function.locals);
         globals_typed = sound.globals_typed;
         bytes_there = sound.bytes_there;
       } in
       let q = good [] inner there tt inner_sound (omega (arith, room, a.3)) (omega (arith, shallow, less)) in
-      let b = subst (λ (y : Machine). Reach m H F (inside m (t.parameters ++ g.function.locals) (first_type t.results)) s y code.end inner there (kinds (first_type t.results)) q.0) (sym (enters f t g vs is ls st a.0)) q.1 in
+      let b = subst (λ (y : Machine). Reach m H F (inside m (t.parameters ++ g.function.locals) (first_type t.results)) (Named g.function.body) s y code.end inner there (kinds (first_type t.results)) q.0) (sym (enters f t g vs is ls st a.0)) q.1 in
       let size = length-append (kinds (first_type t.results)) d.0 in
       let sum = ap (λ (ks : List Kind). length ks) d.2 in
       let left = kinds_length us d.0 a.2 in
-      subst (Reaches m H F (context m lo o labels) (1 + s) (Running vs (code.call f is) ls st) is ls st) (sym d.2)
-      (call m H F (context m lo o labels) (t.parameters ++ g.function.locals) (first_type t.results) (gives_one t.results) (gives_is t.results) s (Running vs (code.call f is) ls st) us is ls st zs d.0 a.2 sound low (omega (arith, after, size, sum, left)) (omega (arith, shallow, less, one)) q.0 b)
+      subst (Reaches m H F (context m lo o labels) (Named (code.call f code.end)) (call_units m f + s) (Running vs (code.call f is) ls st) is ls st) (sym d.2)
+      (call m H F (context m lo o labels) (t.parameters ++ g.function.locals) (first_type t.results) (gives_one t.results) (gives_is t.results) s (Running vs (code.call f is) ls st) us is ls st zs d.0 a.2 sound low (call_units m f) (call_least m f) (omega (arith, after, size, sum, left)) (omega (arith, shallow, less, one)) (Named g.function.body) (Named (code.call f code.end)) q.0 b)
 
   -- ---- both
 
@@ -151,7 +153,7 @@ module _ (m : Module) (H F : ℕ) (lo : List ValType) (o : Option ValType) (labe
   pub call_good : (f s hf df r : ℕ) (t : FuncType) (which : IsHostFunction m f t ⊎ IsDefinedFunction m f t) → ((g : IsDefinedFunction m f t) → (1 ≤ df) × GoodCode m H F (inside m (t.parameters ++ g.function.locals) (first_type t.results)) s hf df g.function.body [] (kinds (first_type t.results)))
       → (from to : List Kind) → TypedCall (host_call_at m f) t from to → (vs : List Value) (is : Code) (ls : List Layer) (st : State) → HasKinds vs from → Sound m lo st → IsLow H F (Running vs (code.call f is) ls st)
       → beneath ls + (length vs - length t.parameters + hf) ≤ H → beneath ls + length to ≤ H → callers ls + r ≤ F → df < r
-      → Reaches m H F (context m lo o labels) (1 + s) (Running vs (code.call f is) ls st) is ls st to
+      → Reaches m H F (context m lo o labels) (Named (code.call f code.end)) (call_units m f + s) (Running vs (code.call f is) ls st) is ls st to
   call_good f s hf df r t (inl g) good from to c vs is ls st h sound low room after shallow less = host_good f s t g from to c vs is ls st h sound low
   call_good f s hf df r t (inr g) good from to c vs is ls st h sound low room after shallow less =
       let k = good g in

@@ -105,29 +105,29 @@ most_same : (s t : ℕ → ℕ) (xs : List ℕ) → Same s t xs → most s xs �
 most_same s t [] h = refl
 most_same s t (x ∷ xs) h = let a = h.0 in let b = most_same s t xs h.1 in omega (arith, a, b)
 
-size_same : (s t : ℕ → ℕ) (is : Code) → Same s t (calls_of is) → code_size s is ≡ code_size t is
-size_same s t code.end h = refl
-size_same s t (code.plain p rest) h = let a = size_same s t rest h in omega (arith, a)
-size_same s t (code.branch b rest) h = let a = size_same s t rest h in omega (arith, a)
-size_same s t (code.call f rest) h = let a = size_same s t rest h.1 in let b = h.0 in omega (arith, a, b)
-size_same s t (code.call_indirect x rest) h = let a = size_same s t rest h in omega (arith, a)
-size_same s t (code.unreachable rest) h = let a = size_same s t rest h in omega (arith, a)
-size_same s t (code.block x body rest) h =
+size_same : (m : Module) (s t : ℕ → ℕ) (is : Code) → Same s t (calls_of is) → code_size m s is ≡ code_size m t is
+size_same m s t code.end h = refl
+size_same m s t (code.plain p rest) h = let a = size_same m s t rest h in omega (arith, a)
+size_same m s t (code.branch b rest) h = let a = size_same m s t rest h in omega (arith, a)
+size_same m s t (code.call f rest) h = let a = size_same m s t rest h.1 in let b = h.0 in omega (arith, a, b)
+size_same m s t (code.call_indirect x rest) h = let a = size_same m s t rest h in omega (arith, a)
+size_same m s t (code.unreachable rest) h = let a = size_same m s t rest h in omega (arith, a)
+size_same m s t (code.block x body rest) h =
     let p = halves s t (calls_of body) (calls_of rest) h in
-    let a = size_same s t body p.0 in
-    let b = size_same s t rest p.1 in
+    let a = size_same m s t body p.0 in
+    let b = size_same m s t rest p.1 in
     omega (arith, a, b)
-size_same s t (code.loop x body rest) h =
+size_same m s t (code.loop x body rest) h =
     let p = halves s t (calls_of body) (calls_of rest) h in
-    let a = size_same s t body p.0 in
-    let b = size_same s t rest p.1 in
+    let a = size_same m s t body p.0 in
+    let b = size_same m s t rest p.1 in
     omega (arith, a, b)
-size_same s t (code.choice x body other rest) h =
+size_same m s t (code.choice x body other rest) h =
     let p = halves s t (calls_of body) (calls_of other ++ calls_of rest) h in
     let q = halves s t (calls_of other) (calls_of rest) p.1 in
-    let a = size_same s t body p.0 in
-    let b = size_same s t other q.0 in
-    let d = size_same s t rest q.1 in
+    let a = size_same m s t body p.0 in
+    let b = size_same m s t other q.0 in
+    let d = size_same m s t rest q.1 in
     omega (arith, a, b, d)
 
 two : (n a b c d : ℕ) → a ≡ b → c ≡ d → max (n + a) c ≡ max (n + b) d
@@ -168,9 +168,9 @@ depth_along : (s t : ℕ → ℕ) (b : Option Code) → Same s t (calls_in b) �
 depth_along s t None h = refl
 depth_along s t (Some is) h = ap (λ n. 1 + n) (most_same s t (calls_of is) h)
 
-size_along : (s t : ℕ → ℕ) (b : Option Code) → Same s t (calls_in b) → size_in s b ≡ size_in t b
-size_along s t None h = refl
-size_along s t (Some is) h = size_same s t is h
+size_along : (m : Module) (s t : ℕ → ℕ) (b : Option Code) → Same s t (calls_in b) → size_in m s b ≡ size_in m t b
+size_along m s t None h = refl
+size_along m s t (Some is) h = size_same m s t is h
 
 peak_along : (m : Module) (s t : ℕ → ℕ) (b : Option Code) → Same s t (calls_in b) → peak_in m s b ≡ peak_in m t b
 peak_along m s t None h = refl
@@ -181,7 +181,7 @@ module _ (m : Module) (acyclic : Acyclic (callees m)) where
   depths_there = table m acyclic (λ s f. height s (body_of m f)) (λ s t f a. depth_along s t (body_of m f) (same_at s t (calls_in (body_of m f)) a))
 
   pub sizes_there : (sizes : ℕ → ℕ) × AreSizes m sizes
-  sizes_there = table m acyclic (λ s f. size_in s (body_of m f)) (λ s t f a. size_along s t (body_of m f) (same_at s t (calls_in (body_of m f)) a))
+  sizes_there = table m acyclic (λ s f. size_in m s (body_of m f)) (λ s t f a. size_along m s t (body_of m f) (same_at s t (calls_in (body_of m f)) a))
 
   pub heights_there : (heights : ℕ → ℕ) × AreHeights m heights
   heights_there = table m acyclic (λ s f. peak_in m s (body_of m f)) (λ s t f a. peak_along m s t (body_of m f) (same_at s t (calls_in (body_of m f)) a))

@@ -4,7 +4,7 @@ use Rattle.std.proofs.lemmas.Option.{slice_get-map}
 use Rattle.wasm_ast.specs.declared.module.Module.{Module}
 use Rattle.host_calls.specs.declared.imports.HostCall.{HostCall}
 use Rattle.interp.specs.Machine.{Callee, host, defined, functions_of, label_of}
-use Rattle.interp.specs.Meaning.{AreImports, host_callee}
+use Rattle.interp.specs.inside.Meaning.{AreImports, host_callee}
 
 nth_host : (calls : List HostCall) (fs : List Callee) (n : ℕ) (c : HostCall) → slice_get calls n ≡ Some c → slice_get (map host_callee calls ++ fs) n ≡ Some (host_callee c)
 nth_host [] fs n c e = absurd cc

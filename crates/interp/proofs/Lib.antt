@@ -7,8 +7,8 @@ pub mod Taking
 pub mod OneEnd
 pub mod RunLaws
 pub mod Counts
+pub mod Weighing
 pub mod Ending
-pub mod Answering
 pub mod Values
 pub mod Sound
 pub mod Plains
@@ -19,12 +19,17 @@ pub mod Reach
 pub mod Calling
 pub mod Loops
 pub mod Opening
+pub mod Closing
 pub mod Codes
 pub mod Entering
 pub mod Induction
 pub mod Fairness
 pub mod Starting
 pub mod Whole
+pub mod SequenceCounts
 pub mod Fixed
 pub mod Told
 pub mod Faults
+pub mod Imports
+pub mod Running
+pub mod Outcomes

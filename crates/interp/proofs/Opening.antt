@@ -15,6 +15,8 @@ use Rattle.host_calls.specs.declared.imports.HostCall.TheVariants.{NextMessage, 
 use Rattle.host_calls.specs.Imports.{type_of_call}
 use Rattle.host_calls.specs.Host.{take_message, take_edge}
 use Rattle.host_calls.specs.Effects.{answer}
+use Rattle.cost.specs.Weights.{plain_units, branch_units, call_units}
+use Rattle.cost.specs.LeastUnits.{plain_least, branch_least, call_least}
 use Rattle.bounded_profile.specs.declared.wants.Want.TheVariants as want
 use Rattle.validate.specs.Spaces.{first_type}
 use Rattle.bounded_profile.specs.Kinds.{Kind, Any, kinds, wants}
@@ -28,7 +30,7 @@ use Rattle.interp.specs.Heights.{beneath, callers}
 use Rattle.interp.proofs.Values.{HasKinds, IsTop, takes}
 use Rattle.interp.proofs.Sound.{Sound, items_left, ticked}
 use Rattle.interp.proofs.Plains.{context}
-use Rattle.interp.proofs.Reach.{Comes, Branches, GoodCode, comes_one, comes_on, cost_more}
+use Rattle.interp.proofs.Reach.{Comes, Branches, Named, GoodCode, renamed, comes_one, comes_on, cost_more, cost_tick}
 use Rattle.interp.proofs.Loops.{GoodTurn, Turned, goes}
 
 abbrev pub opening : ℕ → ℕ → Code → Code
@@ -67,119 +69,128 @@ module _ (m : Module) (ls : List ValType) (o : Option ValType) (labels : List (O
 -- ---- what the call does
 
 -- an item is taken
-pub record Took (m : Module) (ls : List ValType) (call : HostCall) (st : State) : Type 0 where
+pub record Took (m : Module) (ls : List ValType) (call : HostCall) (vs : List Value) (st : State) : Type 0 where
   pub after : State
-  pub gives : call_effect call [] st ≡ Gives (I32 1 ∷ []) after
+  pub gives : call_effect call vs st ≡ Gives (I32 1 ∷ vs) after
   pub sound : Sound m ls after
   pub items : items_left st.host ≡ 1 + items_left after.host
   pub counts : after.count ≡ st.count
 
-module _ (m : Module) (ls : List ValType) (st : State) (s : Sound m ls st) where
-  message_or_none : (ms : List ℤ) → st.host.messages ≡ ms → (call_effect NextMessage [] st ≡ Gives (I32 0 ∷ []) st) ⊎ Took m ls NextMessage st
-  message_or_none [] e = inl (ap (λ (xs : List ℤ). lifted st (answer (take_message xs st.host) [])) e)
+module _ (m : Module) (ls : List ValType) (vs : List Value) (st : State) (s : Sound m ls st) where
+  message_or_none : (ms : List ℤ) → st.host.messages ≡ ms → (call_effect NextMessage vs st ≡ Gives (I32 0 ∷ vs) st) ⊎ Took m ls NextMessage vs st
+  message_or_none [] e = inl (ap (λ (xs : List ℤ). lifted st (answer (take_message xs st.host) vs)) e)
   message_or_none (x ∷ ms) e =
       let n : length st.host.messages ≡ length (x ∷ ms) = ap (λ (l : List ℤ). length l) e in
       inr (record {
         after = with_host st (take_message (x ∷ ms) st.host).1;
-        gives = ap (λ (xs : List ℤ). lifted st (answer (take_message xs st.host) [])) e;
+        gives = ap (λ (xs : List ℤ). lifted st (answer (take_message xs st.host) vs)) e;
         sound = record { locals_typed = s.locals_typed; globals_typed = s.globals_typed; bytes_there = s.bytes_there };
         items = omega (arith, n);
         counts = refl;
       })
 
-  edge_or_none : (es : List (ℤ × ℤ)) → st.host.edges ≡ es → (call_effect NextEdge [] st ≡ Gives (I32 0 ∷ []) st) ⊎ Took m ls NextEdge st
-  edge_or_none [] e = inl (ap (λ (xs : List (ℤ × ℤ)). lifted st (answer (take_edge xs st.host) [])) e)
+  edge_or_none : (es : List (ℤ × ℤ)) → st.host.edges ≡ es → (call_effect NextEdge vs st ≡ Gives (I32 0 ∷ vs) st) ⊎ Took m ls NextEdge vs st
+  edge_or_none [] e = inl (ap (λ (xs : List (ℤ × ℤ)). lifted st (answer (take_edge xs st.host) vs)) e)
   edge_or_none (x ∷ es) e =
       let n : length st.host.edges ≡ length (x ∷ es) = ap (λ (l : List (ℤ × ℤ)). length l) e in
       inr (record {
         after = with_host st (take_edge (x ∷ es) st.host).1;
-        gives = ap (λ (xs : List (ℤ × ℤ)). lifted st (answer (take_edge xs st.host) [])) e;
+        gives = ap (λ (xs : List (ℤ × ℤ)). lifted st (answer (take_edge xs st.host) vs)) e;
         sound = record { locals_typed = s.locals_typed; globals_typed = s.globals_typed; bytes_there = s.bytes_there };
         items = omega (arith, n);
         counts = refl;
       })
 
-  pub item_or_none : (call : HostCall) → TakesItem (Some call) → (call_effect call [] st ≡ Gives (I32 0 ∷ []) st) ⊎ Took m ls call st
+  pub item_or_none : (call : HostCall) → TakesItem (Some call) → (call_effect call vs st ≡ Gives (I32 0 ∷ vs) st) ⊎ Took m ls call vs st
   item_or_none NextMessage i = message_or_none st.host.messages refl
   item_or_none NextEdge i = edge_or_none st.host.edges refl
   item_or_none _ i = absurd i
 
 -- ---- a turn
 
-cost_left : (a s u S b : ℕ) → 3 + s ≤ S → b ≤ a + 1 + 1 + 1 + s * (1 + u) → b ≤ a + S * (1 + u)
-cost_left a s u S b h k = cost_more (3 + s) S a b u h (there k)
-  where
-    there : b ≤ a + 1 + 1 + 1 + s * (1 + u) → b ≤ a + (3 + s) * (1 + u)
-    there k = omega arith
+-- what the instructions of the opening count
+abbrev opening_units : Module → ℕ → ℕ → ℕ
+opening_units m f l =
+    call_units m f + plain_units (plain.Numeric (numeric.Eqz val_type.I32)) + branch_units (branch.BrIf l)
+
+opening_least : (m : Module) (f l : ℕ) → 3 ≤ opening_units m f l
+opening_least m f l =
+    omega (arith, call_least m f, plain_least (plain.Numeric (numeric.Eqz val_type.I32)), branch_least (branch.BrIf l))
+
+cost_left : (u s a t S b : ℕ) → u + s ≤ S → b ≤ a + u + s * (1 + t) → b ≤ a + S * (1 + t)
+cost_left u s a t S b h k = cost_more (u + s) S a b t h (cost_tick u s a b t k)
 
 cost_also : (a S u b : ℕ) → b ≤ a + S * (1 + u) → b ≤ a + S * (1 + (1 + u))
 cost_also a S u b k = omega arith
 
-cost_none : (a s S : ℕ) → 3 + s ≤ S → a + 1 + 1 + 1 ≤ a + S * (1 + 0)
-cost_none a s S h = omega arith
+cost_none : (u s a S : ℕ) → u + s ≤ S → a + u ≤ a + S * (1 + 0)
+cost_none u s a S h = omega arith
 
-module _ (m : Module) (H F : ℕ) (c : Context) (f l : ℕ) (rest : Code) (call : HostCall) (takes_item : TakesItem (Some call)) (called : slice_get (functions_of m) f ≡ Some (host (Some call))) (t : Option ValType) (label : slice_get c.labels (suc l) ≡ Some t) (top : IsTop t None) (mid to : List Kind) (empty : HasKinds [] mid) (s h r S h0 : ℕ) (good : GoodCode m H F c s h r rest mid to) (sized : 3 + s ≤ S) (one : 1 ≤ h0) (high : h ≤ h0) (frame : 1 ≤ r) where
+module _ (m : Module) (H F : ℕ) (c : Context) (f l : ℕ) (rest : Code) (call : HostCall) (takes_item : TakesItem (Some call)) (called : slice_get (functions_of m) f ≡ Some (host (Some call))) (t : Option ValType) (label : slice_get c.labels (suc l) ≡ Some t) (top : IsTop t None) (mid to : List Kind) (empty : HasKinds [] mid) (s h r S h0 : ℕ) (good : GoodCode m H F c s h r rest mid to) (sized : opening_units m f (suc l) + s ≤ S) (one : 1 ≤ h0) (high : h ≤ h0) (frame : 1 ≤ r) where
   module _ (ls : List Layer) (st : State) (low : beneath ls + h0 ≤ H) (shallow : callers ls + r ≤ F) where
     -- the call, and the instructions after it, where it gives this number
-    called_gives : (b : ℕ) (after : State) → call_effect call [] (tick 1 st) ≡ Gives (I32 b ∷ []) after → advance m (Running [] (opening f (suc l) rest) ls st) ≡ Running (I32 b ∷ []) (code.plain (plain.Numeric (numeric.Eqz val_type.I32)) (code.branch (branch.BrIf (suc l)) rest)) ls after
+    called_gives : (b : ℕ) (after : State) → call_effect call [] (tick (call_units m f) st) ≡ Gives (I32 b ∷ []) after → advance m (Running [] (opening f (suc l) rest) ls st) ≡ Running (I32 b ∷ []) (code.plain (plain.Numeric (numeric.Eqz val_type.I32)) (code.branch (branch.BrIf (suc l)) rest)) ls after
     called_gives b after e =
-        ap (λ (o : Option Callee). take_call m o [] (code.plain (plain.Numeric (numeric.Eqz val_type.I32)) (code.branch (branch.BrIf (suc l)) rest)) ls (tick 1 st)) called
-        ∙ ap (λ (x : Effect). after_effect x (code.plain (plain.Numeric (numeric.Eqz val_type.I32)) (code.branch (branch.BrIf (suc l)) rest)) ls (st.count + 1)) e
+        ap (λ (o : Option Callee). take_call m o [] (code.plain (plain.Numeric (numeric.Eqz val_type.I32)) (code.branch (branch.BrIf (suc l)) rest)) ls (tick (call_units m f) st)) called
+        ∙ ap (λ (x : Effect). after_effect x (code.plain (plain.Numeric (numeric.Eqz val_type.I32)) (code.branch (branch.BrIf (suc l)) rest)) ls (st.count + call_units m f)) e
 
-    three : (b : ℕ) (after : State) (z : Machine) (x : Value) → call_effect call [] (tick 1 st) ≡ Gives (I32 b ∷ []) after
-        → advance m (Running (I32 b ∷ []) (code.plain (plain.Numeric (numeric.Eqz val_type.I32)) (code.branch (branch.BrIf (suc l)) rest)) ls after) ≡ Running (x ∷ []) (code.branch (branch.BrIf (suc l)) rest) ls (tick 1 after)
-        → advance m (Running (x ∷ []) (code.branch (branch.BrIf (suc l)) rest) ls (tick 1 after)) ≡ z
+    three : (b : ℕ) (after : State) (z : Machine) (x : Value) → call_effect call [] (tick (call_units m f) st) ≡ Gives (I32 b ∷ []) after
+        → advance m (Running (I32 b ∷ []) (code.plain (plain.Numeric (numeric.Eqz val_type.I32)) (code.branch (branch.BrIf (suc l)) rest)) ls after) ≡ Running (x ∷ []) (code.branch (branch.BrIf (suc l)) rest) ls (tick (plain_units (plain.Numeric (numeric.Eqz val_type.I32))) after)
+        → advance m (Running (x ∷ []) (code.branch (branch.BrIf (suc l)) rest) ls (tick (plain_units (plain.Numeric (numeric.Eqz val_type.I32))) after)) ≡ z
         → Comes m H F (1 + (1 + 1)) (Running [] (opening f (suc l) rest) ls st) z
     three b after z x e g k =
         comes_on m H F 1 (1 + 1) (Running [] (opening f (suc l) rest) ls st) (Running (I32 b ∷ []) (code.plain (plain.Numeric (numeric.Eqz val_type.I32)) (code.branch (branch.BrIf (suc l)) rest)) ls after) z
         (comes_one m H F _ _ (omega (arith, low), omega (arith, shallow, frame)) (called_gives b after e))
-        (comes_on m H F 1 1 (Running (I32 b ∷ []) (code.plain (plain.Numeric (numeric.Eqz val_type.I32)) (code.branch (branch.BrIf (suc l)) rest)) ls after) (Running (x ∷ []) (code.branch (branch.BrIf (suc l)) rest) ls (tick 1 after)) z
+        (comes_on m H F 1 1 (Running (I32 b ∷ []) (code.plain (plain.Numeric (numeric.Eqz val_type.I32)) (code.branch (branch.BrIf (suc l)) rest)) ls after) (Running (x ∷ []) (code.branch (branch.BrIf (suc l)) rest) ls (tick (plain_units (plain.Numeric (numeric.Eqz val_type.I32))) after)) z
         (comes_one m H F _ _ (omega (arith, low, one), omega (arith, shallow, frame)) g)
         (comes_one m H F _ _ (omega (arith, low, one), omega (arith, shallow, frame)) k))
 
-    leaves : Sound m c.locals st → call_effect call [] (tick 1 st) ≡ Gives (I32 0 ∷ []) (tick 1 st) → Turned m H F c S (Running [] (opening f (suc l) rest) ls st) ls st to
-    leaves sound e = (
-      Branches (suc l) None,
-      record {
-        final = tick 1 (tick 1 (tick 1 st));
-        steps = 1 + (1 + 1);
-        by = three 0 (tick 1 st) (jump (suc l) None ls (tick 1 (tick 1 (tick 1 st)))) (I32 1) e refl refl;
-        fits = (t, label, top);
-        sound = ticked m c.locals _ (ticked m c.locals _ (ticked m c.locals st sound));
-        taken = 0;
-        items = omega arith;
-        cost = cost_none st.count s S sized;
-        short = omega arith;
-      },
-      tt,
-    )
+    leaves : Sound m c.locals st → call_effect call [] (tick (call_units m f) st) ≡ Gives (I32 0 ∷ []) (tick (call_units m f) st) → Turned m H F c (Named (opening f (suc l) rest)) S (Running [] (opening f (suc l) rest) ls st) ls st to
+    leaves sound e =
+        let n = cost_none (opening_units m f (suc l)) s st.count S sized in (
+          Branches (suc l) None,
+          record {
+            final = tick (branch_units (branch.BrIf (suc l))) (tick (plain_units (plain.Numeric (numeric.Eqz val_type.I32))) (tick (call_units m f) st));
+            steps = 1 + (1 + 1);
+            by = three 0 (tick (call_units m f) st) (jump (suc l) None ls (tick (branch_units (branch.BrIf (suc l))) (tick (plain_units (plain.Numeric (numeric.Eqz val_type.I32))) (tick (call_units m f) st)))) (I32 1) e refl refl;
+            fits = (t, label, top);
+            named = λ w. w.0 refl;
+            sound = ticked m c.locals _ _ (ticked m c.locals _ _ (ticked m c.locals _ st sound));
+            taken = 0;
+            items = omega arith;
+            cost = omega (arith, n);
+            short = omega (arith, opening_least m f (suc l));
+          },
+          tt,
+        )
 
-    goes_on : Took m c.locals call (tick 1 st) → Turned m H F c S (Running [] (opening f (suc l) rest) ls st) ls st to
+    goes_on : Took m c.locals call [] (tick (call_units m f) st) → Turned m H F c (Named (opening f (suc l) rest)) S (Running [] (opening f (suc l) rest) ls st) ls st to
     goes_on k =
-        let on = tick 1 (tick 1 k.after) in
-        let p = good [] ls on empty (ticked m c.locals _ (ticked m c.locals k.after k.sound)) (omega (arith, low, high)) shallow in
+        let on = tick (branch_units (branch.BrIf (suc l))) (tick (plain_units (plain.Numeric (numeric.Eqz val_type.I32))) k.after) in
+        let p = good [] ls on empty (ticked m c.locals _ _ (ticked m c.locals _ k.after k.sound)) (omega (arith, low, high)) shallow in
         let q = p.1 in
         let n : items_left st.host ≡ 1 + q.taken + items_left q.final.host = omega (arith, k.items, q.items) in
-        let b : q.final.count ≤ st.count + 1 + 1 + 1 + s * (1 + q.taken) = omega (arith, q.cost, k.counts) in
-        let d = cost_left st.count s q.taken S q.final.count sized b in (
+        let b : q.final.count ≤ st.count + opening_units m f (suc l) + s * (1 + q.taken) = omega (arith, q.cost, k.counts) in
+        let d = cost_left (opening_units m f (suc l)) s st.count q.taken S q.final.count sized b in (
           p.0,
           record {
             final = q.final;
             steps = 1 + (1 + 1) + q.steps;
             by = comes_on m H F (1 + (1 + 1)) q.steps (Running [] (opening f (suc l) rest) ls st) (Running [] rest ls on) _ (three 1 k.after (Running [] rest ls on) (I32 0) k.gives refl refl) q.by;
             fits = q.fits;
+            named = renamed m H F (Named rest) (Named (opening f (suc l) rest)) (λ n k w. k w.1) p.0 q.named;
             sound = q.sound;
             taken = 1 + q.taken;
             items = n;
             cost = cost_also st.count S q.taken q.final.count d;
-            short = omega (arith, q.short, k.counts);
+            short = omega (arith, q.short, k.counts, opening_least m f (suc l));
           },
           goes S st.count q.final.count (1 + q.taken) p.0 (omega arith) d,
         )
 
   pub opened : GoodTurn m H F c S h0 r (opening f (suc l) rest) to
   opened ls st sound low shallow =
-      elim (item_or_none m c.locals (tick 1 st) (ticked m c.locals st sound) call takes_item) [
+      elim (item_or_none m c.locals [] (tick (call_units m f) st) (ticked m c.locals (call_units m f) st sound) call takes_item) [
         | inl e ↦ leaves ls st low shallow sound e
         | inr k ↦ goes_on ls st low shallow k
       ]

@@ -3,7 +3,7 @@ use Rattle.std.proofs.Common.{◌≡◌, ℕ, ◌+◌, ◌-◌, ◌≤◌, List,
 use Rattle.std.proofs.lemmas.List.{reverse-append, length-reverse, length-take-le, take-append-drop, drop_all, reverse-reverse}
 use Rattle.std.proofs.Math.Seq.{take-length}
 use Rattle.wasm_ast.specs.declared.types.Value.{Value}
-use Rattle.interp.specs.Split.{Split}
+use Rattle.interp.specs.inside.Split.{Split}
 use Rattle.interp.proofs.Lists.{joined, left_below, take-reverse, drop-reverse, take-take, drop-drop, drop-take}
 
 abbrev pub parts : ℕ → List Value → Split

@@ -32,12 +32,12 @@ use Rattle.bounded_profile.specs.declared.wants.Want.{Want}
 use Rattle.bounded_profile.specs.declared.wants.Want.TheVariants as want
 use Rattle.validate.specs.Spaces.{spaces_of}
 use Rattle.bounded_profile.specs.Kinds.{Kind, Any, Met, AllMeet}
-use Rattle.bounded_profile.specs.Memory.{number_of, memory_bytes}
+use Rattle.bounded_profile.specs.Memory.{page, number_of, memory_bytes}
 use Rattle.bounded_profile.specs.Known.{Context, division_premise, numeric_wants, constant_kind, PlainKnown}
 use Rattle.bounded_profile.specs.Shapes.{NotGrow}
 use Rattle.bounded_profile.specs.Profile.{asks_all}
 use Rattle.interp.specs.Configuration.{State, with_locals, with_globals, with_memory, Effect, Gives, Traps, Misses}
-use Rattle.interp.specs.Memory.{read, write, laid, bytes_of_number, number_of_bytes, loaded, page_size}
+use Rattle.interp.specs.Memory.{read, write, laid, bytes_of_number, number_of_bytes, loaded}
 use Rattle.interp.specs.Effects.{value, popped, effect, numeric_effect, division_effect, discard, select, pushed, local_set, global_set, variable_effect, load_effect, store_effect, memory_effect}
 use Rattle.interp.proofs.Values.{HasKinds, HasTypes, Takes, takes, kept, type-value, popped_any, popped_known, value_at, value_set, place_within}
 use Rattle.interp.proofs.Sound.{Sound, Given, same_state, global_types}
@@ -241,7 +241,7 @@ module _ (m : Module) (ls : List ValType) where
       }
 
   size_given : GivesWith [] (Any val_type.I32 ∷ []) (memory_effect memory.Size)
-  size_given vs us st below k h s = same_state m ls _ st _ (I32 (length st.memory / page_size) ∷ vs) refl (refl, kept vs us below k h) s
+  size_given vs us st below k h s = same_state m ls _ st _ (I32 (length st.memory / page) ∷ vs) refl (refl, kept vs us below k h) s
 
   -- ---- all of them
 

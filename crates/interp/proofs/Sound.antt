@@ -1,28 +1,12 @@
 -- States that fit the function that runs, and effects that keep them so.
-use Rattle.std.proofs.Common.{◌≡◌, ℕ, ◌+◌, List, length, map, refl, arith}
+use Rattle.std.proofs.Common.{◌≡◌, ℕ, ◌+◌, List, refl, arith}
 use Rattle.wasm_ast.specs.declared.types.ValType.{ValType}
-use Rattle.wasm_ast.specs.declared.types.GlobalType.{GlobalType}
 use Rattle.wasm_ast.specs.declared.types.Value.{Value}
 use Rattle.wasm_ast.specs.declared.module.Module.{Module}
-use Rattle.host_calls.specs.Host.{Host}
-use Rattle.validate.specs.Spaces.{spaces_of}
 use Rattle.bounded_profile.specs.Kinds.{Kind, AllForget}
-use Rattle.bounded_profile.specs.Memory.{memory_bytes}
 use Rattle.interp.specs.Configuration.{State, tick, Effect, Gives}
-use Rattle.interp.proofs.Values.{HasKinds, HasTypes, forget_all}
-
-abbrev pub global_types : Module → List ValType
-global_types m = map (λ (g : GlobalType). g.value) (spaces_of m).globals
-
--- locals and globals are of their types, and the memory is as long as at the beginning
-pub record Sound (m : Module) (locals : List ValType) (st : State) : Type 0 where
-  pub locals_typed : HasTypes st.locals locals
-  pub globals_typed : HasTypes st.globals (global_types m)
-  pub bytes_there : length st.memory ≡ memory_bytes m
-
--- the messages and edges that are still to be taken
-abbrev pub items_left : Host → ℕ
-items_left h = length h.messages + length h.edges
+pub use Rattle.interp.specs.Typed.{Sound, global_types, items_left}
+use Rattle.interp.proofs.Values.{HasKinds, forget_all}
 
 -- the effect gives operands of these kinds, keeps the state sound, may take items, and counts nothing more
 pub record Given (m : Module) (locals : List ValType) (effect : Effect) (st : State) (to : List Kind) : Type 0 where
@@ -44,5 +28,5 @@ module _ (m : Module) (ls : List ValType) where
   given_forget effect st to mid g a =
       record { values = g.values; state = g.state; gives = g.gives; kinds = forget_all g.values to mid a g.kinds; sound = g.sound; taken = g.taken; items = g.items; counts = g.counts }
 
-  pub ticked : (st : State) → Sound m ls st → Sound m ls (tick 1 st)
-  ticked st s = record { locals_typed = s.locals_typed; globals_typed = s.globals_typed; bytes_there = s.bytes_there }
+  pub ticked : (u : ℕ) (st : State) → Sound m ls st → Sound m ls (tick u st)
+  ticked u st s = record { locals_typed = s.locals_typed; globals_typed = s.globals_typed; bytes_there = s.bytes_there }

@@ -8,7 +8,7 @@ use Rattle.wasm_ast.specs.Code.{Code}
 use Rattle.wasm_ast.specs.View.{code_of}
 use Rattle.interp.specs.Configuration.{State}
 use Rattle.interp.specs.Machine as machine
-use Rattle.interp.specs.Meaning.{layers_of, Ordered, floor_of}
+use Rattle.interp.specs.inside.Meaning.{layers_of, Ordered, floor_of}
 use Rattle.interp.specs.declared.layers.Layer.{Layer}
 use Rattle.interp.specs.declared.layers.Layer.TheVariants as layer
 use Rattle.interp.proofs.Lists.{take-length_is, drop-length_is}

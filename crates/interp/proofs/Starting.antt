@@ -1,9 +1,9 @@
 -- The first configuration of a call of a bounded module.
-use Rattle.std.proofs.Common.{◌≡◌, ◌≢◌, ℕ, zero, suc, ◌*◌, ◌≤◌, ◌<◌, Bool, true, false, cond, List, [], ◌∷◌, ◌++◌, length, map, replicate, get_or, slice_get, Option, Some, None, if◌then◌else◌, refl, sym, ap, ◌∙◌, subst, arith}
+use Rattle.std.proofs.Common.{◌≡◌, ◌≢◌, ℕ, zero, suc, ◌<◌, Bool, true, false, cond, List, [], ◌∷◌, ◌++◌, length, map, replicate, get_or, slice_get, Option, Some, None, refl, sym, ap, ◌∙◌, subst, arith}
 use Rattle.std.specs.Prelude.{find, codes}
 use Rattle.std.specs.Option.{option_and_then}
 use Rattle.std.specs.List.{AllByRecursion}
-use Rattle.std.proofs.lemmas.Bool.{le-leb, false_from_ne_true}
+use Rattle.std.proofs.lemmas.Bool.{false_from_ne_true}
 use Rattle.std.proofs.lemmas.List.{length-replicate}
 use Rattle.std.proofs.lemmas.Slice.Eq.{bytes_eq-Decides}
 use Rattle.wasm_ast.specs.declared.types.ValType.{ValType}
@@ -30,9 +30,10 @@ use Rattle.validate.specs.Constants.{PlainConstant}
 use Rattle.validate.specs.Modules.{IsTyped, GlobalTyped, DataTyped, AreDistinct, name_of_export}
 use Rattle.bounded_profile.specs.Hosts.{IsHostImport}
 use Rattle.bounded_profile.specs.Memory.{number_of, memory_bytes, bytes_of, DataWithin, initial_number, plain_number, plain_offset, offset_number}
-use Rattle.bounded_profile.specs.Profile.{IsBounded, compute_export, plain_type}
-use Rattle.interp.specs.Machine.{Callee, functions_of}
-use Rattle.interp.specs.Start.{Begins, IsOfHost, is_compute, exported_function, defined_function, constant_value, constant_plain, initial_globals, before, pages_of, zero_bytes, laid_at, laid_in}
+use Rattle.bounded_profile.specs.Compute.{has_its_name, exported_function, exported_compute}
+use Rattle.bounded_profile.specs.Profile.{IsBounded, HasCompute, compute_export, plain_type}
+use Rattle.interp.specs.Machine.{defined}
+use Rattle.interp.specs.Start.{Begins, constant_value, constant_plain, initial_globals, before, laid_at, laid_in}
 use Rattle.interp.proofs.Values.{HasTypes, some_is, none_some}
 use Rattle.interp.proofs.Sound.{global_types}
 use Rattle.interp.proofs.Plains.{laid_there}
@@ -45,18 +46,18 @@ other_name [] x n k h e a = absurd (omega arith)
 other_name (y ∷ es) x n zero h e a = subst (λ (z : Export). z.name ≢ n) e a.0
 other_name (y ∷ es) x n (suc k) h e a = other_name es x n k (omega (arith, h)) e a.1
 
-is_named : (e : Export) → is_compute e ≡ true → e.name ≡ codes "compute"
+is_named : (e : Export) → has_its_name e ≡ true → e.name ≡ codes "compute"
 is_named e h = (bytes_eq-Decides e.name (codes "compute")).0 h
 
-found : (es : List Export) (x : Export) → is_compute x ≡ true → AreDistinct (map name_of_export es) → (k : ℕ) → k < length es → get_or es k x ≡ x → find is_compute es ≡ Some x
+found : (es : List Export) (x : Export) → has_its_name x ≡ true → AreDistinct (map name_of_export es) → (k : ℕ) → k < length es → get_or es k x ≡ x → find has_its_name es ≡ Some x
 found [] x c d k h e = absurd (omega arith)
 found (y ∷ es) x c d zero h e =
-    let t : is_compute y ≡ true = ap (λ (z : Export). is_compute z) e ∙ c in
-    ap (λ (b : Bool). cond b (Some y) (find is_compute es)) t ∙ ap (λ (z : Export). Some z) e
+    let t : has_its_name y ≡ true = ap (λ (z : Export). has_its_name z) e ∙ c in
+    ap (λ (b : Bool). cond b (Some y) (find has_its_name es)) t ∙ ap (λ (z : Export). Some z) e
 found (y ∷ es) x c d (suc k) h e =
     let differs : x.name ≢ y.name = other_name es x y.name k (omega (arith, h)) e d.0 in
-    let t : is_compute y ≡ false = false_from_ne_true (is_compute y) (λ g. differs (is_named x c ∙ sym (is_named y g))) in
-    ap (λ (b : Bool). cond b (Some y) (find is_compute es)) t ∙ found es x c d.1 k (omega (arith, h)) e
+    let t : has_its_name y ≡ false = false_from_ne_true (has_its_name y) (λ g. differs (is_named x c ∙ sym (is_named y g))) in
+    ap (λ (b : Bool). cond b (Some y) (find has_its_name es)) t ∙ found es x c d.1 k (omega (arith, h)) e
 
 -- ---- what globals begin with
 
@@ -113,11 +114,8 @@ module _ (m : Module) where
 
   -- ---- the memory
 
-  zeroed : (ms : List Limits) → AllByRecursion (λ (l : Limits). l.minimum ≤ 16) ms → (bytes : List ℕ) × (zero_bytes (pages_of ms) ≡ Some bytes) × (length bytes ≡ bytes_of ms)
-  zeroed [] h = (replicate (0 * 65536) 0, refl, refl)
-  zeroed (l ∷ ms) h =
-      let long = length-replicate {A = ℕ} (l.minimum * 65536) 0 in
-      (replicate (l.minimum * 65536) 0, ap (λ (b : Bool). if b then Some (replicate (l.minimum * 65536) 0) else None) (le-leb l.minimum 16 h.0), omega (arith, long))
+  zeroed : (ms : List Limits) → length {A = ℕ} (replicate (bytes_of ms) 0) ≡ bytes_of ms
+  zeroed ms = length-replicate {A = ℕ} (bytes_of ms) 0
 
   module _ (globals : List Value) (initial : Initial m.globals globals) (only : imported spaces.global_import m.imports ≡ []) where
     types_are : global_types m ≡ types_of m.globals
@@ -158,12 +156,6 @@ module _ (m : Module) where
           rest.2,
         )
 
-  hosts : (is : List Import) → AllByRecursion (IsHostImport m) is → AllByRecursion (IsOfHost m) is
-  hosts [] h = tt
-  hosts (i ∷ is) h =
-      let first : IsOfHost m i = record { call = h.0.host_call; type_number = h.0.type_number; func_type = h.0.function_type; function = h.0.describes; has_type = h.0.typed; brings_in = h.0.brings_in } in
-      (first, hosts is h.1)
-
 -- the module begins with globals of their types and a memory that is as long as it is
 pub record Begun (m : Module) (function : Function) : Type 0 where
   pub globals : List Value
@@ -172,24 +164,28 @@ pub record Begun (m : Module) (function : Function) : Type 0 where
   pub typed : HasTypes globals (global_types m)
   pub long : length bytes ≡ memory_bytes m
 
+-- `compute` is exported first under its name
+pub exported_number : (m : Module) → IsTyped m → (c : HasCompute m) → exported_compute m.exports ≡ Some c.number
+exported_number m typed c =
+    ap (λ (o : Option Export). option_and_then (λ (e : Export). exported_function e.description) o) (found m.exports (compute_export c.number) refl typed.names c.exported.0 c.exported.1 c.exported.2)
+
 pub begun : (m : Module) → IsTyped m → (b : IsBounded m) → IsDefinedFunction m b.compute.number plain_type → Begun m b.compute.function
 begun m typed b g =
     let c = b.compute in
     let only = no_globals m m.imports b.imports in
     let gs = globals_begin m (outer_spaces_of m) only m.globals typed.globals in
-    let zeros = zeroed m m.memories b.addresses.minimums in
-    let after = segments_laid m gs.0 gs.2 only m.«data» typed.segments b.addresses.segments zeros.0 zeros.2 in
+    let after = segments_laid m gs.0 gs.2 only m.«data» typed.segments b.addresses.segments (replicate (memory_bytes m) 0) (zeroed m m.memories) in
     let same : g.function ≡ c.function = some_is g.function c.function (sym g.in_module ∙ c.defined) in
     let begins : Begins m c.function gs.0 after.0 = record {
-      imports = hosts m m.imports b.imports;
+      imports = b.imports;
       no_start = b.start;
       no_elements = b.elements;
-      compute = ap (λ (o : Option Export). option_and_then defined_function (option_and_then (λ f. slice_get (functions_of m) f) (option_and_then (λ (e : Export). exported_function e.description) o))) (found m.exports (compute_export c.number) refl typed.names c.exported.0 c.exported.1 c.exported.2)
-          ∙ ap (λ (o : Option Callee). option_and_then defined_function o) g.called
-          ∙ ap (λ (h : Function). Some h) same;
+      number = c.number;
+      exported = exported_number m typed c;
+      is_defined = g.called ∙ ap (λ (h : Function). Some (defined h)) same;
       func_type = c.typed;
       initial_values = gs.1;
-      initial_bytes = ap (λ (o : Option (List ℕ)). option_and_then (λ bytes. laid_in gs.0 m.«data» bytes) o) zeros.1 ∙ after.1;
+      initial_bytes = after.1;
     } in
     record {
       globals = gs.0;

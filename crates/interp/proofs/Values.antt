@@ -12,23 +12,8 @@ use Rattle.bounded_profile.specs.declared.wants.Want.TheVariants as want
 use Rattle.bounded_profile.specs.Kinds.{Kind, Any, Is, Forgets, AllForget, Met, Meets, AllMeet, wants, kinds}
 use Rattle.bounded_profile.specs.Memory.{number_of}
 use Rattle.interp.specs.Effects.{value}
+pub use Rattle.interp.specs.Typed.{HasKind, HasKinds, HasTypes}
 use Rattle.interp.specs.Machine.{carry, first, has_result}
-
-abbrev pub HasKind : Value → Kind → Type 0
-HasKind v (Any t) = type_of v ≡ t
-HasKind v (Is t n) = v ≡ value t n
-
-abbrev pub HasKinds : List Value → List Kind → Type 0
-HasKinds [] [] = Unit {0}
-HasKinds [] (k ∷ ks) = ⊥
-HasKinds (v ∷ vs) [] = ⊥
-HasKinds (v ∷ vs) (k ∷ ks) = HasKind v k × HasKinds vs ks
-
-abbrev pub HasTypes : List Value → List ValType → Type 0
-HasTypes [] [] = Unit {0}
-HasTypes [] (t ∷ ts) = ⊥
-HasTypes (v ∷ vs) [] = ⊥
-HasTypes (v ∷ vs) (t ∷ ts) = (type_of v ≡ t) × HasTypes vs ts
 
 pub type-value : (t : ValType) (n : ℕ) → type_of (value t n) ≡ t
 type-value val_type.I32 n = refl

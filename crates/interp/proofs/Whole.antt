@@ -19,7 +19,7 @@ use Rattle.cost.specs.Sizes.{AreSizes, code_size, size_in}
 use Rattle.bounded_profile.specs.Kinds.{kinds}
 use Rattle.bounded_profile.specs.Known.{Known, FunctionKnown}
 use Rattle.bounded_profile.specs.Profile.{IsBounded, asks_all, plain_type}
-use Rattle.bounded_profile.specs.Shapes.{Everywhere, NotIndirect, NotUnreachable, NotGrow, LoopOpens}
+use Rattle.bounded_profile.specs.Shapes.{Everywhere, NotIndirect, NotUnreachable, NotGrow, LoopTakes}
 use Rattle.bounded_profile.specs.Hosts.{host_call_at}
 use Rattle.bounded_profile.specs.Heights.{peak, peak_in, AreHeights}
 use Rattle.bounded_profile.specs.Facts.{AreDepths}
@@ -31,7 +31,7 @@ use Rattle.interp.proofs.Values.{kinds_length, none_some, some_is, zeros_typed}
 use Rattle.interp.proofs.Sound.{Sound, items_left}
 use Rattle.interp.proofs.Callees.{IsDefinedFunction, is_defined, past_at}
 use Rattle.interp.proofs.Lengths.{all_at}
-use Rattle.interp.proofs.Reach.{IsLow, AllLow, Exit, Falls, Branches, Returns, Reach, GoodCode}
+use Rattle.interp.proofs.Reach.{IsLow, AllLow, Exit, Falls, Branches, Returns, Named, Reach, GoodCode}
 use Rattle.interp.proofs.Calling.{inside}
 use Rattle.interp.proofs.Induction.{Fair, code_good}
 use Rattle.interp.proofs.Fairness.{fair, below_most}
@@ -40,7 +40,7 @@ use Rattle.interp.proofs.Starting.{Begun, begun}
 -- ---- functions
 
 module _ (m : Module) (typed : IsTyped m) (bounded : IsBounded m) (sizes hs depths : ℕ → ℕ) (are_sizes : AreSizes m sizes) (are_heights : AreHeights m hs) (are_depths : AreDepths m depths) (H F : ℕ) where
-  abbrev GoodFunction : (f : ℕ) (t : FuncType) → Function → Type 0
+  abbrev pub GoodFunction : (f : ℕ) (t : FuncType) → Function → Type 0
   GoodFunction f t g =
       (1 ≤ depths f) × GoodCode m H F (inside m (t.parameters ++ g.locals) (first_type t.results)) (sizes f) (hs f) (depths f) g.body [] (kinds (first_type t.results))
 
@@ -55,13 +55,13 @@ module _ (m : Module) (typed : IsTyped m) (bounded : IsBounded m) (sizes hs dept
 
   body_fair : (f : ℕ) (t : FuncType) (g : IsDefinedFunction m f t) → depths f ≡ 1 + most depths (calls_of g.function.body) → Fair m depths (depths f) g.function.body
   body_fair f t g e =
-      fair m depths (depths f) g.function.body (rule_at NotIndirect f t g bounded.direct) (rule_at NotUnreachable f t g bounded.reached) (rule_at NotGrow f t g bounded.steady) (rule_at (LoopOpens (host_call_at m)) f t g bounded.loops) (below_most depths (calls_of g.function.body) (depths f) (omega (arith, e)))
+      fair m depths (depths f) g.function.body (rule_at NotIndirect f t g bounded.direct) (rule_at NotUnreachable f t g bounded.reached) (rule_at NotGrow f t g bounded.steady) (rule_at (LoopTakes (host_call_at m)) f t g bounded.loops) (below_most depths (calls_of g.function.body) (depths f) (omega (arith, e)))
 
-  function_good : (n f : ℕ) (t : FuncType) (g : IsDefinedFunction m f t) → depths f < n → GoodFunction f t g.function
+  pub function_good : (n f : ℕ) (t : FuncType) (g : IsDefinedFunction m f t) → depths f < n → GoodFunction f t g.function
   function_good zero f t g h = absurd (omega arith)
   function_good (suc n) f t g h =
       let d : depths f ≡ 1 + most depths (calls_of g.function.body) = are_depths f ∙ ap (λ (b : Option Code). height depths b) g.has_body in
-      let s : sizes f ≡ code_size sizes g.function.body = are_sizes f ∙ ap (λ (b : Option Code). size_in sizes b) g.has_body in
+      let s : sizes f ≡ code_size m sizes g.function.body = are_sizes f ∙ ap (λ (b : Option Code). size_in m sizes b) g.has_body in
       let p : hs f ≡ peak m hs g.function.body 0 = are_heights f ∙ ap (λ (b : Option Code). peak_in m hs b) g.has_body in
       let one : 1 ≤ depths f = omega (arith, d) in
       let good = code_good m bounded.imports typed.types H F sizes hs depths (t.parameters ++ g.function.locals) (first_type t.results) (depths f) one (λ f2 t2 less g2. function_good n f2 t2 g2 (omega (arith, less, h))) g.function.body (first_type t.results ∷ []) [] (kinds (first_type t.results)) (body_known f t g) (body_fair f t g d) in
@@ -104,25 +104,25 @@ cost_all s a t k n e h = subst (λ (n : ℕ). a ≤ s * (1 + n)) (sym e) (there 
 
 module _ (m : Module) (H F s : ℕ) (locals : List ValType) (x : Machine) (st : State) (deep : 1 ≤ F) where
   -- at an exit of the outermost code the machine is done
-  over : (e : Exit) (q : Reach m H F (inside m locals None) s x code.end [] st [] e) → (j : ℕ) × (j ≤ q.steps + 1) × (run m j x ≡ Done q.final) × AllLow m H F j x
-  over (Falls vs) q =
+  over : (N : ℕ → Type 0) (e : Exit) (q : Reach m H F (inside m locals None) N s x code.end [] st [] e) → (j : ℕ) × (j ≤ q.steps + 1) × (run m j x ≡ Done q.final) × AllLow m H F j x
+  over N (Falls vs) q =
       let n = kinds_length vs [] q.fits in
       let a = q.by 1 ((omega (arith, n), omega (arith, deep)), (omega arith, omega arith)) in
       (a.0, omega (arith, a.1), a.2, a.3)
-  over (Branches zero top) q = let a = q.by 0 (omega arith, omega arith) in (a.0, omega (arith, a.1), a.2, a.3)
-  over (Branches (suc l) top) q = absurd (none_some q.fits.0 q.fits.1)
-  over (Returns top) q = let a = q.by 0 (omega arith, omega arith) in (a.0, omega (arith, a.1), a.2, a.3)
+  over N (Branches zero top) q = let a = q.by 0 (omega arith, omega arith) in (a.0, omega (arith, a.1), a.2, a.3)
+  over N (Branches (suc l) top) q = absurd (none_some q.fits.0 q.fits.1)
+  over N (Returns top) q = let a = q.by 0 (omega arith, omega arith) in (a.0, omega (arith, a.1), a.2, a.3)
 
 -- ---- the call
 
 -- the end of a call that reaches an exit
-ended : (m : Module) (typed : IsTyped m) (bounded : IsBounded m) (input : CallInput) (H F s : ℕ) (b : Begun m bounded.compute.function) → 1 ≤ F → (e : Exit)
-    → Reach m H F (inside m bounded.compute.function.locals None) s (Running [] bounded.compute.function.body [] (start_state bounded.compute.function b.globals b.bytes input)) code.end [] (start_state bounded.compute.function b.globals b.bytes input) [] e
+ended : (m : Module) (typed : IsTyped m) (bounded : IsBounded m) (input : CallInput) (H F s : ℕ) (b : Begun m bounded.compute.function) → 1 ≤ F → (N : ℕ → Type 0) (e : Exit)
+    → Reach m H F (inside m bounded.compute.function.locals None) N s (Running [] bounded.compute.function.body [] (start_state bounded.compute.function b.globals b.bytes input)) code.end [] (start_state bounded.compute.function b.globals b.bytes input) [] e
     → Ends m input (s * (1 + items_of input)) H F
-ended m typed bounded input H F s b deep e q =
+ended m typed bounded input H F s b deep N e q =
     let st = start_state bounded.compute.function b.globals b.bytes input in
     let x = Running [] bounded.compute.function.body [] st in
-    let d = over m H F s bounded.compute.function.locals x st deep e q in
+    let d = over m H F s bounded.compute.function.locals x st deep N e q in
     let edges = length-map input.edges.now seen_edge in
     let all : items_of input ≡ q.taken + items_left q.final.host = omega (arith, q.items, edges) in
     record {
@@ -162,4 +162,4 @@ calls_end m typed bounded sizes hs depths are_sizes are_heights are_depths input
     let st = start_state c.function b.globals b.bytes input in
     let sound : Sound m c.function.locals st = record { locals_typed = zeros_typed c.function.locals; globals_typed = b.typed; bytes_there = b.long } in
     let q = good.1 [] [] st tt sound (omega arith) (omega arith) in
-    ended m typed bounded input (hs f) (depths f) (sizes f) b good.0 q.0 q.1
+    ended m typed bounded input (hs f) (depths f) (sizes f) b good.0 (Named c.function.body) q.0 q.1

@@ -1,5 +1,6 @@
 -- What a compute call of a bounded module comes to.
-use Rattle.std.specs.Prelude.{◌≡◌, ◌≢◌, ℕ, ◌+◌, ◌*◌, ◌≤◌, length}
+use Rattle.std.specs.Prelude.{◌≡◌, ◌≢◌, ℕ, ◌+◌, ◌*◌, ◌≤◌, ℤ, length}
+use Rattle.std.specs.List.{AllByRecursion}
 use Rattle.wasm_ast.specs.declared.module.Module.{Module}
 use Rattle.host_calls.specs.declared.call.CallInput.{CallInput}
 use Rattle.host_calls.specs.declared.call.CallOutcome.{CallOutcome}
@@ -9,10 +10,10 @@ use Rattle.bounded_profile.specs.Profile.{IsBounded}
 use Rattle.interp.specs.Configuration.{State}
 use Rattle.interp.specs.Machine.{Machine, Done, Trapped, Stuck, run}
 use Rattle.interp.specs.Start.{Starts}
-use Rattle.interp.specs.Call.{IsOutcome, IsTrapped, SticksWithin, PassesBudget}
+use Rattle.interp.specs.Call.{IsOutcome, IsTrapped, IsStuck}
 use Rattle.bounded_profile.specs.Heights.{AreHeights}
 use Rattle.bounded_profile.specs.declared.facts.Facts.{Facts}
-use Rattle.bounded_profile.specs.Facts.{AreDepths, AreFacts}
+use Rattle.bounded_profile.specs.Facts.{AreDepths, AreFacts, IsSizeOfCompute}
 use Rattle.interp.specs.Heights.{operands, frames}
 
 -- The call begins and comes to its end, within so many units: it never traps, and there is a step for each instruction.
@@ -57,10 +58,26 @@ pub record HasBounds (m : Module) : Type 0 where
   pub heights : (heights : ℕ → ℕ) × AreHeights m heights
   pub depths : (depths : ℕ → ℕ) × AreDepths m depths
 
--- The call is never trapped and has a step for each instruction, its outcome counts no more than so many units, and
--- it passes no budget that is as large.
+-- The call is never trapped and has a step for each instruction, and its outcome counts no more than so many units.
 pub record MeetsNoFault (m : Module) (input : CallInput) (units : ℕ) : Type 0 where
   pub outcome : (outcome : CallOutcome) → IsOutcome m input outcome → outcome.units ≤ units
   pub trap : (count : ℕ) → IsTrapped m input count → ⊥
-  pub stick : (budget : ℕ) → SticksWithin m input budget → ⊥
-  pub pass : (budget : ℕ) → units ≤ budget → PassesBudget m input budget → ⊥
+  pub stick : (count : ℕ) → IsStuck m input count → ⊥
+
+-- the outcome counts no more than the size of `compute` times one more than there are messages and edges
+abbrev pub IsWithinBound : Module → CallInput → CallOutcome → Type 0
+IsWithinBound m input outcome = (size : ℕ) → IsSizeOfCompute m size → outcome.units ≤ size * (1 + items_of input)
+
+-- from the first configuration of the call on, no instruction traps, and there is a step for each
+pub record NeverFails (m : Module) (input : CallInput) : Type 0 where
+  pub trap : (first : Machine) → Starts m input first → (n count : ℕ) → run m n first ≢ Trapped count
+  pub stick : (first : Machine) → Starts m input first → (n count : ℕ) → run m n first ≢ Stuck count
+
+-- the greatest id: guests see ids as signed numbers, and none of them is negative
+abbrev pub max_id : ℕ
+max_id = 9223372036854775807
+
+-- the id and the targets of the edges are at most the greatest id
+pub record HasIds (input : CallInput) : Type 0 where
+  pub id : input.id ≤ max_id
+  pub targets : AllByRecursion (λ (edge : ℕ × ℤ). edge.0 ≤ max_id) input.edges.now

@@ -1,24 +1,56 @@
 -- A compute call: the least number of steps that ends it, and what it leaves.
-use Rattle.std.specs.Prelude.{◌≡◌, ◌≢◌, ℕ, ◌+◌, ◌<◌, ◌≤◌, ◌⊎◌, List}
-use Rattle.wasm_ast.specs.declared.types.Value.{Value}
+use Rattle.std.specs.Prelude.{◌≡◌, ◌≢◌, ℕ, ℤ, ◌<◌, Bool, List}
 use Rattle.wasm_ast.specs.declared.module.Module.{Module}
-use Rattle.wasm_ast.specs.Code.{Code}
 use Rattle.host_calls.specs.declared.call.CallInput.{CallInput}
 use Rattle.host_calls.specs.declared.call.CallOutcome.{CallOutcome}
-use Rattle.host_calls.specs.Host.{Leaves}
+use Rattle.host_calls.specs.Host.{Host, host_of}
 use Rattle.interp.specs.Configuration.{State}
-use Rattle.interp.specs.Machine.{Machine, Running, Done, Trapped, Stuck, Layer, run, next_units}
-use Rattle.interp.specs.Start.{Starts}
+use Rattle.interp.specs.Machine.{Machine, Done, Trapped, Stuck, run}
+use Rattle.interp.specs.Start.{Starts, StartsFrom}
 
--- The call's outcome: that of the state in which it ends. There is one only where some number of steps ends it.
-pub record IsOutcome (m : Module) (input : CallInput) (outcome : CallOutcome) : Type 0 where
+-- What a call leaves, as pure data.
+pub record Outcome : Type 0 where
+  pub value : ℤ
+  -- the messages that it sent, each with its target and its value, and what it gave to the slots
+  pub sends : List (ℤ × ℤ)
+  pub contributions : List (ℕ × ℤ)
+  pub halted : Bool
+  -- how much it took
+  pub units : ℕ
+
+-- that of the state in which a run ends
+abbrev pub outcome_of : State → Outcome
+outcome_of st = record {
+  value = st.host.value;
+  sends = st.host.sends;
+  contributions = st.host.contributions;
+  halted = st.host.halted;
+  units = st.count;
+}
+
+-- The call that finds the vertex so comes to this outcome. There is one only where some number of steps ends the run.
+pub record ComesTo (m : Module) (host : Host) (outcome : Outcome) : Type 0 where
   pub first : Machine
-  pub starts : Starts m input first
+  pub starts : StartsFrom m host first
   pub steps : ℕ
   pub final : State
   pub done : run m steps first ≡ Done final
   pub least : (n : ℕ) → n < steps → (st : State) → run m n first ≢ Done st
-  pub leaves : Leaves outcome final.host final.count
+  pub leaves : outcome ≡ outcome_of final
+
+-- what an outcome shows
+abbrev pub shown : CallOutcome → Outcome
+shown outcome = record {
+  value = outcome.value;
+  sends = outcome.sends.items;
+  contributions = outcome.contributions.items;
+  halted = outcome.halted;
+  units = outcome.units;
+}
+
+-- it shows what the call comes to
+abbrev pub IsOutcome : Module → CallInput → CallOutcome → Type 0
+IsOutcome m input outcome = ComesTo m (host_of input) (shown outcome)
 
 -- the call comes to an instruction that traps, with so many units, its own among them
 pub record IsTrapped (m : Module) (input : CallInput) (count : ℕ) : Type 0 where
@@ -33,27 +65,6 @@ pub record IsStuck (m : Module) (input : CallInput) (count : ℕ) : Type 0 where
   pub starts : Starts m input first
   pub steps : ℕ
   pub stuck : run m steps first ≡ Stuck count
-
--- the module is one that is not called
-abbrev pub HasNoStep : Module → CallInput → Type 0
-HasNoStep m input = (first : Machine) → Starts m input first → ⊥
-
--- it has no step, or comes to an instruction for which there is none within so many units
-abbrev pub SticksWithin : Module → CallInput → ℕ → Type 0
-SticksWithin m input budget = HasNoStep m input ⊎ ((count : ℕ) × (IsStuck m input count × (count ≤ budget)))
-
--- The call comes to an instruction that would make its count greater than the budget.
-pub record PassesBudget (m : Module) (input : CallInput) (budget : ℕ) : Type 0 where
-  pub first : Machine
-  pub starts : Starts m input first
-  pub steps : ℕ
-  pub values : List Value
-  pub next : Code
-  pub layers : List Layer
-  pub state : State
-  pub comes : run m steps first ≡ Running values next layers state
-  pub within : state.count ≤ budget
-  pub passes : budget < state.count + next_units next
 
 -- the same values
 pub record SameOutcome (a b : CallOutcome) : Type 0 where

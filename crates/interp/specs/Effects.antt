@@ -20,8 +20,9 @@ use Rattle.host_calls.specs.declared.imports.HostCall.{HostCall}
 use Rattle.host_calls.specs.Effects.{HostEffect, host_effect}
 use Rattle.host_calls.specs.Effects as host
 use Rattle.host_calls.specs.Operands.{pop}
+use Rattle.bounded_profile.specs.Memory.{page}
 use Rattle.interp.specs.Configuration.{State, with_locals, with_globals, with_memory, with_host, Effect, Gives, Traps, Misses}
-use Rattle.interp.specs.Memory.{page_size, loaded, read, write}
+use Rattle.interp.specs.Memory.{loaded, read, write}
 
 -- a number as an operand of a type
 abbrev pub value : ValType → ℕ → Value
@@ -108,7 +109,7 @@ memory_effect (memory.Load op a) vs st = popped val_type.I32 vs (λ i us. load_e
 memory_effect (memory.Store op a) vs st =
     popped (store_type op) vs (λ n us. popped val_type.I32 us (λ i ws.
     store_effect (write (i + a.offset) (store_width op) n st.memory) ws st))
-memory_effect memory.Size vs st = Gives (I32 (length st.memory / page_size) ∷ vs) st
+memory_effect memory.Size vs st = Gives (I32 (length st.memory / page) ∷ vs) st
 -- there is no growing
 memory_effect memory.Grow vs st = Misses
 

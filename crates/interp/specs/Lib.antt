@@ -1,14 +1,19 @@
+-- In the order in which they are read.
+
+-- the machine: what a configuration is, what instructions do to it, its steps
 pub mod Configuration
 pub mod Memory
 pub mod Effects
-pub mod Split
-pub mod Acts
-pub mod Begun
 pub mod Machine
+-- a call: its first configuration, what it comes to, and that as a function of pure data
 pub mod Start
 pub mod Call
-pub mod Place
-pub mod Meaning
-pub mod Walk
+pub mod Outcomes
+-- how high it gets, and that it ends
 pub mod Heights
 pub mod Bounded
+-- what a sequence counts
+pub mod Typed
+pub mod Sequences
+-- what mirrors the code
+pub mod inside

@@ -14,7 +14,7 @@ use Rattle.wasm_ast.specs.declared.module.Function.{Function}
 use Rattle.wasm_ast.specs.declared.module.Module.{Module}
 use Rattle.wasm_ast.specs.Code.{Code}
 use Rattle.wasm_ast.specs.Code as code
-use Rattle.wasm_ast.specs.Units.{units_of}
+use Rattle.cost.specs.Weights.{units_of}
 use Rattle.wasm_ast.specs.Values.{zero_of}
 use Rattle.host_calls.specs.declared.imports.HostCall.{HostCall}
 use Rattle.host_calls.specs.Imports.{call_named}
@@ -167,16 +167,16 @@ take_call m (Some (defined f)) vs is ls st = enter f (slice_get m.types f.type_n
 -- ---- steps
 
 -- what the next instruction counts
-abbrev pub next_units : Code → ℕ
-next_units code.end = 0
-next_units (code.plain p rest) = units_of (instr.Plain p)
-next_units (code.branch b rest) = units_of (instr.Branch b)
-next_units (code.call f rest) = units_of (instr.Call f)
-next_units (code.call_indirect t rest) = units_of (instr.CallIndirect t)
-next_units (code.unreachable rest) = units_of instr.Unreachable
-next_units (code.block t body rest) = units_of (instr.Block t body)
-next_units (code.loop t body rest) = units_of (instr.Loop t body)
-next_units (code.choice t body other rest) = units_of (instr.If t body other)
+abbrev pub next_units : Module → Code → ℕ
+next_units m code.end = 0
+next_units m (code.plain p rest) = units_of m (instr.Plain p)
+next_units m (code.branch b rest) = units_of m (instr.Branch b)
+next_units m (code.call f rest) = units_of m (instr.Call f)
+next_units m (code.call_indirect t rest) = units_of m (instr.CallIndirect t)
+next_units m (code.unreachable rest) = units_of m instr.Unreachable
+next_units m (code.block t body rest) = units_of m (instr.Block t body)
+next_units m (code.loop t body rest) = units_of m (instr.Loop t body)
+next_units m (code.choice t body other rest) = units_of m (instr.If t body other)
 
 -- the next instruction, counted already. There is no step for call_indirect.
 abbrev pub take_next : Module → List Value → Code → List Layer → State → Machine
@@ -194,7 +194,7 @@ take_next m vs (code.choice t body other is) ls st =
 -- One step. Taking an instruction from its sequence counts its units, and leaving a label or a frame nothing.
 abbrev pub advance : Module → Machine → Machine
 advance m (Running vs code.end ls st) = leave vs ls st
-advance m (Running vs next ls st) = take_next m vs next ls (tick (next_units next) st)
+advance m (Running vs next ls st) = take_next m vs next ls (tick (next_units m next) st)
 advance m (Done st) = Done st
 advance m (Trapped count) = Trapped count
 advance m (Stuck count) = Stuck count

@@ -5,13 +5,6 @@ use Rattle.wasm_ast.specs.declared.plain.Load.{Load}
 use Rattle.wasm_ast.specs.declared.plain.Load.TheVariants as load
 use Rattle.wasm_ast.specs.Numeric.{signed, unsigned}
 
--- how many bytes a page has (4.2.8), and how many pages a memory of a call has at most
-abbrev pub page_size : ℕ
-page_size = 65536
-
-abbrev pub max_pages : ℕ
-max_pages = 16
-
 -- the number whose bytes these are, the lowest first
 abbrev pub number_of_bytes : List ℕ → ℕ
 number_of_bytes [] = 0

@@ -1,32 +1,18 @@
-//! Why a call gave no outcome.
+//! Why a step gives no configuration.
 
 ghost use Rattle.std.specs.Prelude.{◌≡◌};
 
 use std::alloc::AllocError;
-use thiserror::Error;
 
-/// Why a call gave no outcome.
-#[derive(Clone, Copy, Debug, Error)]
-pub enum RunFault {
-    /// Memory ran out.
-    #[error("out of memory")]
-    OutOfMemory,
-    /// The next instruction would pass the budget.
-    #[error("the budget is used up")]
-    Budget,
-}
-
-/// Why a walk over any valid module gave no outcome.
+/// Why a step gives no configuration that runs.
 #[derive(Clone, Copy)]
 pub enum WalkFault {
     /// Memory ran out.
     OutOfMemory,
-    /// The next instruction would pass the budget.
-    Budget,
     /// The instruction traps (Core 1.0, 4.4).
     Trap,
-    /// There is no step: the module is not one that is called, an operand is missing or of the wrong type, a number names
-    /// nothing, or the instruction is `call_indirect` or `memory.grow`.
+    /// There is no step: an operand is missing or of the wrong type, a number names nothing, or the instruction is
+    /// `call_indirect` or `memory.grow`.
     Stuck,
 }
 

@@ -63,8 +63,10 @@ impl Globals {
     /// Sets the global; `Stuck` where there is no global with this number.
     #[inline]
     pub fn set(&mut self, number: u32, value: Value) -> Result<(), WalkFault>
-        ensures there { OnOk result ((nat_lt number (length self.old) ≡ true) × (self.new ≡ slice_set self.old number value)) }
-        ensures missing { IfErr result (λ fault. (fault ≡ WalkFault.Stuck) × (nat_lt number (length self.old) ≡ false)) }
+        ensures there { OnOk result ((nat_lt number (length self.old) ≡ true)
+            × (self.new ≡ slice_set self.old number value)) }
+        ensures missing { IfErr result (λ fault.
+            (fault ≡ WalkFault.Stuck) × (nat_lt number (length self.old) ≡ false)) }
     {
         match self.values.get_mut(number as usize) {
             Some(global) => {

@@ -1,10 +1,9 @@
 //! Calls of the host (Core 1.0, 4.4.7) on the operands.
 
-ghost use Rattle.std.specs.Prelude.{◌≡◌, ℕ, List};
-ghost use Rattle.wasm_ast.specs.declared.types.Value.{Value as AnyValue};
+ghost use Rattle.std.specs.Prelude.{◌≡◌};
 ghost use Rattle.host_calls.specs.declared.imports.HostCall.TheVariants as calls;
 ghost use Rattle.host_calls.specs.Effects.{signed};
-ghost use Rattle.interp.specs.Acts.{Acts, state};
+ghost use Rattle.interp.specs.inside.Acts.{ActsOnHost};
 ghost use Rattle.interp.specs.Effects.{call_effect};
 
 use crate::fault::WalkFault;
@@ -20,7 +19,8 @@ pub fn call_host(
     operands: &mut Operands,
     vertex: &mut CallState,
 ) -> Result<(), WalkFault>
-    ensures acts { (locals globals : List AnyValue) (bytes : List ℕ) (count : ℕ) → Acts result (call_effect call operands.old.here (state locals globals bytes vertex.old count)) operands.new.here (state locals globals bytes vertex.new count) }
+    ensures acts { ActsOnHost result (call_effect call)
+        operands.old operands.new vertex.old vertex.new }
     ensures below { operands.new.below ≡ operands.old.below }
 {
     match call {
@@ -53,7 +53,8 @@ fn signed(number: i64) -> Value
 }
 
 fn set_value(operands: &mut Operands, vertex: &mut CallState) -> Result<(), WalkFault>
-    ensures acts { (locals globals : List AnyValue) (bytes : List ℕ) (count : ℕ) → Acts result (call_effect calls.SetValue operands.old.here (state locals globals bytes vertex.old count)) operands.new.here (state locals globals bytes vertex.new count) }
+    ensures acts { ActsOnHost result (call_effect calls.SetValue)
+        operands.old operands.new vertex.old vertex.new }
     ensures below { operands.new.below ≡ operands.old.below }
 {
     vertex.set_value(operands.pop_i64()?.cast_signed());
@@ -61,7 +62,8 @@ fn set_value(operands: &mut Operands, vertex: &mut CallState) -> Result<(), Walk
 }
 
 fn send(operands: &mut Operands, vertex: &mut CallState) -> Result<(), WalkFault>
-    ensures acts { (locals globals : List AnyValue) (bytes : List ℕ) (count : ℕ) → Acts result (call_effect calls.Send operands.old.here (state locals globals bytes vertex.old count)) operands.new.here (state locals globals bytes vertex.new count) }
+    ensures acts { ActsOnHost result (call_effect calls.Send)
+        operands.old operands.new vertex.old vertex.new }
     ensures below { operands.new.below ≡ operands.old.below }
 {
     let value = operands.pop_i64()?.cast_signed();
@@ -71,7 +73,8 @@ fn send(operands: &mut Operands, vertex: &mut CallState) -> Result<(), WalkFault
 }
 
 fn aggregate(operands: &mut Operands, vertex: &mut CallState) -> Result<(), WalkFault>
-    ensures acts { (locals globals : List AnyValue) (bytes : List ℕ) (count : ℕ) → Acts result (call_effect calls.Aggregate operands.old.here (state locals globals bytes vertex.old count)) operands.new.here (state locals globals bytes vertex.new count) }
+    ensures acts { ActsOnHost result (call_effect calls.Aggregate)
+        operands.old operands.new vertex.old vertex.new }
     ensures below { operands.new.below ≡ operands.old.below }
 {
     let value = operands.pop_i64()?.cast_signed();
@@ -84,7 +87,8 @@ fn aggregate(operands: &mut Operands, vertex: &mut CallState) -> Result<(), Walk
 }
 
 fn aggregated(operands: &mut Operands, vertex: &mut CallState) -> Result<(), WalkFault>
-    ensures acts { (locals globals : List AnyValue) (bytes : List ℕ) (count : ℕ) → Acts result (call_effect calls.Aggregated operands.old.here (state locals globals bytes vertex.old count)) operands.new.here (state locals globals bytes vertex.new count) }
+    ensures acts { ActsOnHost result (call_effect calls.Aggregated)
+        operands.old operands.new vertex.old vertex.new }
     ensures below { operands.new.below ≡ operands.old.below }
 {
     let slot = operands.pop_i32()?;

@@ -7,22 +7,40 @@ ghost use Rattle.host_calls.specs.declared.call.CallOutcome.{CallOutcome as AnyO
 ghost use Rattle.validate.specs.Modules.{IsTyped};
 ghost use Rattle.bounded_profile.specs.Profile.{IsBounded};
 ghost use Rattle.interp.specs.Bounded.{CallsEnd, FactsHold, Ends, ComesToItsEnd, MeetsNoFault, HasBounds};
-ghost use Rattle.interp.specs.Call.{IsOutcome, SameOutcome, IsTrapped, IsStuck, HasNoStep};
+ghost use Rattle.interp.specs.Call.{IsOutcome, Outcome, SameOutcome, IsTrapped, IsStuck, shown};
+ghost use Rattle.interp.specs.Outcomes.{AreOutcomes, Given, HasOneOutcome, given_of};
 ghost use Rattle.interp.specs.Machine.{Machine, IsOver, run};
+ghost use Rattle.interp.specs.Sequences.{SequencesCount};
 
 /// A run that is over stays over.
 pub fn an_end_stays()
-    ensures { (m : AnyModule) (n k : ℕ) (x : Machine) → IsOver (run m n x) → n ≤ k → run m k x ≡ run m n x }
+    ensures { (m : AnyModule) (n k : ℕ) (x : Machine) → IsOver (run m n x) → n ≤ k
+        → run m k x ≡ run m n x }
 {}
 
 /// A call has one end: one outcome, or one count at which it traps or has no step, or no first step.
 pub fn one_outcome()
-    ensures outcome { (m : AnyModule) (input : AnyInput) (a b : AnyOutcome) → IsOutcome m input a → IsOutcome m input b → SameOutcome a b }
-    ensures trap { (m : AnyModule) (input : AnyInput) (a b : ℕ) → IsTrapped m input a → IsTrapped m input b → a ≡ b }
-    ensures stuck { (m : AnyModule) (input : AnyInput) (a b : ℕ) → IsStuck m input a → IsStuck m input b → a ≡ b }
-    ensures outcome_no_trap { (m : AnyModule) (input : AnyInput) (a : AnyOutcome) (b : ℕ) → IsOutcome m input a → IsTrapped m input b → ⊥ }
-    ensures outcome_not_stuck { (m : AnyModule) (input : AnyInput) (a : AnyOutcome) (b : ℕ) → IsOutcome m input a → IsStuck m input b → ⊥ }
-    ensures trap_not_stuck { (m : AnyModule) (input : AnyInput) (a b : ℕ) → IsTrapped m input a → IsStuck m input b → ⊥ }
+    ensures outcome { (m : AnyModule) (input : AnyInput) (a b : AnyOutcome)
+        → IsOutcome m input a → IsOutcome m input b → SameOutcome a b }
+    ensures trap { (m : AnyModule) (input : AnyInput) (a b : ℕ)
+        → IsTrapped m input a → IsTrapped m input b → a ≡ b }
+    ensures stuck { (m : AnyModule) (input : AnyInput) (a b : ℕ)
+        → IsStuck m input a → IsStuck m input b → a ≡ b }
+    ensures outcome_no_trap { (m : AnyModule) (input : AnyInput) (a : AnyOutcome) (b : ℕ)
+        → IsOutcome m input a → IsTrapped m input b → ⊥ }
+    ensures outcome_not_stuck { (m : AnyModule) (input : AnyInput) (a : AnyOutcome) (b : ℕ)
+        → IsOutcome m input a → IsStuck m input b → ⊥ }
+    ensures trap_not_stuck { (m : AnyModule) (input : AnyInput) (a b : ℕ)
+        → IsTrapped m input a → IsStuck m input b → ⊥ }
+{}
+
+/// What the calls of a module in the bounded profile come to is one function of what they are given, and what a call
+/// answers is what that function says.
+pub fn calls_are_a_function()
+    ensures one { (m : AnyModule) → IsTyped m → IsBounded m → HasOneOutcome m }
+    ensures told { (m : AnyModule) (outcomes : Given → Outcome) → AreOutcomes m outcomes
+        → (input : AnyInput) (outcome : AnyOutcome) → IsOutcome m input outcome
+        → shown outcome ≡ outcomes (given_of input) }
 {}
 
 /// Each compute call of a module in the bounded profile comes to its end: it is never trapped, there is a step for each of
@@ -31,7 +49,15 @@ pub fn one_outcome()
 pub fn calls_end()
     ensures ends { (m : AnyModule) → CallsEnd m }
     ensures facts { (m : AnyModule) → FactsHold m }
-    ensures always { (m : AnyModule) → IsTyped m → IsBounded m → (input : AnyInput) → ComesToItsEnd m input }
-    ensures faults { (m : AnyModule) (input : AnyInput) (units most_operands most_frames : ℕ) → Ends m input units most_operands most_frames → MeetsNoFault m input units }
+    ensures always { (m : AnyModule) → IsTyped m → IsBounded m → (input : AnyInput)
+        → ComesToItsEnd m input }
+    ensures faults { (m : AnyModule) (input : AnyInput) (units most_operands most_frames : ℕ)
+        → Ends m input units most_operands most_frames → MeetsNoFault m input units }
     ensures bounds { (m : AnyModule) → IsBounded m → HasBounds m }
+{}
+
+/// Each sequence that keeps the profile's rules, with loops that take their item first or last, counts no more than its size
+/// times one more than the items that it takes, from its first instruction to where it is left.
+pub fn sequences_count()
+    ensures { (m : AnyModule) → SequencesCount m }
 {}

@@ -18,8 +18,7 @@ mod scratch;
 mod start;
 mod walk;
 
-pub use fault::RunFault;
 pub use host_calls::{CallInput, CallOutcome};
-pub use laws::{an_end_stays, calls_end, one_outcome};
-pub use runs::run;
+pub use laws::{an_end_stays, calls_are_a_function, calls_end, one_outcome, sequences_count};
+pub use runs::{has_ids, run};
 pub use scratch::Scratch;

@@ -17,11 +17,14 @@ pub struct Locals {
 
 impl Model for Locals {
     ghost use Rattle.std.specs.Prelude.{◌≤◌, take, drop, length};
-    ghost use Rattle.interp.specs.Split.{Split};
+    ghost use Rattle.interp.specs.inside.Split.{Split};
 
     ghost Value = { Split };
 
-    ghost view = { λ a. record { here = drop a.base a.values.items; below = take a.base a.values.items } };
+    ghost view = { λ a. record {
+      here = drop a.base a.values.items;
+      below = take a.base a.values.items;
+    } };
 
     ghost invariant = { λ a. a.base ≤ length a.values.items };
 }
@@ -60,7 +63,8 @@ impl Locals {
     pub fn set(&mut self, number: u32, value: Value) -> Result<(), WalkFault>
         ensures there { OnOk result (nat_lt number (length self.old.here) ≡ true) }
         ensures here { OnOk result (self.new.here ≡ slice_set self.old.here number value) }
-        ensures missing { IfErr result (λ fault. (fault ≡ WalkFault.Stuck) × (nat_lt number (length self.old.here) ≡ false)) }
+        ensures missing { IfErr result (λ fault.
+            (fault ≡ WalkFault.Stuck) × (nat_lt number (length self.old.here) ≡ false)) }
         ensures below { self.new.below ≡ self.old.below }
     {
         let number = number as usize;
@@ -84,7 +88,8 @@ impl Locals {
     /// Begins a frame with these.
     #[inline]
     pub fn open(&mut self, arguments: &[Value]) -> Result<(), AllocError>
-        ensures ok { OnOk result (self.new ≡ record { here = arguments.now; below = self.old.below ++ self.old.here }) }
+        ensures ok { OnOk result
+            (self.new ≡ record { here = arguments.now; below = self.old.below ++ self.old.here }) }
         ensures err { OnErr result (self.new ≡ self.old) }
     {
         let base = self.values.len();

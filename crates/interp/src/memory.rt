@@ -2,18 +2,16 @@
 
 ghost use Rattle.std.specs.Prelude.{◌≡◌, ◌+◌, ◌*◌, ◌/◌, ◌<◌, ◌≤◌, ℕ, [], Some, length, nat_le, replicate, option_map, true, false, None, take, drop, OnOk, OnErr};
 ghost use Rattle.wasm_ast.specs.Widths.{load_type, load_width, store_width};
+ghost use Rattle.bounded_profile.specs.Memory.{page, max_minimum};
 ghost use Rattle.interp.specs.Effects.{value};
-ghost use Rattle.interp.specs.Memory.{page_size, max_pages, number_of_bytes, sign_extended, loaded, read, laid, write};
+ghost use Rattle.interp.specs.Memory.{number_of_bytes, sign_extended, loaded, read, laid, write};
 
 use std::alloc::{AllocError, Global};
 use std::marker::Model;
 use wasm_ast::{Load, Store, Value, i64_extend_i32_s};
 
-/// How many bytes a page has (Core 1.0, 4.2.8).
-pub const PAGE_SIZE: usize = 65_536;
-
-/// How many pages a memory has at most.
-pub const MAX_PAGES: u32 = 16;
+/// Bytes of a page (Core 1.0, 4.2.8).
+const PAGE: usize = 65_536;
 
 /// The bytes of the memory, which contracts see as their list.
 #[derive(Drop)]
@@ -23,13 +21,13 @@ pub struct Memory {
 
 impl Model for Memory {
     ghost use Rattle.std.specs.Prelude.{ℕ, List, ◌*◌, ◌≤◌, length};
-    ghost use Rattle.interp.specs.Memory.{page_size, max_pages};
+    ghost use Rattle.bounded_profile.specs.Memory.{page, max_minimum};
 
     ghost Value = { List ℕ };
 
     ghost view = { λ a. a.bytes.items };
 
-    ghost invariant = { λ a. length a.bytes.items ≤ max_pages * page_size };
+    ghost invariant = { λ a. length a.bytes.items ≤ page * max_minimum };
 }
 
 impl Memory {
@@ -44,20 +42,20 @@ impl Memory {
 
     /// So many pages of zeros, in the room that it has. After an `Err` there are none.
     pub fn renew(&mut self, pages: u32) -> Result<(), AllocError>
-        requires { pages ≤ max_pages }
-        ensures ok { OnOk result (self.new ≡ replicate (pages * page_size) 0) }
+        requires { pages ≤ max_minimum }
+        ensures ok { OnOk result (self.new ≡ replicate (page * pages) 0) }
         ensures err { OnErr result (self.new ≡ []) }
     {
         self.bytes.clear();
-        self.bytes.resize(pages as usize * PAGE_SIZE, 0)?;
+        self.bytes.resize(PAGE * pages as usize, 0)?;
         Ok(())
     }
 
     /// How many pages there are (Core 1.0, 4.4.4, memory.size).
     pub fn size(&self) -> u32
-        ensures { result ≡ length self.now / page_size }
+        ensures { result ≡ length self.now / page }
     {
-        (self.bytes.len() / PAGE_SIZE) as u32
+        (self.bytes.len() / PAGE) as u32
     }
 
     /// Writes these bytes from a place on and is true, where all of those are there; else it changes nothing.
@@ -78,7 +76,8 @@ impl Memory {
     /// What a load from a place gives, where all its bytes are there.
     #[inline]
     pub fn load(&self, op: Load, place: u64) -> Option<Value>
-        ensures { result ≡ option_map (λ n. value (load_type op) (loaded op n)) (read place (load_width op) self.now) }
+        ensures { result ≡ option_map (λ n. value (load_type op) (loaded op n))
+            (read place (load_width op) self.now) }
     {
         match op {
             Load::I32 => Some(Value::I32(self.read_4(place)?)),
@@ -99,7 +98,8 @@ impl Memory {
     /// Writes the lowest bytes of a number at a place and is true, where all the bytes are there; else it changes nothing.
     #[inline]
     pub fn store(&mut self, op: Store, place: u64, number: u64) -> bool
-        ensures written { result ≡ true → write place (store_width op) number self.old ≡ Some self.new }
+        ensures written { result ≡ true
+            → write place (store_width op) number self.old ≡ Some self.new }
         ensures missing { result ≡ false → write place (store_width op) number self.old ≡ None }
     {
         let bytes = number.to_le_bytes();

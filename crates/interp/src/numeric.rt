@@ -1,9 +1,8 @@
 //! Numeric instructions (Core 1.0, 4.4.1) on the operands.
 
 ghost use Rattle.std.specs.Prelude.{◌≡◌};
-ghost use Rattle.interp.specs.Configuration.{State};
 ghost use Rattle.interp.specs.Effects.{numeric_effect};
-ghost use Rattle.interp.specs.Acts.{Acts};
+ghost use Rattle.interp.specs.inside.Acts.{ActsAlone};
 ghost use Rattle.wasm_ast.specs.declared.numeric.Numeric.TheVariants as numeric;
 ghost use Rattle.wasm_ast.specs.declared.types.ValType.TheVariants.{I32 as i32_type, I64 as i64_type};
 
@@ -17,7 +16,7 @@ use wasm_ast::{
 /// Takes the operands of a numeric instruction and gives its result. Divisions trap where there is none.
 #[inline]
 pub fn act_numeric(op: Numeric, operands: &mut Operands) -> Result<(), WalkFault>
-    ensures acts { (st : State) → Acts result (numeric_effect op operands.old.here st) operands.new.here st }
+    ensures acts { ActsAlone result (numeric_effect op) operands.old operands.new }
     ensures below { operands.new.below ≡ operands.old.below }
 {
     match op {
@@ -31,7 +30,7 @@ pub fn act_numeric(op: Numeric, operands: &mut Operands) -> Result<(), WalkFault
 }
 
 fn act_eqz(of: ValType, operands: &mut Operands) -> Result<(), WalkFault>
-    ensures acts { (st : State) → Acts result (numeric_effect (numeric.Eqz of) operands.old.here st) operands.new.here st }
+    ensures acts { ActsAlone result (numeric_effect (numeric.Eqz of)) operands.old operands.new }
     ensures below { operands.new.below ≡ operands.old.below }
 {
     let answer = match of {
@@ -46,7 +45,8 @@ fn act_comparison(
     comparison: Comparison,
     operands: &mut Operands,
 ) -> Result<(), WalkFault>
-    ensures acts { (st : State) → Acts result (numeric_effect (numeric.Comparison of comparison) operands.old.here st) operands.new.here st }
+    ensures acts { ActsAlone result (numeric_effect (numeric.Comparison of comparison))
+        operands.old operands.new }
     ensures below { operands.new.below ≡ operands.old.below }
 {
     let holds = match of {
@@ -63,7 +63,8 @@ fn act_comparison(
 }
 
 fn act_unary(of: ValType, unary: Unary, operands: &mut Operands) -> Result<(), WalkFault>
-    ensures acts { (st : State) → Acts result (numeric_effect (numeric.Unary of unary) operands.old.here st) operands.new.here st }
+    ensures acts { ActsAlone result (numeric_effect (numeric.Unary of unary))
+        operands.old operands.new }
     ensures below { operands.new.below ≡ operands.old.below }
 {
     let value = match of {
@@ -74,7 +75,8 @@ fn act_unary(of: ValType, unary: Unary, operands: &mut Operands) -> Result<(), W
 }
 
 fn act_binary(of: ValType, binary: Binary, operands: &mut Operands) -> Result<(), WalkFault>
-    ensures acts { (st : State) → Acts result (numeric_effect (numeric.Binary of binary) operands.old.here st) operands.new.here st }
+    ensures acts { ActsAlone result (numeric_effect (numeric.Binary of binary))
+        operands.old operands.new }
     ensures below { operands.new.below ≡ operands.old.below }
 {
     let value = match of {
@@ -91,7 +93,8 @@ fn act_binary(of: ValType, binary: Binary, operands: &mut Operands) -> Result<()
 }
 
 fn act_division(of: ValType, division: Division, operands: &mut Operands) -> Result<(), WalkFault>
-    ensures acts { (st : State) → Acts result (numeric_effect (numeric.Division of division) operands.old.here st) operands.new.here st }
+    ensures acts { ActsAlone result (numeric_effect (numeric.Division of division))
+        operands.old operands.new }
     ensures below { operands.new.below ≡ operands.old.below }
 {
     match of {
@@ -101,7 +104,8 @@ fn act_division(of: ValType, division: Division, operands: &mut Operands) -> Res
 }
 
 fn divide_i32(division: Division, operands: &mut Operands) -> Result<(), WalkFault>
-    ensures acts { (st : State) → Acts result (numeric_effect (numeric.Division i32_type division) operands.old.here st) operands.new.here st }
+    ensures acts { ActsAlone result (numeric_effect (numeric.Division i32_type division))
+        operands.old operands.new }
     ensures below { operands.new.below ≡ operands.old.below }
 {
     let second = operands.pop_i32()?;
@@ -113,7 +117,8 @@ fn divide_i32(division: Division, operands: &mut Operands) -> Result<(), WalkFau
 }
 
 fn divide_i64(division: Division, operands: &mut Operands) -> Result<(), WalkFault>
-    ensures acts { (st : State) → Acts result (numeric_effect (numeric.Division i64_type division) operands.old.here st) operands.new.here st }
+    ensures acts { ActsAlone result (numeric_effect (numeric.Division i64_type division))
+        operands.old operands.new }
     ensures below { operands.new.below ≡ operands.old.below }
 {
     let second = operands.pop_i64()?;
@@ -125,7 +130,8 @@ fn divide_i64(division: Division, operands: &mut Operands) -> Result<(), WalkFau
 }
 
 fn act_conversion(conversion: Conversion, operands: &mut Operands) -> Result<(), WalkFault>
-    ensures acts { (st : State) → Acts result (numeric_effect (numeric.Conversion conversion) operands.old.here st) operands.new.here st }
+    ensures acts { ActsAlone result (numeric_effect (numeric.Conversion conversion))
+        operands.old operands.new }
     ensures below { operands.new.below ≡ operands.old.below }
 {
     let value = match conversion {

@@ -2,7 +2,7 @@
 
 ghost use Rattle.std.specs.Prelude.{◌≡◌, ◌∷◌, ◌++◌, ◌-◌, ◌<◌, ◌≤◌, [], length, take, drop, reverse, IfErr, IfOk, MatchOption, MatchResult, if◌then◌else◌};
 ghost use Rattle.wasm_ast.specs.declared.types.ValType.TheVariants.{I32 as i32_type, I64 as i64_type};
-ghost use Rattle.interp.specs.Acts.{Pops};
+ghost use Rattle.interp.specs.inside.Acts.{Pops};
 ghost use Rattle.interp.specs.Machine.{first, carry};
 
 use crate::fault::WalkFault;
@@ -19,11 +19,14 @@ pub struct Operands {
 
 impl Model for Operands {
     ghost use Rattle.std.specs.Prelude.{◌≤◌, reverse, take, drop, length};
-    ghost use Rattle.interp.specs.Split.{Split};
+    ghost use Rattle.interp.specs.inside.Split.{Split};
 
     ghost Value = { Split };
 
-    ghost view = { λ a. record { here = reverse (drop a.floor a.values.items); below = reverse (take a.floor a.values.items) } };
+    ghost view = { λ a. record {
+      here = reverse (drop a.floor a.values.items);
+      below = reverse (take a.floor a.values.items);
+    } };
 
     ghost invariant = { λ a. a.floor ≤ length a.values.items };
 }
@@ -51,7 +54,8 @@ impl Operands {
     /// Puts a value on top.
     #[inline]
     pub fn push(&mut self, value: Value) -> Result<(), WalkFault>
-        ensures here { MatchResult result (λ _. self.new.here ≡ value ∷ self.old.here) (λ fault. fault ≡ WalkFault.OutOfMemory) }
+        ensures here { MatchResult result (λ _. self.new.here ≡ value ∷ self.old.here)
+            (λ fault. fault ≡ WalkFault.OutOfMemory) }
         ensures below { self.new.below ≡ self.old.below }
     {
         match self.values.push(value) {
@@ -63,7 +67,8 @@ impl Operands {
     /// The topmost value; `Stuck` where the layer has none.
     #[inline]
     pub fn pop(&mut self) -> Result<Value, WalkFault>
-        ensures { MatchResult result (λ v. self.old ≡ record { here = v ∷ self.new.here; below = self.new.below })
+        ensures { MatchResult result
+            (λ v. self.old ≡ record { here = v ∷ self.new.here; below = self.new.below })
             (λ fault. (fault ≡ WalkFault.Stuck) × ((self.old.here ≡ []) × (self.new ≡ self.old))) }
     {
         if self.values.len() == self.floor {
@@ -109,7 +114,8 @@ impl Operands {
     #[inline]
     pub fn carry(&mut self, keeps: bool, top: Option<Value>) -> Result<bool, WalkFault>
         ensures fault { IfErr result (λ fault. fault ≡ WalkFault.OutOfMemory) }
-        ensures here { IfOk result (λ there. carry keeps top self.old.here ≡ (if there then Some self.new.here else None)) }
+        ensures here { IfOk result (λ there.
+            carry keeps top self.old.here ≡ (if there then Some self.new.here else None)) }
         ensures below { self.new.below ≡ self.old.below }
     {
         if !keeps {
@@ -167,7 +173,8 @@ impl Operands {
     #[inline]
     pub fn join(&mut self, floor: usize)
         requires { floor ≤ length self.old.below }
-        ensures here { self.new.here ≡ self.old.here ++ take (length self.old.below - floor) self.old.below }
+        ensures here { self.new.here
+            ≡ self.old.here ++ take (length self.old.below - floor) self.old.below }
         ensures below { self.new.below ≡ drop (length self.old.below - floor) self.old.below }
     {
         self.floor = floor;

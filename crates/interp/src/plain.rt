@@ -1,12 +1,10 @@
 //! Instructions that neither branch nor call (Core 1.0, 4.4.1 to 4.4.4).
 
-ghost use Rattle.std.specs.Prelude.{◌≡◌, ℕ, List};
-ghost use Rattle.wasm_ast.specs.declared.types.Value.{Value as AnyValue};
+ghost use Rattle.std.specs.Prelude.{◌≡◌, ℕ};
 ghost use Rattle.wasm_ast.specs.declared.plain.Memory.TheVariants as memory_variant;
 ghost use Rattle.wasm_ast.specs.declared.plain.Plain.TheVariants as plain;
 ghost use Rattle.host_calls.specs.Host.{Host as AnyHost};
-ghost use Rattle.interp.specs.Acts.{Acts, state};
-ghost use Rattle.interp.specs.Configuration.{State};
+ghost use Rattle.interp.specs.inside.Acts.{Acts, ActsAlone, ActsOnBytes, ActsOnVariables, state};
 ghost use Rattle.interp.specs.Effects.{effect, variable_effect, memory_effect};
 
 use crate::fault::WalkFault;
@@ -29,7 +27,10 @@ pub fn act_plain(
     globals: &mut Globals,
     bytes: &mut Memory,
 ) -> Result<(), WalkFault>
-    ensures acts { (host : AnyHost) (count : ℕ) → Acts result (effect instruction operands.old.here (state locals.old.here globals.old bytes.old host count)) operands.new.here (state locals.new.here globals.new bytes.new host count) }
+    ensures acts { (host : AnyHost) (count : ℕ) → Acts result
+        (effect instruction operands.old.here
+        (state locals.old.here globals.old bytes.old host count))
+        operands.new.here (state locals.new.here globals.new bytes.new host count) }
     ensures below { operands.new.below ≡ operands.old.below }
     ensures locals_below { locals.new.below ≡ locals.old.below }
 {
@@ -50,7 +51,7 @@ pub fn act_plain(
 /// Gives the first of two operands of one type for a number other than 0, and the second for 0 (Core 1.0, 4.4.2).
 #[inline]
 fn act_select(operands: &mut Operands) -> Result<(), WalkFault>
-    ensures acts { (st : State) → Acts result (effect plain.Select operands.old.here st) operands.new.here st }
+    ensures acts { ActsAlone result (effect plain.Select) operands.old operands.new }
     ensures below { operands.new.below ≡ operands.old.below }
 {
     let number = operands.pop_i32()?;
@@ -70,7 +71,8 @@ fn act_variable(
     locals: &mut Locals,
     globals: &mut Globals,
 ) -> Result<(), WalkFault>
-    ensures acts { (bytes : List ℕ) (host : AnyHost) (count : ℕ) → Acts result (variable_effect instruction operands.old.here (state locals.old.here globals.old bytes host count)) operands.new.here (state locals.new.here globals.new bytes host count) }
+    ensures acts { ActsOnVariables result (variable_effect instruction)
+        operands.old operands.new locals.old locals.new globals.old globals.new }
     ensures below { operands.new.below ≡ operands.old.below }
     ensures locals_below { locals.new.below ≡ locals.old.below }
 {
@@ -94,7 +96,8 @@ fn act_memory(
     operands: &mut Operands,
     bytes: &mut Memory,
 ) -> Result<(), WalkFault>
-    ensures acts { (locals globals : List AnyValue) (host : AnyHost) (count : ℕ) → Acts result (memory_effect instruction operands.old.here (state locals globals bytes.old host count)) operands.new.here (state locals globals bytes.new host count) }
+    ensures acts { ActsOnBytes result (memory_effect instruction)
+        operands.old operands.new bytes.old bytes.new }
     ensures below { operands.new.below ≡ operands.old.below }
 {
     match instruction {
@@ -112,7 +115,8 @@ fn act_load(
     operands: &mut Operands,
     bytes: &Memory,
 ) -> Result<(), WalkFault>
-    ensures acts { (locals globals : List AnyValue) (host : AnyHost) (count : ℕ) → Acts result (memory_effect (memory_variant.Load op argument) operands.old.here (state locals globals bytes.now host count)) operands.new.here (state locals globals bytes.now host count) }
+    ensures acts { ActsOnBytes result (memory_effect (memory_variant.Load op argument))
+        operands.old operands.new bytes.now bytes.now }
     ensures below { operands.new.below ≡ operands.old.below }
 {
     let place = u64::from(operands.pop_i32()?) + u64::from(argument.offset);
@@ -127,7 +131,8 @@ fn act_store(
     operands: &mut Operands,
     bytes: &mut Memory,
 ) -> Result<(), WalkFault>
-    ensures acts { (locals globals : List AnyValue) (host : AnyHost) (count : ℕ) → Acts result (memory_effect (memory_variant.Store op argument) operands.old.here (state locals globals bytes.old host count)) operands.new.here (state locals globals bytes.new host count) }
+    ensures acts { ActsOnBytes result (memory_effect (memory_variant.Store op argument))
+        operands.old operands.new bytes.old bytes.new }
     ensures below { operands.new.below ≡ operands.old.below }
 {
     let number = match op.val_type() {

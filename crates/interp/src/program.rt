@@ -1,11 +1,17 @@
 //! The functions of a module by number.
 
-ghost use Rattle.std.specs.Prelude.{◌≡◌, option_map, slice_get};
-ghost use Rattle.interp.specs.Machine.{functions_of};
-ghost use Rattle.interp.specs.Meaning.{AreImports, callee_of};
+ghost use Rattle.std.specs.Prelude.{◌≡◌, Some, option_map, slice_get};
+ghost use Rattle.cost.specs.Weights.{call_units, units_of};
+ghost use Rattle.validate.specs.Modules.{IsTyped};
+ghost use Rattle.bounded_profile.specs.Profile.{IsBounded};
+ghost use Rattle.interp.specs.inside.Begun.{IsDefinedAt};
+ghost use Rattle.interp.specs.Machine.{defined, functions_of};
+ghost use Rattle.interp.specs.inside.Meaning.{AreImports, callee_of};
 
+use bounded_profile::Verified;
+use cost::{branch_units, host_units, plain_units};
 use host_calls::HostCall;
-use wasm_ast::{Function, Module};
+use wasm_ast::{Function, Instr, Module};
 
 /// A module whose imports bring in these functions of the host, in order.
 #[derive(Clone, Copy)]
@@ -22,11 +28,39 @@ pub enum Callee<'a> {
 }
 
 impl<'a> Program<'a> {
+    /// The module, and the functions of the host that it imports.
+    pub fn of(verified: &'a Verified) -> Program<'a>
+        ensures same { result.«module».now ≡ verified.now }
+        ensures typed { IsTyped verified.now }
+        ensures bounded { IsBounded verified.now }
+        ensures calls { AreImports result.calls.now result.«module».now }
+    {
+        Program {
+            module: verified.module(),
+            calls: verified.host_calls(),
+        }
+    }
+
+    /// The function with this number, which the module defines.
+    pub fn defined(self, number: u32) -> &'a Function
+        requires calls { AreImports self.calls.now self.«module».now }
+        requires defined { IsDefinedAt self.«module».now number }
+        ensures { slice_get (functions_of self.entry.«module».now) number
+            ≡ Some (defined result.now) }
+    {
+        match self.callee(number) {
+            Some(Callee::Defined(function)) => function,
+            Some(Callee::Host(_)) => unreachable!(),
+            None => unreachable!(),
+        }
+    }
+
     /// The function with this number, imports first (Core 1.0, 2.5.1).
     #[inline]
     pub fn callee(self, number: u32) -> Option<Callee<'a>>
         requires { AreImports self.calls.now self.«module».now }
-        ensures { option_map callee_of result ≡ slice_get (functions_of self.entry.«module».now) number }
+        ensures { option_map callee_of result
+            ≡ slice_get (functions_of self.entry.«module».now) number }
     {
         let number = number as usize;
         match self.calls.get(number) {
@@ -38,6 +72,39 @@ impl<'a> Program<'a> {
                     None => None,
                 }
             }
+        }
+    }
+
+    /// What the instruction counts.
+    #[inline]
+    pub fn units(self, instr: &Instr) -> u32
+        requires { AreImports self.calls.now self.«module».now }
+        ensures { result ≡ units_of self.entry.«module».now instr.now }
+    {
+        match instr {
+            Instr::Plain(plain) => plain_units(*plain),
+            Instr::Branch(branch) => branch_units(branch),
+            Instr::Call(number) => self.call_units(*number),
+            _ => 1,
+        }
+    }
+
+    #[inline]
+    fn call_units(self, number: u32) -> u32
+        requires { AreImports self.calls.now self.«module».now }
+        ensures { result ≡ call_units self.entry.«module».now number }
+    {
+        host_units(self.host_call(number))
+    }
+
+    /// The function of the host with this number, if it is one.
+    #[inline]
+    fn host_call(self, number: u32) -> Option<HostCall>
+        ensures { result ≡ slice_get self.entry.calls.now number }
+    {
+        match self.calls.get(number as usize) {
+            Some(call) => Some(*call),
+            None => None,
         }
     }
 }

@@ -1,13 +1,13 @@
 //! Compute calls.
 
-ghost use Rattle.std.specs.Prelude.{◌≡◌, ◌≤◌, ◌⊎◌, ℕ, IfOk, IsErrOf, IsOkUnless};
-ghost use Rattle.host_calls.specs.declared.call.CallOutcome.{CallOutcome as AnyOutcome};
-ghost use Rattle.interp.specs.Begun.{Answered, Finished};
-ghost use Rattle.interp.specs.Meaning.{AreImports};
-ghost use Rattle.interp.specs.Place.{running};
-ghost use Rattle.interp.specs.Call.{IsOutcome, PassesBudget};
+ghost use Rattle.std.specs.Prelude.{◌≡◌, ◌↔◌, ◌+◌, ◌*◌, IfOk, IsTrue};
+ghost use Rattle.interp.specs.inside.Begun.{EndsWith};
+ghost use Rattle.interp.specs.Bounded.{HasIds, IsWithinBound, NeverFails, items_of};
+ghost use Rattle.interp.specs.Call.{IsOutcome};
+ghost use Rattle.interp.specs.inside.Meaning.{AreImports};
+ghost use Rattle.interp.specs.inside.Place.{running};
+ghost use Rattle.interp.specs.inside.Walk.{EndsWithin};
 
-use crate::fault::{RunFault, WalkFault};
 use crate::program::Program;
 use crate::rooms::Rooms;
 use crate::scratch::Scratch;
@@ -15,72 +15,63 @@ use crate::start::begin;
 use crate::walk::Walk;
 use bounded_profile::Verified;
 use host_calls::{CallInput, CallOutcome};
-use std::alloc::Global;
-use wasm_ast::Module;
+use std::alloc::{AllocError, Global};
 
-/// A compute call of a vertex: the run of the module's function `compute` over fresh memory and globals, for at most as
-/// many units as `steps` (Core 1.0, 4.5.5).
+/// The greatest id.
+const MAX_ID: u64 = 9_223_372_036_854_775_807;
+
+/// A compute call of a vertex: the run of the module's function `compute` over fresh memory and globals (Core 1.0, 4.5.5).
 ///
-/// `Budget` comes exactly where the next instruction would make the count greater than `steps`. There is no other refusal
-/// but `OutOfMemory`: a call of a module in the bounded profile meets no trap and no missing operand.
+/// It comes to its end within a bound that can be told beforehand, and nothing is compared with that bound while it runs.
+/// The only refusal is that there is no memory.
 pub fn run(
     alloc: Global,
     verified: &Verified,
     input: &CallInput,
     scratch: &mut Scratch,
-    steps: u128,
-) -> Result<CallOutcome, RunFault>
-    requires { scratch.old ≡ verified.now }
+) -> Result<CallOutcome, AllocError>
+    requires fits { scratch.old ≡ verified.now }
+    requires ids { HasIds input.now }
     ensures kept { scratch.new ≡ scratch.old }
-    ensures outcome { IfOk result (λ outcome. IsOutcome verified.now input.now outcome × (outcome.units ≤ steps)) }
-    ensures budget { IsErrOf result RunFault.Budget → PassesBudget verified.now input.now steps }
-    ensures gives { (outcome : AnyOutcome) → IsOutcome verified.now input.now outcome → outcome.units ≤ steps → IsOkUnless result RunFault.OutOfMemory }
-    ensures passes { PassesBudget verified.now input.now steps → IsErrOf result RunFault.Budget ⊎ IsErrOf result RunFault.OutOfMemory }
+    ensures outcome { IfOk result (IsOutcome verified.now input.now) }
+    ensures units { IfOk result (IsWithinBound verified.now input.now) }
+    ensures fails_never { NeverFails verified.now input.now }
 {
-    match answer(alloc, verified.module(), input, scratch, steps) {
-        Ok(outcome) => Ok(outcome),
-        Err(WalkFault::OutOfMemory) => Err(RunFault::OutOfMemory),
-        Err(WalkFault::Budget) => Err(RunFault::Budget),
-        Err(WalkFault::Trap) => unreachable!(),
-        Err(WalkFault::Stuck) => unreachable!(),
-    }
-}
-
-// A compute call of any valid module, in one word. `Trap` and `Stuck` come exactly where the machine comes to them within
-// `steps`, and `Stuck` before any step where the module is one that is not called.
-pub(crate) fn answer(
-    alloc: Global,
-    module: &Module,
-    input: &CallInput,
-    scratch: &mut Scratch,
-    steps: u128,
-) -> Result<CallOutcome, WalkFault>
-    requires { scratch.old ≡ «module».now }
-    ensures kept { scratch.new ≡ scratch.old }
-    ensures answered { Answered result «module».now input.now steps }
-{
+    let program = Program::of(verified);
+    let most = most_units(verified.size(), input);
     let rooms = scratch.take_rooms(alloc);
-    let Some(calls) = scratch.calls() else {
-        return Err(WalkFault::Stuck);
-    };
-    let program = Program { module, calls };
-    let walk = begin(alloc, program, input, rooms)?;
-    let (ended, rooms) = finish(walk, program, steps);
+    let walk = begin(alloc, program, verified.compute(), input, rooms)?;
+    let (ended, rooms) = finish(walk, program, most);
     scratch.keep_rooms(rooms);
     ended
+}
+
+/// Whether the id and the targets of the edges are in their range, as `run` asks.
+pub fn has_ids(input: &CallInput) -> bool
+    ensures { IsTrue result ↔ HasIds input.now }
+{
+    input.id <= MAX_ID && input.edges.iter().all(|edge| edge.0 <= MAX_ID)
+}
+
+// The size times one more than there are messages and edges.
+fn most_units(size: u32, input: &CallInput) -> u128
+    ensures { result ≡ size * (1 + items_of input.now) }
+{
+    let items = input.messages.len() as u128 + input.edges.len() as u128;
+    u128::from(size) * (1 + items)
 }
 
 // The walk to its end, and its lists.
 fn finish<'a, 'b>(
     mut walk: Walk<'a, 'b>,
     program: Program<'a>,
-    steps: u128,
-) -> (Result<CallOutcome, WalkFault>, Rooms)
+    most: u128,
+) -> (Result<CallOutcome, AllocError>, Rooms)
     requires calls { AreImports program.calls.now program.«module».now }
-    requires within { walk.state.count ≤ steps }
-    ensures { Finished result.0 program.entry.«module».now (running walk.entry) steps }
+    requires ends { EndsWithin program.«module».now (running walk) most }
+    ensures { IfOk result.0 (EndsWith program.entry.«module».now (running walk.entry)) }
 {
-    let ended = walk.finish(program, steps);
+    let ended = walk.finish(program, most);
     let Walk {
         code: _,
         layers: _,
@@ -99,6 +90,6 @@ fn finish<'a, 'b>(
     };
     match ended {
         Ok(()) => (Ok(host.into_outcome(count)), rooms),
-        Err(fault) => (Err(fault), rooms),
+        Err(AllocError) => (Err(AllocError), rooms),
     }
 }

@@ -1,13 +1,12 @@
 //! The walk over nested code, which is the machine's run (Core 1.0, 4.4).
 
-ghost use Rattle.std.specs.Prelude.{◌≡◌, ◌≤◌, ◌+◌, MatchResult, ◌<◌};
-ghost use Rattle.wasm_ast.specs.Units.{units_of};
+ghost use Rattle.std.specs.Prelude.{◌≡◌, OnOk};
 ghost use Rattle.wasm_ast.specs.View.{code_of, then_code};
 ghost use Rattle.interp.specs.Effects.{effect, call_effect};
-ghost use Rattle.interp.specs.Machine.{advance, after_effect, next_units, take_next};
-ghost use Rattle.interp.specs.Meaning.{AreImports};
-ghost use Rattle.interp.specs.Place.{running};
-ghost use Rattle.interp.specs.Walk.{Turned, Stepped, Ends};
+ghost use Rattle.interp.specs.Machine.{advance};
+ghost use Rattle.interp.specs.inside.Meaning.{AreImports};
+ghost use Rattle.interp.specs.inside.Place.{running};
+ghost use Rattle.interp.specs.inside.Walk.{Turned, Turns, FinishesAt, EndsWithin, HasRoom, affected, taken};
 
 mod branches;
 mod calls;
@@ -23,6 +22,7 @@ use crate::operands::Operands;
 use crate::plain::act_plain;
 use crate::program::Program;
 use host_calls::{CallState, HostCall};
+use std::alloc::AllocError;
 use std::marker::Model;
 use wasm_ast::{Instr, Plain};
 
@@ -47,8 +47,8 @@ pub struct Walk<'a, 'b> {
 }
 
 impl<'a, 'b> Model for Walk<'a, 'b> {
-    ghost use Rattle.interp.specs.Place.{Place, place_code};
-    ghost use Rattle.interp.specs.Meaning.{place_of, IsOrdered};
+    ghost use Rattle.interp.specs.inside.Place.{Place, place_code};
+    ghost use Rattle.interp.specs.inside.Meaning.{place_of, IsOrdered};
 
     ghost Value = { Place };
 
@@ -60,33 +60,35 @@ impl<'a, 'b> Model for Walk<'a, 'b> {
 }
 
 impl<'a, 'b> Walk<'a, 'b> {
-    /// Runs until it is over or the next instruction would make the count greater than the budget.
-    pub fn finish(&mut self, program: Program<'a>, budget: u128) -> Result<(), WalkFault>
+    /// Runs to its end, which comes within so many units. They are not looked at.
+    pub fn finish(&mut self, program: Program<'a>, most: u128) -> Result<(), AllocError>
         requires calls { AreImports program.calls.now program.«module».now }
-        requires within { self.old.state.count ≤ budget }
-        ensures { Ends result program.entry.«module».now (running self.old) budget self.new }
+        requires ends { EndsWithin program.«module».now (running self.old) most }
+        ensures { OnOk result (FinishesAt program.entry.«module».now self.old self.new) }
     {
         'turns: loop {
-            match self.turn(program, budget) {
+            match self.turn(program) {
                 Ok(Turn::Next) => {}
                 Ok(Turn::Finished) => return Ok(()),
-                Err(fault) => return Err(fault),
+                Err(WalkFault::OutOfMemory) => return Err(AllocError),
+                Err(WalkFault::Trap) => unreachable!(),
+                Err(WalkFault::Stuck) => unreachable!(),
             }
         }
     }
 
-    /// One step, if the budget allows it.
+    /// One step.
     #[inline]
-    fn turn(&mut self, program: Program<'a>, budget: u128) -> Result<Turn, WalkFault>
+    fn turn(&mut self, program: Program<'a>) -> Result<Turn, WalkFault>
         requires calls { AreImports program.calls.now program.«module».now }
-        requires within { self.old.state.count ≤ budget }
-        ensures stepped { Stepped result (advance program.entry.«module».now (running self.old)) self.new (self.old.state.count + next_units self.old.code) budget }
+        requires fits { HasRoom program.«module».now self.old }
+        ensures { Turned result (advance program.entry.«module».now (running self.old)) self.new }
     {
         let code = self.code;
         match code.split_first() {
             None => self.leave(),
             Some((first, rest)) => {
-                self.count = charged(self.count, first.units(), budget)?;
+                self.count += u128::from(program.units(first));
                 self.code = rest;
                 self.take(program, code, first)
             }
@@ -103,7 +105,8 @@ impl<'a, 'b> Walk<'a, 'b> {
     ) -> Result<Turn, WalkFault>
         requires calls { AreImports program.calls.now program.«module».now }
         requires whole { code_of whole.now ≡ then_code first.now self.old.code }
-        ensures { Turned result (take_next program.entry.«module».now self.old.values (code_of whole.now) self.old.layers self.old.state) self.new }
+        ensures { Turns result (taken program.entry.«module».now (code_of whole.now))
+            self.old self.new }
     {
         match first {
             Instr::Plain(plain) => self.act(*plain),
@@ -121,7 +124,7 @@ impl<'a, 'b> Walk<'a, 'b> {
 
     #[inline]
     fn act(&mut self, plain: Plain) -> Result<Turn, WalkFault>
-        ensures { Turned result (after_effect (effect plain self.old.values self.old.state) self.old.code self.old.layers self.old.state.count) self.new }
+        ensures { Turns result (affected (effect plain)) self.old self.new }
     {
         act_plain(
             plain,
@@ -134,20 +137,9 @@ impl<'a, 'b> Walk<'a, 'b> {
     }
 
     fn act_host(&mut self, call: HostCall) -> Result<Turn, WalkFault>
-        ensures { Turned result (after_effect (call_effect call self.old.values self.old.state) self.old.code self.old.layers self.old.state.count) self.new }
+        ensures { Turns result (affected (call_effect call)) self.old self.new }
     {
         call_host(call, &mut self.operands, &mut self.host)?;
         Ok(Turn::Next)
-    }
-}
-
-/// The count with so many units more; `Budget` where that is greater than the budget.
-#[inline]
-fn charged(count: u128, units: u32, budget: u128) -> Result<u128, WalkFault>
-    ensures { MatchResult result (λ total. (total ≡ count + units) × (total ≤ budget)) (λ fault. (fault ≡ WalkFault.Budget) × (budget < count + units)) }
-{
-    match count.checked_add(u128::from(units)) {
-        Some(total) if total <= budget => Ok(total),
-        _ => Err(WalkFault::Budget),
     }
 }

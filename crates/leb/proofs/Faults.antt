@@ -1,13 +1,12 @@
 -- Which fault a reader gives, by the bytes alone: once for both signednesses.
-use Rattle.std.proofs.Common.{◌≡◌, ◌↔◌, ℕ, zero, suc, ◌+◌, ◌-◌, ◌*◌, ◌<◌, ◌≤◌, inl, inr, List, [], ◌∷◌, length, take, drop, Result, Ok, Err, refl, subst, arith}
+use Rattle.std.proofs.Common.{◌≡◌, ◌↔◌, ℕ, zero, suc, ◌+◌, ◌-◌, ◌*◌, ◌<◌, ◌≤◌, inl, inr, List, [], ◌∷◌, length, take, Result, Ok, Err, refl, subst, sym, arith}
 use Rattle.std.proofs.lemmas.Bool.{cases_lt}
 use Rattle.std.proofs.lemmas.List.Elements.{All-nil, All-cons, All-head, All-tail}
-use Rattle.std.specs.Prelude.{All, IfOk}
+use Rattle.std.specs.Prelude.{All, slice_index}
 use Rattle.leb.specs.declared.fault.LebFault.{LebFault}
 use Rattle.leb.specs.declared.fault.LebFault.TheVariants.{Truncated, TooLong, UnusedBits}
-use Rattle.leb.specs.Faults.{IsCutShort, IsTooLong, IsMisspelled}
-use Rattle.leb.specs.Reading.{Gives}
-use Rattle.leb.specs.Spelling.{StandsAt}
+use Rattle.leb.specs.Faults.{HasUnusedBits, IsCutShort, IsTooLong}
+use Rattle.leb.specs.inside.Reading.{Gives}
 
 -- a reader of numbers in LEB128, as far as its faults go
 pub record ReadsOn {X : Type 0} (reader : ℕ → List ℕ → Result X LebFault) : Type 0 where
@@ -108,23 +107,70 @@ is_too_long view reader on bits most bytes r m gives = (
   λ long. answered view r (reader bits bytes) TooLong gives (read_from_IsTooLong reader on bits most bytes m long),
 )
 
--- what is left, where the other clauses hold
-pub is_misspelled : {N : Type 0} (spelled : List ℕ → N → Type 0) (most : ℕ) (bytes : List ℕ) (at : ℕ) (r : Result (N × ℕ) LebFault)
-    → IfOk r (λ x. StandsAt spelled bytes at x.0 x.1)
-    → ((n : N) (next : ℕ) → StandsAt spelled bytes at n next → r ≡ Ok (n, next))
-    → ((r ≡ Err Truncated) ↔ IsCutShort most (drop at bytes)) → ((r ≡ Err TooLong) ↔ IsTooLong most (drop at bytes))
-    → (r ≡ Err UnusedBits) ↔ IsMisspelled spelled most bytes at
-is_misspelled spelled most bytes at (Ok x) found only cut long =
-    (λ e. absurd cc, λ none. absurd (none.no_number x.0 x.1 found))
-is_misspelled spelled most bytes at (Err Truncated) found only cut long =
-    (λ e. absurd cc, λ none. absurd (none.not_cut_short (cut.0 refl)))
-is_misspelled spelled most bytes at (Err TooLong) found only cut long =
-    (λ e. absurd cc, λ none. absurd (none.not_too_long (long.0 refl)))
-is_misspelled spelled most bytes at (Err UnusedBits) found only cut long = (
-  λ e. record {
-    not_cut_short = λ c. let f = cut.1 c in absurd cc;
-    not_too_long = λ l. let f = long.1 l in absurd cc;
-    no_number = λ n next s. let f = only n next s in absurd cc;
-  },
-  λ none. refl,
+-- the last byte of a number, as far as the bits that are left have room for it
+pub record EndsWithin {X : Type 0} (Fits : ℕ → ℕ → Type 0) (reader : ℕ → List ℕ → Result X LebFault) : Type 0 where
+  pub fitting : (bits b : ℕ) (bs : List ℕ) → b < 128 → Fits bits b → reader bits (b ∷ bs) ≡ Err UnusedBits → ⊥
+  pub unfitting : (bits b : ℕ) (bs : List ℕ) → b < 128 → (Fits bits b → ⊥) → reader bits (b ∷ bs) ≡ Err UnusedBits
+  pub room : (bits b : ℕ) → b < 128 → 7 < bits → Fits bits b
+
+pub HasUnusedBits-from_read : {X : Type 0} (Fits : ℕ → ℕ → Type 0) (reader : ℕ → List ℕ → Result X LebFault) → ReadsOn reader → EndsWithin Fits reader
+    → (bits last : ℕ) (bytes : List ℕ) → IsMost bits (suc last) → reader bits bytes ≡ Err UnusedBits → HasUnusedBits last (Fits (bits - 7 * last)) bytes
+HasUnusedBits-from_read Fits reader on ends bits last [] m e = let f = on.nothing bits in absurd cc
+HasUnusedBits-from_read Fits reader on ends bits zero (b ∷ bs) m e =
+    elim (cases_lt b 128) [
+      | inl small ↦ record {
+        inside = omega arith;
+        unfinished = All-nil (λ b. 128 ≤ b);
+        ends = small;
+        unused = λ fits. let left : bits - 7 * 0 ≡ bits = omega arith in ends.fitting bits b bs small (subst (λ (k : ℕ). Fits k b) left fits) e;
+      }
+      | inr large ↦ let f = on.long bits b bs large (omega (arith, m.enough)) in absurd cc
+    ]
+HasUnusedBits-from_read Fits reader on ends bits (suc last) (b ∷ bs) m e =
+    let lt : 7 < bits = omega (arith, m.least) in
+    elim (cases_lt b 128) [
+      | inl small ↦ absurd (ends.fitting bits b bs small (ends.room bits b small lt) e)
+      | inr large ↦
+          let rest = HasUnusedBits-from_read Fits reader on ends (bits - 7) last bs (IsMost-fewer bits (suc last) lt m) (on.fault_after bits b bs UnusedBits large lt e) in
+          let left : bits - 7 * suc last ≡ bits - 7 - 7 * last = omega arith in
+          record {
+            inside = omega (arith, rest.inside);
+            unfinished = All-cons (λ b. 128 ≤ b) b (take last bs) large rest.unfinished;
+            ends = rest.ends;
+            unused = subst (λ (k : ℕ). Fits k (slice_index bs last) → ⊥) (sym left) rest.unused;
+          }
+    ]
+
+pub read_from_HasUnusedBits : {X : Type 0} (Fits : ℕ → ℕ → Type 0) (reader : ℕ → List ℕ → Result X LebFault) → ReadsOn reader → EndsWithin Fits reader
+    → (bits last : ℕ) (bytes : List ℕ) → IsMost bits (suc last) → HasUnusedBits last (Fits (bits - 7 * last)) bytes → reader bits bytes ≡ Err UnusedBits
+read_from_HasUnusedBits Fits reader on ends bits last [] m has = absurd (omega (arith, has.inside))
+read_from_HasUnusedBits Fits reader on ends bits zero (b ∷ bs) m has =
+    let left : bits - 7 * 0 ≡ bits = omega arith in ends.unfitting bits b bs has.ends (subst (λ (k : ℕ). Fits k b → ⊥) left has.unused)
+read_from_HasUnusedBits Fits reader on ends bits (suc last) (b ∷ bs) m has =
+    let large = All-head (λ b. 128 ≤ b) b (take last bs) has.unfinished in
+    let lt : 7 < bits = omega (arith, m.least) in
+    let left : bits - 7 * suc last ≡ bits - 7 - 7 * last = omega arith in
+    on.fault_from bits b bs UnusedBits large lt
+    (read_from_HasUnusedBits Fits reader on ends (bits - 7) last bs (IsMost-fewer bits (suc last) lt m)
+    (record {
+      inside = omega (arith, has.inside);
+      unfinished = All-tail (λ b. 128 ≤ b) b (take last bs) has.unfinished;
+      ends = has.ends;
+      unused = subst (λ (k : ℕ). Fits k (slice_index bs last) → ⊥) left has.unused;
+    }))
+
+pub has_unused_bits : {X Y : Type 0} (Fits : ℕ → ℕ → Type 0) (view : Y → X) (reader : ℕ → List ℕ → Result X LebFault) → ReadsOn reader → EndsWithin Fits reader
+    → (bits last : ℕ) (bytes : List ℕ) (r : Result Y LebFault) → IsMost bits (suc last) → Gives view r (reader bits bytes)
+    → (r ≡ Err UnusedBits) ↔ HasUnusedBits last (Fits (bits - 7 * last)) bytes
+has_unused_bits Fits view reader on ends bits last bytes r m gives = (
+  λ e. HasUnusedBits-from_read Fits reader on ends bits last bytes m (was_read view r (reader bits bytes) UnusedBits gives e),
+  λ has. answered view r (reader bits bytes) UnusedBits gives (read_from_HasUnusedBits Fits reader on ends bits last bytes m has),
+)
+
+-- the same bits, asked in another way
+pub same_bits_asked : (first second : ℕ → Type 0) → ((b : ℕ) → b < 128 → first b ↔ second b) → (last : ℕ) (bytes : List ℕ)
+    → HasUnusedBits last first bytes ↔ HasUnusedBits last second bytes
+same_bits_asked first second same last bytes = (
+  λ has. record { inside = has.inside; unfinished = has.unfinished; ends = has.ends; unused = λ fits. has.unused ((same (slice_index bytes last) has.ends).1 fits) },
+  λ has. record { inside = has.inside; unfinished = has.unfinished; ends = has.ends; unused = λ fits. has.unused ((same (slice_index bytes last) has.ends).0 fits) },
 )

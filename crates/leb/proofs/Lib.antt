@@ -6,4 +6,5 @@ pub mod Powers
 pub mod Shortest
 pub mod Signed
 pub mod Unsigned
+pub mod Unused
 pub mod Writing

@@ -3,8 +3,8 @@ use Rattle.std.proofs.Common.{◌≡◌, ℕ, suc, ◌+◌, ◌<◌, ◌≤◌, 
 use Rattle.std.specs.Prelude.{IfOk}
 use Rattle.std.proofs.lemmas.List.{length-drop, length-append, get_or-drop, append_cancel_right}
 use Rattle.leb.specs.declared.fault.LebFault.{LebFault}
-use Rattle.leb.specs.Bytes.{IsBytes}
-use Rattle.leb.specs.Reading.{Gives}
+use Rattle.leb.specs.inside.Bytes.{IsBytes}
+use Rattle.leb.specs.inside.Reading.{Gives}
 use Rattle.leb.specs.Spelling.{StandsAt}
 
 -- which way a test went

@@ -5,9 +5,9 @@ use Rattle.std.proofs.lemmas.Int.{ints}
 use Rattle.std.proofs.lemmas.List.{drop_more}
 use Rattle.leb.specs.declared.fault.LebFault.{LebFault}
 use Rattle.leb.specs.declared.fault.LebFault.TheVariants.{Truncated, TooLong, UnusedBits}
-use Rattle.leb.specs.Bytes.{IsBytes}
+use Rattle.leb.specs.inside.Bytes.{IsBytes}
 use Rattle.leb.specs.Spelling.{IsSigned, FitsBits}
-use Rattle.leb.specs.Reading.{signed_at, with_low_signed}
+use Rattle.leb.specs.inside.Reading.{signed_at, with_low_signed}
 use Rattle.leb.proofs.Faults.{ReadsOn}
 use Rattle.leb.proofs.Places.{chosen, ok_is, never, IsBytes-tail, Takes}
 use Rattle.leb.proofs.Powers.{half-seven_more}
@@ -104,7 +104,7 @@ guarded_fault : (b : Bool) (x : ℤ × List ℕ) (e : LebFault) → cond b (Ok x
 guarded_fault true x e h = absurd cc
 guarded_fault false x e h = cc
 
-second : {A : Type 0} (p q : Bool) (a m l : A) → p ≡ false → q ≡ true → cond p a (cond q m l) ≡ m
+pub second : {A : Type 0} (p q : Bool) (a m l : A) → p ≡ false → q ≡ true → cond p a (cond q m l) ≡ m
 second p q a m l e f = rw (e, f) refl
 
 last_fault : (bits b : ℕ) (bs : List ℕ) (e : LebFault) → b < 128 → signed_at bits (b ∷ bs) ≡ Err e → e ≡ UnusedBits

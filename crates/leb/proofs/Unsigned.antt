@@ -3,9 +3,9 @@ use Rattle.std.proofs.Common.{◌≡◌, ℕ, ◌+◌, ◌-◌, ◌*◌, ◌^◌
 use Rattle.std.proofs.lemmas.Bool.{ltb-false, le-ltb, ltb-true, lt-ltb, leb-false, le-leb, lt-leb}
 use Rattle.leb.specs.declared.fault.LebFault.{LebFault}
 use Rattle.leb.specs.declared.fault.LebFault.TheVariants.{TooLong, UnusedBits}
-use Rattle.leb.specs.Bytes.{IsBytes}
+use Rattle.leb.specs.inside.Bytes.{IsBytes}
 use Rattle.leb.specs.Spelling.{IsUnsigned}
-use Rattle.leb.specs.Reading.{unsigned_at, with_low}
+use Rattle.leb.specs.inside.Reading.{unsigned_at, with_low}
 use Rattle.leb.proofs.Faults.{ReadsOn}
 use Rattle.leb.proofs.Places.{chosen, ok_is, never, IsBytes-tail, Takes}
 use Rattle.leb.proofs.Powers.{below_seven_more}

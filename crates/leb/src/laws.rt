@@ -1,5 +1,5 @@
 ghost use Rattle.std.specs.Prelude.{◌≡◌, ℕ, ℤ, ◌<◌, ◌≤◌, ◌^◌, ◌++◌, List, length, Ok};
-ghost use Rattle.leb.specs.Reading.{unsigned_at, signed_at};
+ghost use Rattle.leb.specs.inside.Reading.{unsigned_at, signed_at};
 ghost use Rattle.leb.specs.Spelling.{IsUnsigned, IsSigned, FitsBits, u32_spelling, s32_spelling, s64_spelling};
 
 /// The shortest spelling of a number is one of its spellings, no other is shorter, and it is read

@@ -1,6 +1,6 @@
 ghost use Rattle.std.specs.Prelude.{◌≡◌, ◌↔◌, ℕ, ℤ, ◌≤◌, ◌<◌, ◌^◌, drop, length, IfOk};
-ghost use Rattle.leb.specs.Faults.{IsCutShort, IsTooLong, IsMisspelled};
-ghost use Rattle.leb.specs.Reading.{Gives, unsigned_at, signed_at};
+ghost use Rattle.leb.specs.Faults.{AreSigns, AreZeros, HasUnusedBits, IsCutShort, IsTooLong};
+ghost use Rattle.leb.specs.inside.Reading.{Gives, unsigned_at, signed_at};
 ghost use Rattle.leb.specs.Spelling.{IsUnsigned, IsSigned, FitsBits, StandsAt};
 
 use crate::fault::LebFault;
@@ -10,8 +10,8 @@ use crate::fault::LebFault;
 ///
 /// A spelling may be longer than the number needs, up to 5 bytes. `at` may be any place, past the
 /// end too. The read is `Truncated` where the bytes end within the number, `TooLong` where it goes
-/// on past 5 bytes, and else `UnusedBits` where the last byte has bits beyond the 32 that are not
-/// 0.
+/// on past 5 bytes, and `UnusedBits` where the fifth byte ends it and has bits beyond the 32, bits 4
+/// to 6, that are not 0.
 pub fn read_u32(bytes: &[u8], at: usize) -> Result<(u32, usize), LebFault>
     // What is read is spelled there.
     ensures found { IfOk result (λ x. StandsAt (IsUnsigned 32) bytes.now at x.0 x.1) }
@@ -25,7 +25,7 @@ pub fn read_u32(bytes: &[u8], at: usize) -> Result<(u32, usize), LebFault>
     ensures truncated { (result ≡ Err LebFault.Truncated) ↔ IsCutShort 5 (drop at bytes.now) }
     ensures too_long { (result ≡ Err LebFault.TooLong) ↔ IsTooLong 5 (drop at bytes.now) }
     ensures unused_bits { (result ≡ Err LebFault.UnusedBits)
-        ↔ IsMisspelled (IsUnsigned 32) 5 bytes.now at }
+        ↔ HasUnusedBits 4 (AreZeros 4) (drop at bytes.now) }
 
     // All of it once more, by reading from left to right.
     ensures exact { Gives (λ x. (x.0, drop x.1 bytes.now))
@@ -39,8 +39,8 @@ pub fn read_u32(bytes: &[u8], at: usize) -> Result<(u32, usize), LebFault>
 ///
 /// A spelling may be longer than the number needs, up to 5 bytes. `at` may be any place, past the
 /// end too. The read is `Truncated` where the bytes end within the number, `TooLong` where it goes
-/// on past 5 bytes, and else `UnusedBits` where the last byte has bits beyond the 32 that do not
-/// repeat the sign.
+/// on past 5 bytes, and `UnusedBits` where the fifth byte ends it and has bits beyond the 32, bits 4
+/// to 6, that do not repeat the sign, bit 3.
 pub fn read_s32(bytes: &[u8], at: usize) -> Result<(i32, usize), LebFault>
     // What is read is spelled there.
     ensures found { IfOk result (λ x. StandsAt (IsSigned 32) bytes.now at x.0 x.1) }
@@ -54,7 +54,7 @@ pub fn read_s32(bytes: &[u8], at: usize) -> Result<(i32, usize), LebFault>
     ensures truncated { (result ≡ Err LebFault.Truncated) ↔ IsCutShort 5 (drop at bytes.now) }
     ensures too_long { (result ≡ Err LebFault.TooLong) ↔ IsTooLong 5 (drop at bytes.now) }
     ensures unused_bits { (result ≡ Err LebFault.UnusedBits)
-        ↔ IsMisspelled (IsSigned 32) 5 bytes.now at }
+        ↔ HasUnusedBits 4 (AreSigns 4) (drop at bytes.now) }
 
     // All of it once more, by reading from left to right.
     ensures exact { Gives (λ x. (x.0, drop x.1 bytes.now))
@@ -68,8 +68,8 @@ pub fn read_s32(bytes: &[u8], at: usize) -> Result<(i32, usize), LebFault>
 ///
 /// A spelling may be longer than the number needs, up to 10 bytes. `at` may be any place, past the
 /// end too. The read is `Truncated` where the bytes end within the number, `TooLong` where it goes
-/// on past 10 bytes, and else `UnusedBits` where the last byte has bits beyond the 64 that do not
-/// repeat the sign.
+/// on past 10 bytes, and `UnusedBits` where the tenth byte ends it and has bits beyond the 64, bits
+/// 1 to 6, that do not repeat the sign, bit 0.
 pub fn read_s64(bytes: &[u8], at: usize) -> Result<(i64, usize), LebFault>
     // What is read is spelled there.
     ensures found { IfOk result (λ x. StandsAt (IsSigned 64) bytes.now at x.0 x.1) }
@@ -83,7 +83,7 @@ pub fn read_s64(bytes: &[u8], at: usize) -> Result<(i64, usize), LebFault>
     ensures truncated { (result ≡ Err LebFault.Truncated) ↔ IsCutShort 10 (drop at bytes.now) }
     ensures too_long { (result ≡ Err LebFault.TooLong) ↔ IsTooLong 10 (drop at bytes.now) }
     ensures unused_bits { (result ≡ Err LebFault.UnusedBits)
-        ↔ IsMisspelled (IsSigned 64) 10 bytes.now at }
+        ↔ HasUnusedBits 9 (AreSigns 1) (drop at bytes.now) }
 
     // All of it once more, by reading from left to right.
     ensures exact { Gives (λ x. (x.0, drop x.1 bytes.now))

@@ -1,24 +1,39 @@
 //! The program `pregel`.
 #![tactic(auto)]
 
+ghost use Rattle.std.specs.Prelude.{◌≡◌, ◌⊎◌, IfOk, OnErr};
+ghost use Rattle.std.specs.Process.{exit_status};
+
 use clap::error::ErrorKind;
-use console::{CallFault, SystemFiles, command, options, refuse};
+use console::{CommandFault, SystemFiles, command, options};
 use std::process::ExitCode;
 use std::{env, io};
 
 fn main(rt: HostRuntime) -> ExitCode {
-    match run(&rt) {
-        Ok(status) => ExitCode::from(status),
-        Err(error) => failed(&rt, &error),
-    }
+    let outcome = run(&rt);
+    exit_code(&rt, outcome)
 }
 
 // The status: 0 for an answer, 1 for a refusal, 2 for a mistake in the command line, 4 for a file that cannot be read or
 // written.
 fn run(rt: &HostRuntime) -> io::Result<u8> {
+    match env::args(rt) {
+        Ok(arguments) => {
+            let words: Vec<String> = arguments.collect(rt.alloc())?;
+            carry_out(rt, words.as_slice())
+        }
+        Err(error) if error.kind() == io::ErrorKind::InvalidData => {
+            eprintln!(rt; "error: an argument is not in UTF-8")?;
+            Ok(2)
+        }
+        Err(error) => Err(error),
+    }
+}
+
+// Does what the words ask for; the first is the program's name.
+fn carry_out(rt: &HostRuntime, words: &[String]) -> io::Result<u8> {
     let alloc = rt.alloc();
-    let words: Vec<String> = env::args(rt)?.collect(alloc)?;
-    let options = match options(alloc, words.as_slice()) {
+    let options = match options(alloc, words) {
         Ok(options) => options,
         Err(error) if error.kind() == ErrorKind::OutOfMemory => {
             return Err(io::Error::from(io::ErrorKind::OutOfMemory));
@@ -32,10 +47,23 @@ fn run(rt: &HostRuntime) -> io::Result<u8> {
     status.map_err(|_| io::Error::from(io::ErrorKind::Other))
 }
 
+// The process ends with the status; where there is none, with 1 for want of memory and 4 for a writer that failed.
+fn exit_code(rt: &HostRuntime, outcome: io::Result<u8>) -> ExitCode
+    ensures ended { IfOk outcome (λ status. exit_status result ≡ status) }
+    ensures failed { OnErr outcome ((exit_status result ≡ 1) ⊎ (exit_status result ≡ 4)) }
+{
+    match outcome {
+        Ok(status) => ExitCode::from(status),
+        Err(error) => failed(rt, &error),
+    }
+}
+
 // Want of memory is told, and of a writer that failed nothing can be.
-fn failed(rt: &HostRuntime, error: &io::Error) -> ExitCode {
+fn failed(rt: &HostRuntime, error: &io::Error) -> ExitCode
+    ensures { (exit_status result ≡ 1) ⊎ (exit_status result ≡ 4) }
+{
     if error.kind() == io::ErrorKind::OutOfMemory
-        && refuse(&CallFault::OutOfMemory, &mut io::writer(rt)).is_ok()
+        && println!(rt; "{}", CommandFault::OutOfMemory).is_ok()
     {
         return ExitCode::from(1);
     }

@@ -3,7 +3,7 @@ use Rattle.std.proofs.Common.{◌≡◌, ℕ, ◌<◌, ◌≤◌, ◌^◌, false
 use Rattle.std.specs.Prelude.{nat_lt, nat_le}
 use Rattle.std.proofs.Math.Pow.{pow_mono}
 use Rattle.std.proofs.lemmas.Bool.Decides.{nat_tests}
-use Rattle.validate.specs.Steps.{is_aligned}
+use Rattle.validate.specs.inside.Steps.{is_aligned}
 
 -- 2 ^ align is more than any number of 32 bits
 pub past_widths : (align width : ℕ) → 32 ≤ align → width < 2 ^ 32 → nat_lt align 32 ≡ is_aligned align width

@@ -6,7 +6,7 @@ use Rattle.wasm_ast.specs.declared.body.Instr.{Instr}
 use Rattle.wasm_ast.specs.declared.body.Instr.TheVariants as instr
 use Rattle.wasm_ast.specs.Code.{Code}
 use Rattle.wasm_ast.specs.View.{code_of, then_code}
-use Rattle.validate.specs.Checks.{if_last, only_plain}
+use Rattle.validate.specs.inside.Checks.{if_last, only_plain}
 
 -- ---- two instructions or more
 

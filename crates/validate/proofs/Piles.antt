@@ -4,8 +4,8 @@ use Rattle.std.specs.Prelude.{◌==◌, Some, None}
 use Rattle.std.proofs.lemmas.Bool.Decides.{nat_tests}
 use Rattle.wasm_ast.specs.declared.types.ValType.{ValType}
 use Rattle.validate.specs.declared.operands.Slot.{Slot}
-use Rattle.validate.specs.Stack.{Stack, on, agrees, take_one, is_empty, pile}
-use Rattle.validate.specs.Answers.{base_of}
+use Rattle.validate.specs.inside.Stack.{Stack, on, agrees, take_one, is_empty, pile}
+use Rattle.validate.specs.inside.Answers.{base_of}
 
 pub pile_last : (base : Stack) (ks : List Slot) (k : Slot) → pile base (ks ++ k ∷ []) ≡ on k (pile base ks)
 pile_last base [] k = refl

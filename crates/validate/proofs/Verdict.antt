@@ -10,8 +10,8 @@ use Rattle.validate.specs.declared.fault.ValidFault.TheVariants as fault
 use Rattle.validate.specs.Spaces.{Spaces, first_type}
 use Rattle.validate.specs.Instructions.{BodyTyped}
 use Rattle.validate.specs.Modules.{FunctionTyped}
-use Rattle.validate.specs.Answers.{body_passes}
-use Rattle.validate.specs.Faults.{Says, Settles}
+use Rattle.validate.specs.inside.Answers.{body_passes}
+use Rattle.validate.specs.inside.Findings.{Says, Settles}
 use Rattle.validate.proofs.Exact.{closes_exact}
 
 body_exact : (s : Spaces) (locals : List ValType) (outcome : Option ValType) (body : Code) → (body_passes s locals outcome body ≡ true) ↔ BodyTyped s locals outcome body

@@ -10,8 +10,8 @@ use Rattle.validate.specs.declared.fault.ValidFault.{ValidFault}
 use Rattle.validate.specs.declared.fault.ValidFault.TheVariants as fault
 use Rattle.validate.specs.Spaces.{Spaces, outer_spaces_of, with_globals, spaces_of}
 use Rattle.validate.specs.Modules.{TypeHolds, IsTyped}
-use Rattle.validate.specs.Checks.{OuterTyped, InnerTyped}
-use Rattle.validate.specs.Faults.{Denies, Settles}
+use Rattle.validate.specs.inside.Checks.{OuterTyped, InnerTyped}
+use Rattle.validate.specs.inside.Findings.{Denies, Settles}
 
 pub outer_of : (m : Module) → IsTyped m → OuterTyped m (outer_spaces_of m)
 outer_of m t = record {

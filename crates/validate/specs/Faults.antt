@@ -1,5 +1,8 @@
--- What a refusal says.
-use Rattle.std.specs.Prelude.{◌≡◌, Bool, true, false, Option, Some, None, Result, Ok, Err, MatchResult}
+-- How a refusal is told: the rule's word and the place.
+use Rattle.std.specs.Prelude.{ℕ, List, ◌++◌, codes, Option, Some, None}
+use Rattle.std.specs.Fmt.{decimal}
+use Rattle.validate.specs.declared.fault.Rule.{Rule}
+use Rattle.validate.specs.declared.fault.Rule.TheVariants as rule
 use Rattle.validate.specs.declared.fault.Place.{Place}
 use Rattle.validate.specs.declared.fault.ValidFault.{ValidFault}
 use Rattle.validate.specs.declared.fault.ValidFault.TheVariants as fault
@@ -8,48 +11,32 @@ use Rattle.validate.specs.declared.fault.ValidFault.TheVariants as fault
 abbrev pub nowhere : Place
 nowhere = record { function = None; instruction = None }
 
--- the same fault, told at this place
-abbrev pub placed : ValidFault → Place → ValidFault
-placed fault.OutOfMemory place = fault.OutOfMemory
-placed (fault.Breaks rule at) place = fault.Breaks rule place
+abbrev pub rule_word : Rule → List ℕ
+rule_word rule.TypeNumber = codes "TypeNumber"
+rule_word rule.Function = codes "Function"
+rule_word rule.Local = codes "Local"
+rule_word rule.Global = codes "Global"
+rule_word rule.Label = codes "Label"
+rule_word rule.Memory = codes "Memory"
+rule_word rule.Table = codes "Table"
+rule_word rule.Mismatch = codes "Mismatch"
+rule_word rule.Immutable = codes "Immutable"
+rule_word rule.Alignment = codes "Alignment"
+rule_word rule.DuplicateExport = codes "DuplicateExport"
+rule_word rule.ConstExpr = codes "ConstExpr"
+rule_word rule.Limits = codes "Limits"
+rule_word rule.StartType = codes "StartType"
 
--- a fault other than want of memory says that there is none
-abbrev pub NoneBut : {A : Type 0} → ValidFault → Option A → Type 0
-NoneBut fault.OutOfMemory o = Unit {0}
-NoneBut (fault.Breaks rule place) o = o ≡ None
+-- a number, or `-` where there is none
+abbrev pub number_text : Option ℕ → List ℕ
+number_text None = codes "-"
+number_text (Some number) = decimal number
 
--- a fault other than want of memory says that it is false
-abbrev pub FalseBut : ValidFault → Bool → Type 0
-FalseBut fault.OutOfMemory b = Unit {0}
-FalseBut (fault.Breaks rule place) b = b ≡ false
+-- the function's number and the instruction's
+abbrev pub place_text : Place → List ℕ
+place_text place = number_text place.function ++ codes " " ++ number_text place.instruction
 
--- the answer where b is true
-abbrev pub Says : Bool → Result (Unit {0}) ValidFault → Type 0
-Says b r = MatchResult r (λ _. b ≡ true) (λ e. FalseBut e b)
-
--- the answer where o is found
-abbrev pub Finds : {A : Type 0} → Option A → Result (Unit {0}) ValidFault → A → Type 0
-Finds o r s = MatchResult r (λ _. o ≡ Some s) (λ e. NoneBut e o)
-
--- a refusal other than for want of memory means that p is false
-abbrev pub Denies : ValidFault → Type 0 → Type 0
-Denies fault.OutOfMemory p = Unit {0}
-Denies (fault.Breaks rule place) p = p → ⊥
-
--- whether p holds
-abbrev pub Settles : Type 0 → Result (Unit {0}) ValidFault → Type 0
-Settles p r = MatchResult r (λ _. p) (λ e. Denies e p)
-
--- the answer, a fault told at this place
-abbrev pub answer_at : {A : Type 0} → Result A ValidFault → Place → Result A ValidFault
-answer_at (Ok a) place = Ok a
-answer_at (Err e) place = Err (placed e place)
-
--- the value where o is found
-abbrev pub Gives : {A : Type 0} → Option A → Result A ValidFault → Type 0
-Gives o r = MatchResult r (λ a. o ≡ Some a) (λ e. NoneBut e o)
-
--- it is not want of memory
-abbrev pub IsRefusal : ValidFault → Type 0
-IsRefusal fault.OutOfMemory = ⊥
-IsRefusal (fault.Breaks rule place) = Unit {0}
+-- the rule that is broken and the place that breaks it, or want of memory
+abbrev pub fault_text : ValidFault → List ℕ
+fault_text (fault.Breaks broken place) = rule_word broken ++ codes " " ++ place_text place
+fault_text fault.OutOfMemory = codes "OutOfMemory - -"

@@ -1,9 +1,10 @@
+-- What a reader has to believe, in this order: what the numbers of a module name, which code is typed, which expressions
+-- are constant, and by these which modules are typed.
 pub mod Spaces
 pub mod Instructions
-pub mod Stack
-pub mod Steps
-pub mod Answers
-pub mod Faults
 pub mod Constants
 pub mod Modules
-pub mod Checks
+-- how a refusal is told
+pub mod Faults
+-- what only mirrors the code, for its proofs
+pub mod inside

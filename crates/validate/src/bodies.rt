@@ -1,14 +1,8 @@
 //! Code that holds code (Core 1.0, 3.3.5 and 3.3.6), and bodies (3.4.1).
 
-ghost use Rattle.std.specs.Prelude.{◌≡◌, ◌↔◌, List, [], ◌∷◌, Option, true, IsTrue, OnOk, MatchResult};
-ghost use Rattle.wasm_ast.specs.Code.{Code};
-ghost use Rattle.wasm_ast.specs.View.{then_code};
-ghost use Rattle.wasm_ast.specs.declared.types.ValType.{ValType};
-ghost use Rattle.validate.specs.Instructions.{Context, Typed, BodyTyped, operands_of, with_label};
-ghost use Rattle.validate.specs.Stack.{Stack, bottom};
-ghost use Rattle.validate.specs.Steps.{run, closes};
-ghost use Rattle.validate.specs.Answers.{body_passes, stack_of, context_of};
-ghost use Rattle.validate.specs.Faults.{Says, NoneBut, answer_at};
+ghost use Rattle.std.specs.Prelude.{◌≡◌, OnOk};
+ghost use Rattle.validate.specs.inside.Answers.{StepsOver, context_of, inside_passes, passes_in};
+ghost use Rattle.validate.specs.inside.Findings.{Says, answer_at};
 
 use crate::fault::{Place, ValidFault};
 use crate::frame::Frame;
@@ -30,7 +24,8 @@ fn check_inside(
     nesting: &mut Nesting,
 ) -> Result<(), ValidFault>
     ensures kept { OnOk result (nesting.new.labels.items ≡ nesting.old.labels.items) }
-    ensures says { Says (closes (run body.now (with_label label (context_of frame.now nesting.old.labels.items)) bottom) gives) result }
+    ensures says { Says
+        (inside_passes label gives body.now (context_of frame.now nesting.old)) result }
 {
     nesting.enter(label)?;
     let mut operands = Operands::new(alloc);
@@ -53,7 +48,8 @@ fn check_instr(
     operands: &mut Operands,
 ) -> Result<(), ValidFault>
     ensures kept { OnOk result (nesting.new.labels.items ≡ nesting.old.labels.items) }
-    ensures finds { (rest : Code) → MatchResult result (λ _. run (then_code instr.now rest) (context_of frame.now nesting.old.labels.items) (stack_of operands.old) ≡ run rest (context_of frame.now nesting.old.labels.items) (stack_of operands.new)) (λ e. NoneBut e (run (then_code instr.now rest) (context_of frame.now nesting.old.labels.items) (stack_of operands.old))) }
+    ensures finds { StepsOver instr.now (context_of frame.now nesting.old)
+        operands.old operands.new result }
 {
     let place = frame.place_of(nesting.count());
     match instr {
@@ -100,7 +96,7 @@ fn at_place(answer: Result<(), ValidFault>, place: Place) -> Result<(), ValidFau
 
 /// Checks the body of a function.
 pub fn check_body(alloc: Global, frame: &Frame, body: &Body) -> Result<(), ValidFault>
-    ensures { Says (body_passes frame.now.spaces.now frame.now.locals.items frame.now.outcome body.now) result }
+    ensures { Says (passes_in frame.now body.now) result }
 {
     let mut nesting = Nesting::new(alloc);
     check_inside(

@@ -2,9 +2,9 @@
 
 ghost use Rattle.std.specs.Prelude.{◌≡◌};
 ghost use Rattle.validate.specs.Constants.{ConstantTyped};
-ghost use Rattle.validate.specs.Checks.{only_plain, plain_constant, variable_constant};
+ghost use Rattle.validate.specs.inside.Checks.{only_plain, plain_constant, variable_constant};
 ghost use Rattle.wasm_ast.specs.declared.plain.Variable.TheVariants.{GlobalGet};
-ghost use Rattle.validate.specs.Faults.{Gives, Settles};
+ghost use Rattle.validate.specs.inside.Findings.{Gives, Settles};
 
 use crate::fault::{Rule, ValidFault};
 use crate::spaces::IndexSpaces;

@@ -1,10 +1,9 @@
 //! Exports and the start function (Core 1.0, 3.4.7, 3.4.8 and 3.4.10).
 
-ghost use Rattle.std.specs.Prelude.{◌≡◌, ◌↔◌, map, IsTrue, IfOk};
-ghost use Rattle.std.specs.List.{AllByRecursion};
-ghost use Rattle.wasm_ast.specs.declared.module.Export.{Export as AnyExport};
-ghost use Rattle.validate.specs.Modules.{ExportTyped, AreDistinct, StartTyped, name_of_export};
-ghost use Rattle.validate.specs.Faults.{Settles};
+ghost use Rattle.std.specs.Prelude.{◌↔◌, IsTrue, IfOk};
+ghost use Rattle.validate.specs.Modules.{ExportTyped, StartTyped};
+ghost use Rattle.validate.specs.inside.Checks.{ExportsTyped, HaveDistinctNames};
+ghost use Rattle.validate.specs.inside.Findings.{Settles};
 
 use crate::fault::{Place, Rule, ValidFault};
 use crate::spaces::IndexSpaces;
@@ -14,7 +13,7 @@ use wasm_ast::{Export, ExportDescription};
 
 /// Core 1.0, 3.4.8: each exports something that is there.
 pub fn check_exports(exports: &[Export], spaces: &IndexSpaces) -> Result<(), ValidFault>
-    ensures { Settles (AllByRecursion (λ (e : AnyExport). ExportTyped spaces.now e.description) exports.now) result }
+    ensures { Settles (ExportsTyped spaces.now exports.now) result }
 {
     for export in exports {
         check_export(export.description, spaces)?;
@@ -40,7 +39,7 @@ fn check_export(description: ExportDescription, spaces: &IndexSpaces) -> Result<
 
 /// Core 1.0, 3.4.10: no two exports have one name.
 pub fn check_names(alloc: Global, exports: &[Export]) -> Result<(), ValidFault>
-    ensures { Settles (AreDistinct (map name_of_export exports.now)) result }
+    ensures { Settles (HaveDistinctNames exports.now) result }
 {
     if have_distinct_names(alloc, exports)? {
         Ok(())
@@ -50,7 +49,7 @@ pub fn check_names(alloc: Global, exports: &[Export]) -> Result<(), ValidFault>
 }
 
 fn have_distinct_names(alloc: Global, exports: &[Export]) -> Result<bool, AllocError>
-    ensures { IfOk result (λ distinct. IsTrue distinct ↔ AreDistinct (map name_of_export exports.now)) }
+    ensures { IfOk result (λ distinct. IsTrue distinct ↔ HaveDistinctNames exports.now) }
 {
     let mut seen = BTreeSet::new(alloc);
     for export in exports {

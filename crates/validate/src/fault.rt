@@ -1,15 +1,17 @@
 //! Why a module is not valid.
 
-ghost use Rattle.std.specs.Prelude.{◌≡◌};
+ghost use Rattle.std.specs.Prelude.{◌≡◌, Some};
+ghost use Rattle.std.specs.Fmt.{DisplaysOnOk};
 ghost use Rattle.validate.specs.declared.fault.ValidFault.TheVariants.{Breaks, OutOfMemory};
-ghost use Rattle.validate.specs.Faults.{placed, nowhere};
+ghost use Rattle.validate.specs.Faults.{fault_text, nowhere, number_text, place_text, rule_word};
+ghost use Rattle.validate.specs.inside.Findings.{placed};
 
 use std::alloc::{AllocError, AllocFailed};
+use std::error::Error;
 use std::fmt;
-use thiserror::Error;
 
 /// A rule that a module breaks.
-#[derive(Clone, Copy, Debug)]
+#[derive(Clone, Copy)]
 pub enum Rule {
     /// A number names no type.
     TypeNumber,
@@ -42,9 +44,12 @@ pub enum Rule {
     StartType,
 }
 
-impl fmt::Display for Rule {
-    fn fmt<W: fmt::Write>(&self, f: &mut fmt::Formatter<W>) -> fmt::Result {
-        f.write_str(match self {
+impl Rule {
+    // The rule's name.
+    fn word(self) -> &'static str
+        ensures { result.now ≡ rule_word self }
+    {
+        match self {
             Rule::TypeNumber => "TypeNumber",
             Rule::Function => "Function",
             Rule::Local => "Local",
@@ -59,12 +64,12 @@ impl fmt::Display for Rule {
             Rule::ConstExpr => "ConstExpr",
             Rule::Limits => "Limits",
             Rule::StartType => "StartType",
-        })
+        }
     }
 }
 
 /// Where a rule is broken. It is shown as its two numbers, with `-` for what is not there.
-#[derive(Clone, Copy, Debug)]
+#[derive(Clone, Copy)]
 pub struct Place {
     /// The number of the function, imports counted, where there is one.
     pub function: Option<u32>,
@@ -74,28 +79,55 @@ pub struct Place {
 }
 
 impl fmt::Display for Place {
+    ghost output = { λ place. Some (place_text place) };
+
     fn fmt<W: fmt::Write>(&self, f: &mut fmt::Formatter<W>) -> fmt::Result {
-        match self.function {
-            Some(number) => write!(f, "{number}")?,
-            None => write!(f, "-")?,
-        }
-        match self.instruction {
-            Some(number) => write!(f, " {number}"),
-            None => write!(f, " -"),
-        }
+        write_number(self.function, f)?;
+        f.write_str(" ")?;
+        write_number(self.instruction, f)
+    }
+}
+
+// The number, or `-` where there is none.
+fn write_number<W: fmt::Write>(number: Option<u32>, f: &mut fmt::Formatter<W>) -> fmt::Result
+    ensures { DisplaysOnOk W.write_str_gives f.old result (Some (number_text number)) f.new }
+{
+    match number {
+        Some(number) => write!(f, "{number}"),
+        None => f.write_str("-"),
     }
 }
 
 /// Why a module is not valid. It is shown as the rule's word and the place.
-#[derive(Clone, Copy, Debug, Error)]
+#[derive(Clone, Copy)]
 pub enum ValidFault {
     /// The module breaks the rule at this place.
-    #[error("{0} {1}")]
     Breaks(Rule, Place),
     /// Memory ran out.
-    #[error("OutOfMemory - -")]
     OutOfMemory,
 }
+
+impl fmt::Display for ValidFault {
+    ghost output = { λ fault. Some (fault_text fault) };
+
+    fn fmt<W: fmt::Write>(&self, f: &mut fmt::Formatter<W>) -> fmt::Result {
+        match self {
+            ValidFault::Breaks(rule, place) => {
+                let word = rule.word();
+                write!(f, "{word} {place}")
+            }
+            ValidFault::OutOfMemory => f.write_str("OutOfMemory - -"),
+        }
+    }
+}
+
+impl fmt::Debug for ValidFault {
+    fn fmt<W: fmt::Write>(&self, f: &mut fmt::Formatter<W>) -> fmt::Result {
+        write!(f, "{self}")
+    }
+}
+
+impl Error for ValidFault {}
 
 /// No function and no instruction.
 pub const NOWHERE: Place = Place {

@@ -1,9 +1,10 @@
 //! Functions (Core 1.0, 3.4.1).
 
-ghost use Rattle.std.specs.Prelude.{◌≡◌, ◌<◌, ◌++◌, length, IfOk};
+ghost use Rattle.std.specs.Prelude.{◌≡◌, IfOk};
 ghost use Rattle.std.specs.List.{AllByRecursion};
 ghost use Rattle.validate.specs.Modules.{FunctionTyped};
-ghost use Rattle.validate.specs.Faults.{IsRefusal, Settles};
+ghost use Rattle.validate.specs.inside.Checks.{FunctionTypesHold, all_locals};
+ghost use Rattle.validate.specs.inside.Findings.{IsRefusal, Settles};
 
 use crate::bodies::check_body;
 use crate::fault::{Place, Rule, ValidFault};
@@ -15,7 +16,7 @@ use wasm_ast::{FuncType, Function, ValType};
 
 /// The type of each function is there, imports among them.
 pub fn check_function_types(spaces: &IndexSpaces) -> Result<(), ValidFault>
-    ensures { Settles (AllByRecursion (λ n. n < length spaces.now.types) spaces.now.functions) result }
+    ensures { Settles (FunctionTypesHold spaces.now) result }
 {
     for (number, type_number) in spaces.functions.iter().enumerate() {
         if *type_number as usize >= spaces.types.len() {
@@ -79,7 +80,7 @@ fn locals_of(
     function_type: &FuncType,
     function: &Function,
 ) -> Result<Vec<ValType>, AllocError>
-    ensures { IfOk result (λ locals. locals.items ≡ function_type.now.parameters ++ function.now.locals) }
+    ensures { IfOk result (λ locals. locals.items ≡ all_locals function_type.now function.now) }
 {
     let mut locals = Vec::new(alloc);
     locals.extend_from_slice(function_type.parameters.as_slice())?;

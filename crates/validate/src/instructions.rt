@@ -1,9 +1,8 @@
 //! Instructions that hold no others (Core 1.0, 3.3), each by its rule.
 
 ghost use Rattle.std.specs.Prelude.{◌≡◌};
-ghost use Rattle.validate.specs.Steps.{is_aligned, variable_step, memory_step, plain_step, branch_step, call_step, call_indirect_step};
-ghost use Rattle.validate.specs.Answers.{stack_of, context_of};
-ghost use Rattle.validate.specs.Faults.{Finds};
+ghost use Rattle.validate.specs.inside.Steps.{is_aligned, variable_step, memory_step, plain_step, branch_step, call_step, call_indirect_step};
+ghost use Rattle.validate.specs.inside.Answers.{Makes, context_of};
 
 use crate::fault::{Rule, ValidFault};
 use crate::frame::Frame;
@@ -18,7 +17,8 @@ pub fn check_plain(
     nesting: &Nesting,
     operands: &mut Operands,
 ) -> Result<(), ValidFault>
-    ensures { Finds (plain_step (context_of frame.now nesting.now.labels.items) plain (stack_of operands.old)) result (stack_of operands.new) }
+    ensures { Makes (plain_step (context_of frame.now nesting.now) plain)
+        operands.old operands.new result }
 {
     match plain {
         Plain::Nop => Ok(()),
@@ -42,7 +42,8 @@ fn check_variable(
     nesting: &Nesting,
     operands: &mut Operands,
 ) -> Result<(), ValidFault>
-    ensures { Finds (variable_step (context_of frame.now nesting.now.labels.items) op (stack_of operands.old)) result (stack_of operands.new) }
+    ensures { Makes (variable_step (context_of frame.now nesting.now) op)
+        operands.old operands.new result }
 {
     match op {
         Variable::LocalGet(number) => {
@@ -88,7 +89,8 @@ fn check_memory(
     nesting: &Nesting,
     operands: &mut Operands,
 ) -> Result<(), ValidFault>
-    ensures { Finds (memory_step (context_of frame.now nesting.now.labels.items) op (stack_of operands.old)) result (stack_of operands.new) }
+    ensures { Makes (memory_step (context_of frame.now nesting.now) op)
+        operands.old operands.new result }
 {
     if !frame.spaces.has_memory() {
         return Err(ValidFault::from(Rule::Memory));
@@ -125,7 +127,8 @@ pub fn check_branch(
     nesting: &Nesting,
     operands: &mut Operands,
 ) -> Result<(), ValidFault>
-    ensures { Finds (branch_step (context_of frame.now nesting.now.labels.items) branch.now (stack_of operands.old)) result (stack_of operands.new) }
+    ensures { Makes (branch_step (context_of frame.now nesting.now) branch.now)
+        operands.old operands.new result }
 {
     match branch {
         Branch::Br(label) => {
@@ -162,7 +165,8 @@ pub fn check_call(
     nesting: &Nesting,
     operands: &mut Operands,
 ) -> Result<(), ValidFault>
-    ensures { Finds (call_step (context_of frame.now nesting.now.labels.items) function (stack_of operands.old)) result (stack_of operands.new) }
+    ensures { Makes (call_step (context_of frame.now nesting.now) function)
+        operands.old operands.new result }
 {
     let Some(called) = frame.spaces.function_type(function) else {
         return Err(ValidFault::from(Rule::Function));
@@ -177,7 +181,8 @@ pub fn check_call_indirect(
     nesting: &Nesting,
     operands: &mut Operands,
 ) -> Result<(), ValidFault>
-    ensures { Finds (call_indirect_step (context_of frame.now nesting.now.labels.items) type_number (stack_of operands.old)) result (stack_of operands.new) }
+    ensures { Makes (call_indirect_step (context_of frame.now nesting.now) type_number)
+        operands.old operands.new result }
 {
     if !frame.spaces.has_table() {
         return Err(ValidFault::from(Rule::Table));

@@ -1,8 +1,9 @@
 //! The labels in scope, and the number of the next instruction.
 
-ghost use Rattle.std.specs.Prelude.{◌≡◌, ◌++◌, ◌∷◌, [], OnOk, reverse, slice_get, take, length, ◌-◌};
-ghost use Rattle.validate.specs.Steps.{all_take, same_taken};
-ghost use Rattle.validate.specs.Faults.{Says};
+ghost use Rattle.std.specs.Prelude.{◌≡◌, ◌++◌, ◌∷◌, [], OnOk, reverse, slice_get};
+ghost use Rattle.validate.specs.inside.Answers.{without_last};
+ghost use Rattle.validate.specs.inside.Steps.{all_take, same_taken};
+ghost use Rattle.validate.specs.inside.Findings.{Says};
 
 use crate::fault::{Rule, ValidFault};
 use std::alloc::{AllocError, Global};
@@ -36,7 +37,7 @@ impl Nesting {
 
     /// Without the innermost label.
     pub fn leave(&mut self)
-        ensures { self.new.labels.items ≡ take (length self.old.labels.items - 1) self.old.labels.items }
+        ensures { self.new.labels.items ≡ without_last self.old.labels.items }
     {
         let _label = self.labels.pop();
     }

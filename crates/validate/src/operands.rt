@@ -1,13 +1,12 @@
 //! What is known of the operands at a place in a body.
 
-ghost use Rattle.std.specs.Prelude.{◌≡◌, [], ◌∷◌, Option, OnOk, MatchResult, reverse};
-ghost use Rattle.wasm_ast.specs.NumericTypes.{numeric_takes, numeric_gives};
-ghost use Rattle.validate.specs.Stack.{Stack, bottom, any_below, on, agrees, take_one, take_all, give_all, take_any, change, leave, join, is_empty};
+ghost use Rattle.std.specs.Prelude.{◌≡◌, OnOk, reverse};
+ghost use Rattle.validate.specs.inside.Stack.{bottom, any_below, on, agrees, take_one, take_all, change, leave, join, is_empty};
 ghost use Rattle.validate.specs.Spaces.{first_type};
 ghost use Rattle.validate.specs.Instructions.{operands_of};
-ghost use Rattle.validate.specs.Answers.{stack_of};
-ghost use Rattle.validate.specs.Faults.{NoneBut, Finds, Says};
-ghost use Rattle.validate.specs.Steps.{closes, select_step};
+ghost use Rattle.validate.specs.inside.Answers.{Makes, TakesTopmost, stack_of, with_result};
+ghost use Rattle.validate.specs.inside.Findings.{Says};
+ghost use Rattle.validate.specs.inside.Steps.{called_step, closes, numeric_step, select_step};
 ghost use Rattle.wasm_ast.specs.Numeric.{conversion_from, conversion_to};
 ghost use Rattle.std.specs.Prelude.{Some};
 
@@ -67,7 +66,7 @@ impl Operands {
     }
 
     pub fn take(&mut self, expected: ValType) -> Result<(), ValidFault>
-        ensures { Finds (take_one expected (stack_of self.old)) result (stack_of self.new) }
+        ensures { Makes (take_one expected) self.old self.new result }
     {
         match self.slots.pop() {
             Some(slot) => {
@@ -89,7 +88,7 @@ impl Operands {
 
     /// Takes the topmost, whatever it is.
     pub fn take_any(&mut self) -> Result<Slot, ValidFault>
-        ensures { (go : Slot → Stack → Option Stack) → MatchResult result (λ k. take_any (stack_of self.old) go ≡ go k (stack_of self.new)) (λ e. NoneBut e (take_any (stack_of self.old) go)) }
+        ensures { TakesTopmost self.old self.new result }
     {
         match self.slots.pop() {
             Some(slot) => Ok(slot),
@@ -105,7 +104,7 @@ impl Operands {
 
     /// Takes these, the first of which is topmost.
     fn take_all(&mut self, taken: &[ValType]) -> Result<(), ValidFault>
-        ensures { Finds (take_all taken.now (stack_of self.old)) result (stack_of self.new) }
+        ensures { Makes (take_all taken.now) self.old self.new result }
     {
         for expected in taken {
             self.take(*expected)?;
@@ -114,7 +113,7 @@ impl Operands {
     }
 
     pub fn take_result(&mut self, taken: BlockType) -> Result<(), ValidFault>
-        ensures { Finds (take_all (operands_of taken) (stack_of self.old)) result (stack_of self.new) }
+        ensures { Makes (take_all (operands_of taken)) self.old self.new result }
     {
         match taken {
             Some(expected) => self.take(expected),
@@ -123,7 +122,7 @@ impl Operands {
     }
 
     pub fn give(&mut self, given: BlockType) -> Result<(), AllocError>
-        ensures { OnOk result (stack_of self.new ≡ give_all (operands_of given) (stack_of self.old)) }
+        ensures { OnOk result (stack_of self.new ≡ with_result given (stack_of self.old)) }
     {
         match given {
             Some(known) => self.push(Slot::Known(known)),
@@ -133,7 +132,7 @@ impl Operands {
 
     /// Takes these, the first of which is topmost, and gives a result.
     pub fn change(&mut self, taken: &[ValType], given: BlockType) -> Result<(), ValidFault>
-        ensures { Finds (change taken.now (operands_of given) (stack_of self.old)) result (stack_of self.new) }
+        ensures { Makes (change taken.now (operands_of given)) self.old self.new result }
     {
         self.take_all(taken)?;
         self.give(given)?;
@@ -142,7 +141,7 @@ impl Operands {
 
     /// Takes the parameters, of which the last is topmost.
     fn take_parameters(&mut self, parameters: &[ValType]) -> Result<(), ValidFault>
-        ensures { Finds (take_all (reverse parameters.now) (stack_of self.old)) result (stack_of self.new) }
+        ensures { Makes (take_all (reverse parameters.now)) self.old self.new result }
     {
         let mut left = parameters.len();
         while left > 0 {
@@ -153,7 +152,7 @@ impl Operands {
     }
 
     pub fn call(&mut self, called: &FuncType) -> Result<(), ValidFault>
-        ensures { Finds (change (reverse called.now.parameters) (operands_of (first_type called.now.results)) (stack_of self.old)) result (stack_of self.new) }
+        ensures { Makes (called_step called.now) self.old self.new result }
     {
         self.take_parameters(called.parameters.as_slice())?;
         self.give(first_of(called.results.as_slice()))?;
@@ -161,7 +160,7 @@ impl Operands {
     }
 
     pub fn apply(&mut self, op: Numeric) -> Result<(), ValidFault>
-        ensures { Finds (change (numeric_takes op) (numeric_gives op ∷ []) (stack_of self.old)) result (stack_of self.new) }
+        ensures { Makes (numeric_step op) self.old self.new result }
     {
         match op {
             Numeric::Eqz(of) => self.change(&[of], Some(ValType::I32)),
@@ -186,7 +185,7 @@ impl Operands {
 
     /// Takes a result, and what comes after this is not reached.
     pub fn leave(&mut self, taken: BlockType) -> Result<(), ValidFault>
-        ensures { Finds (leave (operands_of taken) (stack_of self.old)) result (stack_of self.new) }
+        ensures { Makes (leave (operands_of taken)) self.old self.new result }
     {
         self.take_result(taken)?;
         self.die();
@@ -206,7 +205,7 @@ impl Operands {
     }
 
     pub fn select(&mut self) -> Result<(), ValidFault>
-        ensures { Finds (select_step (stack_of self.old)) result (stack_of self.new) }
+        ensures { Makes select_step self.old self.new result }
     {
         self.take(ValType::I32)?;
         let first = self.take_any()?;

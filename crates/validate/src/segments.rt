@@ -3,7 +3,7 @@
 ghost use Rattle.std.specs.Prelude.{◌≡◌, ◌<◌, length};
 ghost use Rattle.std.specs.List.{AllByRecursion};
 ghost use Rattle.validate.specs.Modules.{GlobalTyped, ElementTyped, DataTyped};
-ghost use Rattle.validate.specs.Faults.{Settles};
+ghost use Rattle.validate.specs.inside.Findings.{Settles};
 
 use crate::constants::check_constant;
 use crate::fault::{Rule, ValidFault};

@@ -1,11 +1,10 @@
 //! What each number of a module names (Core 1.0, 2.5.1).
 
-ghost use Rattle.std.specs.Prelude.{◌≡◌, ◌++◌, map, slice_get, IfOk, OnOk};
+ghost use Rattle.std.specs.Prelude.{◌≡◌, ◌++◌, slice_get, IfOk, OnOk};
 ghost use Rattle.std.specs.Option.{option_copied};
 ghost use Rattle.validate.specs.Spaces.{function_type, function_import, table_import, memory_import, global_import, imported, outer_spaces_of, with_globals};
-ghost use Rattle.validate.specs.Steps.{has_memory, has_table};
-ghost use Rattle.wasm_ast.specs.declared.module.Function.{Function as AnyFunction};
-ghost use Rattle.wasm_ast.specs.declared.module.Global.{Global as AnyGlobal};
+ghost use Rattle.validate.specs.inside.Checks.{global_types, type_numbers};
+ghost use Rattle.validate.specs.inside.Steps.{has_memory, has_table};
 
 use std::alloc::{AllocError, Global as Heap};
 use std::marker::Model;
@@ -27,7 +26,13 @@ impl<'a> Model for IndexSpaces<'a> {
 
     ghost Value = { Spaces };
 
-    ghost view = { λ a. record { types = a.types.now; functions = a.functions.items; tables = a.tables.items; memories = a.memories.items; globals = a.globals.items } };
+    ghost view = { λ a. record {
+      types = a.types.now;
+      functions = a.functions.items;
+      tables = a.tables.items;
+      memories = a.memories.items;
+      globals = a.globals.items;
+    } };
 }
 
 impl<'a> IndexSpaces<'a> {
@@ -94,7 +99,8 @@ fn function_types(
     imports: &[Import],
     functions: &[Function],
 ) -> Result<Vec<u32>, AllocError>
-    ensures { IfOk result (λ v. v.items ≡ imported function_import imports.now ++ map (λ (f : AnyFunction). f.type_number) functions.now) }
+    ensures { IfOk result (λ v. v.items
+        ≡ imported function_import imports.now ++ type_numbers functions.now) }
 {
     imports
         .iter()
@@ -138,7 +144,7 @@ fn with_types_of(
     types: &[GlobalType],
     globals: &[Global],
 ) -> Result<Vec<GlobalType>, AllocError>
-    ensures { IfOk result (λ v. v.items ≡ types.now ++ map (λ (g : AnyGlobal). g.global_type) globals.now) }
+    ensures { IfOk result (λ v. v.items ≡ types.now ++ global_types globals.now) }
 {
     types
         .iter()

@@ -3,7 +3,7 @@
 ghost use Rattle.std.specs.Prelude.{◌≡◌, ◌↔◌, ◌≤◌, length, IsTrue};
 ghost use Rattle.std.specs.List.{AllByRecursion};
 ghost use Rattle.validate.specs.Modules.{TypeHolds, MaximumHolds, TableHolds, MemoryHolds, IsWithinPages};
-ghost use Rattle.validate.specs.Faults.{Settles};
+ghost use Rattle.validate.specs.inside.Findings.{Settles};
 
 use crate::fault::{Rule, ValidFault};
 use wasm_ast::{FuncType, Limits};

@@ -3,8 +3,8 @@
 ghost use Rattle.std.specs.Prelude.{◌≡◌, IfOk, OnOk, IsOkUnless};
 ghost use Rattle.wasm_ast.specs.Limits.{IsWithinLimits};
 ghost use Rattle.validate.specs.Modules.{IsTyped};
-ghost use Rattle.validate.specs.Checks.{OuterTyped, InnerTyped};
-ghost use Rattle.validate.specs.Faults.{Settles};
+ghost use Rattle.validate.specs.inside.Checks.{OuterTyped, InnerTyped};
+ghost use Rattle.validate.specs.inside.Findings.{Settles};
 
 use crate::exports::{check_exports, check_names, check_start};
 use crate::fault::{Rule, ValidFault};
@@ -57,7 +57,8 @@ impl Valid {
 pub fn validate(alloc: Global, module: Module) -> Result<Valid, ValidFault>
     ensures kept { IfOk result (λ valid. valid ≡ «module») }
     ensures accepted { OnOk result (IsTyped «module» × IsWithinLimits «module») }
-    ensures refused { IsTyped «module» → IsWithinLimits «module» → IsOkUnless result ValidFault.OutOfMemory }
+    ensures refused { IsTyped «module» → IsWithinLimits «module»
+        → IsOkUnless result ValidFault.OutOfMemory }
 {
     check_module(alloc, &module)?;
     Ok(Valid { module })

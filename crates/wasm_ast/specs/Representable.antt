@@ -1,5 +1,5 @@
--- What the types of a program keep of a module: numbers of 32 bits, constants of their width and names in UTF-8
--- (Core 1.0, 2.2). A module that a program holds is so, and no other has a spelling; to the definitions here a number
+-- What the types of a program keep of a module: numbers of 32 bits, constants of their width, names in UTF-8 and data of
+-- bytes (Core 1.0, 2.2). A module that a program holds is so, and no other has a spelling; to the definitions here a number
 -- may be any.
 use Rattle.std.specs.Prelude.{ℕ, ◌<◌, ◌^◌, ⊤, Option, Some, None}
 use Rattle.std.specs.List.{AllByRecursion}
@@ -32,6 +32,10 @@ use Rattle.wasm_ast.specs.Code as code
 
 abbrev pub IsU32 : ℕ → Type 0
 IsU32 n = n < 2 ^ 32
+
+-- a byte (2.2.1)
+abbrev pub IsByte : ℕ → Type 0
+IsByte b = b < 256
 
 abbrev pub IsOptionalU32 : Option ℕ → Type 0
 IsOptionalU32 None = ⊤
@@ -118,7 +122,7 @@ abbrev pub IsElementHeld : Element → Type 0
 IsElementHeld e = IsU32 e.table × IsCodeHeld e.offset × AllByRecursion IsU32 e.functions
 
 abbrev pub IsDataHeld : Data → Type 0
-IsDataHeld d = IsU32 d.memory × IsCodeHeld d.offset
+IsDataHeld d = IsU32 d.memory × IsCodeHeld d.offset × AllByRecursion IsByte d.bytes
 
 pub record IsRepresentable (m : Module) : Type 0 where
   pub imports : AllByRecursion IsImportHeld m.imports

@@ -30,19 +30,6 @@ pub enum Instr {
     If(BlockType, Body, Body),
 }
 
-impl Instr {
-    ghost use Rattle.std.specs.Prelude.{◌≡◌};
-    ghost use Rattle.wasm_ast.specs.Units.{units_of};
-
-    /// What taking this instruction from a sequence counts. The size of code, the machine's count of steps and
-    /// the interpreter's all go by it.
-    pub fn units(&self) -> u32
-        ensures { result ≡ units_of self.now }
-    {
-        1
-    }
-}
-
 impl Model for Body {
     ghost use Rattle.wasm_ast.specs.Code.{Code, coded_code, size_of};
 

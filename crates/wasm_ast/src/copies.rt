@@ -1,6 +1,7 @@
 //! Copies of syntax, which are equal to what they are copies of.
 
 ghost use Rattle.std.specs.Prelude.{◌≡◌, IfOk, OnOk};
+ghost use Rattle.wasm_ast.specs.inside.Copies.{with_functions_of, with_segments_of, with_spaces_of};
 
 use crate::body::{Body, Instr};
 use crate::module::{Data, Element, Export, Function, Global, Import, Module};
@@ -156,7 +157,7 @@ impl Duplicate for Module {
 
 // The types, the imports and the functions.
 fn duplicate_functions(module: &Module, alloc: Heap, copy: &mut Module) -> Result<(), AllocError>
-    ensures { OnOk result (copy.new ≡ record copy.old { types = «module».now.types; imports = «module».now.imports; functions = «module».now.functions }) }
+    ensures { OnOk result (copy.new ≡ with_functions_of copy.old «module».now) }
 {
     copy.types = module.types.duplicate(alloc)?;
     copy.imports = module.imports.duplicate(alloc)?;
@@ -166,7 +167,7 @@ fn duplicate_functions(module: &Module, alloc: Heap, copy: &mut Module) -> Resul
 
 // The tables, the memories, the globals and the exports.
 fn duplicate_spaces(module: &Module, alloc: Heap, copy: &mut Module) -> Result<(), AllocError>
-    ensures { OnOk result (copy.new ≡ record copy.old { tables = «module».now.tables; memories = «module».now.memories; globals = «module».now.globals; exports = «module».now.exports }) }
+    ensures { OnOk result (copy.new ≡ with_spaces_of copy.old «module».now) }
 {
     copy.tables = module.tables.duplicate(alloc)?;
     copy.memories = module.memories.duplicate(alloc)?;
@@ -177,7 +178,7 @@ fn duplicate_spaces(module: &Module, alloc: Heap, copy: &mut Module) -> Result<(
 
 // The element and the data segments.
 fn duplicate_segments(module: &Module, alloc: Heap, copy: &mut Module) -> Result<(), AllocError>
-    ensures { OnOk result (copy.new ≡ record copy.old { elements = «module».now.elements; «data» = «module».now.«data» }) }
+    ensures { OnOk result (copy.new ≡ with_segments_of copy.old «module».now) }
 {
     copy.elements = module.elements.duplicate(alloc)?;
     copy.data = module.data.duplicate(alloc)?;

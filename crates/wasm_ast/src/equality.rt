@@ -9,8 +9,8 @@ use crate::types::FuncType;
 
 impl PartialEq for Name {
     ghost use Rattle.std.specs.Prelude.{◌≡◌, ◌↔◌, IsTrue};
-    ghost use Rattle.wasm_ast.specs.Same.{same_by, same_partial};
-    ghost use Rattle.wasm_ast.specs.Stored.{stored_name};
+    ghost use Rattle.wasm_ast.specs.inside.Same.{same_by, same_partial};
+    ghost use Rattle.wasm_ast.specs.inside.Stored.{stored_name};
 
     ghost eq = { same_by stored_name };
 
@@ -25,16 +25,16 @@ impl PartialEq for Name {
 }
 
 impl Eq for Name {
-    ghost use Rattle.wasm_ast.specs.Same.{same_equivalence};
-    ghost use Rattle.wasm_ast.specs.Stored.{stored_name};
+    ghost use Rattle.wasm_ast.specs.inside.Same.{same_equivalence};
+    ghost use Rattle.wasm_ast.specs.inside.Stored.{stored_name};
 
     ghost laws = { same_equivalence stored_name };
 }
 
 impl PartialEq for FuncType {
     ghost use Rattle.std.specs.Prelude.{◌≡◌, ◌↔◌, IsTrue};
-    ghost use Rattle.wasm_ast.specs.Same.{same_by, same_partial};
-    ghost use Rattle.wasm_ast.specs.Stored.{stored_func_type};
+    ghost use Rattle.wasm_ast.specs.inside.Same.{same_by, same_partial};
+    ghost use Rattle.wasm_ast.specs.inside.Stored.{stored_func_type};
 
     ghost eq = { same_by stored_func_type };
 
@@ -49,16 +49,16 @@ impl PartialEq for FuncType {
 }
 
 impl Eq for FuncType {
-    ghost use Rattle.wasm_ast.specs.Same.{same_equivalence};
-    ghost use Rattle.wasm_ast.specs.Stored.{stored_func_type};
+    ghost use Rattle.wasm_ast.specs.inside.Same.{same_equivalence};
+    ghost use Rattle.wasm_ast.specs.inside.Stored.{stored_func_type};
 
     ghost laws = { same_equivalence stored_func_type };
 }
 
 impl PartialEq for Branch {
     ghost use Rattle.std.specs.Prelude.{◌≡◌, ◌↔◌, IsTrue};
-    ghost use Rattle.wasm_ast.specs.Same.{same_by, same_partial};
-    ghost use Rattle.wasm_ast.specs.Stored.{stored_branch};
+    ghost use Rattle.wasm_ast.specs.inside.Same.{same_by, same_partial};
+    ghost use Rattle.wasm_ast.specs.inside.Stored.{stored_branch};
 
     ghost eq = { same_by stored_branch };
 
@@ -73,16 +73,16 @@ impl PartialEq for Branch {
 }
 
 impl Eq for Branch {
-    ghost use Rattle.wasm_ast.specs.Same.{same_equivalence};
-    ghost use Rattle.wasm_ast.specs.Stored.{stored_branch};
+    ghost use Rattle.wasm_ast.specs.inside.Same.{same_equivalence};
+    ghost use Rattle.wasm_ast.specs.inside.Stored.{stored_branch};
 
     ghost laws = { same_equivalence stored_branch };
 }
 
 impl PartialEq for Instr {
     ghost use Rattle.std.specs.Prelude.{◌≡◌, ◌↔◌, IsTrue};
-    ghost use Rattle.wasm_ast.specs.Same.{same_by, same_partial};
-    ghost use Rattle.wasm_ast.specs.Stored.{stored_instr};
+    ghost use Rattle.wasm_ast.specs.inside.Same.{same_by, same_partial};
+    ghost use Rattle.wasm_ast.specs.inside.Stored.{stored_instr};
 
     ghost eq = { same_by stored_instr };
 
@@ -97,16 +97,16 @@ impl PartialEq for Instr {
 }
 
 impl Eq for Instr {
-    ghost use Rattle.wasm_ast.specs.Same.{same_equivalence};
-    ghost use Rattle.wasm_ast.specs.Stored.{stored_instr};
+    ghost use Rattle.wasm_ast.specs.inside.Same.{same_equivalence};
+    ghost use Rattle.wasm_ast.specs.inside.Stored.{stored_instr};
 
     ghost laws = { same_equivalence stored_instr };
 }
 
 impl PartialEq for Body {
     ghost use Rattle.std.specs.Prelude.{◌≡◌, ◌↔◌, IsTrue};
-    ghost use Rattle.wasm_ast.specs.Same.{same_by, same_partial};
-    ghost use Rattle.wasm_ast.specs.Stored.{stored_body};
+    ghost use Rattle.wasm_ast.specs.inside.Same.{same_by, same_partial};
+    ghost use Rattle.wasm_ast.specs.inside.Stored.{stored_body};
 
     ghost eq = { same_by stored_body };
 
@@ -121,16 +121,16 @@ impl PartialEq for Body {
 }
 
 impl Eq for Body {
-    ghost use Rattle.wasm_ast.specs.Same.{same_equivalence};
-    ghost use Rattle.wasm_ast.specs.Stored.{stored_body};
+    ghost use Rattle.wasm_ast.specs.inside.Same.{same_equivalence};
+    ghost use Rattle.wasm_ast.specs.inside.Stored.{stored_body};
 
     ghost laws = { same_equivalence stored_body };
 }
 
 impl PartialEq for Import {
     ghost use Rattle.std.specs.Prelude.{◌≡◌, ◌↔◌, IsTrue};
-    ghost use Rattle.wasm_ast.specs.Same.{same_by, same_partial};
-    ghost use Rattle.wasm_ast.specs.Stored.{stored_import};
+    ghost use Rattle.wasm_ast.specs.inside.Same.{same_by, same_partial};
+    ghost use Rattle.wasm_ast.specs.inside.Stored.{stored_import};
 
     ghost eq = { same_by stored_import };
 
@@ -145,16 +145,16 @@ impl PartialEq for Import {
 }
 
 impl Eq for Import {
-    ghost use Rattle.wasm_ast.specs.Same.{same_equivalence};
-    ghost use Rattle.wasm_ast.specs.Stored.{stored_import};
+    ghost use Rattle.wasm_ast.specs.inside.Same.{same_equivalence};
+    ghost use Rattle.wasm_ast.specs.inside.Stored.{stored_import};
 
     ghost laws = { same_equivalence stored_import };
 }
 
 impl PartialEq for Function {
     ghost use Rattle.std.specs.Prelude.{◌≡◌, ◌↔◌, IsTrue};
-    ghost use Rattle.wasm_ast.specs.Same.{same_by, same_partial};
-    ghost use Rattle.wasm_ast.specs.Stored.{stored_function};
+    ghost use Rattle.wasm_ast.specs.inside.Same.{same_by, same_partial};
+    ghost use Rattle.wasm_ast.specs.inside.Stored.{stored_function};
 
     ghost eq = { same_by stored_function };
 
@@ -169,16 +169,16 @@ impl PartialEq for Function {
 }
 
 impl Eq for Function {
-    ghost use Rattle.wasm_ast.specs.Same.{same_equivalence};
-    ghost use Rattle.wasm_ast.specs.Stored.{stored_function};
+    ghost use Rattle.wasm_ast.specs.inside.Same.{same_equivalence};
+    ghost use Rattle.wasm_ast.specs.inside.Stored.{stored_function};
 
     ghost laws = { same_equivalence stored_function };
 }
 
 impl PartialEq for Global {
     ghost use Rattle.std.specs.Prelude.{◌≡◌, ◌↔◌, IsTrue};
-    ghost use Rattle.wasm_ast.specs.Same.{same_by, same_partial};
-    ghost use Rattle.wasm_ast.specs.Stored.{stored_global};
+    ghost use Rattle.wasm_ast.specs.inside.Same.{same_by, same_partial};
+    ghost use Rattle.wasm_ast.specs.inside.Stored.{stored_global};
 
     ghost eq = { same_by stored_global };
 
@@ -193,16 +193,16 @@ impl PartialEq for Global {
 }
 
 impl Eq for Global {
-    ghost use Rattle.wasm_ast.specs.Same.{same_equivalence};
-    ghost use Rattle.wasm_ast.specs.Stored.{stored_global};
+    ghost use Rattle.wasm_ast.specs.inside.Same.{same_equivalence};
+    ghost use Rattle.wasm_ast.specs.inside.Stored.{stored_global};
 
     ghost laws = { same_equivalence stored_global };
 }
 
 impl PartialEq for Export {
     ghost use Rattle.std.specs.Prelude.{◌≡◌, ◌↔◌, IsTrue};
-    ghost use Rattle.wasm_ast.specs.Same.{same_by, same_partial};
-    ghost use Rattle.wasm_ast.specs.Stored.{stored_export};
+    ghost use Rattle.wasm_ast.specs.inside.Same.{same_by, same_partial};
+    ghost use Rattle.wasm_ast.specs.inside.Stored.{stored_export};
 
     ghost eq = { same_by stored_export };
 
@@ -217,16 +217,16 @@ impl PartialEq for Export {
 }
 
 impl Eq for Export {
-    ghost use Rattle.wasm_ast.specs.Same.{same_equivalence};
-    ghost use Rattle.wasm_ast.specs.Stored.{stored_export};
+    ghost use Rattle.wasm_ast.specs.inside.Same.{same_equivalence};
+    ghost use Rattle.wasm_ast.specs.inside.Stored.{stored_export};
 
     ghost laws = { same_equivalence stored_export };
 }
 
 impl PartialEq for Element {
     ghost use Rattle.std.specs.Prelude.{◌≡◌, ◌↔◌, IsTrue};
-    ghost use Rattle.wasm_ast.specs.Same.{same_by, same_partial};
-    ghost use Rattle.wasm_ast.specs.Stored.{stored_element};
+    ghost use Rattle.wasm_ast.specs.inside.Same.{same_by, same_partial};
+    ghost use Rattle.wasm_ast.specs.inside.Stored.{stored_element};
 
     ghost eq = { same_by stored_element };
 
@@ -241,16 +241,16 @@ impl PartialEq for Element {
 }
 
 impl Eq for Element {
-    ghost use Rattle.wasm_ast.specs.Same.{same_equivalence};
-    ghost use Rattle.wasm_ast.specs.Stored.{stored_element};
+    ghost use Rattle.wasm_ast.specs.inside.Same.{same_equivalence};
+    ghost use Rattle.wasm_ast.specs.inside.Stored.{stored_element};
 
     ghost laws = { same_equivalence stored_element };
 }
 
 impl PartialEq for Data {
     ghost use Rattle.std.specs.Prelude.{◌≡◌, ◌↔◌, IsTrue};
-    ghost use Rattle.wasm_ast.specs.Same.{same_by, same_partial};
-    ghost use Rattle.wasm_ast.specs.Stored.{stored_data};
+    ghost use Rattle.wasm_ast.specs.inside.Same.{same_by, same_partial};
+    ghost use Rattle.wasm_ast.specs.inside.Stored.{stored_data};
 
     ghost eq = { same_by stored_data };
 
@@ -265,16 +265,16 @@ impl PartialEq for Data {
 }
 
 impl Eq for Data {
-    ghost use Rattle.wasm_ast.specs.Same.{same_equivalence};
-    ghost use Rattle.wasm_ast.specs.Stored.{stored_data};
+    ghost use Rattle.wasm_ast.specs.inside.Same.{same_equivalence};
+    ghost use Rattle.wasm_ast.specs.inside.Stored.{stored_data};
 
     ghost laws = { same_equivalence stored_data };
 }
 
 impl PartialEq for Module {
     ghost use Rattle.std.specs.Prelude.{◌≡◌, ◌↔◌, IsTrue};
-    ghost use Rattle.wasm_ast.specs.Same.{same_by, same_partial};
-    ghost use Rattle.wasm_ast.specs.Stored.{stored_module};
+    ghost use Rattle.wasm_ast.specs.inside.Same.{same_by, same_partial};
+    ghost use Rattle.wasm_ast.specs.inside.Stored.{stored_module};
 
     ghost eq = { same_by stored_module };
 
@@ -289,8 +289,8 @@ impl PartialEq for Module {
 }
 
 impl Eq for Module {
-    ghost use Rattle.wasm_ast.specs.Same.{same_equivalence};
-    ghost use Rattle.wasm_ast.specs.Stored.{stored_module};
+    ghost use Rattle.wasm_ast.specs.inside.Same.{same_equivalence};
+    ghost use Rattle.wasm_ast.specs.inside.Stored.{stored_module};
 
     ghost laws = { same_equivalence stored_module };
 }

@@ -61,7 +61,8 @@ fn are_types_within(types: &[FuncType]) -> bool
 }
 
 fn is_count_within(imports: &[Import], functions: &[Function]) -> bool
-    ensures { IsTrue result ↔ (imported_functions imports.now + length functions.now ≤ max_functions) }
+    ensures { IsTrue result
+        ↔ (imported_functions imports.now + length functions.now ≤ max_functions) }
 {
     let imported = imported_function_count(imports);
     functions.len() <= MAX_FUNCTIONS as usize
@@ -103,19 +104,22 @@ fn parameter_count(types: &[FuncType], type_number: u32) -> usize
 }
 
 fn are_globals_within(globals: &[Global]) -> bool
-    ensures { IsTrue result ↔ AllByRecursion (λ (g : AnyGlobal). IsBodyWithin g.initial) globals.now }
+    ensures { IsTrue result
+        ↔ AllByRecursion (λ (g : AnyGlobal). IsBodyWithin g.initial) globals.now }
 {
     globals.iter().all(|g| is_body_within(&g.initial))
 }
 
 fn are_elements_within(elements: &[Element]) -> bool
-    ensures { IsTrue result ↔ AllByRecursion (λ (e : AnyElement). IsBodyWithin e.offset) elements.now }
+    ensures { IsTrue result
+        ↔ AllByRecursion (λ (e : AnyElement). IsBodyWithin e.offset) elements.now }
 {
     elements.iter().all(|e| is_body_within(&e.offset))
 }
 
 fn are_segments_within(segments: &[Data]) -> bool
-    ensures { IsTrue result ↔ AllByRecursion (λ (d : AnyData). IsBodyWithin d.offset) segments.now }
+    ensures { IsTrue result
+        ↔ AllByRecursion (λ (d : AnyData). IsBodyWithin d.offset) segments.now }
 {
     segments.iter().all(|d| is_body_within(&d.offset))
 }

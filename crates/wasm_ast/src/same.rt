@@ -12,7 +12,7 @@ use crate::types::{FuncType, Limits, ValType};
 pub trait Same {
     ghost use Rattle.std.specs.Prelude.{◌≡◌, ◌↔◌, IsTrue};
     ghost use Rattle.std.specs.Coded.{Coded};
-    ghost use Rattle.wasm_ast.specs.Same.{same_by};
+    ghost use Rattle.wasm_ast.specs.inside.Same.{same_by};
 
     ghost stored: { Coded Self };
 
@@ -102,7 +102,7 @@ impl Same for Plain {
 }
 
 impl Same for Name {
-    ghost use Rattle.wasm_ast.specs.Stored.{stored_name};
+    ghost use Rattle.wasm_ast.specs.inside.Stored.{stored_name};
 
     ghost stored = { stored_name };
 
@@ -112,7 +112,7 @@ impl Same for Name {
 }
 
 impl Same for FuncType {
-    ghost use Rattle.wasm_ast.specs.Stored.{stored_func_type};
+    ghost use Rattle.wasm_ast.specs.inside.Stored.{stored_func_type};
 
     ghost stored = { stored_func_type };
 
@@ -122,7 +122,7 @@ impl Same for FuncType {
 }
 
 impl Same for Import {
-    ghost use Rattle.wasm_ast.specs.Stored.{stored_import};
+    ghost use Rattle.wasm_ast.specs.inside.Stored.{stored_import};
 
     ghost stored = { stored_import };
 
@@ -134,7 +134,7 @@ impl Same for Import {
 }
 
 impl Same for Function {
-    ghost use Rattle.wasm_ast.specs.Stored.{stored_function};
+    ghost use Rattle.wasm_ast.specs.inside.Stored.{stored_function};
 
     ghost stored = { stored_function };
 
@@ -146,7 +146,7 @@ impl Same for Function {
 }
 
 impl Same for Global {
-    ghost use Rattle.wasm_ast.specs.Stored.{stored_global};
+    ghost use Rattle.wasm_ast.specs.inside.Stored.{stored_global};
 
     ghost stored = { stored_global };
 
@@ -156,7 +156,7 @@ impl Same for Global {
 }
 
 impl Same for Export {
-    ghost use Rattle.wasm_ast.specs.Stored.{stored_export};
+    ghost use Rattle.wasm_ast.specs.inside.Stored.{stored_export};
 
     ghost stored = { stored_export };
 
@@ -166,7 +166,7 @@ impl Same for Export {
 }
 
 impl Same for Element {
-    ghost use Rattle.wasm_ast.specs.Stored.{stored_element};
+    ghost use Rattle.wasm_ast.specs.inside.Stored.{stored_element};
 
     ghost stored = { stored_element };
 
@@ -178,7 +178,7 @@ impl Same for Element {
 }
 
 impl Same for Data {
-    ghost use Rattle.wasm_ast.specs.Stored.{stored_data};
+    ghost use Rattle.wasm_ast.specs.inside.Stored.{stored_data};
 
     ghost stored = { stored_data };
 
@@ -190,7 +190,7 @@ impl Same for Data {
 }
 
 impl Same for Module {
-    ghost use Rattle.wasm_ast.specs.Stored.{stored_module};
+    ghost use Rattle.wasm_ast.specs.inside.Stored.{stored_module};
 
     ghost stored = { stored_module };
 
@@ -209,7 +209,7 @@ impl Same for Module {
 }
 
 impl Same for Branch {
-    ghost use Rattle.wasm_ast.specs.Stored.{stored_branch};
+    ghost use Rattle.wasm_ast.specs.inside.Stored.{stored_branch};
 
     ghost stored = { stored_branch };
 
@@ -227,7 +227,7 @@ impl Same for Branch {
 }
 
 impl Same for Instr {
-    ghost use Rattle.wasm_ast.specs.Stored.{stored_instr};
+    ghost use Rattle.wasm_ast.specs.inside.Stored.{stored_instr};
 
     ghost stored = { stored_instr };
 
@@ -237,7 +237,7 @@ impl Same for Instr {
 }
 
 impl Same for Body {
-    ghost use Rattle.wasm_ast.specs.Stored.{stored_body};
+    ghost use Rattle.wasm_ast.specs.inside.Stored.{stored_body};
 
     ghost stored = { stored_body };
 

@@ -11,8 +11,8 @@ use Rattle.wasm_ast.specs.Limits.{max_module_bytes, max_functions, IsBodyWithin,
 use Rattle.wasm_decode.specs.Bytes.{Then, U32, Vector}
 use Rattle.wasm_decode.specs.Types.{SpellsFuncType, SpellsLimits, SpellsTableType}
 use Rattle.wasm_decode.specs.Grammar.{SpellsImport, SpellsGlobal, SpellsExport, SpellsElement, SpellsFunction, SpellsData, type_numbers, Customs, VectorSection, StartSection, magic, version, SpellsSections, Spells}
-use Rattle.wasm_decode.specs.Reading.{Reads, any_count, u32_at, vector_at, func_type_at, limits_at, table_type_at}
-use Rattle.wasm_decode.specs.ReadingModule.{import_at, imports_at, global_at, export_at, start_at, element_at, data_at, functions_at, customs_at, skip_customs, no_bodies, types_at, numbers_at, spaces_at, exports_at, contents_at, remaining_at, filled_at, sections_at, after_bytes, module_at}
+use Rattle.wasm_decode.specs.inside.Reading.{Reads, any_count, u32_at, vector_at, func_type_at, limits_at, table_type_at}
+use Rattle.wasm_decode.specs.inside.ReadingModule.{import_at, imports_at, global_at, export_at, start_at, element_at, data_at, functions_at, customs_at, skip_customs, no_bodies, types_at, numbers_at, spaces_at, exports_at, contents_at, remaining_at, filled_at, sections_at, after_bytes, module_at}
 use Rattle.wasm_decode.proofs.AgainFunctions.{functions_again}
 use Rattle.wasm_decode.proofs.AgainItems.{import_again, global_again, export_again, element_again, data_again}
 use Rattle.wasm_decode.proofs.AgainParts.{u32_again, vector_again, length-Vector, func_type_again, limits_again, table_type_again}

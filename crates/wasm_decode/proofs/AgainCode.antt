@@ -36,8 +36,8 @@ use Rattle.wasm_ast.specs.Limits.{max_align, max_labels, max_nesting, IsMemoryWi
 use Rattle.wasm_decode.specs.Bytes.{Then, Byte, U32, Vector}
 use Rattle.wasm_decode.specs.Types.{SpellsBlockType}
 use Rattle.wasm_decode.specs.Instructions.{SpellsNumeric, SpellsVariable, load_opcode, store_opcode, SpellsMemoryArgument, SpellsMemory, SpellsPlain, SpellsBranch, SpellsCallIndirect, Ended, Arm, SpellsCode, SpellsExpression}
-use Rattle.wasm_decode.specs.Reading.{◌>>=◌, of_leb, byte_at, u32_at, signed_number_at, block_type_at}
-use Rattle.wasm_decode.specs.ReadingCode.{numeric_of, i32_at, i64_at, variable_at, memory_argument_at, load_at, store_at, after_zero, memory_at, numeric_at, plain_at, br_at, br_if_at, br_table_at, branch_at, call_at, call_indirect_at, flat_at, Inner, closed_at, typed_with, block_with, loop_with, ended_with, arm_with, else_with, if_with, opcode_with, instr_with, stops, code_at, expression_at}
+use Rattle.wasm_decode.specs.inside.Reading.{◌>>=◌, of_leb, byte_at, u32_at, signed_number_at, block_type_at}
+use Rattle.wasm_decode.specs.inside.ReadingCode.{numeric_of, i32_at, i64_at, variable_at, memory_argument_at, load_at, store_at, after_zero, memory_at, numeric_at, plain_at, br_at, br_if_at, br_table_at, branch_at, call_at, call_indirect_at, flat_at, Inner, closed_at, typed_with, block_with, loop_with, ended_with, arm_with, else_with, if_with, opcode_with, instr_with, stops, code_at, expression_at}
 use Rattle.wasm_decode.proofs.AgainParts.{byte_again, u32_again, vector_again, block_type_again}
 use Rattle.wasm_decode.proofs.Numbers.{cast_unsigned-signed}
 use Rattle.wasm_decode.proofs.Tools.{Within, IsRead, IsComplete, Then-append, Then-Byte, Then_again}

@@ -9,8 +9,8 @@ use Rattle.wasm_ast.specs.Limits.{max_locals, parameters_of, IsBodyWithin}
 use Rattle.wasm_decode.specs.Bytes.{Then, Items, Vector}
 use Rattle.wasm_decode.specs.Instructions.{SpellsExpression}
 use Rattle.wasm_decode.specs.Grammar.{SpellsGroup, locals_of, SpellsLocals, type_numbers}
-use Rattle.wasm_decode.specs.Reading.{u32_at, val_type_at}
-use Rattle.wasm_decode.specs.ReadingModule.{groups_at, locals_at, function_in, function_at, bodies_at, functions_at}
+use Rattle.wasm_decode.specs.inside.Reading.{u32_at, val_type_at}
+use Rattle.wasm_decode.specs.inside.ReadingModule.{groups_at, locals_at, function_in, function_at, bodies_at, functions_at}
 use Rattle.wasm_decode.proofs.AgainCode.{expression_again}
 use Rattle.wasm_decode.proofs.AgainParts.{u32_again, val_type_again, part_again}
 use Rattle.wasm_decode.proofs.SectionParts.{length-type_numbers}

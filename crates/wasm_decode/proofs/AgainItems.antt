@@ -5,9 +5,9 @@ use Rattle.wasm_ast.specs.declared.module.ExportDescription.TheVariants as expor
 use Rattle.wasm_ast.specs.Limits.{IsBodyWithin}
 use Rattle.wasm_decode.specs.Bytes.{U32}
 use Rattle.wasm_decode.specs.Grammar.{SpellsImportDescription, SpellsImport, SpellsGlobal, SpellsExportDescription, SpellsExport, SpellsElement, SpellsData}
-use Rattle.wasm_decode.specs.Reading.{byte_at, u32_at, name_at, any_count, global_type_at}
-use Rattle.wasm_decode.specs.ReadingCode.{expression_at}
-use Rattle.wasm_decode.specs.ReadingModule.{import_of, import_description_at, import_at, global_at, export_description_at, export_at, element_at, data_at}
+use Rattle.wasm_decode.specs.inside.Reading.{byte_at, u32_at, name_at, any_count, global_type_at}
+use Rattle.wasm_decode.specs.inside.ReadingCode.{expression_at}
+use Rattle.wasm_decode.specs.inside.ReadingModule.{import_of, import_description_at, import_at, global_at, export_description_at, export_at, element_at, data_at}
 use Rattle.wasm_decode.proofs.AgainCode.{expression_again}
 use Rattle.wasm_decode.proofs.AgainParts.{byte_again, u32_again, vector_again, length-Vector, bytes_again, name_again, limits_again, table_type_again, global_type_again}
 use Rattle.wasm_decode.proofs.Tools.{Within, IsComplete, Then_again}
@@ -73,4 +73,4 @@ data_again d front rest h =
     let s = h.0.is_second in
     Then_again u32_at _ rest d.memory (u32_again d.memory) h.0
     (Then_again expression_at _ rest d.offset (λ f r t. expression_again d.offset f r (t, h.1)) s
-    (rw (bytes_again d.bytes s.back rest s.is_second) refl))
+    (rw (bytes_again d.bytes s.back rest s.is_second.spelled) refl))

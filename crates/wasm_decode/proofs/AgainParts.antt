@@ -9,7 +9,7 @@ use Rattle.wasm_ast.specs.declared.types.Mutability.TheVariants as mutability
 use Rattle.wasm_ast.specs.Limits.{max_parameters, max_results, IsTypeWithin}
 use Rattle.wasm_decode.specs.Bytes.{Byte, U32, Items, Vector, Name, Sized}
 use Rattle.wasm_decode.specs.Types.{SpellsValType, SpellsBlockType, SpellsFuncType, SpellsRange, SpellsLimits, SpellsTableType, mutability_byte, SpellsGlobalType}
-use Rattle.wasm_decode.specs.Reading.{Reads, of_leb, byte_at, u32_at, take_at, part_at, items_at, vector_at, name_at, val_type_at, block_type_at, func_type_at, at_least_at, between_at, range_at, limits_at, table_type_at, mutability_at, global_type_at}
+use Rattle.wasm_decode.specs.inside.Reading.{Reads, of_leb, byte_at, u32_at, take_at, part_at, items_at, vector_at, name_at, val_type_at, block_type_at, func_type_at, at_least_at, between_at, range_at, limits_at, table_type_at, mutability_at, global_type_at}
 use Rattle.wasm_decode.proofs.Tools.{Spelling, Within, IsRead, IsComplete, Then_again}
 
 pub byte_again : IsComplete byte_at Byte

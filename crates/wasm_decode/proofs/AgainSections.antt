@@ -4,8 +4,8 @@ use Rattle.std.proofs.lemmas.Bool.{eq-eqb, ne_eqb, le-leb, leb-true, lt-ltb, and
 use Rattle.std.proofs.lemmas.List.{append-nil}
 use Rattle.wasm_decode.specs.Bytes.{Then, Items}
 use Rattle.wasm_decode.specs.Grammar.{SpellsCustom, Customs, Section}
-use Rattle.wasm_decode.specs.Reading.{Reads}
-use Rattle.wasm_decode.specs.ReadingModule.{customs_at, skip_customs, section_at, section_with}
+use Rattle.wasm_decode.specs.inside.Reading.{Reads}
+use Rattle.wasm_decode.specs.inside.ReadingModule.{customs_at, skip_customs, section_at, section_with}
 use Rattle.wasm_decode.proofs.AgainParts.{part_again, name_again}
 use Rattle.wasm_decode.proofs.SectionParts.{MaySpell}
 use Rattle.wasm_decode.proofs.Tools.{IsRead, Then-append, Then-Byte}

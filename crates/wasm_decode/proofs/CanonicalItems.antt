@@ -98,7 +98,7 @@ data_is_spelled d held small =
     let less = small_back memory (offset ++ sized d.bytes) small in
     joined memory (offset ++ sized d.bytes) (u32_spelled d.memory held.0)
     (joined offset (sized d.bytes) (expression_is_spelled d.offset held.1 (small_front offset (sized d.bytes) less))
-    (bytes_spelled d.bytes (small_back offset (sized d.bytes) less)))
+    (record { are_bytes = held.2; spelled = bytes_spelled d.bytes (small_back offset (sized d.bytes) less) }))
 
 pub some_data : (d : Data) → 1 ≤ length (data_bytes d)
 unfolding data_bytes

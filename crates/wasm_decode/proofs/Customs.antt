@@ -3,8 +3,8 @@ use Rattle.std.proofs.Common.{◌≡◌, ℕ, zero, suc, ◌≤◌, ◌<◌, ◌
 use Rattle.std.specs.Option.{option_eq}
 use Rattle.std.proofs.lemmas.Bool.{eqb-true, false≢true, ne_eqb}
 use Rattle.wasm_decode.specs.declared.fault.DecodeFault.{DecodeFault}
-use Rattle.wasm_decode.specs.Reading.{◌>>=◌, Fails, part_at, name_at}
-use Rattle.wasm_decode.specs.ReadingModule.{custom_at, customs_at}
+use Rattle.wasm_decode.specs.inside.Reading.{◌>>=◌, Fails, part_at, name_at}
+use Rattle.wasm_decode.specs.inside.ReadingModule.{custom_at, customs_at}
 use Rattle.wasm_decode.proofs.Loops.{Fails-then}
 use Rattle.wasm_decode.proofs.Shrinks.{custom_leaves}
 

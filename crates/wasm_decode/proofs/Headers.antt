@@ -3,8 +3,8 @@ use Rattle.std.proofs.Common.{◌≡◌, ℕ, ◌+◌, ◌<◌, ◌==◌, List, 
 use Rattle.std.proofs.lemmas.Bool.{eq-eqb, ne_eqb}
 use Rattle.std.proofs.lemmas.List.{drop_more}
 use Rattle.wasm_decode.specs.declared.fault.DecodeFault.{DecodeFault}
-use Rattle.wasm_decode.specs.Reading.{◌>>=◌, Fails, IsRefusal, guarded, byte_at}
-use Rattle.wasm_decode.specs.ReadingModule.{after_bytes}
+use Rattle.wasm_decode.specs.inside.Reading.{◌>>=◌, Fails, IsRefusal, guarded, byte_at}
+use Rattle.wasm_decode.specs.inside.ReadingModule.{after_bytes}
 use Rattle.wasm_decode.proofs.Loops.{Fails-then}
 use Rattle.wasm_decode.proofs.Parts.{Fails-refusal}
 

@@ -7,8 +7,8 @@ use Rattle.wasm_ast.specs.declared.types.FuncType.{FuncType}
 use Rattle.wasm_ast.specs.declared.types.ValType.{ValType}
 use Rattle.wasm_decode.specs.declared.fault.DecodeFault.{DecodeFault}
 use Rattle.wasm_decode.specs.declared.fault.DecodeFault.TheVariants.{OutOfMemory}
-use Rattle.wasm_decode.specs.Reading.{◌>>=◌, Fails, Reads, u32_at, val_type_at, items_at}
-use Rattle.wasm_decode.specs.ReadingModule.{groups_at, function_at, bodies_at}
+use Rattle.wasm_decode.specs.inside.Reading.{◌>>=◌, Fails, Reads, u32_at, val_type_at, items_at}
+use Rattle.wasm_decode.specs.inside.ReadingModule.{groups_at, function_at, bodies_at}
 
 -- what is still read, with what was read before put onto it
 abbrev pub continued : {Y : Type 0} → (Y → Y) → Option (Y × List ℕ) → Option (Y × List ℕ)

@@ -7,8 +7,8 @@ use Rattle.wasm_ast.specs.declared.body.Instr.TheVariants as instr
 use Rattle.wasm_ast.specs.Code.{Code, end}
 use Rattle.wasm_ast.specs.View.{then_code, code_of}
 use Rattle.wasm_decode.specs.declared.fault.DecodeFault.{DecodeFault}
-use Rattle.wasm_decode.specs.Reading.{◌>>=◌, Fails, byte_at, block_type_at}
-use Rattle.wasm_decode.specs.ReadingCode.{Inner, typed_with, ended_with, arm_with, else_with, if_with, opcode_with, instr_with, stops, code_at}
+use Rattle.wasm_decode.specs.inside.Reading.{◌>>=◌, Fails, byte_at, block_type_at}
+use Rattle.wasm_decode.specs.inside.ReadingCode.{Inner, typed_with, ended_with, arm_with, else_with, if_with, opcode_with, instr_with, stops, code_at}
 use Rattle.wasm_decode.proofs.Loops.{continued, goes_on, is_done, Fails-continued, Fails-then}
 use Rattle.wasm_decode.proofs.Shrinks.{instr_shortens}
 use Rattle.wasm_decode.proofs.Tools.{guarded_some}

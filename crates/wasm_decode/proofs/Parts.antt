@@ -4,7 +4,7 @@ use Rattle.std.proofs.lemmas.Bool.{le-leb}
 use Rattle.std.proofs.lemmas.List.{drop-drop, drop-take, drop_more}
 use Rattle.wasm_decode.specs.declared.fault.DecodeFault.{DecodeFault}
 use Rattle.wasm_decode.specs.declared.fault.DecodeFault.TheVariants.{OutOfMemory}
-use Rattle.wasm_decode.specs.Reading.{Fails, IsRefusal, u32_at, take_at, part_at, is_empty}
+use Rattle.wasm_decode.specs.inside.Reading.{Fails, IsRefusal, u32_at, take_at, part_at, is_empty}
 
 pub part_at-drop : (bytes rest file : List ℕ) (at len : ℕ) → u32_at bytes ≡ Some (len, rest) → drop at file ≡ rest → len ≤ length file - at
     → part_at bytes ≡ Some (drop at (take (at + len) file), drop (at + len) file)

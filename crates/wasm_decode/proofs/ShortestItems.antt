@@ -92,12 +92,12 @@ data_is_shortest d bytes h =
     let both = h.is_second in
     let memory = u32_is_shortest d.memory h.front h.is_first in
     let offset = expression_is_shortest d.offset both.front both.is_first in (
-      (memory.0, offset.0),
+      (memory.0, offset.0, both.is_second.are_bytes),
       omega (
         arith,
         memory.1,
         offset.1,
-        bytes_shortest d.bytes both.back both.is_second,
+        bytes_shortest d.bytes both.back both.is_second.spelled,
         Then_length bytes h,
         Then_length h.back both,
         length-append (u32_spelling d.memory) (expression_bytes d.offset ++ sized d.bytes),

@@ -2,16 +2,16 @@
 use Rattle.std.proofs.Common.{◌≡◌, ℕ, zero, suc, ◌-◌, ◌+◌, ◌≤◌, ◌<◌, ◌==◌, ◌^◌, ℤ, Bool, true, false, cond, nat_le, nat_lt, List, [], ◌∷◌, length, drop, slice_get, Option, Some, None, Result, Ok, Err, IfOk, IfSome, ap, arith, length-drop}
 use Rattle.std.proofs.lemmas.Option.{some_pair_parts}
 use Rattle.leb.specs.declared.fault.LebFault.{LebFault}
-use Rattle.leb.specs.Reading.{unsigned_at, signed_at, with_low, with_low_signed}
+use Rattle.leb.specs.inside.Reading.{unsigned_at, signed_at, with_low, with_low_signed}
 use Rattle.wasm_ast.specs.declared.types.ValType.{ValType}
 use Rattle.wasm_ast.specs.declared.plain.Memory.TheVariants as memory
 use Rattle.wasm_ast.specs.declared.body.Instr.{Instr}
 use Rattle.wasm_ast.specs.declared.body.Instr.TheVariants as instr
 use Rattle.wasm_ast.specs.Code.{Code}
 use Rattle.wasm_ast.specs.Limits.{max_align, max_labels}
-use Rattle.wasm_decode.specs.Reading.{◌>>=◌, Reads, of_leb, guarded, byte_at, u32_at, signed_number_at, items_at, vector_at, take_at, part_at, name_at, block_type_at}
-use Rattle.wasm_decode.specs.ReadingCode.{is_from, numeric_of, numeric_at, i32_at, i64_at, variable_at, memory_argument_at, load_of, store_of, load_at, store_at, after_zero, memory_at, plain_at, br_at, br_if_at, br_table_at, branch_at, call_at, call_indirect_at, flat_at, Inner, closed_at, typed_with, block_with, loop_with, ended_with, arm_with, else_with, if_with, opcode_with, instr_with, stops, code_at}
-use Rattle.wasm_decode.specs.ReadingModule.{custom_at}
+use Rattle.wasm_decode.specs.inside.Reading.{◌>>=◌, Reads, of_leb, guarded, byte_at, u32_at, signed_number_at, items_at, vector_at, take_at, part_at, name_at, block_type_at}
+use Rattle.wasm_decode.specs.inside.ReadingCode.{is_from, numeric_of, numeric_at, i32_at, i64_at, variable_at, memory_argument_at, load_of, store_of, load_at, store_at, after_zero, memory_at, plain_at, br_at, br_if_at, br_table_at, branch_at, call_at, call_indirect_at, flat_at, Inner, closed_at, typed_with, block_with, loop_with, ended_with, arm_with, else_with, if_with, opcode_with, instr_with, stops, code_at}
+use Rattle.wasm_decode.specs.inside.ReadingModule.{custom_at}
 
 -- at most so many bytes are left
 abbrev pub LeavesAtMost : {A : Type 0} → ℕ → Option (A × List ℕ) → Type 0

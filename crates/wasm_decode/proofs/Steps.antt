@@ -2,7 +2,7 @@
 use Rattle.std.proofs.Common.{◌≡◌, ℕ, List, Some, refl}
 use Rattle.wasm_ast.specs.declared.module.Module.{Module}
 use Rattle.wasm_ast.specs.Limits.{imported_functions}
-use Rattle.wasm_decode.specs.ReadingModule.{skip_customs, types_at, numbers_at, remaining_at, filled_at}
+use Rattle.wasm_decode.specs.inside.ReadingModule.{skip_customs, types_at, numbers_at, remaining_at, filled_at}
 
 -- what is read behind the type numbers, where so many functions are imported
 pub filled_step : (bytes first middle rest ts : List ℕ) (old m : Module) (imported : ℕ) → skip_customs bytes ≡ Some first

@@ -4,7 +4,7 @@ use Rattle.std.proofs.lemmas.Bool.{leb-true, eqb-true}
 use Rattle.std.proofs.lemmas.List.{append-nil}
 use Rattle.std.specs.Prelude.{nat_le, ◌==◌}
 use Rattle.std.specs.List.{AllByRecursion}
-use Rattle.leb.specs.Bytes.{IsBytes}
+use Rattle.leb.specs.inside.Bytes.{IsBytes}
 use Rattle.wasm_ast.specs.declared.types.FuncType.{FuncType}
 use Rattle.wasm_ast.specs.declared.module.Import.{Import}
 use Rattle.wasm_ast.specs.declared.module.Function.{Function}
@@ -17,8 +17,8 @@ use Rattle.wasm_ast.specs.Limits.{max_module_bytes, max_functions, IsBodyWithin,
 use Rattle.wasm_decode.specs.Bytes.{Then, U32, Vector}
 use Rattle.wasm_decode.specs.Types.{SpellsFuncType, SpellsLimits, SpellsTableType}
 use Rattle.wasm_decode.specs.Grammar.{SpellsImport, SpellsGlobal, SpellsExport, SpellsElement, SpellsFunction, SpellsData, type_numbers, Customs, VectorSection, StartSection, magic, version, SpellsSections, Spells}
-use Rattle.wasm_decode.specs.Reading.{Reads, is_empty, any_count, vector_at}
-use Rattle.wasm_decode.specs.ReadingModule.{import_at, imports_at, start_at, functions_at, skip_customs, no_bodies, section_with, items_in, types_at, numbers_at, spaces_at, exports_at, contents_at, remaining_at, filled_at, sections_at, after_bytes, module_at}
+use Rattle.wasm_decode.specs.inside.Reading.{Reads, is_empty, any_count, vector_at}
+use Rattle.wasm_decode.specs.inside.ReadingModule.{import_at, imports_at, start_at, functions_at, skip_customs, no_bodies, section_with, items_in, types_at, numbers_at, spaces_at, exports_at, contents_at, remaining_at, filled_at, sections_at, after_bytes, module_at}
 use Rattle.wasm_decode.proofs.Limited.{are_few, Vector-apart, VectorSection-apart}
 use Rattle.wasm_decode.proofs.SectionParts.{MaySpell, Section-map, length-type_numbers}
 use Rattle.wasm_decode.proofs.TakesFunctions.{AreFew, AreBodies, functions_take}

@@ -24,8 +24,8 @@ use Rattle.wasm_ast.specs.Limits.{max_align, max_labels, max_nesting, IsMemoryWi
 use Rattle.wasm_decode.specs.Bytes.{Then, Byte, U32}
 use Rattle.wasm_decode.specs.Types.{SpellsBlockType}
 use Rattle.wasm_decode.specs.Instructions.{numeric_opcode, SpellsNumeric, SpellsVariable, load_opcode, store_opcode, SpellsMemoryArgument, SpellsMemory, SpellsPlain, SpellsBranch, Ended, Arm, SpellsCode, SpellsExpression}
-use Rattle.wasm_decode.specs.Reading.{◌>>=◌, guarded, byte_at}
-use Rattle.wasm_decode.specs.ReadingCode.{is_from, numeric_of, i32_at, i64_at, variable_of, variable_at, memory_argument_at, load_of, store_of, load_at, store_at, after_zero, memory_at, numeric_at, plain_at, br_at, br_if_at, br_table_at, branch_at, call_at, call_indirect_at, flat_at, Inner, closed_at, typed_with, block_with, loop_with, ended_with, arm_with, else_with, if_with, opcode_with, instr_with, stops, code_at, expression_at}
+use Rattle.wasm_decode.specs.inside.Reading.{◌>>=◌, guarded, byte_at}
+use Rattle.wasm_decode.specs.inside.ReadingCode.{is_from, numeric_of, i32_at, i64_at, variable_of, variable_at, memory_argument_at, load_of, store_of, load_at, store_at, after_zero, memory_at, numeric_at, plain_at, br_at, br_if_at, br_table_at, branch_at, call_at, call_indirect_at, flat_at, Inner, closed_at, typed_with, block_with, loop_with, ended_with, arm_with, else_with, if_with, opcode_with, instr_with, stops, code_at, expression_at}
 use Rattle.wasm_decode.proofs.Numbers.{signed-cast_unsigned, cast_unsigned_below}
 use Rattle.wasm_decode.proofs.TakesParts.{byte_takes, u32_takes, signed_number_takes, vector_takes, block_type_takes}
 use Rattle.wasm_decode.proofs.Tools.{bind_some, guarded_some, some_is, never, by_test, by_byte, by_byte_or, Takes, IsSound, Within, Takes-map, Takes-cons, Then_takes, made_takes, Then-joined, Then-assoc}

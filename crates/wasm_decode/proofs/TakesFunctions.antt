@@ -3,7 +3,7 @@ use Rattle.std.proofs.Common.{◌≡◌, ℕ, zero, suc, ◌+◌, ◌-◌, ◌�
 use Rattle.std.proofs.lemmas.Bool.{leb-true, eqb-true}
 use Rattle.std.proofs.lemmas.List.{append-nil, length-replicate}
 use Rattle.std.specs.Prelude.{◌==◌, nat_le}
-use Rattle.leb.specs.Bytes.{IsBytes}
+use Rattle.leb.specs.inside.Bytes.{IsBytes}
 use Rattle.wasm_ast.specs.declared.types.ValType.{ValType}
 use Rattle.wasm_ast.specs.declared.types.FuncType.{FuncType}
 use Rattle.wasm_ast.specs.declared.module.Function.{Function}
@@ -12,9 +12,9 @@ use Rattle.wasm_decode.specs.Bytes.{Then, U32, Items, Vector}
 use Rattle.wasm_decode.specs.Types.{SpellsValType}
 use Rattle.wasm_decode.specs.Instructions.{SpellsExpression}
 use Rattle.wasm_decode.specs.Grammar.{SpellsGroup, locals_of, SpellsLocals, SpellsFunction, type_numbers}
-use Rattle.wasm_decode.specs.Reading.{is_empty}
-use Rattle.wasm_decode.specs.ReadingCode.{expression_at}
-use Rattle.wasm_decode.specs.ReadingModule.{groups_at, locals_at, function_in, function_at, bodies_at, functions_at}
+use Rattle.wasm_decode.specs.inside.Reading.{is_empty}
+use Rattle.wasm_decode.specs.inside.ReadingCode.{expression_at}
+use Rattle.wasm_decode.specs.inside.ReadingModule.{groups_at, locals_at, function_in, function_at, bodies_at, functions_at}
 use Rattle.wasm_decode.proofs.SectionParts.{length-type_numbers}
 use Rattle.wasm_decode.proofs.TakesCode.{expression_takes}
 use Rattle.wasm_decode.proofs.TakesParts.{u32_takes, val_type_takes, part_takes, Sized-part}

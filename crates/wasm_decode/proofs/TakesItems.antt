@@ -11,8 +11,8 @@ use Rattle.wasm_ast.specs.declared.module.Data.{Data}
 use Rattle.wasm_ast.specs.Limits.{IsBodyWithin}
 use Rattle.wasm_decode.specs.Bytes.{Byte, U32}
 use Rattle.wasm_decode.specs.Grammar.{SpellsImportDescription, SpellsImport, SpellsGlobal, SpellsExportDescription, SpellsExport, SpellsElement, SpellsData}
-use Rattle.wasm_decode.specs.Reading.{any_count}
-use Rattle.wasm_decode.specs.ReadingModule.{import_of, import_description_at, import_at, global_at, export_of, export_description_at, export_at, element_at, data_at}
+use Rattle.wasm_decode.specs.inside.Reading.{any_count}
+use Rattle.wasm_decode.specs.inside.ReadingModule.{import_of, import_description_at, import_at, global_at, export_of, export_description_at, export_at, element_at, data_at}
 use Rattle.wasm_decode.proofs.TakesCode.{expression_takes}
 use Rattle.wasm_decode.proofs.TakesParts.{byte_takes, u32_takes, vector_takes, bytes_take, name_takes, limits_takes, table_type_takes, global_type_takes}
 use Rattle.wasm_decode.proofs.Tools.{bind_some, guarded_some, some_is, never, by_byte, IsSound, Within, Then_takes, made_takes, Then-joined}

@@ -5,9 +5,9 @@ use Rattle.std.proofs.lemmas.List.{take-append-drop, length-take-le}
 use Rattle.std.proofs.lemmas.Str.{IsUtf8-from_is_utf8}
 use Rattle.std.specs.Prelude.{◌==◌, nat_le}
 use Rattle.std.specs.Str.{is_utf8}
-use Rattle.leb.specs.Bytes.{IsBytes}
+use Rattle.leb.specs.inside.Bytes.{IsBytes}
 use Rattle.leb.specs.declared.fault.LebFault.{LebFault}
-use Rattle.leb.specs.Reading.{unsigned_at, signed_at}
+use Rattle.leb.specs.inside.Reading.{unsigned_at, signed_at}
 use Rattle.leb.specs.Spelling.{IsSigned}
 use Rattle.leb.proofs.Unsigned.{unsigned_takes}
 use Rattle.leb.proofs.Signed.{signed_takes}
@@ -16,10 +16,10 @@ use Rattle.wasm_ast.specs.declared.types.Limits.{Limits}
 use Rattle.wasm_ast.specs.declared.types.Mutability.TheVariants.{Constant, Variable}
 use Rattle.wasm_ast.specs.declared.types.GlobalType.{GlobalType}
 use Rattle.wasm_ast.specs.Limits.{max_parameters, max_results, IsTypeWithin}
-use Rattle.wasm_decode.specs.Bytes.{Byte, U32, Items, Vector, Name, Sized}
+use Rattle.wasm_decode.specs.Bytes.{Byte, U32, Items, Vector, ByteVector, Name, Sized}
 use Rattle.wasm_decode.specs.Types.{SpellsValType, SpellsBlockType, SpellsFuncType, SpellsLimits, SpellsTableType, mutability_byte, SpellsGlobalType}
-use Rattle.wasm_decode.specs.Reading.{Reads, guarded, of_leb, byte_at, u32_at, signed_number_at, take_at, part_at, items_at, vector_at, name_at, val_type_at, block_type_at, func_type_at, at_least_at, between_at, range_at, limits_at, table_type_at, mutability_at, global_type_at}
-use Rattle.wasm_decode.proofs.Tools.{Spelling, bind_some, guarded_some, some_is, never, by_byte, IsBytes-front, IsSound, Within, Takes-map, Then_takes, made_takes, Then-joined}
+use Rattle.wasm_decode.specs.inside.Reading.{Reads, guarded, of_leb, byte_at, u32_at, signed_number_at, take_at, part_at, items_at, vector_at, name_at, val_type_at, block_type_at, func_type_at, at_least_at, between_at, range_at, limits_at, table_type_at, mutability_at, global_type_at}
+use Rattle.wasm_decode.proofs.Tools.{Spelling, bind_some, guarded_some, some_is, never, by_byte, IsBytes-front, all_bytes, IsSound, Within, Takes-map, Then_takes, made_takes, Then-joined}
 
 of_leb_some : {A : Type 0} (r : Result A LebFault) (y : A) → of_leb r ≡ Some y → r ≡ Ok y
 of_leb_some (Ok x) y e = let same : x ≡ y = some_is x y e in rw same refl
@@ -118,16 +118,19 @@ Items-Byte [] = refl
 Items-Byte (b ∷ name) = Then-joined (b ∷ []) name refl (Items-Byte name)
 
 -- a part is a vector of bytes
-pub bytes_take : IsSound part_at (Vector Byte)
+pub bytes_take : IsSound part_at ByteVector
 bytes_take bytes x fits e =
     Takes-map (part_takes bytes x fits e) λ f part.
     let sized = part.is_sized in
     record {
-      front = sized.size;
-      back = sized.inside;
-      is_first = rw (← sized.spelled) sized.counted;
-      is_second = rw sized.spelled (Items-Byte x.0);
-      parts = sized.parts;
+      are_bytes = all_bytes x.0 part.are_bytes;
+      spelled = record {
+        front = sized.size;
+        back = sized.inside;
+        is_first = rw (← sized.spelled) sized.counted;
+        is_second = rw sized.spelled (Items-Byte x.0);
+        parts = sized.parts;
+      };
     }
 
 pub name_takes : IsSound name_at Name
@@ -136,7 +139,7 @@ name_takes bytes x fits e =
     let a = bind_some (part_at bytes) (λ name. guarded (is_utf8 name.0) (Some name)) x e in
     let g = guarded_some (is_utf8 a.0.0) (Some a.0) x a.2 in
     let t = bytes_take bytes a.0 fits a.1 in
-    let named : Name a.0.0 t.front = record { utf8 = IsUtf8-from_is_utf8 a.0.0 g.0; spelled = t.is_spelled } in
+    let named : Name a.0.0 t.front = record { utf8 = IsUtf8-from_is_utf8 a.0.0 g.0; spelled = t.is_spelled.spelled } in
     rw (← some_is a.0 x g.1) (record { front = t.front; is_spelled = named; parts = t.parts })
 
 -- ---- types

@@ -1,13 +1,13 @@
 -- What is read is spelled so: sections, and the custom ones between them.
 use Rattle.std.proofs.Common.{◌≡◌, ℕ, zero, suc, ◌≤◌, inl, inr, List, [], ◌∷◌, ◌++◌, length, Option, Some, None, refl, sym, arith}
-use Rattle.leb.specs.Bytes.{IsBytes}
+use Rattle.leb.specs.inside.Bytes.{IsBytes}
 use Rattle.wasm_decode.specs.Bytes.{Then, Byte}
 use Rattle.wasm_decode.specs.Grammar.{Section, IsCustom, Customs, VectorSection}
-use Rattle.wasm_decode.specs.Reading.{Reads, is_empty, name_at, vector_at}
-use Rattle.wasm_decode.specs.ReadingModule.{customs_at, skip_customs, is_later, section_at, present_or, section_with}
+use Rattle.wasm_decode.specs.inside.Reading.{Reads, is_empty, name_at, vector_at}
+use Rattle.wasm_decode.specs.inside.ReadingModule.{customs_at, skip_customs, is_later, section_at, present_or, section_with}
 use Rattle.wasm_decode.proofs.SectionParts.{MaySpell, Section-map, Customs-nil}
 use Rattle.wasm_decode.proofs.TakesParts.{IsPart, part_takes, Sized-part, name_takes, Limited, vector_takes}
-use Rattle.wasm_decode.proofs.Tools.{Spelling, bind_some, guarded_some, some_is, never, by_byte, Takes, IsSound, Takes-cons, Takes-all, Takes-map, Then_takes, made_takes, Then-joined}
+use Rattle.wasm_decode.proofs.Tools.{Spelling, bind_some, guarded_some, some_is, never, by_byte, all_bytes, Takes, IsSound, Takes-cons, Takes-all, Takes-map, Takes-back, Then_takes, made_takes, Then-joined}
 
 -- ---- custom sections
 
@@ -27,7 +27,14 @@ customs_take (suc n) (b ∷ bytes) rest fits e =
     Then_takes _ {R = λ f. Customs (0 ∷ f)} part_takes tail h λ inside f after s fits1 e1.
     let name = bind_some (name_at inside) _ rest e1 in
     let named = name_takes inside name.0 s.are_bytes name.1 in
-    let custom : IsCustom inside = record { name = name.0.0; front = named.front; back = name.0.1; named = named.is_spelled; parts = named.parts } in
+    let custom : IsCustom inside = record {
+      name = name.0.0;
+      front = named.front;
+      back = name.0.1;
+      named = named.is_spelled;
+      are_bytes = all_bytes name.0.1 (Takes-back named s.are_bytes);
+      parts = named.parts;
+    } in
     Takes-map (customs_take n after rest fits1 name.2) λ g t. one_more f g inside s custom t)))
     λ e1. rw (← some_is (b ∷ bytes) rest e1) (record { front = []; is_spelled = Customs-nil; parts = refl })
 

@@ -3,7 +3,7 @@ use Rattle.std.proofs.Common.{◌≡◌, ℕ, List, Some, None, refl}
 use Rattle.std.proofs.lemmas.Bool.{false_from_ne_true}
 use Rattle.std.proofs.lemmas.Str.{IsUtf8-from_is_utf8, is_utf8-from_IsUtf8}
 use Rattle.std.specs.Str.{IsUtf8, is_utf8}
-use Rattle.wasm_decode.specs.Reading.{u32_at, take_at, part_at, name_at}
+use Rattle.wasm_decode.specs.inside.Reading.{u32_at, take_at, part_at, name_at}
 
 pub name_at-utf8 : (bytes mid text rest : List ℕ) (len : ℕ) → u32_at bytes ≡ Some (len, mid) → take_at len mid ≡ Some (text, rest)
     → IsUtf8 text → name_at bytes ≡ Some (text, rest)

@@ -3,9 +3,11 @@ use Rattle.std.proofs.Common.{◌≡◌, ℕ, zero, suc, Bool, true, false, List
 use Rattle.std.proofs.lemmas.Bool.{eqb-true, eqb-false}
 use Rattle.std.proofs.lemmas.List.{append-nil}
 use Rattle.std.specs.Prelude.{◌==◌, if◌then◌else◌}
-use Rattle.leb.specs.Bytes.{IsBytes}
+use Rattle.std.specs.List.{AllByRecursion}
+use Rattle.leb.specs.inside.Bytes.{IsBytes}
+use Rattle.wasm_ast.specs.Representable.{IsByte}
 use Rattle.wasm_decode.specs.Bytes.{Then, Byte}
-use Rattle.wasm_decode.specs.Reading.{◌>>=◌, Reads, found, guarded, is_empty}
+use Rattle.wasm_decode.specs.inside.Reading.{◌>>=◌, Reads, found, guarded, is_empty}
 
 -- which bytes spell which item
 abbrev pub Spelling : Type 0 → Type 1
@@ -52,6 +54,10 @@ IsBytes-front (b ∷ front) rest fits (suc i) = IsBytes-front front rest (λ k. 
 pub IsBytes-back : (front rest : List ℕ) → IsBytes (front ++ rest) → IsBytes rest
 IsBytes-back [] rest fits = fits
 IsBytes-back (b ∷ front) rest fits = IsBytes-back front rest (λ i. fits (suc i))
+
+pub all_bytes : (bytes : List ℕ) → IsBytes bytes → AllByRecursion IsByte bytes
+all_bytes [] fits = tt
+all_bytes (b ∷ bytes) fits = (fits zero, all_bytes bytes (λ i. fits (suc i)))
 
 -- ---- bytes in two parts
 

@@ -1,8 +1,10 @@
 -- What every part of the binary format is made of (Core 1.0, 5.1 and 5.2).
 use Rattle.std.specs.Prelude.{◌≡◌, ℕ, ◌<◌, ◌^◌, List, [], ◌∷◌, ◌++◌, length}
+use Rattle.std.specs.List.{AllByRecursion}
 use Rattle.std.specs.Str.{IsUtf8}
 use Rattle.leb.specs.Spelling.{IsUnsigned, IsSigned}
 use Rattle.wasm_ast.specs.Numeric.{signed}
+use Rattle.wasm_ast.specs.Representable.{IsByte}
 
 -- How items are spelled: which bytes spell which item. An item may have several spellings, and none spells two items.
 -- The bytes are one item and then another.
@@ -34,6 +36,11 @@ Items item (x ∷ xs) bytes = Then (item x) (Items item xs) bytes
 -- a count and so many items (5.1.3)
 abbrev pub Vector : {A : Type 0} → (A → List ℕ → Type 0) → List A → List ℕ → Type 0
 Vector item xs bytes = Then (U32 (length xs)) (Items item xs) bytes
+
+-- a vector of any bytes, each of which spells itself (5.2.1)
+pub record ByteVector (content bytes : List ℕ) : Type 0 where
+  pub are_bytes : AllByRecursion IsByte content
+  pub spelled : Vector Byte content bytes
 
 -- a name: a vector of bytes in UTF-8 (5.2.4)
 pub record Name (name bytes : List ℕ) : Type 0 where

@@ -213,23 +213,6 @@ abbrev pub start_section : Option ℕ → List ℕ
 start_section None = []
 start_section (Some f) = section 8 (u32_spelling f)
 
--- types, imports, the types of functions, and tables
-unfoldable pub declarations_bytes : Module → List ℕ
-declarations_bytes m =
-    vector_section 1 func_type_bytes m.types ++ (vector_section 2 import_bytes m.imports
-    ++ (vector_section 3 type_number_bytes m.functions ++ vector_section 4 table_bytes m.tables))
-
--- memories, globals, exports, and the function that starts the module
-unfoldable pub spaces_bytes : Module → List ℕ
-spaces_bytes m =
-    vector_section 5 limits_bytes m.memories ++ (vector_section 6 global_bytes m.globals
-    ++ (vector_section 7 export_bytes m.exports ++ start_section m.start))
-
--- elements, functions and data
-unfoldable pub contents_bytes : Module → List ℕ
-contents_bytes m =
-    vector_section 9 element_bytes m.elements ++ (vector_section 10 function_bytes m.functions ++ vector_section 11 data_bytes m.data)
-
 unfoldable pub sections_bytes : Module → List ℕ
 sections_bytes m =
     vector_section 1 func_type_bytes m.types ++ (vector_section 2 import_bytes m.imports

@@ -1,6 +1,7 @@
 -- Which bytes spell which module: the binary format (Core 1.0, section 5), integers alone. A number has many spellings,
--- custom sections may stand anywhere, and so a module has many spellings too.
+-- custom sections may stand anywhere, and so a module has many spellings too. All that spells is of bytes, below 256.
 use Rattle.std.specs.Prelude.{◌≡◌, ℕ, ◌≤◌, ◌⊎◌, List, [], ◌∷◌, ◌++◌, length, Option, Some, None, replicate, flat_map}
+use Rattle.std.specs.List.{AllByRecursion}
 use Rattle.wasm_ast.specs.declared.types.ValType.{ValType}
 use Rattle.wasm_ast.specs.declared.module.ImportDescription.{ImportDescription}
 use Rattle.wasm_ast.specs.declared.module.ImportDescription.TheVariants as import
@@ -14,7 +15,8 @@ use Rattle.wasm_ast.specs.declared.module.Element.{Element}
 use Rattle.wasm_ast.specs.declared.module.Data.{Data}
 use Rattle.wasm_ast.specs.declared.module.Module.{Module}
 use Rattle.wasm_ast.specs.Limits.{max_module_bytes, IsWithinLimits}
-use Rattle.wasm_decode.specs.Bytes.{Then, Byte, U32, Items, Vector, Name, Sized}
+use Rattle.wasm_ast.specs.Representable.{IsByte}
+use Rattle.wasm_decode.specs.Bytes.{Then, Byte, U32, Items, Vector, ByteVector, Name, Sized}
 use Rattle.wasm_decode.specs.Types.{SpellsValType, SpellsFuncType, SpellsLimits, SpellsTableType, SpellsGlobalType}
 use Rattle.wasm_decode.specs.Instructions.{SpellsExpression}
 
@@ -45,7 +47,7 @@ abbrev pub SpellsElement : Element → List ℕ → Type 0
 SpellsElement e bytes = Then (U32 e.table) (Then (SpellsExpression e.offset) (Vector U32 e.functions)) bytes
 
 abbrev pub SpellsData : Data → List ℕ → Type 0
-SpellsData d bytes = Then (U32 d.memory) (Then (SpellsExpression d.offset) (Vector Byte d.bytes)) bytes
+SpellsData d bytes = Then (U32 d.memory) (Then (SpellsExpression d.offset) (ByteVector d.bytes)) bytes
 
 -- so many locals of one type
 abbrev pub SpellsGroup : ℕ × ValType → List ℕ → Type 0
@@ -76,6 +78,7 @@ pub record IsCustom (bytes : List ℕ) : Type 0 where
   pub front : List ℕ
   pub back : List ℕ
   pub named : Name name front
+  pub are_bytes : AllByRecursion IsByte back
   pub parts : bytes ≡ front ++ back
 
 -- a custom section with this content

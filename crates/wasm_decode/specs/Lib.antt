@@ -1,9 +1,11 @@
+-- What a reader has to believe: which bytes spell which module (Core 1.0, section 5), from its parts to the whole.
 pub mod Bytes
 pub mod Types
-pub mod Faults
 pub mod Instructions
 pub mod Grammar
+-- of the spellings of a module, the one that is written
 pub mod Canonical
-pub mod Reading
-pub mod ReadingCode
-pub mod ReadingModule
+-- how a refusal is told
+pub mod Faults
+-- what only mirrors the code, for its proofs
+pub mod inside

@@ -1,8 +1,8 @@
 //! Instructions one after another, and those that hold others (Core 1.0, 5.4.1 and 5.4.6).
 
 ghost use Rattle.std.specs.Prelude.{◌≡◌, ◌<◌, ◌≤◌, ℕ, length, slice_get};
-ghost use Rattle.wasm_decode.specs.Reading.{Gives};
-ghost use Rattle.wasm_decode.specs.ReadingCode.{closed_as, typed_with, ended_with, arm_with, else_with, if_with, opcode_with, instr_with, stops, code_at, expression_at};
+ghost use Rattle.wasm_decode.specs.inside.Reading.{GivesAndLeaves};
+ghost use Rattle.wasm_decode.specs.inside.ReadingCode.{closed_as, typed_with, ended_with, arm_with, else_with, if_with, opcode_with, instr_with, stops, code_at, expression_at};
 
 use crate::fault::{DecodeFault, DecodeRule};
 use crate::instructions::flat;
@@ -16,9 +16,9 @@ const ELSE: u8 = 0x05;
 const END: u8 = 0x0B;
 
 /// Instructions up to the `end` that closes them (Core 1.0, 5.4.6).
-#[tactic(auto, unfolding(crate::specs::ReadingCode::expression_at))]
+#[tactic(auto, unfolding(crate::specs::inside::ReadingCode::expression_at))]
 pub fn expression(alloc: Global, reader: &mut Reader) -> Result<Body, DecodeFault>
-    ensures { Gives (λ body. (body, reader.new)) result (expression_at reader.old) }
+    ensures { GivesAndLeaves result reader.new (expression_at reader.old) }
 {
     ended(alloc, reader, MAX_NESTING)
 }
@@ -34,9 +34,9 @@ fn is_closing(reader: &Reader) -> bool
 }
 
 // Reads the byte that ends a sequence, and gives what it ends.
-#[tactic(auto, unfolding(crate::specs::ReadingCode::closed_at))]
+#[tactic(auto, unfolding(crate::specs::inside::ReadingCode::closed_at))]
 fn closed<T: Drop>(reader: &mut Reader, whole: T) -> Result<T, DecodeFault>
-    ensures { Gives (λ x. (x, reader.new)) result (closed_as whole reader.old) }
+    ensures { GivesAndLeaves result reader.new (closed_as whole reader.old) }
 {
     let place = reader.place();
     if reader.byte()? != END {
@@ -47,9 +47,10 @@ fn closed<T: Drop>(reader: &mut Reader, whole: T) -> Result<T, DecodeFault>
 
 // Instructions and the `end` that closes them.
 #[cycle(decoder)]
-#[tactic(auto, unfolding(crate::specs::ReadingCode::ended_with))]
+#[tactic(auto, unfolding(crate::specs::inside::ReadingCode::ended_with))]
 fn ended(alloc: Global, reader: &mut Reader, levels: u32) -> Result<Body, DecodeFault>
-    ensures { (n : ℕ) → length reader.old < n → Gives (λ body. (body, reader.new)) result (ended_with (code_at n) levels reader.old) }
+    ensures { (n : ℕ) → length reader.old < n
+        → GivesAndLeaves result reader.new (ended_with (code_at n) levels reader.old) }
 {
     let body = sequence(alloc, reader, levels)?;
     closed(reader, body)
@@ -58,7 +59,8 @@ fn ended(alloc: Global, reader: &mut Reader, levels: u32) -> Result<Body, Decode
 // Instructions up to a byte that ends them, in at most so many blocks, loops and ifs inside each other.
 #[cycle(decoder)]
 fn sequence(alloc: Global, reader: &mut Reader, levels: u32) -> Result<Body, DecodeFault>
-    ensures { (n : ℕ) → length reader.old < n → Gives (λ body. (body, reader.new)) result (code_at n levels reader.old) }
+    ensures { (n : ℕ) → length reader.old < n
+        → GivesAndLeaves result reader.new (code_at n levels reader.old) }
 {
     let mut instrs = Vec::new(alloc);
     'each: while !is_closing(reader) {
@@ -71,9 +73,10 @@ fn sequence(alloc: Global, reader: &mut Reader, levels: u32) -> Result<Body, Dec
 
 // One instruction.
 #[cycle(decoder)]
-#[tactic(auto, unfolding(crate::specs::ReadingCode::instr_with))]
+#[tactic(auto, unfolding(crate::specs::inside::ReadingCode::instr_with))]
 fn instruction(alloc: Global, reader: &mut Reader, levels: u32) -> Result<Instr, DecodeFault>
-    ensures { (n : ℕ) → length reader.old ≤ n → Gives (λ instr. (instr, reader.new)) result (instr_with (code_at n) levels reader.old) }
+    ensures { (n : ℕ) → length reader.old ≤ n
+        → GivesAndLeaves result reader.new (instr_with (code_at n) levels reader.old) }
 {
     let place = reader.place();
     let opcode = reader.byte()?;
@@ -82,7 +85,7 @@ fn instruction(alloc: Global, reader: &mut Reader, levels: u32) -> Result<Instr,
 
 // What follows an opcode, which stands at `place`.
 #[cycle(decoder)]
-#[tactic(auto, unfolding(crate::specs::ReadingCode::opcode_with, crate::specs::ReadingCode::block_with, crate::specs::ReadingCode::loop_with))]
+#[tactic(auto, unfolding(crate::specs::inside::ReadingCode::opcode_with, crate::specs::inside::ReadingCode::block_with, crate::specs::inside::ReadingCode::loop_with))]
 fn after_opcode(
     alloc: Global,
     reader: &mut Reader,
@@ -90,7 +93,8 @@ fn after_opcode(
     opcode: u8,
     place: usize,
 ) -> Result<Instr, DecodeFault>
-    ensures { (n : ℕ) → length reader.old < n → Gives (λ instr. (instr, reader.new)) result (opcode_with (code_at n) levels opcode reader.old) }
+    ensures { (n : ℕ) → length reader.old < n
+        → GivesAndLeaves result reader.new (opcode_with (code_at n) levels opcode reader.old) }
 {
     match opcode {
         0x02 => {
@@ -108,14 +112,15 @@ fn after_opcode(
 
 // A block's type and its body, whose end is not read. The opcode stands at `place`.
 #[cycle(decoder)]
-#[tactic(auto, unfolding(crate::specs::ReadingCode::typed_with))]
+#[tactic(auto, unfolding(crate::specs::inside::ReadingCode::typed_with))]
 fn typed_body(
     alloc: Global,
     reader: &mut Reader,
     levels: u32,
     place: usize,
 ) -> Result<(BlockType, Body), DecodeFault>
-    ensures { (n : ℕ) → length reader.old < n → Gives (λ x. (x, reader.new)) result (typed_with (code_at n) levels reader.old) }
+    ensures { (n : ℕ) → length reader.old < n
+        → GivesAndLeaves result reader.new (typed_with (code_at n) levels reader.old) }
 {
     if levels == 0 {
         return Err(DecodeFault::Refused(DecodeRule::OverLimit, place));
@@ -127,14 +132,15 @@ fn typed_body(
 
 // What follows the opcode of an `if`, which stands at `place`.
 #[cycle(decoder)]
-#[tactic(auto, unfolding(crate::specs::ReadingCode::if_with))]
+#[tactic(auto, unfolding(crate::specs::inside::ReadingCode::if_with))]
 fn choice(
     alloc: Global,
     reader: &mut Reader,
     levels: u32,
     place: usize,
 ) -> Result<Instr, DecodeFault>
-    ensures { (n : ℕ) → length reader.old < n → Gives (λ instr. (instr, reader.new)) result (if_with (code_at n) levels reader.old) }
+    ensures { (n : ℕ) → length reader.old < n
+        → GivesAndLeaves result reader.new (if_with (code_at n) levels reader.old) }
 {
     let (result_type, body) = typed_body(alloc, reader, levels, place)?;
     let other = else_body(alloc, reader, levels)?;
@@ -143,10 +149,11 @@ fn choice(
 
 // The other arm of an `if`, which is empty where there is no `else`, and the end.
 #[cycle(decoder)]
-#[tactic(auto, unfolding(crate::specs::ReadingCode::else_with, crate::specs::ReadingCode::arm_with))]
+#[tactic(auto, unfolding(crate::specs::inside::ReadingCode::else_with, crate::specs::inside::ReadingCode::arm_with))]
 fn else_body(alloc: Global, reader: &mut Reader, levels: u32) -> Result<Body, DecodeFault>
     requires { 0 < levels }
-    ensures { (n : ℕ) → length reader.old < n → Gives (λ body. (body, reader.new)) result (else_with (code_at n) levels reader.old) }
+    ensures { (n : ℕ) → length reader.old < n
+        → GivesAndLeaves result reader.new (else_with (code_at n) levels reader.old) }
 {
     let place = reader.place();
     match reader.byte()? {

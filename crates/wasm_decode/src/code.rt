@@ -2,8 +2,8 @@
 
 ghost use Rattle.std.specs.Prelude.{◌≡◌, ◌++◌, replicate, OnOk};
 ghost use Rattle.wasm_ast.specs.Limits.{parameters_of};
-ghost use Rattle.wasm_decode.specs.Reading.{Gives};
-ghost use Rattle.wasm_decode.specs.ReadingModule.{groups_at, locals_at, function_in, function_at, bodies_at, functions_at};
+ghost use Rattle.wasm_decode.specs.inside.Reading.{Gives, GivesAndLeaves};
+ghost use Rattle.wasm_decode.specs.inside.ReadingModule.{groups_at, locals_at, function_in, function_at, bodies_at, functions_at};
 
 use crate::body::expression;
 use crate::fault::{DecodeFault, DecodeRule};
@@ -13,14 +13,15 @@ use std::alloc::{AllocError, Global};
 use wasm_ast::{FuncType, Function, MAX_LOCALS, Sequence, ValType};
 
 /// What the code section holds: a body for each of the functions, whose type numbers are given.
-#[tactic(auto, unfolding(crate::specs::ReadingModule::functions_at))]
+#[tactic(auto, unfolding(crate::specs::inside::ReadingModule::functions_at))]
 pub fn code(
     alloc: Global,
     reader: &mut Reader,
     types: &[FuncType],
     type_numbers: &[u32],
 ) -> Result<Sequence<Function>, DecodeFault>
-    ensures { Gives (λ functions. (functions, reader.new)) result (functions_at types.now type_numbers.now reader.old) }
+    ensures { GivesAndLeaves result reader.new
+        (functions_at types.now type_numbers.now reader.old) }
 {
     let place = reader.place();
     let count = reader.u32()? as usize;
@@ -37,7 +38,8 @@ fn bodies(
     types: &[FuncType],
     type_numbers: &[u32],
 ) -> Result<Vec<Function>, DecodeFault>
-    ensures { Gives (λ functions. (functions.items, reader.new)) result (bodies_at types.now type_numbers.now reader.old) }
+    ensures { Gives (λ functions. (functions.items, reader.new))
+        result (bodies_at types.now type_numbers.now reader.old) }
 {
     let mut functions = Vec::new(alloc);
     for type_number in type_numbers {
@@ -58,14 +60,14 @@ fn parameter_count(types: &[FuncType], type_number: u32) -> usize
 }
 
 // A size, and the locals and the body of a function of just so many bytes.
-#[tactic(auto, unfolding(crate::specs::ReadingModule::function_at))]
+#[tactic(auto, unfolding(crate::specs::inside::ReadingModule::function_at))]
 fn function(
     alloc: Global,
     reader: &mut Reader,
     types: &[FuncType],
     type_number: u32,
 ) -> Result<Function, DecodeFault>
-    ensures { Gives (λ f. (f, reader.new)) result (function_at types.now type_number reader.old) }
+    ensures { GivesAndLeaves result reader.new (function_at types.now type_number reader.old) }
 {
     let inside = reader.part()?;
     let parameters = parameter_count(types, type_number);
@@ -73,7 +75,7 @@ fn function(
 }
 
 // All of the bytes are the locals and the body of a function with so many parameters.
-#[tactic(auto, unfolding(crate::specs::ReadingModule::function_in))]
+#[tactic(auto, unfolding(crate::specs::inside::ReadingModule::function_in))]
 fn function_inside(
     alloc: Global,
     mut inside: Reader,
@@ -94,9 +96,9 @@ fn function_inside(
 }
 
 // Locals in groups of one type, at most so many in all.
-#[tactic(auto, unfolding(crate::specs::ReadingModule::locals_at))]
+#[tactic(auto, unfolding(crate::specs::inside::ReadingModule::locals_at))]
 fn locals(alloc: Global, reader: &mut Reader, room: u32) -> Result<Sequence<ValType>, DecodeFault>
-    ensures { Gives (λ locals. (locals, reader.new)) result (locals_at room reader.old) }
+    ensures { GivesAndLeaves result reader.new (locals_at room reader.old) }
 {
     let count = reader.u32()?;
     let locals = groups(alloc, reader, count, room)?;
@@ -109,7 +111,8 @@ fn groups(
     count: u32,
     mut room: u32,
 ) -> Result<Vec<ValType>, DecodeFault>
-    ensures { Gives (λ locals. (locals.items, reader.new)) result (groups_at count room reader.old) }
+    ensures { Gives (λ locals. (locals.items, reader.new))
+        result (groups_at count room reader.old) }
 {
     let mut locals = Vec::new(alloc);
     for _ in 0..count {

@@ -1,7 +1,7 @@
 //! Exports (Core 1.0, 5.5.10).
 
-ghost use Rattle.wasm_decode.specs.Reading.{Gives};
-ghost use Rattle.wasm_decode.specs.ReadingModule.{export_at, export_description_at};
+ghost use Rattle.wasm_decode.specs.inside.Reading.{GivesAndLeaves};
+ghost use Rattle.wasm_decode.specs.inside.ReadingModule.{export_at, export_description_at};
 
 use crate::fault::{DecodeFault, DecodeRule};
 use crate::item::Item;
@@ -15,7 +15,7 @@ impl Item for Export {
 
     ghost item_at = { export_at };
 
-    #[tactic(auto, unfolding(crate::specs::ReadingModule::export_at))]
+    #[tactic(auto, unfolding(crate::specs::inside::ReadingModule::export_at))]
     fn read(alloc: Global, reader: &mut Reader) -> Result<Export, DecodeFault> {
         let name = name(alloc, reader)?;
         let description = export_description(reader)?;
@@ -23,9 +23,9 @@ impl Item for Export {
     }
 }
 
-#[tactic(auto, unfolding(crate::specs::ReadingModule::export_description_at))]
+#[tactic(auto, unfolding(crate::specs::inside::ReadingModule::export_description_at))]
 fn export_description(reader: &mut Reader) -> Result<ExportDescription, DecodeFault>
-    ensures { Gives (λ description. (description, reader.new)) result (export_description_at reader.old) }
+    ensures { GivesAndLeaves result reader.new (export_description_at reader.old) }
 {
     let place = reader.place();
     let kind = reader.byte()?;

@@ -2,8 +2,8 @@
 
 ghost use Rattle.std.specs.Prelude.{◌≡◌};
 ghost use Rattle.wasm_ast.specs.Limits.{imported_functions as functions_of};
-ghost use Rattle.wasm_decode.specs.Reading.{Gives};
-ghost use Rattle.wasm_decode.specs.ReadingModule.{import_of, import_at, imports_at, import_description_at};
+ghost use Rattle.wasm_decode.specs.inside.Reading.{GivesAndLeaves};
+ghost use Rattle.wasm_decode.specs.inside.ReadingModule.{import_of, import_at, imports_at, import_description_at};
 
 use crate::fault::{DecodeFault, DecodeRule};
 use crate::item::{Item, vector};
@@ -14,9 +14,9 @@ use std::alloc::Global;
 use wasm_ast::{Import, ImportDescription, MAX_FUNCTIONS, Sequence};
 
 /// What the import section holds; its functions are at most as many as a module may have.
-#[tactic(auto, unfolding(crate::specs::ReadingModule::imports_at))]
+#[tactic(auto, unfolding(crate::specs::inside::ReadingModule::imports_at))]
 pub fn imports(alloc: Global, reader: &mut Reader) -> Result<Sequence<Import>, DecodeFault>
-    ensures { Gives (λ imports. (imports, reader.new)) result (imports_at reader.old) }
+    ensures { GivesAndLeaves result reader.new (imports_at reader.old) }
 {
     let place = reader.place();
     let imports = vector::<Import>(alloc, reader, u32::MAX)?;
@@ -41,7 +41,7 @@ impl Item for Import {
 
     ghost item_at = { import_at };
 
-    #[tactic(auto, unfolding(crate::specs::ReadingModule::import_at))]
+    #[tactic(auto, unfolding(crate::specs::inside::ReadingModule::import_at))]
     fn read(alloc: Global, reader: &mut Reader) -> Result<Import, DecodeFault> {
         let module = name(alloc, reader)?;
         let name = name(alloc, reader)?;
@@ -54,9 +54,9 @@ impl Item for Import {
     }
 }
 
-#[tactic(auto, unfolding(crate::specs::ReadingModule::import_description_at))]
+#[tactic(auto, unfolding(crate::specs::inside::ReadingModule::import_description_at))]
 fn import_description(reader: &mut Reader) -> Result<ImportDescription, DecodeFault>
-    ensures { Gives (λ description. (description, reader.new)) result (import_description_at reader.old) }
+    ensures { GivesAndLeaves result reader.new (import_description_at reader.old) }
 {
     let place = reader.place();
     let kind = reader.byte()?;
@@ -64,9 +64,9 @@ fn import_description(reader: &mut Reader) -> Result<ImportDescription, DecodeFa
 }
 
 // What follows the byte of a kind, which stands at `place`.
-#[tactic(auto, unfolding(crate::specs::ReadingModule::import_of))]
+#[tactic(auto, unfolding(crate::specs::inside::ReadingModule::import_of))]
 fn import_of(reader: &mut Reader, kind: u8, place: usize) -> Result<ImportDescription, DecodeFault>
-    ensures { Gives (λ description. (description, reader.new)) result (import_of kind reader.old) }
+    ensures { GivesAndLeaves result reader.new (import_of kind reader.old) }
 {
     match kind {
         0x00 => {

@@ -1,8 +1,8 @@
 //! Instructions that hold no others (Core 1.0, 5.4).
 
 ghost use Rattle.std.specs.Prelude.{◌≡◌};
-ghost use Rattle.wasm_decode.specs.Reading.{Gives, IsRefusal};
-ghost use Rattle.wasm_decode.specs.ReadingCode.{plain_at, i32_at, i64_at, variable_of, variable_at, branch_at, br_table_at, call_at, call_indirect_at, flat_at};
+ghost use Rattle.wasm_decode.specs.inside.Reading.{GivesAndLeaves, IsRefusal};
+ghost use Rattle.wasm_decode.specs.inside.ReadingCode.{plain_at, i32_at, i64_at, variable_of, variable_at, branch_at, br_table_at, call_at, call_indirect_at, flat_at};
 
 use crate::fault::{DecodeFault, DecodeRule};
 use crate::item::vector;
@@ -13,14 +13,14 @@ use std::alloc::Global;
 use wasm_ast::{Branch, Instr, MAX_LABELS, Plain, Value, Variable};
 
 /// What follows the opcode of an instruction that holds no others; the opcode stands at `place`.
-#[tactic(auto, unfolding(crate::specs::ReadingCode::flat_at))]
+#[tactic(auto, unfolding(crate::specs::inside::ReadingCode::flat_at))]
 pub fn flat(
     alloc: Global,
     reader: &mut Reader,
     opcode: u8,
     place: usize,
 ) -> Result<Instr, DecodeFault>
-    ensures { Gives (λ instr. (instr, reader.new)) result (flat_at opcode reader.old) }
+    ensures { GivesAndLeaves result reader.new (flat_at opcode reader.old) }
 {
     match opcode {
         0x00 => Ok(Instr::Unreachable),
@@ -37,26 +37,26 @@ pub fn flat(
     }
 }
 
-#[tactic(auto, unfolding(crate::specs::ReadingCode::call_at))]
+#[tactic(auto, unfolding(crate::specs::inside::ReadingCode::call_at))]
 fn call(reader: &mut Reader) -> Result<Instr, DecodeFault>
-    ensures { Gives (λ instr. (instr, reader.new)) result (call_at reader.old) }
+    ensures { GivesAndLeaves result reader.new (call_at reader.old) }
 {
     let function = reader.u32()?;
     Ok(Instr::Call(function))
 }
 
-#[tactic(auto, unfolding(crate::specs::ReadingCode::call_indirect_at))]
+#[tactic(auto, unfolding(crate::specs::inside::ReadingCode::call_indirect_at))]
 fn call_indirect(reader: &mut Reader) -> Result<Instr, DecodeFault>
-    ensures { Gives (λ instr. (instr, reader.new)) result (call_indirect_at reader.old) }
+    ensures { GivesAndLeaves result reader.new (call_indirect_at reader.old) }
 {
     let type_number = reader.u32()?;
     after_zero(reader, Instr::CallIndirect(type_number))
 }
 
 // What follows an opcode from 0C to 0F.
-#[tactic(auto, unfolding(crate::specs::ReadingCode::branch_at, crate::specs::ReadingCode::br_at, crate::specs::ReadingCode::br_if_at))]
+#[tactic(auto, unfolding(crate::specs::inside::ReadingCode::branch_at, crate::specs::inside::ReadingCode::br_at, crate::specs::inside::ReadingCode::br_if_at))]
 fn branch(alloc: Global, reader: &mut Reader, opcode: u8) -> Result<Branch, DecodeFault>
-    ensures { Gives (λ branch. (branch, reader.new)) result (branch_at opcode reader.old) }
+    ensures { GivesAndLeaves result reader.new (branch_at opcode reader.old) }
 {
     match opcode {
         0x0C => {
@@ -72,9 +72,9 @@ fn branch(alloc: Global, reader: &mut Reader, opcode: u8) -> Result<Branch, Deco
     }
 }
 
-#[tactic(auto, unfolding(crate::specs::ReadingCode::br_table_at))]
+#[tactic(auto, unfolding(crate::specs::inside::ReadingCode::br_table_at))]
 fn branch_table(alloc: Global, reader: &mut Reader) -> Result<Branch, DecodeFault>
-    ensures { Gives (λ branch. (branch, reader.new)) result (br_table_at reader.old) }
+    ensures { GivesAndLeaves result reader.new (br_table_at reader.old) }
 {
     let labels = vector::<u32>(alloc, reader, MAX_LABELS)?;
     let default = reader.u32()?;
@@ -82,9 +82,9 @@ fn branch_table(alloc: Global, reader: &mut Reader) -> Result<Branch, DecodeFaul
 }
 
 // What follows the opcode of an instruction that neither branches nor calls.
-#[tactic(auto, unfolding(crate::specs::ReadingCode::plain_at, crate::specs::ReadingCode::numeric_at))]
+#[tactic(auto, unfolding(crate::specs::inside::ReadingCode::plain_at, crate::specs::inside::ReadingCode::numeric_at))]
 fn plain(reader: &mut Reader, opcode: u8, place: usize) -> Result<Plain, DecodeFault>
-    ensures { Gives (λ plain. (plain, reader.new)) result (plain_at opcode reader.old) }
+    ensures { GivesAndLeaves result reader.new (plain_at opcode reader.old) }
 {
     match opcode {
         0x01 => Ok(Plain::Nop),
@@ -104,26 +104,26 @@ fn plain(reader: &mut Reader, opcode: u8, place: usize) -> Result<Plain, DecodeF
     }
 }
 
-#[tactic(auto, unfolding(crate::specs::ReadingCode::i32_at))]
+#[tactic(auto, unfolding(crate::specs::inside::ReadingCode::i32_at))]
 fn i32_constant(reader: &mut Reader) -> Result<Plain, DecodeFault>
-    ensures { Gives (λ plain. (plain, reader.new)) result (i32_at reader.old) }
+    ensures { GivesAndLeaves result reader.new (i32_at reader.old) }
 {
     let number = reader.s32()?;
     Ok(Plain::Const(Value::I32(number.cast_unsigned())))
 }
 
-#[tactic(auto, unfolding(crate::specs::ReadingCode::i64_at))]
+#[tactic(auto, unfolding(crate::specs::inside::ReadingCode::i64_at))]
 fn i64_constant(reader: &mut Reader) -> Result<Plain, DecodeFault>
-    ensures { Gives (λ plain. (plain, reader.new)) result (i64_at reader.old) }
+    ensures { GivesAndLeaves result reader.new (i64_at reader.old) }
 {
     let number = reader.s64()?;
     Ok(Plain::Const(Value::I64(number.cast_unsigned())))
 }
 
 // What follows an opcode from 20 to 24.
-#[tactic(auto, unfolding(crate::specs::ReadingCode::variable_at))]
+#[tactic(auto, unfolding(crate::specs::inside::ReadingCode::variable_at))]
 fn variable(reader: &mut Reader, opcode: u8) -> Result<Plain, DecodeFault>
-    ensures { Gives (λ plain. (plain, reader.new)) result (variable_at opcode reader.old) }
+    ensures { GivesAndLeaves result reader.new (variable_at opcode reader.old) }
 {
     let number = reader.u32()?;
     Ok(Plain::Variable(accessed(opcode, number)))

@@ -1,7 +1,7 @@
 //! What stands one after another in a vector.
 
 ghost use Rattle.std.specs.Prelude.{◌≡◌, List, ℕ, Option};
-ghost use Rattle.wasm_decode.specs.Reading.{Gives, vector_at, items_at, u32_at};
+ghost use Rattle.wasm_decode.specs.inside.Reading.{Gives, GivesAndLeaves, vector_at, items_at, u32_at};
 
 use crate::fault::{DecodeFault, DecodeRule};
 use crate::reader::Reader;
@@ -16,7 +16,7 @@ pub trait Item {
     ghost item_at: { List ℕ → Option (Self.Read × List ℕ) };
 
     fn read(alloc: Global, reader: &mut Reader) -> Result<Self::Read, DecodeFault>
-        ensures { Gives (λ x. (x, reader.new)) result (item_at reader.old) };
+        ensures { GivesAndLeaves result reader.new (item_at reader.old) };
 }
 
 impl Item for u32 {
@@ -30,7 +30,7 @@ impl Item for u32 {
 }
 
 /// A count that is at most so many, and so many items (Core 1.0, 5.1.3).
-#[tactic(auto, unfolding(crate::specs::Reading::vector_at))]
+#[tactic(auto, unfolding(crate::specs::inside::Reading::vector_at))]
 pub fn vector<T: Item>(
     alloc: Global,
     reader: &mut Reader,
@@ -38,7 +38,7 @@ pub fn vector<T: Item>(
 ) -> Result<Sequence<T::Read>, DecodeFault>
 where
     T::Read: Drop,
-    ensures { Gives (λ xs. (xs, reader.new)) result (vector_at T.item_at most reader.old) }
+    ensures { GivesAndLeaves result reader.new (vector_at T.item_at most reader.old) }
 {
     let place = reader.place();
     let count = reader.u32()?;

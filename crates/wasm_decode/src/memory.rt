@@ -1,18 +1,18 @@
 //! Memory instructions (Core 1.0, 5.4.4).
 
 ghost use Rattle.std.specs.Prelude.{◌≡◌, ◌-◌, ◌≤◌};
-ghost use Rattle.wasm_decode.specs.Reading.{Gives};
-ghost use Rattle.wasm_decode.specs.ReadingCode.{memory_argument_at, load_of, store_of, load_at, store_at, memory_at, after_zero};
+ghost use Rattle.wasm_decode.specs.inside.Reading.{GivesAndLeaves};
+ghost use Rattle.wasm_decode.specs.inside.ReadingCode.{memory_argument_at, load_of, store_of, load_at, store_at, memory_at, after_zero};
 
 use crate::fault::{DecodeFault, DecodeRule};
 use crate::reader::Reader;
 use wasm_ast::{Load, MAX_ALIGN, Memory, MemoryArgument, Store};
 
 /// What follows an opcode from `28` to `40`, which stands at `place`.
-#[tactic(auto, unfolding(crate::specs::ReadingCode::memory_at))]
+#[tactic(auto, unfolding(crate::specs::inside::ReadingCode::memory_at))]
 pub fn memory(reader: &mut Reader, opcode: u8, place: usize) -> Result<Memory, DecodeFault>
     requires { 0x28 ≤ opcode }
-    ensures { Gives (λ op. (op, reader.new)) result (memory_at opcode reader.old) }
+    ensures { GivesAndLeaves result reader.new (memory_at opcode reader.old) }
 {
     match opcode {
         0x3F => after_zero(reader, Memory::Size),
@@ -22,10 +22,10 @@ pub fn memory(reader: &mut Reader, opcode: u8, place: usize) -> Result<Memory, D
     }
 }
 
-#[tactic(auto, unfolding(crate::specs::ReadingCode::load_at))]
+#[tactic(auto, unfolding(crate::specs::inside::ReadingCode::load_at))]
 fn load(reader: &mut Reader, opcode: u8, place: usize) -> Result<Memory, DecodeFault>
     requires { 0x28 ≤ opcode }
-    ensures { Gives (λ op. (op, reader.new)) result (load_at opcode reader.old) }
+    ensures { GivesAndLeaves result reader.new (load_at opcode reader.old) }
 {
     let Some(load) = load_at(opcode - 0x28) else {
         return Err(DecodeFault::Refused(DecodeRule::Unsupported, place));
@@ -34,10 +34,10 @@ fn load(reader: &mut Reader, opcode: u8, place: usize) -> Result<Memory, DecodeF
     Ok(Memory::Load(load, argument))
 }
 
-#[tactic(auto, unfolding(crate::specs::ReadingCode::store_at))]
+#[tactic(auto, unfolding(crate::specs::inside::ReadingCode::store_at))]
 fn store(reader: &mut Reader, opcode: u8, place: usize) -> Result<Memory, DecodeFault>
     requires { 0x36 ≤ opcode }
-    ensures { Gives (λ op. (op, reader.new)) result (store_at opcode reader.old) }
+    ensures { GivesAndLeaves result reader.new (store_at opcode reader.old) }
 {
     let Some(store) = store_at(opcode - 0x36) else {
         return Err(DecodeFault::Refused(DecodeRule::Unsupported, place));
@@ -83,9 +83,9 @@ fn store_at(place: u8) -> Option<Store>
     })
 }
 
-#[tactic(auto, unfolding(crate::specs::ReadingCode::memory_argument_at))]
+#[tactic(auto, unfolding(crate::specs::inside::ReadingCode::memory_argument_at))]
 fn memory_argument(reader: &mut Reader) -> Result<MemoryArgument, DecodeFault>
-    ensures { Gives (λ a. (a, reader.new)) result (memory_argument_at reader.old) }
+    ensures { GivesAndLeaves result reader.new (memory_argument_at reader.old) }
 {
     let place = reader.place();
     let align = reader.u32()?;
@@ -97,9 +97,9 @@ fn memory_argument(reader: &mut Reader) -> Result<MemoryArgument, DecodeFault>
 }
 
 /// Reads the byte that stands for the only memory or table, and gives what it stands in.
-#[tactic(auto, unfolding(crate::specs::ReadingCode::after_zero))]
+#[tactic(auto, unfolding(crate::specs::inside::ReadingCode::after_zero))]
 pub fn after_zero<T: Drop>(reader: &mut Reader, whole: T) -> Result<T, DecodeFault>
-    ensures { Gives (λ x. (x, reader.new)) result (after_zero whole reader.old) }
+    ensures { GivesAndLeaves result reader.new (after_zero whole reader.old) }
 {
     let place = reader.place();
     if reader.byte()? != 0x00 {

@@ -1,10 +1,10 @@
 //! Modules (Core 1.0, 5.5.15).
 
-ghost use Rattle.std.specs.Prelude.{IfOk};
+ghost use Rattle.std.specs.Prelude.{◌≡◌, IfOk, MatchResult};
 ghost use Rattle.wasm_ast.specs.declared.module.Module.{Module as AnyModule};
 ghost use Rattle.wasm_decode.specs.Grammar.{Spells};
-ghost use Rattle.wasm_decode.specs.Reading.{Gives, IsRefusal, found};
-ghost use Rattle.wasm_decode.specs.ReadingModule.{types_at, numbers_at, spaces_at, exports_at, contents_at, remaining_at, filled_at, sections_at, after_bytes, module_at};
+ghost use Rattle.wasm_decode.specs.inside.Reading.{Gives, GivesAndLeaves, IsRefusal};
+ghost use Rattle.wasm_decode.specs.inside.ReadingModule.{types_at, numbers_at, spaces_at, exports_at, contents_at, remaining_at, filled_at, sections_at, after_bytes, module_at};
 
 use crate::fault::{DecodeFault, DecodeRule};
 use crate::imports::imported_functions;
@@ -26,22 +26,24 @@ pub const VERSION: [u8; 4] = [1, 0, 0, 0];
 
 /// The module that the bytes spell, all of the bytes (Core 1.0, section 5).
 ///
-/// Custom sections are skipped. Faults are met from left to right, each with its place, and `OutOfMemory` comes only
-/// where memory ran out. Refused as `Unsupported` are the types and instructions of floats and section 12, which came
-/// after 1.0. Refused as `OverLimit` are files of more than 1,048,576 bytes, types of more than 1,024 parameters or
-/// results, modules of more than 1,024 functions, imports counted, functions of more than 1,024 parameters and locals,
-/// more than 1,024 labels of a `br_table` beside its default, more than 128 blocks, loops and ifs inside each other, and
-/// alignments above 2 to the power 31.
+/// Custom sections are skipped. Faults are met from left to right, each with its place, and
+/// `OutOfMemory` comes only where memory ran out. Refused as `Unsupported` are the types and
+/// instructions of floats and section 12, which came after 1.0. Refused as `OverLimit` are files of
+/// more than 1,048,576 bytes, types of more than 1,024 parameters or results, modules of more than
+/// 1,024 functions, imports counted, functions of more than 1,024 parameters and locals, more than
+/// 1,024 labels of a `br_table` beside its default, more than 128 blocks, loops and ifs inside each
+/// other, and alignments above 2 to the power 31.
 pub fn decode(alloc: Global, bytes: &[u8]) -> Result<Module, DecodeFault>
     // What is read is spelled so.
     ensures found { IfOk result (Spells bytes.now) }
     // What is spelled so is read, unless memory runs out.
-    ensures only { (m : AnyModule) → Spells bytes.now m → Gives (λ x. x) result (found m) }
+    ensures only { (m : AnyModule) → Spells bytes.now m
+        → MatchResult result (λ x. x ≡ m) (λ fault. fault ≡ DecodeFault.OutOfMemory) }
 {
     module(alloc, bytes)
 }
 
-#[tactic(auto, unfolding(crate::specs::ReadingModule::module_at))]
+#[tactic(auto, unfolding(crate::specs::inside::ReadingModule::module_at))]
 fn module(alloc: Global, bytes: &[u8]) -> Result<Module, DecodeFault>
     ensures exact { Gives (λ m. m) result (module_at bytes.now) }
 {
@@ -63,7 +65,7 @@ fn module(alloc: Global, bytes: &[u8]) -> Result<Module, DecodeFault>
 }
 
 // Reads these bytes; another byte in their place is the given fault.
-#[tactic(auto, unfolding(crate::specs::ReadingModule::after_bytes))]
+#[tactic(auto, unfolding(crate::specs::inside::ReadingModule::after_bytes))]
 fn expect(reader: &mut Reader, wanted: &[u8], fault: DecodeFault) -> Result<(), DecodeFault>
     requires { IsRefusal fault }
     ensures { Gives (λ _. reader.new) result (after_bytes wanted.now reader.old) }
@@ -76,7 +78,7 @@ fn expect(reader: &mut Reader, wanted: &[u8], fault: DecodeFault) -> Result<(), 
     Ok(())
 }
 
-#[tactic(auto, unfolding(crate::specs::ReadingModule::sections_at))]
+#[tactic(auto, unfolding(crate::specs::inside::ReadingModule::sections_at))]
 fn sections(alloc: Global, reader: &mut Reader) -> Result<Module, DecodeFault>
     ensures { Gives (λ m. m) result (sections_at reader.old) }
 {
@@ -86,7 +88,7 @@ fn sections(alloc: Global, reader: &mut Reader) -> Result<Module, DecodeFault>
 }
 
 // Reads all sections into a module, in place of what it has.
-#[tactic(auto, unfolding(crate::specs::ReadingModule::filled_at))]
+#[tactic(auto, unfolding(crate::specs::inside::ReadingModule::filled_at))]
 fn fill(alloc: Global, reader: &mut Reader, module: &mut Module) -> Result<(), DecodeFault>
     ensures { Gives (λ _. «module».new) result (filled_at «module».old reader.old) }
 {
@@ -98,14 +100,15 @@ fn fill(alloc: Global, reader: &mut Reader, module: &mut Module) -> Result<(), D
 }
 
 // The sections behind the type numbers of functions, to the end of the file.
-#[tactic(auto, unfolding(crate::specs::ReadingModule::remaining_at))]
+#[tactic(auto, unfolding(crate::specs::inside::ReadingModule::remaining_at))]
 fn remaining(
     alloc: Global,
     reader: &mut Reader,
     type_numbers: &Sequence<u32>,
     module: &mut Module,
 ) -> Result<(), DecodeFault>
-    ensures { Gives (λ _. «module».new) result (remaining_at type_numbers.now «module».old reader.old) }
+    ensures { Gives (λ _. «module».new)
+        result (remaining_at type_numbers.now «module».old reader.old) }
 {
     spaces(alloc, reader, module)?;
     exports(alloc, reader, module)?;
@@ -114,7 +117,7 @@ fn remaining(
     Ok(())
 }
 
-#[tactic(auto, unfolding(crate::specs::ReadingModule::types_at))]
+#[tactic(auto, unfolding(crate::specs::inside::ReadingModule::types_at))]
 fn types_and_imports(
     alloc: Global,
     reader: &mut Reader,
@@ -128,20 +131,20 @@ fn types_and_imports(
 }
 
 // The function section, where so many functions are imported.
-#[tactic(auto, unfolding(crate::specs::ReadingModule::numbers_at))]
+#[tactic(auto, unfolding(crate::specs::inside::ReadingModule::numbers_at))]
 fn type_numbers(
     alloc: Global,
     reader: &mut Reader,
     imported: usize,
 ) -> Result<Sequence<u32>, DecodeFault>
-    ensures { Gives (λ numbers. (numbers, reader.new)) result (numbers_at imported reader.old) }
+    ensures { GivesAndLeaves result reader.new (numbers_at imported reader.old) }
 {
     let room = (MAX_FUNCTIONS as usize).saturating_sub(imported) as u32;
     vector_section::<u32>(alloc, reader, FUNCTION, room)
 }
 
 // Tables, memories and globals.
-#[tactic(auto, unfolding(crate::specs::ReadingModule::spaces_at))]
+#[tactic(auto, unfolding(crate::specs::inside::ReadingModule::spaces_at))]
 fn spaces(alloc: Global, reader: &mut Reader, module: &mut Module) -> Result<(), DecodeFault>
     ensures { Gives (λ _. («module».new, reader.new)) result (spaces_at «module».old reader.old) }
 {
@@ -152,7 +155,7 @@ fn spaces(alloc: Global, reader: &mut Reader, module: &mut Module) -> Result<(),
 }
 
 // Exports, the function that starts the module, and elements.
-#[tactic(auto, unfolding(crate::specs::ReadingModule::exports_at))]
+#[tactic(auto, unfolding(crate::specs::inside::ReadingModule::exports_at))]
 fn exports(alloc: Global, reader: &mut Reader, module: &mut Module) -> Result<(), DecodeFault>
     ensures { Gives (λ _. («module».new, reader.new)) result (exports_at «module».old reader.old) }
 {
@@ -163,14 +166,15 @@ fn exports(alloc: Global, reader: &mut Reader, module: &mut Module) -> Result<()
 }
 
 // Functions with these type numbers, and data.
-#[tactic(auto, unfolding(crate::specs::ReadingModule::contents_at))]
+#[tactic(auto, unfolding(crate::specs::inside::ReadingModule::contents_at))]
 fn contents(
     alloc: Global,
     reader: &mut Reader,
     type_numbers: &Sequence<u32>,
     module: &mut Module,
 ) -> Result<(), DecodeFault>
-    ensures { Gives (λ _. («module».new, reader.new)) result (contents_at type_numbers.now «module».old reader.old) }
+    ensures { Gives (λ _. («module».new, reader.new))
+        result (contents_at type_numbers.now «module».old reader.old) }
 {
     let types = module.types.as_slice();
     module.functions = code_section(alloc, reader, types, type_numbers.as_slice())?;

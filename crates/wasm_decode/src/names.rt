@@ -1,6 +1,6 @@
 //! Names.
 
-ghost use Rattle.wasm_decode.specs.Reading.{Gives, name_at};
+ghost use Rattle.wasm_decode.specs.inside.Reading.{Gives, GivesAndLeaves, name_at};
 
 use crate::fault::{DecodeFault, DecodeRule};
 use crate::reader::Reader;
@@ -9,7 +9,7 @@ use std::str;
 use wasm_ast::Name;
 
 /// The text of a name (Core 1.0, 5.2.4), where it lies in the bytes.
-#[tactic(auto, unfolding(crate::specs::Reading::name_at, crate::specs::Reading::part_at))]
+#[tactic(auto, unfolding(crate::specs::inside::Reading::name_at, crate::specs::inside::Reading::part_at))]
 pub fn text<'a>(reader: &mut Reader<'a>) -> Result<&'a str, DecodeFault>
     ensures { Gives (λ text. (text.now, reader.new)) result (name_at reader.old) }
 {
@@ -24,7 +24,7 @@ pub fn text<'a>(reader: &mut Reader<'a>) -> Result<&'a str, DecodeFault>
 
 /// A name (Core 1.0, 5.2.4).
 pub fn name(alloc: Global, reader: &mut Reader) -> Result<Name, DecodeFault>
-    ensures { Gives (λ name. (name, reader.new)) result (name_at reader.old) }
+    ensures { GivesAndLeaves result reader.new (name_at reader.old) }
 {
     let text = text(reader)?;
     let name = String::from_str(alloc, text)?;

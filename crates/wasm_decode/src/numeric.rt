@@ -1,12 +1,12 @@
 //! Numeric instructions (Core 1.0, 5.4.5).
 
 ghost use Rattle.std.specs.Prelude.{◌≡◌};
-ghost use Rattle.wasm_decode.specs.ReadingCode.{numeric_of, test_of, arithmetic_of};
+ghost use Rattle.wasm_decode.specs.inside.ReadingCode.{numeric_of, test_of, arithmetic_of};
 
 use wasm_ast::{Binary, Comparison, Conversion, Division, Numeric, Unary, ValType};
 
 /// The instruction with this opcode, or `None` where it is no numeric one, a constant, or one on floats.
-#[tactic(auto, unfolding(crate::specs::ReadingCode::numeric_of))]
+#[tactic(auto, unfolding(crate::specs::inside::ReadingCode::numeric_of))]
 pub fn numeric(opcode: u8) -> Option<Numeric>
     ensures { result ≡ numeric_of opcode }
 {

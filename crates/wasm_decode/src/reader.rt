@@ -1,7 +1,7 @@
 //! A reader of bytes from left to right.
 
 ghost use Rattle.std.specs.Prelude.{◌≡◌, ◌≤◌, ◌<◌, drop, length, slice_get, true, false, OnOk, IfErr};
-ghost use Rattle.wasm_decode.specs.Reading.{Gives, IsRefusal, byte_at, u32_at, signed_number_at, take_at, part_at, is_empty};
+ghost use Rattle.wasm_decode.specs.inside.Reading.{Gives, GivesAndLeaves, IsRefusal, byte_at, u32_at, signed_number_at, take_at, part_at, is_empty};
 
 use crate::fault::{DecodeFault, DecodeRule};
 use leb::{LebFault, read_s32, read_s64, read_u32};
@@ -64,9 +64,9 @@ impl<'a> Reader<'a> {
     }
 
     /// The next byte.
-    #[tactic(auto, unfolding(crate::specs::Reading::byte_at))]
+    #[tactic(auto, unfolding(crate::specs::inside::Reading::byte_at))]
     pub fn byte(&mut self) -> Result<u8, DecodeFault>
-        ensures { Gives (λ b. (b, self.new)) result (byte_at self.old) }
+        ensures { GivesAndLeaves result self.new (byte_at self.old) }
     {
         if self.at < self.bytes.len() {
             let byte = self.bytes[self.at];
@@ -106,9 +106,9 @@ impl<'a> Reader<'a> {
     }
 
     /// The next number of 32 bits (Core 1.0, 5.2.2).
-    #[tactic(auto, unfolding(crate::specs::Reading::u32_at))]
+    #[tactic(auto, unfolding(crate::specs::inside::Reading::u32_at))]
     pub fn u32(&mut self) -> Result<u32, DecodeFault>
-        ensures { Gives (λ n. (n, self.new)) result (u32_at self.old) }
+        ensures { GivesAndLeaves result self.new (u32_at self.old) }
     {
         match read_u32(self.bytes, self.at) {
             Ok((n, next)) => {
@@ -120,9 +120,9 @@ impl<'a> Reader<'a> {
     }
 
     /// The next signed number of 32 bits (Core 1.0, 5.2.2).
-    #[tactic(auto, unfolding(crate::specs::Reading::signed_number_at))]
+    #[tactic(auto, unfolding(crate::specs::inside::Reading::signed_number_at))]
     pub fn s32(&mut self) -> Result<i32, DecodeFault>
-        ensures { Gives (λ z. (z, self.new)) result (signed_number_at 32 self.old) }
+        ensures { GivesAndLeaves result self.new (signed_number_at 32 self.old) }
     {
         match read_s32(self.bytes, self.at) {
             Ok((z, next)) => {
@@ -134,9 +134,9 @@ impl<'a> Reader<'a> {
     }
 
     /// The next signed number of 64 bits (Core 1.0, 5.2.2).
-    #[tactic(auto, unfolding(crate::specs::Reading::signed_number_at))]
+    #[tactic(auto, unfolding(crate::specs::inside::Reading::signed_number_at))]
     pub fn s64(&mut self) -> Result<i64, DecodeFault>
-        ensures { Gives (λ z. (z, self.new)) result (signed_number_at 64 self.old) }
+        ensures { GivesAndLeaves result self.new (signed_number_at 64 self.old) }
     {
         match read_s64(self.bytes, self.at) {
             Ok((z, next)) => {
@@ -148,7 +148,7 @@ impl<'a> Reader<'a> {
     }
 
     /// The next bytes, so many.
-    #[tactic(auto, unfolding(crate::specs::Reading::take_at))]
+    #[tactic(auto, unfolding(crate::specs::inside::Reading::take_at))]
     pub fn take(&mut self, len: u32) -> Result<&'a [u8], DecodeFault>
         ensures { Gives (λ s. (s.now, self.new)) result (take_at len self.old) }
     {
@@ -163,9 +163,9 @@ impl<'a> Reader<'a> {
     }
 
     /// A size, and a reader of the section or the body of just so many bytes that follows it.
-    #[tactic(auto, unfolding(crate::specs::Reading::part_at, crate::specs::Reading::take_at))]
+    #[tactic(auto, unfolding(crate::specs::inside::Reading::part_at, crate::specs::inside::Reading::take_at))]
     pub fn part(&mut self) -> Result<Reader<'a>, DecodeFault>
-        ensures { Gives (λ part. (part, self.new)) result (part_at self.old) }
+        ensures { GivesAndLeaves result self.new (part_at self.old) }
     {
         let len = self.u32()? as usize;
         let at = self.at;

@@ -1,8 +1,8 @@
 //! Sections (Core 1.0, 5.5.2), and the custom ones between them.
 
 ghost use Rattle.std.specs.Prelude.{◌≡◌, Some, None, [], true, false, OnOk, IfErr};
-ghost use Rattle.wasm_decode.specs.Reading.{Gives, IsRefusal, found, vector_at, is_empty};
-ghost use Rattle.wasm_decode.specs.ReadingModule.{skip_customs as customs_skipped, custom_at, section_at, section_with, closed as closed_behind, imports_at, start_at, functions_at, no_bodies, is_later as may_follow};
+ghost use Rattle.wasm_decode.specs.inside.Reading.{Gives, GivesAndLeaves, IsRefusal, found, is_empty};
+ghost use Rattle.wasm_decode.specs.inside.ReadingModule.{skip_customs as customs_skipped, custom_at, section_at, vector_in, imports_in, start_in, code_in, closed as closed_behind, is_later as may_follow};
 
 use crate::code::code;
 use crate::fault::{DecodeFault, DecodeRule};
@@ -39,7 +39,7 @@ pub const CODE: u8 = 10;
 pub const DATA: u8 = 11;
 
 /// Skips the custom sections that come next (Core 1.0, 5.5.3).
-#[tactic(auto, unfolding(crate::specs::ReadingModule::skip_customs))]
+#[tactic(auto, unfolding(crate::specs::inside::ReadingModule::skip_customs))]
 pub fn skip_customs(reader: &mut Reader) -> Result<(), DecodeFault>
     ensures { Gives (λ _. reader.new) result (customs_skipped reader.old) }
 {
@@ -51,7 +51,7 @@ pub fn skip_customs(reader: &mut Reader) -> Result<(), DecodeFault>
 }
 
 // Skips what follows the number of a custom section; its name is looked at.
-#[tactic(auto, unfolding(crate::specs::ReadingModule::custom_at))]
+#[tactic(auto, unfolding(crate::specs::inside::ReadingModule::custom_at))]
 fn skip_custom(reader: &mut Reader) -> Result<(), DecodeFault>
     ensures { Gives (λ _. reader.new) result (custom_at reader.old) }
 {
@@ -61,7 +61,7 @@ fn skip_custom(reader: &mut Reader) -> Result<(), DecodeFault>
 }
 
 /// The section of a vector with this number, or nothing where it is absent, and the custom sections behind it.
-#[tactic(auto, unfolding(crate::specs::ReadingModule::section_with))]
+#[tactic(auto, unfolding(crate::specs::inside::ReadingModule::section_with))]
 pub fn vector_section<T: Item>(
     alloc: Global,
     reader: &mut Reader,
@@ -70,7 +70,7 @@ pub fn vector_section<T: Item>(
 ) -> Result<Sequence<T::Read>, DecodeFault>
 where
     T::Read: Drop,
-    ensures { Gives (λ items. (items, reader.new)) result (section_with (vector_at T.item_at most) (Some []) number reader.old) }
+    ensures { GivesAndLeaves result reader.new (vector_in T.item_at most number reader.old) }
 {
     let Some(mut inside) = section(reader, number)? else {
         return Ok(Sequence::empty(alloc));
@@ -80,9 +80,9 @@ where
 }
 
 /// The import section (Core 1.0, 5.5.5), or nothing where it is absent, and the custom sections behind it.
-#[tactic(auto, unfolding(crate::specs::ReadingModule::section_with))]
+#[tactic(auto, unfolding(crate::specs::inside::ReadingModule::section_with))]
 pub fn import_section(alloc: Global, reader: &mut Reader) -> Result<Sequence<Import>, DecodeFault>
-    ensures { Gives (λ items. (items, reader.new)) result (section_with imports_at (Some []) 2 reader.old) }
+    ensures { GivesAndLeaves result reader.new (imports_in reader.old) }
 {
     let Some(mut inside) = section(reader, IMPORT)? else {
         return Ok(Sequence::empty(alloc));
@@ -92,9 +92,9 @@ pub fn import_section(alloc: Global, reader: &mut Reader) -> Result<Sequence<Imp
 }
 
 /// The start section (Core 1.0, 5.5.11), or nothing where it is absent, and the custom sections behind it.
-#[tactic(auto, unfolding(crate::specs::ReadingModule::section_with, crate::specs::ReadingModule::start_at))]
+#[tactic(auto, unfolding(crate::specs::inside::ReadingModule::section_with, crate::specs::inside::ReadingModule::start_at))]
 pub fn start_section(reader: &mut Reader) -> Result<Option<u32>, DecodeFault>
-    ensures { Gives (λ start. (start, reader.new)) result (section_with start_at (Some None) 8 reader.old) }
+    ensures { GivesAndLeaves result reader.new (start_in reader.old) }
 {
     let Some(mut inside) = section(reader, START)? else {
         return Ok(None);
@@ -103,15 +103,16 @@ pub fn start_section(reader: &mut Reader) -> Result<Option<u32>, DecodeFault>
     closed(inside, reader, Some(function))
 }
 
-/// The code section (Core 1.0, 5.5.13), and the custom sections behind it. It may be absent where there are no functions.
-#[tactic(auto, unfolding(crate::specs::ReadingModule::section_with))]
+/// The code section (Core 1.0, 5.5.13), and the custom sections behind it. It may be absent where
+/// there are no functions.
+#[tactic(auto, unfolding(crate::specs::inside::ReadingModule::section_with))]
 pub fn code_section(
     alloc: Global,
     reader: &mut Reader,
     types: &[FuncType],
     type_numbers: &[u32],
 ) -> Result<Sequence<Function>, DecodeFault>
-    ensures { Gives (λ functions. (functions, reader.new)) result (section_with (functions_at types.now type_numbers.now) (no_bodies type_numbers.now) 10 reader.old) }
+    ensures { GivesAndLeaves result reader.new (code_in types.now type_numbers.now reader.old) }
 {
     let Some(mut inside) = section(reader, CODE)? else {
         if type_numbers.is_empty() {
@@ -148,7 +149,8 @@ pub fn end_of_sections(reader: &Reader) -> Result<(), DecodeFault>
 
 // Ends a section whose content was read, skips the custom sections behind it, and gives the content.
 fn closed<T: Drop>(inside: Reader, reader: &mut Reader, content: T) -> Result<T, DecodeFault>
-    ensures { Gives (λ x. (x, reader.new)) result (closed_behind (found (content, inside.entry)) reader.old) }
+    ensures { GivesAndLeaves result reader.new
+        (closed_behind (found (content, inside.entry)) reader.old) }
 {
     inside.finish()?;
     skip_customs(reader)?;
@@ -156,9 +158,9 @@ fn closed<T: Drop>(inside: Reader, reader: &mut Reader, content: T) -> Result<T,
 }
 
 // The content of the section with this number, or `None` where it is absent: a later one comes, or nothing.
-#[tactic(auto, unfolding(crate::specs::ReadingModule::section_at))]
+#[tactic(auto, unfolding(crate::specs::inside::ReadingModule::section_at))]
 fn section<'a>(reader: &mut Reader<'a>, number: u8) -> Result<Option<Reader<'a>>, DecodeFault>
-    ensures { Gives (λ section. (section, reader.new)) result (section_at number reader.old) }
+    ensures { GivesAndLeaves result reader.new (section_at number reader.old) }
 {
     let Some(id) = reader.peek() else {
         return Ok(None);

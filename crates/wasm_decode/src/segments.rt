@@ -1,7 +1,7 @@
 //! Globals, elements and data (Core 1.0, 5.5.9, 5.5.12 and 5.5.14).
 
-ghost use Rattle.wasm_decode.specs.Reading.{Gives, part_at};
-ghost use Rattle.wasm_decode.specs.ReadingModule.{global_at, element_at, data_at};
+ghost use Rattle.wasm_decode.specs.inside.Reading.{GivesAndLeaves, part_at};
+ghost use Rattle.wasm_decode.specs.inside.ReadingModule.{global_at, element_at, data_at};
 
 use crate::body::expression;
 use crate::fault::DecodeFault;
@@ -16,7 +16,7 @@ impl Item for ModuleGlobal {
 
     ghost item_at = { global_at };
 
-    #[tactic(auto, unfolding(crate::specs::ReadingModule::global_at))]
+    #[tactic(auto, unfolding(crate::specs::inside::ReadingModule::global_at))]
     fn read(alloc: Global, reader: &mut Reader) -> Result<ModuleGlobal, DecodeFault> {
         let global_type = global_type(reader)?;
         let initial = expression(alloc, reader)?;
@@ -32,7 +32,7 @@ impl Item for Element {
 
     ghost item_at = { element_at };
 
-    #[tactic(auto, unfolding(crate::specs::ReadingModule::element_at))]
+    #[tactic(auto, unfolding(crate::specs::inside::ReadingModule::element_at))]
     fn read(alloc: Global, reader: &mut Reader) -> Result<Element, DecodeFault> {
         let table = reader.u32()?;
         let offset = expression(alloc, reader)?;
@@ -50,7 +50,7 @@ impl Item for Data {
 
     ghost item_at = { data_at };
 
-    #[tactic(auto, unfolding(crate::specs::ReadingModule::data_at))]
+    #[tactic(auto, unfolding(crate::specs::inside::ReadingModule::data_at))]
     fn read(alloc: Global, reader: &mut Reader) -> Result<Data, DecodeFault> {
         let memory = reader.u32()?;
         let offset = expression(alloc, reader)?;
@@ -64,9 +64,9 @@ impl Item for Data {
 }
 
 // A count, and so many bytes.
-#[tactic(auto, unfolding(crate::specs::Reading::part_at))]
+#[tactic(auto, unfolding(crate::specs::inside::Reading::part_at))]
 fn bytes(alloc: Global, reader: &mut Reader) -> Result<Sequence<u8>, DecodeFault>
-    ensures { Gives (λ bytes. (bytes, reader.new)) result (part_at reader.old) }
+    ensures { GivesAndLeaves result reader.new (part_at reader.old) }
 {
     let len = reader.u32()?;
     let bytes = reader.take(len)?;

@@ -1,6 +1,6 @@
 //! Types.
 
-ghost use Rattle.wasm_decode.specs.Reading.{Gives, val_type_at, block_type_at, func_type_at, at_least_at, between_at, range_at, limits_at, table_type_at, mutability_at, global_type_at};
+ghost use Rattle.wasm_decode.specs.inside.Reading.{GivesAndLeaves, val_type_at, block_type_at, func_type_at, at_least_at, between_at, range_at, limits_at, table_type_at, mutability_at, global_type_at};
 
 use crate::fault::{DecodeFault, DecodeRule};
 use crate::item::{Item, vector};
@@ -22,9 +22,9 @@ impl Item for ValType {
 }
 
 /// The type of a number (Core 1.0, 5.3.1).
-#[tactic(auto, unfolding(crate::specs::Reading::val_type_at, crate::specs::Reading::byte_at))]
+#[tactic(auto, unfolding(crate::specs::inside::Reading::val_type_at, crate::specs::inside::Reading::byte_at))]
 pub fn val_type(reader: &mut Reader) -> Result<ValType, DecodeFault>
-    ensures { Gives (λ t. (t, reader.new)) result (val_type_at reader.old) }
+    ensures { GivesAndLeaves result reader.new (val_type_at reader.old) }
 {
     let place = reader.place();
     match reader.byte()? {
@@ -37,9 +37,9 @@ pub fn val_type(reader: &mut Reader) -> Result<ValType, DecodeFault>
 }
 
 /// What a block, loop or `if` gives (Core 1.0, 5.3.2).
-#[tactic(auto, unfolding(crate::specs::Reading::block_type_at, crate::specs::Reading::byte_at))]
+#[tactic(auto, unfolding(crate::specs::inside::Reading::block_type_at, crate::specs::inside::Reading::byte_at))]
 pub fn block_type(reader: &mut Reader) -> Result<BlockType, DecodeFault>
-    ensures { Gives (λ t. (t, reader.new)) result (block_type_at reader.old) }
+    ensures { GivesAndLeaves result reader.new (block_type_at reader.old) }
 {
     let place = reader.place();
     match reader.byte()? {
@@ -58,7 +58,7 @@ impl Item for FuncType {
 
     ghost item_at = { func_type_at };
 
-    #[tactic(auto, unfolding(crate::specs::Reading::func_type_at))]
+    #[tactic(auto, unfolding(crate::specs::inside::Reading::func_type_at))]
     fn read(alloc: Global, reader: &mut Reader) -> Result<FuncType, DecodeFault> {
         let place = reader.place();
         if reader.byte()? != 0x60 {
@@ -85,9 +85,9 @@ impl Item for Limits {
 }
 
 /// The limits of a table or a memory (Core 1.0, 5.3.4).
-#[tactic(auto, unfolding(crate::specs::Reading::limits_at, crate::specs::Reading::range_at, crate::specs::Reading::at_least_at, crate::specs::Reading::between_at))]
+#[tactic(auto, unfolding(crate::specs::inside::Reading::limits_at, crate::specs::inside::Reading::range_at, crate::specs::inside::Reading::at_least_at, crate::specs::inside::Reading::between_at))]
 pub fn limits(reader: &mut Reader) -> Result<Limits, DecodeFault>
-    ensures { Gives (λ l. (l, reader.new)) result (limits_at reader.old) }
+    ensures { GivesAndLeaves result reader.new (limits_at reader.old) }
 {
     let place = reader.place();
     match reader.byte()? {
@@ -124,9 +124,9 @@ impl Item for TableType {
 }
 
 /// The limits of a table of functions (Core 1.0, 5.3.6).
-#[tactic(auto, unfolding(crate::specs::Reading::table_type_at))]
+#[tactic(auto, unfolding(crate::specs::inside::Reading::table_type_at))]
 pub fn table_type(reader: &mut Reader) -> Result<Limits, DecodeFault>
-    ensures { Gives (λ l. (l, reader.new)) result (table_type_at reader.old) }
+    ensures { GivesAndLeaves result reader.new (table_type_at reader.old) }
 {
     let place = reader.place();
     if reader.byte()? != 0x70 {
@@ -135,9 +135,9 @@ pub fn table_type(reader: &mut Reader) -> Result<Limits, DecodeFault>
     limits(reader)
 }
 
-#[tactic(auto, unfolding(crate::specs::Reading::mutability_at, crate::specs::Reading::byte_at))]
+#[tactic(auto, unfolding(crate::specs::inside::Reading::mutability_at, crate::specs::inside::Reading::byte_at))]
 fn mutability(reader: &mut Reader) -> Result<Mutability, DecodeFault>
-    ensures { Gives (λ m. (m, reader.new)) result (mutability_at reader.old) }
+    ensures { GivesAndLeaves result reader.new (mutability_at reader.old) }
 {
     let place = reader.place();
     match reader.byte()? {
@@ -148,9 +148,9 @@ fn mutability(reader: &mut Reader) -> Result<Mutability, DecodeFault>
 }
 
 /// The type of a global (Core 1.0, 5.3.7).
-#[tactic(auto, unfolding(crate::specs::Reading::global_type_at))]
+#[tactic(auto, unfolding(crate::specs::inside::Reading::global_type_at))]
 pub fn global_type(reader: &mut Reader) -> Result<GlobalType, DecodeFault>
-    ensures { Gives (λ t. (t, reader.new)) result (global_type_at reader.old) }
+    ensures { GivesAndLeaves result reader.new (global_type_at reader.old) }
 {
     let value = val_type(reader)?;
     let mutability = mutability(reader)?;

@@ -1,7 +1,8 @@
 -- What is added to an empty text is all of it.
 use Rattle.std.proofs.Common.{◌≡◌, ℕ, List, [], ◌++◌, sym, ap, ◌∙◌}
 use Rattle.std.proofs.lemmas.List.{append-nil}
-use Rattle.wat_asm.specs.Pieces.{Piece, text, Adds}
+use Rattle.wat_asm.specs.Pieces.{Piece, text}
+use Rattle.wat_asm.specs.inside.Writing.{Adds}
 
 pub adds_all : (old new : List ℕ) (pieces : List Piece → List Piece) → Adds old new pieces → old ≡ [] → new ≡ text (pieces [])
 unfolding text

@@ -20,10 +20,10 @@ use Rattle.wat_asm.specs.declared.keyword.Keyword.TheVariants as keyword
 use Rattle.wat_asm.specs.Pieces.{Piece}
 use Rattle.wat_asm.specs.Pieces as piece
 use Rattle.wat_asm.specs.Instructions.{plain_line, branch_line, block_type, deeper, else_line, code}
-use Rattle.wat_asm.specs.Tokens.{sorted}
-use Rattle.wat_asm.specs.Tokens as tok
-use Rattle.wat_asm.specs.Reading.{State, repeated, closed_at, block_type_at, val_type_at}
-use Rattle.wat_asm.specs.ReadingCode.{Inner, end_at, typed_with, ended_with, else_with, other_with, block_with, loop_with, if_with, instr_with, linear_with, stops, goes_on, instr_step, inner_at, instrs_at, code_at}
+use Rattle.wat_asm.specs.inside.Tokens.{sorted}
+use Rattle.wat_asm.specs.inside.Tokens as tok
+use Rattle.wat_asm.specs.inside.Reading.{State, repeated, closed_at, block_type_at, val_type_at}
+use Rattle.wat_asm.specs.inside.ReadingCode.{Inner, end_at, typed_with, ended_with, else_with, other_with, block_with, loop_with, if_with, instr_with, linear_with, stops, goes_on, instr_step, inner_at, instrs_at, code_at}
 use Rattle.wat_asm.proofs.AgainTools.{unnamed_again, Ends, key_ends, stops_ends, step_again, stop_again}
 use Rattle.wat_asm.proofs.AgainInstructions.{Stands, plain_stands, branch_stands, call_stands, call_indirect_stands, unreachable_stands}
 

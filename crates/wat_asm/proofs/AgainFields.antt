@@ -26,10 +26,10 @@ use Rattle.wat_asm.specs.Pieces.{Piece, each}
 use Rattle.wat_asm.specs.Pieces as piece
 use Rattle.wat_asm.specs.Instructions.{number, type_use, code}
 use Rattle.wat_asm.specs.Layout.{type_group, limits, value_type, global_type, number_part, offset, import_description, import_field, function_field, table_field, memory_field, global_field, export_description, export_field, element_field, data_field}
-use Rattle.wat_asm.specs.Tokens.{sorted}
-use Rattle.wat_asm.specs.Tokens as tok
-use Rattle.wat_asm.specs.Reading.{Reads, opened_at, closed_at, funcref_at, limits_at, number_first, text_at, signature_first}
-use Rattle.wat_asm.specs.ReadingModule.{with_import, with_function, with_table, with_memory, with_global, with_export, with_element, with_segment, has_definition, imported_at, import_description_at, import_at, exported_at, export_description_at, export_at, inline_first, inline_at, heading_at, defined_at, function_at, table_at, global_at, number_or_0_at, inner_offset_at, offset_at, numbers_at, element_at, text_first, text_step, bytes_at, segment_at, field_at, field_step}
+use Rattle.wat_asm.specs.inside.Tokens.{sorted}
+use Rattle.wat_asm.specs.inside.Tokens as tok
+use Rattle.wat_asm.specs.inside.Reading.{Reads, opened_at, closed_at, funcref_at, limits_at, number_first, text_at, signature_first}
+use Rattle.wat_asm.specs.inside.ReadingModule.{with_import, with_function, with_table, with_memory, with_global, with_export, with_element, with_segment, has_definition, imported_at, import_description_at, import_at, exported_at, export_description_at, export_at, inline_first, inline_at, heading_at, defined_at, function_at, table_at, global_at, number_or_0_at, inner_offset_at, offset_at, numbers_at, element_at, text_first, text_step, bytes_at, segment_at, field_at, field_step}
 use Rattle.wat_asm.proofs.AgainTools.{unnamed_again, Ends, closes_ends, key_ends, step_again, stop_again}
 use Rattle.wat_asm.proofs.AgainTypes.{number_again, numbers_again, name_again, limits_again, global_type_again, locals_again, type_use_again}
 use Rattle.wat_asm.proofs.AgainCode.{code_ends, body_again}

@@ -40,9 +40,9 @@ use Rattle.wat_asm.specs.declared.keyword.Keyword.TheVariants as keyword
 use Rattle.wat_asm.specs.Pieces.{Piece, each}
 use Rattle.wat_asm.specs.Pieces as piece
 use Rattle.wat_asm.specs.Instructions.{type_use, number, type_word, variable_line, offset_part, align_part, plain_line, branch_line, block_type, deeper, else_line, code}
-use Rattle.wat_asm.specs.Layout.{type_group, maximum_part, limits, value_type, number_part, offset, type_field, import_description, import_field, function_field, table_field, memory_field, global_field, export_description, export_field, start_field, element_field, data_field, HasBytes, pieces}
-use Rattle.wat_asm.specs.Tokens.{IsSignedHeld, IsPieceHeld, ArePiecesHeld}
-use Rattle.wat_asm.proofs.AgainBytes.{AreBytes, utf8_bytes}
+use Rattle.wat_asm.specs.Layout.{type_group, maximum_part, limits, value_type, number_part, offset, type_field, import_description, import_field, function_field, table_field, memory_field, global_field, export_description, export_field, start_field, element_field, data_field, pieces}
+use Rattle.wat_asm.specs.inside.Tokens.{IsSignedHeld, IsPieceHeld, ArePiecesHeld}
+use Rattle.wat_asm.proofs.AgainBytes.{utf8_bytes}
 use Rattle.wat_asm.proofs.AgainTools.{all_both, all_of}
 use Rattle.wat_asm.proofs.AgainInstructions.{signed_low, signed_high}
 use Rattle.wat_asm.proofs.Codes.{bodies_within}
@@ -249,19 +249,18 @@ element_held : (e : Element) (more : List Piece) → IsElementHeld e × IsBodyWi
 element_held e more h m =
     (tt, placed_held e.table e.offset (each number e.functions (piece.closes ∷ more)) h.0.0 h.0.1 h.1 (numbers_held e.functions (piece.closes ∷ more) h.0.2 (tt, m)))
 
-segment_held : (d : Data) (more : List Piece) → (IsDataHeld d × IsBodyWithin d.offset) × AreBytes d.bytes → ArePiecesHeld more → ArePiecesHeld (data_field d more)
+segment_held : (d : Data) (more : List Piece) → IsDataHeld d × IsBodyWithin d.offset → ArePiecesHeld more → ArePiecesHeld (data_field d more)
 segment_held d more h m =
-    (tt, placed_held d.memory d.offset (piece.quotes d.bytes ∷ piece.closes ∷ more) h.0.0.0 h.0.0.1 h.0.1 (h.1, (tt, m)))
+    (tt, placed_held d.memory d.offset (piece.quotes d.bytes ∷ piece.closes ∷ more) h.0.0 h.0.1 h.1 (h.0.2, (tt, m)))
 
 -- ---- modules
 
-pub pieces_held : (m : Module) → IsRepresentable m → HasBytes m → IsWithinLimits m → ArePiecesHeld (pieces m [])
-pieces_held m h bytes w =
+pub pieces_held : (m : Module) → IsRepresentable m → IsWithinLimits m → ArePiecesHeld (pieces m [])
+pieces_held m h w =
     let functions = all_both IsFunctionHeld (λ (f : Function). IsBodyWithin f.body) m.functions h.functions (bodies_within m.types m.functions w.functions) in
     let globals = all_both IsGlobalHeld (λ (g : Global). IsBodyWithin g.initial) m.globals h.globals w.globals in
     let elements = all_both IsElementHeld (λ (e : Element). IsBodyWithin e.offset) m.elements h.elements w.elements in
-    let placed = all_both IsDataHeld (λ (d : Data). IsBodyWithin d.offset) m.data h.segments w.segments in
-    let segments = all_both (λ (d : Data). IsDataHeld d × IsBodyWithin d.offset) (λ (d : Data). AreBytes d.bytes) m.data placed bytes in (
+    let segments = all_both IsDataHeld (λ (d : Data). IsBodyWithin d.offset) m.data h.segments w.segments in (
       tt,
       each_held type_field (λ (t : FuncType). Unit {0}) (λ t after u held. type_held t after held) m.types _ (all_of (λ (t : FuncType). Unit {0}) (λ t. tt) m.types)
           (each_held import_field IsImportHeld import_held m.imports _ h.imports
@@ -272,5 +271,5 @@ pieces_held m h bytes w =
           (each_held export_field IsExportHeld export_held m.exports _ h.exports
           (start_held m.start _ h.start
           (each_held element_field (λ (e : Element). IsElementHeld e × IsBodyWithin e.offset) element_held m.elements _ elements
-          (each_held data_field (λ (d : Data). (IsDataHeld d × IsBodyWithin d.offset) × AreBytes d.bytes) segment_held m.data (piece.closes_line 0 ∷ []) segments (tt, tt)))))))))),
+          (each_held data_field (λ (d : Data). IsDataHeld d × IsBodyWithin d.offset) segment_held m.data (piece.closes_line 0 ∷ []) segments (tt, tt)))))))))),
     )

@@ -24,14 +24,14 @@ use Rattle.wasm_ast.specs.Limits.{max_align, max_labels, IsPlainWithin, IsBranch
 use Rattle.wasm_ast.specs.Representable.{IsU32, IsVariableHeld, IsPlainHeld, IsBranchHeld}
 use Rattle.wat_asm.specs.declared.pieces.Gap.{Gap}
 use Rattle.wat_asm.specs.declared.keyword.Keyword.TheVariants as keyword
-use Rattle.wat_asm.specs.Follows.{◌>>=◌}
+use Rattle.wat_asm.specs.inside.Follows.{◌>>=◌}
 use Rattle.wat_asm.specs.Pieces.{Piece, each}
 use Rattle.wat_asm.specs.Pieces as piece
 use Rattle.wat_asm.specs.Instructions.{number, type_use, variable_line, offset_part, align_part, memory_argument, plain_line, branch_line}
-use Rattle.wat_asm.specs.Tokens.{sorted, number_of}
-use Rattle.wat_asm.specs.Tokens as tok
-use Rattle.wat_asm.specs.Reading.{repeated, number_first}
-use Rattle.wat_asm.specs.ReadingCode.{Inner, offset_at, exponent, exponent_from, alignment_at, memory_argument_at, constant_of, constant_at, load_at, store_at, label_step, branch_table_at, variable_at, plain_at, instr_with, linear_with, stops}
+use Rattle.wat_asm.specs.inside.Tokens.{sorted, number_of}
+use Rattle.wat_asm.specs.inside.Tokens as tok
+use Rattle.wat_asm.specs.inside.Reading.{repeated, number_first}
+use Rattle.wat_asm.specs.inside.ReadingCode.{Inner, offset_at, exponent, exponent_from, alignment_at, memory_argument_at, constant_of, constant_at, load_at, store_at, label_step, branch_table_at, variable_at, plain_at, instr_with, linear_with, stops}
 use Rattle.wat_asm.proofs.AgainTools.{Ends, step_again, stop_again}
 use Rattle.wat_asm.proofs.AgainTypes.{number_again, type_use_again}
 use Rattle.wat_asm.proofs.Exponents.{exponent_found, exponent_goes_on, exponent_starts}

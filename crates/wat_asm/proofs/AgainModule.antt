@@ -15,14 +15,14 @@ use Rattle.wasm_ast.specs.Limits.{max_labels, max_locals, IsBodyWithin, IsTypeWi
 use Rattle.wasm_ast.specs.Modules.{empty_module}
 use Rattle.wasm_ast.specs.Representable.{IsOptionalU32, AreLimitsHeld, IsImportHeld, IsFunctionHeld, IsGlobalHeld, IsExportHeld, IsElementHeld, IsDataHeld, IsRepresentable}
 use Rattle.wat_asm.specs.declared.fault.Failure.{Failure}
-use Rattle.wat_asm.specs.Follows.{Follows, IsRead}
+use Rattle.wat_asm.specs.inside.Follows.{Follows, IsRead}
 use Rattle.wat_asm.specs.Pieces.{Piece, each}
 use Rattle.wat_asm.specs.Pieces as piece
 use Rattle.wat_asm.specs.Layout.{type_field, import_field, function_field, table_field, memory_field, global_field, export_field, start_field, element_field, data_field, uses, pieces}
-use Rattle.wat_asm.specs.Tokens.{Tok, sorted}
-use Rattle.wat_asm.specs.Tokens as tok
-use Rattle.wat_asm.specs.Reading.{repeated, opened_at, closed_at}
-use Rattle.wat_asm.specs.ReadingModule.{Making, field_at, field_first, field_step, fields_at, goes_on_with_type, module_open_at, whole_at, only_at, module_at}
+use Rattle.wat_asm.specs.inside.Tokens.{Tok, sorted}
+use Rattle.wat_asm.specs.inside.Tokens as tok
+use Rattle.wat_asm.specs.inside.Reading.{repeated, opened_at, closed_at}
+use Rattle.wat_asm.specs.inside.ReadingModule.{Making, field_at, field_first, field_step, fields_at, goes_on_with_type, module_open_at, whole_at, only_at, module_at}
 use Rattle.wat_asm.proofs.AgainTools.{unnamed_again, step_again, stop_again, items_again, each_first, all_map, all_within, total}
 use Rattle.wat_asm.proofs.AgainTypes.{number_again, types_again}
 use Rattle.wat_asm.proofs.AgainFields.{IsFunctionFine, IsGlobalFine, IsElementFine, IsDataFine, import_again, function_again, table_again, memory_again, global_again, export_again, element_again, segment_again}

@@ -3,14 +3,14 @@ use Rattle.std.proofs.Common.{◌≡◌, ℕ, zero, suc, pos, negsuc, ◌+◌, �
 use Rattle.std.specs.List.{AllByRecursion}
 use Rattle.wasm_ast.specs.declared.types.FuncType.{FuncType}
 use Rattle.wat_asm.specs.declared.keyword.Keyword.{Keyword}
-use Rattle.wat_asm.specs.Follows.{◌>>=◌}
+use Rattle.wat_asm.specs.inside.Follows.{◌>>=◌}
 use Rattle.wat_asm.specs.Pieces.{Piece, each}
 use Rattle.wat_asm.specs.Pieces as piece
-use Rattle.wat_asm.specs.Tokens.{Tok, sorted}
-use Rattle.wat_asm.specs.Tokens as tok
-use Rattle.wat_asm.specs.Reading.{State, repeated, unnamed_at, number_first, block_type_at, maximum_at, local_first, signature_first}
-use Rattle.wat_asm.specs.ReadingCode.{stops, exponent, alignment_at}
-use Rattle.wat_asm.specs.ReadingCode.{offset_at as memory_offset_at}
+use Rattle.wat_asm.specs.inside.Tokens.{Tok, sorted}
+use Rattle.wat_asm.specs.inside.Tokens as tok
+use Rattle.wat_asm.specs.inside.Reading.{State, repeated, unnamed_at, number_first, block_type_at, maximum_at, local_first, signature_first}
+use Rattle.wat_asm.specs.inside.ReadingCode.{stops, exponent, alignment_at}
+use Rattle.wat_asm.specs.inside.ReadingCode.{offset_at as memory_offset_at}
 
 -- no token of a printed text is a name
 pub unnamed_again : (ps : List Piece) (types : List FuncType) → unnamed_at (sorted ps, types) ≡ Some (sorted ps, types)

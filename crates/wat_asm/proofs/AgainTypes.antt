@@ -17,10 +17,10 @@ use Rattle.wat_asm.specs.Pieces.{Piece, each}
 use Rattle.wat_asm.specs.Pieces as piece
 use Rattle.wat_asm.specs.Instructions.{type_use, type_word, number}
 use Rattle.wat_asm.specs.Layout.{type_group, maximum_part, limits, value_type, global_type, type_field}
-use Rattle.wat_asm.specs.Tokens.{Tok, sorted}
-use Rattle.wat_asm.specs.Tokens as tok
-use Rattle.wat_asm.specs.Reading.{repeated, item_step, closed_at, unnamed_at, number_at, number_first, text_at, name_at, val_type_at, val_type_first, val_types_at, maximum_at, limits_at, mut_type_at, global_type_at, group_at, param_first, result_first, local_first, nameless_at, group_step, groups_at, signature_at, signature_first, func_at, defined_type_at, named_use_at, type_use_at}
-use Rattle.wat_asm.specs.ReadingModule.{goes_on_with_type, type_step, types_at}
+use Rattle.wat_asm.specs.inside.Tokens.{Tok, sorted}
+use Rattle.wat_asm.specs.inside.Tokens as tok
+use Rattle.wat_asm.specs.inside.Reading.{repeated, item_step, closed_at, unnamed_at, number_at, number_first, text_at, name_at, val_type_at, val_type_first, val_types_at, maximum_at, limits_at, mut_type_at, global_type_at, group_at, param_first, result_first, local_first, nameless_at, group_step, groups_at, signature_at, signature_first, func_at, defined_type_at, named_use_at, type_use_at}
+use Rattle.wat_asm.specs.inside.ReadingModule.{goes_on_with_type, type_step, types_at}
 use Rattle.wat_asm.proofs.AgainTools.{unnamed_again, Ends, step_again, stop_again, each_again, all_of}
 
 -- ---- numbers and names

@@ -5,8 +5,8 @@ use Rattle.wasm_ast.specs.Limits.{IsWithinLimits}
 use Rattle.wasm_ast.specs.Representable.{IsRepresentable}
 use Rattle.wat_asm.specs.declared.lexer.token.Token.{Token}
 use Rattle.wat_asm.specs.Layout.{layout, pieces}
-use Rattle.wat_asm.specs.Tokens.{IsPrinted, sorted, toks_of}
-use Rattle.wat_asm.specs.ReadingModule.{module_at}
+use Rattle.wat_asm.specs.inside.Tokens.{IsPrinted, sorted, toks_of}
+use Rattle.wat_asm.specs.inside.ReadingModule.{module_at}
 use Rattle.wat_asm.proofs.AgainModule.{module_again, steps_of}
 
 pub layout_printed : (source : List ℕ) (m : Module) → source ≡ layout m → IsPrinted source (pieces m [])

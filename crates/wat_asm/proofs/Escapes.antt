@@ -5,7 +5,7 @@ use Rattle.std.specs.Prelude.{nat_eq, nat_le, nat_lt}
 use Rattle.std.specs.Fmt.{digit_glyph}
 use Rattle.std.proofs.lemmas.Bool.{ne_eqb}
 use Rattle.wat_asm.specs.Quoted.{stands_as_itself, escape, escaped, quoted}
-use Rattle.wat_asm.specs.Strings.{hex_digit, plain, onto, quote_at}
+use Rattle.wat_asm.specs.inside.Strings.{hex_digit, plain, onto, quote_at}
 
 le_test : (a b : ℕ) → a ≤ b → nat_le a b ≡ true
 le_test a b h = grind arith

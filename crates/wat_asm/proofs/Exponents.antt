@@ -3,7 +3,7 @@ use Rattle.std.proofs.Common.{◌≡◌, ℕ, suc, ◌+◌, ◌-◌, ◌*◌, �
 use Rattle.std.proofs.lemmas.Bool.{eq-eqb, ne_eqb}
 use Rattle.std.proofs.Math.Nat.{mod-eq_of_lt}
 use Rattle.std.proofs.Math.Pow.{pow-lt}
-use Rattle.wat_asm.specs.ReadingCode.{exponent, exponent_from}
+use Rattle.wat_asm.specs.inside.ReadingCode.{exponent, exponent_from}
 
 pub found_here : (e count n : ℕ) → 2 ^ e ≡ n → exponent_from e (suc count) n ≡ Some e
 unfolding exponent_from

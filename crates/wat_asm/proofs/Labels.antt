@@ -3,8 +3,8 @@ use Rattle.std.proofs.Common.{◌≡◌, ℕ, true, false, List, [], ◌∷◌, 
 use Rattle.wasm_ast.specs.declared.plain.Branch.TheVariants as jump
 use Rattle.wasm_ast.specs.declared.body.Instr.TheVariants as instr
 use Rattle.wat_asm.specs.declared.fault.Failure.{Failure}
-use Rattle.wat_asm.specs.Reading.{State, repeated, number_at, number_first}
-use Rattle.wat_asm.specs.ReadingCode.{label_step, branch_table_at}
+use Rattle.wat_asm.specs.inside.Reading.{State, repeated, number_at, number_first}
+use Rattle.wat_asm.specs.inside.ReadingCode.{label_step, branch_table_at}
 use Rattle.wat_asm.proofs.Repeats.{Said, Failed, Onward, IsAnswer, then_said, then_failed, first_failed, loop_fails, loop_done}
 
 pub label_said : (front : List ℕ) (last n : ℕ) (s after : State) → Said (n, after) (number_at s) → Said ((front ++ last ∷ [], n), after) (label_step ((front, last), s))

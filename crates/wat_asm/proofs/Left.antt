@@ -1,7 +1,7 @@
 -- What is left of a text.
 use Rattle.std.proofs.Common.{◌≡◌, ◌≤◌, ◌-◌, ◌+◌, ℕ, List, length, drop, ap, ◌∙◌, arith}
 use Rattle.std.proofs.lemmas.List.{drop-drop, length-drop}
-use Rattle.wat_asm.specs.Lexing.{IsLeft}
+use Rattle.wat_asm.specs.inside.Lexing.{IsLeft}
 
 pub left_behind : (text : List ℕ) (k : ℕ) → k ≤ length text → IsLeft text (drop k text)
 left_behind text k within =

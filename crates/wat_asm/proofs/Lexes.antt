@@ -5,12 +5,12 @@ use Rattle.std.specs.List.{prefix_len}
 use Rattle.std.proofs.lemmas.List.{append-nil, take-append-drop}
 use Rattle.wat_asm.specs.declared.fault.Failure.{Failure}
 use Rattle.wat_asm.specs.declared.lexer.token.Token.{Token}
-use Rattle.wat_asm.specs.Follows.{◌>>=◌, Follows, IsMemory}
-use Rattle.wat_asm.specs.Lexing.{EndsWith, begins_comment, is_word, one_at, opening_at, quoted_at, read_of, word_at, word_of, listed, tokens_at}
+use Rattle.wat_asm.specs.inside.Follows.{◌>>=◌, Follows, IsMemory}
+use Rattle.wat_asm.specs.inside.Lexing.{EndsWith, begins_comment, is_word, one_at, opening_at, quoted_at, read_of, word_at, word_of, listed, tokens_at}
 use Rattle.wat_asm.specs.Pieces.{Piece}
 use Rattle.wat_asm.specs.Quoted.{stands_as_itself}
-use Rattle.wat_asm.specs.Strings.{Within, plain, escape, digit, hex_digit, onto, quote_at}
-use Rattle.wat_asm.specs.Tokens.{Tok, opens, closes, text, tok_of, toks_of, sorted, ArePiecesHeld, IsPrinted}
+use Rattle.wat_asm.specs.inside.Strings.{Within, plain, escape, digit, hex_digit, onto, quote_at}
+use Rattle.wat_asm.specs.inside.Tokens.{Tok, opens, closes, text, tok_of, toks_of, sorted, ArePiecesHeld, IsPrinted}
 use Rattle.wat_asm.proofs.Spelled.{lexes_printed}
 
 -- ---- what is left is the end of what was there

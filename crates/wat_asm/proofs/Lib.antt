@@ -19,8 +19,6 @@ pub mod Nested
 pub mod Texts
 pub mod Modules
 pub mod Nameless
-pub mod Found
-pub mod Declaring
 pub mod Printed
 pub mod AgainModule
 pub mod Assembled

@@ -3,9 +3,9 @@ use Rattle.std.proofs.Common.{◌≡◌, ℕ, List, [], Some, refl, subst}
 use Rattle.wasm_ast.specs.declared.module.Module.{Module}
 use Rattle.wasm_ast.specs.Modules.{empty_module}
 use Rattle.wat_asm.specs.declared.fault.Failure.{Failure}
-use Rattle.wat_asm.specs.Tokens.{Tok}
-use Rattle.wat_asm.specs.Reading.{State}
-use Rattle.wat_asm.specs.ReadingModule.{Making, only_at, module_at, with_types}
+use Rattle.wat_asm.specs.inside.Tokens.{Tok}
+use Rattle.wat_asm.specs.inside.Reading.{State}
+use Rattle.wat_asm.specs.inside.ReadingModule.{Making, only_at, module_at, with_types}
 use Rattle.wat_asm.proofs.Repeats.{Said, Failed, then_said, first_failed}
 
 -- a module in the making that has nothing, and all tokens

@@ -4,9 +4,9 @@ use Rattle.wasm_ast.specs.declared.types.FuncType.{FuncType}
 use Rattle.wasm_ast.specs.declared.body.Instr.{Instr}
 use Rattle.wasm_ast.specs.View.{code_of}
 use Rattle.wat_asm.specs.declared.fault.Failure.{Failure}
-use Rattle.wat_asm.specs.Tokens.{Tok, opens}
-use Rattle.wat_asm.specs.Reading.{State, open_first}
-use Rattle.wat_asm.specs.ReadingCode.{Inner, instr_with, instr_step, stops, goes_on, instrs_at, inner_at}
+use Rattle.wat_asm.specs.inside.Tokens.{Tok, opens}
+use Rattle.wat_asm.specs.inside.Reading.{State, open_first}
+use Rattle.wat_asm.specs.inside.ReadingCode.{Inner, instr_with, instr_step, stops, goes_on, instrs_at, inner_at}
 use Rattle.wat_asm.proofs.Repeats.{Said, Failed, IsAnswer, answers, then_said, first_failed}
 
 pub goes : (ts : List Tok) → stops ts ≡ false → IsAnswer (goes_on ts) true

@@ -11,7 +11,7 @@ use Rattle.std.proofs.lemmas.Str.Parse.{IsNumeralModel, numerals_by_value, tells
 use Rattle.std.proofs.lemmas.Fmt.{digits_decimal, digits_value-decimal, decimal_nonempty, IsAscii-from_digits}
 use Rattle.std.proofs.lemmas.Str.{IsUtf8-from_ascii}
 use Rattle.std.proofs.lemmas.Option.{cond_some}
-use Rattle.wat_asm.specs.Lexing.{numeral_of, begins_with_digit}
+use Rattle.wat_asm.specs.inside.Lexing.{numeral_of, begins_with_digit}
 use borrow.Author.Tests.{ltb-true}
 
 pub own : IsNumeralModel (λ ds. all_ascii_digits ds ≡ true) (digits_value 10)

@@ -4,9 +4,9 @@ use Rattle.wat_asm.specs.declared.lexer.token.Token.{Token}
 use Rattle.wat_asm.specs.declared.lexer.token.Token.TheVariants as token
 use Rattle.wat_asm.specs.Pieces.{Piece}
 use Rattle.wat_asm.specs.Pieces as piece
-use Rattle.wat_asm.specs.Strings.{string_of}
-use Rattle.wat_asm.specs.Tokens.{Tok, number_of, other, sorted, text_or_other, toks_of}
-use Rattle.wat_asm.specs.ReadingModule.{nameless}
+use Rattle.wat_asm.specs.inside.Strings.{string_of}
+use Rattle.wat_asm.specs.inside.Tokens.{Tok, number_of, other, sorted, text_or_other, toks_of}
+use Rattle.wat_asm.specs.inside.ReadingModule.{nameless}
 
 -- each token means something
 abbrev are_known : List Tok → Bool

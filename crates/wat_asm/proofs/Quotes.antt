@@ -4,9 +4,9 @@ use Rattle.std.specs.Prelude.{nat_eq}
 use Rattle.std.proofs.lemmas.List.{append-nil}
 use Rattle.wat_asm.specs.declared.lexer.strings.Part.{Part}
 use Rattle.wat_asm.specs.declared.lexer.strings.Part.TheVariants as part
-use Rattle.wat_asm.specs.Follows.{◌>>=◌, FollowsSome}
+use Rattle.wat_asm.specs.inside.Follows.{◌>>=◌, FollowsSome}
 use Rattle.wat_asm.specs.Quoted.{stands_as_itself}
-use Rattle.wat_asm.specs.Strings.{hex_digit, plain, escape, digit, onto, quote_at, string_of, escape_at, step_at}
+use Rattle.wat_asm.specs.inside.Strings.{hex_digit, plain, escape, digit, onto, quote_at, string_of, escape_at, step_at}
 
 some_same : {A : Type 0} (x y : A) → ◌≡◌ {A = Option A} (Some x) (Some y) → x ≡ y
 some_same x y e = cc

@@ -2,9 +2,9 @@
 use Rattle.std.proofs.Common.{◌≡◌, ℕ, zero, suc, Bool, true, false, List, [], ◌∷◌, ◌++◌, Option, Some, None, refl, sym, ap, ◌∙◌, subst}
 use Rattle.std.specs.Prelude.{if◌then◌else◌}
 use Rattle.wat_asm.specs.declared.fault.Failure.{Failure}
-use Rattle.wat_asm.specs.Follows.{◌>>=◌, IsMemory}
-use Rattle.wat_asm.specs.Tokens.{Tok}
-use Rattle.wat_asm.specs.Reading.{State, Reads, repeated, item_step}
+use Rattle.wat_asm.specs.inside.Follows.{◌>>=◌, IsMemory}
+use Rattle.wat_asm.specs.inside.Tokens.{Tok}
+use Rattle.wat_asm.specs.inside.Reading.{State, Reads, repeated, item_step}
 
 pub bind_some : {A B : Type 0} (r : Option A) (f : A → Option B) (y : B) → (r >>= f) ≡ Some y → (x : A) × (r ≡ Some x) × (f x ≡ Some y)
 bind_some (Some x) f y e = (x, refl, e)

@@ -11,11 +11,11 @@ use Rattle.std.proofs.lemmas.Fmt.{digits_decimal, decimal_nonempty}
 use Rattle.wat_asm.specs.declared.pieces.Gap.{Gap}
 use Rattle.wat_asm.specs.declared.pieces.Gap.TheVariants as gap
 use Rattle.wat_asm.specs.Keywords.{keyword_text}
-use Rattle.wat_asm.specs.Lexing.{begins_with_digit, numeral_of, is_word, plain_of, word_of, word_at, one_at, listed, tokens_at}
+use Rattle.wat_asm.specs.inside.Lexing.{begins_with_digit, numeral_of, is_word, plain_of, word_of, word_at, one_at, listed, tokens_at}
 use Rattle.wat_asm.specs.Pieces.{Piece, indent, gap_text, piece_text}
 use Rattle.wat_asm.specs.Pieces as piece
 use Rattle.wat_asm.specs.Quoted.{quoted}
-use Rattle.wat_asm.specs.Tokens.{Tok, opens, closes, key, number, signed, offset_is, align_is, text, number_of, onto_sorted, sorted, IsSignedHeld, IsPieceHeld, ArePiecesHeld}
+use Rattle.wat_asm.specs.inside.Tokens.{Tok, opens, closes, key, number, signed, offset_is, align_is, text, number_of, onto_sorted, sorted, IsSignedHeld, IsPieceHeld, ArePiecesHeld}
 use Rattle.wat_asm.proofs.Cutting.{IsOther, one_at-other}
 use Rattle.wat_asm.proofs.Escapes.{quoted_again}
 use Rattle.wat_asm.proofs.KeywordWords.{keyword_word, keyword_reads}

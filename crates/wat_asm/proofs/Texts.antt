@@ -4,8 +4,8 @@ use Rattle.std.specs.Prelude.{if◌then◌else◌}
 use Rattle.std.specs.Str.{IsUtf8, is_utf8}
 use Rattle.std.proofs.lemmas.Str.{IsUtf8-from_is_utf8}
 use Rattle.wat_asm.specs.declared.fault.Failure.{Failure}
-use Rattle.wat_asm.specs.Reading.{State, text_at, name_at}
-use Rattle.wat_asm.specs.ReadingModule.{text_step}
+use Rattle.wat_asm.specs.inside.Reading.{State, text_at, name_at}
+use Rattle.wat_asm.specs.inside.ReadingModule.{text_step}
 use Rattle.wat_asm.proofs.Repeats.{Said, Failed, then_said, then_failed, first_failed}
 
 pub text_said : (front bytes : List ℕ) (s after : State) → Said (bytes, after) (text_at s) → Said (front ++ bytes, after) (text_step (front, s))

@@ -10,8 +10,8 @@ use mir.Val.{to_z, of_z, SFits}
 use borrow.Author.Tests.{ltb-true}
 use Rattle.wat_asm.specs.declared.lexer.token.Token.{Token}
 use Rattle.wat_asm.specs.declared.lexer.token.Token.TheVariants as token
-use Rattle.wat_asm.specs.Tokens.{Tok, tok_of, signed}
-use Rattle.wat_asm.specs.Lexing.{Tells, as_negative, behind}
+use Rattle.wat_asm.specs.inside.Tokens.{Tok, tok_of, signed}
+use Rattle.wat_asm.specs.inside.Lexing.{Tells, as_negative, behind}
 
 -- ---- numbers behind a minus
 

@@ -1,7 +1,6 @@
 -- The text of a module (Core 1.0, 6.6): types, imports, functions, tables, memories, globals, exports, the start function,
 -- elements and data, in this order, each on a line one level in. Everything is referred to by its number.
-use Rattle.std.specs.Prelude.{ℕ, ◌<◌, ◌==◌, List, [], ◌∷◌, ◌++◌, Option, Some, None, if◌then◌else◌}
-use Rattle.std.specs.List.{AllByRecursion}
+use Rattle.std.specs.Prelude.{ℕ, ◌==◌, List, [], ◌∷◌, ◌++◌, Option, Some, None, if◌then◌else◌}
 use Rattle.wasm_ast.specs.declared.types.ValType.{ValType}
 use Rattle.wasm_ast.specs.declared.types.FuncType.{FuncType}
 use Rattle.wasm_ast.specs.declared.types.Limits.{Limits}
@@ -143,7 +142,3 @@ pieces m more = opens gap.Nothing keyword.Module ∷ definitions m (uses m (clos
 -- the pieces, and the last line's end
 unfoldable pub layout : Module → List ℕ
 layout m = text (pieces m []) ++ 10 ∷ []
-
--- the data of each segment are bytes, as those of a module that a program holds
-abbrev pub HasBytes : Module → Type 0
-HasBytes m = AllByRecursion (λ (d : Data). AllByRecursion (λ b. b < 256) d.bytes) m.data

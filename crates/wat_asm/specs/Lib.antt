@@ -1,14 +1,9 @@
+-- What a reader believes, in this order: the words of the format, strings in it, a text as pieces, instructions, the layout
+-- of a module, and the numbers that a text's names have. What only mirrors the code stands in `inside`.
 pub mod Keywords
 pub mod Quoted
 pub mod Pieces
 pub mod Instructions
 pub mod Layout
-pub mod Follows
-pub mod Strings
-pub mod Tokens
-pub mod Reading
-pub mod ReadingCode
-pub mod ReadingModule
-pub mod Names
 pub mod Numbering
-pub mod Lexing
+pub mod inside

@@ -1,6 +1,6 @@
 -- A printed text as pieces, each a token with the blanks before it. What comes after a piece is an argument of what
 -- stands before it, so that nothing is regrouped.
-use Rattle.std.specs.Prelude.{◌≡◌, ℕ, ℤ, List, [], ◌∷◌, ◌++◌, codes, replicate, ◌*◌}
+use Rattle.std.specs.Prelude.{ℕ, ℤ, List, [], ◌∷◌, ◌++◌, codes, replicate, ◌*◌}
 use Rattle.std.specs.Fmt.{decimal, signed_decimal}
 use Rattle.wat_asm.specs.declared.pieces.Gap.{Gap}
 use Rattle.wat_asm.specs.declared.pieces.Gap.TheVariants as gap
@@ -51,7 +51,3 @@ text (p ∷ ps) = piece_text p ++ text ps
 abbrev pub each : {A : Type 0} → (A → List Piece → List Piece) → List A → List Piece → List Piece
 each one [] more = more
 each one (x ∷ xs) more = one x (each one xs more)
-
--- the text `new` is `old` and then these pieces, whatever comes after
-abbrev pub Adds : (old new : List ℕ) → (List Piece → List Piece) → Type 0
-Adds old new pieces = (more : List Piece) → new ++ text more ≡ old ++ text (pieces more)

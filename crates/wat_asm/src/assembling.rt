@@ -5,10 +5,10 @@ ghost use Rattle.wasm_ast.specs.declared.module.Module.{Module as AnyModule};
 ghost use Rattle.wasm_ast.specs.Limits.{IsWithinLimits};
 ghost use Rattle.wasm_ast.specs.Representable.{IsRepresentable};
 ghost use Rattle.wat_asm.specs.declared.fault.TextFault.TheVariants.{OutOfMemory};
-ghost use Rattle.wat_asm.specs.Follows.{IsMemory};
-ghost use Rattle.wat_asm.specs.Layout.{HasBytes, layout};
-ghost use Rattle.wat_asm.specs.ReadingModule.{module_at, nameless};
-ghost use Rattle.wat_asm.specs.Tokens.{toks_of};
+ghost use Rattle.wat_asm.specs.inside.Follows.{IsMemory};
+ghost use Rattle.wat_asm.specs.Layout.{layout};
+ghost use Rattle.wat_asm.specs.inside.ReadingModule.{module_at, nameless};
+ghost use Rattle.wat_asm.specs.inside.Tokens.{toks_of};
 
 use crate::fault::{Failure, Position, TextFault, Wrong};
 use crate::lexer::{Tokens, lex};
@@ -23,7 +23,7 @@ use wasm_ast::Module;
 /// What `print` writes of a module is that module again, unless memory runs out.
 pub fn assemble(alloc: Global, text: &str) -> Result<Module, TextFault>
     ensures within { IfOk result IsWithinLimits }
-    ensures printed { (m : AnyModule) → IsWithinLimits m → IsRepresentable m → HasBytes m → text.now ≡ layout m
+    ensures printed { (m : AnyModule) → IsWithinLimits m → IsRepresentable m → text.now ≡ layout m
         → MatchResult result (λ x. x ≡ m) (λ fault. fault ≡ OutOfMemory) }
 {
     match lex(alloc, text) {

@@ -8,7 +8,8 @@ ghost use Rattle.wasm_ast.specs.declared.module.Global.{Global as AnyGlobal};
 ghost use Rattle.wasm_ast.specs.declared.module.Element.{Element as AnyElement};
 ghost use Rattle.wasm_ast.specs.declared.module.Data.{Data as AnyData};
 ghost use Rattle.wasm_ast.specs.Limits.{IsBodyWithin};
-ghost use Rattle.wat_asm.specs.Pieces.{Adds, each};
+ghost use Rattle.wat_asm.specs.inside.Writing.{Writes};
+ghost use Rattle.wat_asm.specs.Pieces.{each};
 ghost use Rattle.wat_asm.specs.Instructions.{code, type_word};
 ghost use Rattle.wat_asm.specs.Layout.{begins, data_field, element_field, export_description, export_field, function_field, global_field, global_type, import_description, import_field, limits, maximum_part, memory_field, number_part, numbered, offset, start_field, table_field, type_field, type_group};
 
@@ -26,7 +27,7 @@ use wasm_ast::{
 // ---- parts of fields
 
 fn write_val_types(text: &mut String, types: &[ValType]) -> Result<(), AllocError>
-    ensures { OnOk result (Adds (string_bytes text.old) (string_bytes text.new) (each type_word types.now)) }
+    ensures { Writes text.old text.new result (each type_word types.now) }
 {
     for t in types {
         write_keyword(text, Gap::Space, Keyword::Type(*t))?;
@@ -40,7 +41,7 @@ fn write_type_group(
     keyword: Keyword,
     types: &[ValType],
 ) -> Result<(), AllocError>
-    ensures { OnOk result (Adds (string_bytes text.old) (string_bytes text.new) (type_group keyword types.now)) }
+    ensures { Writes text.old text.new result (type_group keyword types.now) }
 {
     if types.is_empty() {
         return Ok(());
@@ -51,7 +52,7 @@ fn write_type_group(
 }
 
 fn write_limits(text: &mut String, given: Limits) -> Result<(), AllocError>
-    ensures { OnOk result (Adds (string_bytes text.old) (string_bytes text.new) (limits given)) }
+    ensures { Writes text.old text.new result (limits given) }
 {
     write_count(text, given.minimum)?;
     match given.maximum {
@@ -61,7 +62,7 @@ fn write_limits(text: &mut String, given: Limits) -> Result<(), AllocError>
 }
 
 fn write_global_type(text: &mut String, global: GlobalType) -> Result<(), AllocError>
-    ensures { OnOk result (Adds (string_bytes text.old) (string_bytes text.new) (global_type global)) }
+    ensures { Writes text.old text.new result (global_type global) }
 {
     match global.mutability {
         Mutability::Constant => write_keyword(text, Gap::Space, Keyword::Type(global.value)),
@@ -75,14 +76,14 @@ fn write_global_type(text: &mut String, global: GlobalType) -> Result<(), AllocE
 
 // The table or memory of a segment, where it is not the first.
 fn write_number_part(text: &mut String, n: u32) -> Result<(), AllocError>
-    ensures { OnOk result (Adds (string_bytes text.old) (string_bytes text.new) (number_part n)) }
+    ensures { Writes text.old text.new result (number_part n) }
 {
     if n == 0 { Ok(()) } else { write_count(text, n) }
 }
 
 fn write_offset(text: &mut String, body: &Body) -> Result<(), AllocError>
     requires { IsBodyWithin body.now }
-    ensures { OnOk result (Adds (string_bytes text.old) (string_bytes text.new) (offset body.now)) }
+    ensures { Writes text.old text.new result (offset body.now) }
 {
     write_opening(text, Gap::Space, Keyword::Offset)?;
     write_code(text, Gap::Space, MAX_NESTING, body)?;
@@ -93,13 +94,13 @@ fn write_offset(text: &mut String, body: &Body) -> Result<(), AllocError>
 
 // A field's beginning, on a line of its own.
 fn write_beginning(text: &mut String, keyword: Keyword) -> Result<(), AllocError>
-    ensures { OnOk result (Adds (string_bytes text.old) (string_bytes text.new) (begins keyword)) }
+    ensures { Writes text.old text.new result (begins keyword) }
 {
     write_opening(text, Gap::Line(1), keyword)
 }
 
 fn write_type(text: &mut String, field: &FuncType) -> Result<(), AllocError>
-    ensures { OnOk result (Adds (string_bytes text.old) (string_bytes text.new) (type_field field.now)) }
+    ensures { Writes text.old text.new result (type_field field.now) }
 {
     write_beginning(text, Keyword::FuncType)?;
     write_opening(text, Gap::Space, Keyword::Func)?;
@@ -113,7 +114,7 @@ fn write_import_description(
     text: &mut String,
     description: ImportDescription,
 ) -> Result<(), AllocError>
-    ensures { OnOk result (Adds (string_bytes text.old) (string_bytes text.new) (import_description description)) }
+    ensures { Writes text.old text.new result (import_description description) }
 {
     match description {
         ImportDescription::Function(type_number) => write_imported_function(text, type_number),
@@ -124,7 +125,7 @@ fn write_import_description(
 }
 
 fn write_imported_function(text: &mut String, type_number: u32) -> Result<(), AllocError>
-    ensures { OnOk result (Adds (string_bytes text.old) (string_bytes text.new) (import_description (import.Function type_number))) }
+    ensures { Writes text.old text.new result (import_description (import.Function type_number)) }
 {
     write_opening(text, Gap::Space, Keyword::Func)?;
     write_type_use(text, type_number)?;
@@ -132,7 +133,7 @@ fn write_imported_function(text: &mut String, type_number: u32) -> Result<(), Al
 }
 
 fn write_imported_table(text: &mut String, table: Limits) -> Result<(), AllocError>
-    ensures { OnOk result (Adds (string_bytes text.old) (string_bytes text.new) (import_description (import.Table table))) }
+    ensures { Writes text.old text.new result (import_description (import.Table table)) }
 {
     write_opening(text, Gap::Space, Keyword::Table)?;
     write_limits(text, table)?;
@@ -141,7 +142,7 @@ fn write_imported_table(text: &mut String, table: Limits) -> Result<(), AllocErr
 }
 
 fn write_imported_memory(text: &mut String, memory: Limits) -> Result<(), AllocError>
-    ensures { OnOk result (Adds (string_bytes text.old) (string_bytes text.new) (import_description (import.Memory memory))) }
+    ensures { Writes text.old text.new result (import_description (import.Memory memory)) }
 {
     write_opening(text, Gap::Space, Keyword::Memory)?;
     write_limits(text, memory)?;
@@ -149,7 +150,7 @@ fn write_imported_memory(text: &mut String, memory: Limits) -> Result<(), AllocE
 }
 
 fn write_imported_global(text: &mut String, global: GlobalType) -> Result<(), AllocError>
-    ensures { OnOk result (Adds (string_bytes text.old) (string_bytes text.new) (import_description (import.Global global))) }
+    ensures { Writes text.old text.new result (import_description (import.Global global)) }
 {
     write_opening(text, Gap::Space, Keyword::Global)?;
     write_global_type(text, global)?;
@@ -157,7 +158,7 @@ fn write_imported_global(text: &mut String, global: GlobalType) -> Result<(), Al
 }
 
 fn write_import(text: &mut String, field: &Import) -> Result<(), AllocError>
-    ensures { OnOk result (Adds (string_bytes text.old) (string_bytes text.new) (import_field field.now)) }
+    ensures { Writes text.old text.new result (import_field field.now) }
 {
     write_beginning(text, Keyword::Import)?;
     write_string(text, field.module.as_str().as_bytes())?;
@@ -168,7 +169,7 @@ fn write_import(text: &mut String, field: &Import) -> Result<(), AllocError>
 
 fn write_function(text: &mut String, field: &Function) -> Result<(), AllocError>
     requires { IsBodyWithin field.now.body }
-    ensures { OnOk result (Adds (string_bytes text.old) (string_bytes text.new) (function_field field.now)) }
+    ensures { Writes text.old text.new result (function_field field.now) }
 {
     write_beginning(text, Keyword::Func)?;
     write_type_use(text, field.type_number)?;
@@ -178,7 +179,7 @@ fn write_function(text: &mut String, field: &Function) -> Result<(), AllocError>
 }
 
 fn write_table(text: &mut String, field: Limits) -> Result<(), AllocError>
-    ensures { OnOk result (Adds (string_bytes text.old) (string_bytes text.new) (table_field field)) }
+    ensures { Writes text.old text.new result (table_field field) }
 {
     write_beginning(text, Keyword::Table)?;
     write_limits(text, field)?;
@@ -187,7 +188,7 @@ fn write_table(text: &mut String, field: Limits) -> Result<(), AllocError>
 }
 
 fn write_memory(text: &mut String, field: Limits) -> Result<(), AllocError>
-    ensures { OnOk result (Adds (string_bytes text.old) (string_bytes text.new) (memory_field field)) }
+    ensures { Writes text.old text.new result (memory_field field) }
 {
     write_beginning(text, Keyword::Memory)?;
     write_limits(text, field)?;
@@ -196,7 +197,7 @@ fn write_memory(text: &mut String, field: Limits) -> Result<(), AllocError>
 
 fn write_global(text: &mut String, field: &Global) -> Result<(), AllocError>
     requires { IsBodyWithin field.now.initial }
-    ensures { OnOk result (Adds (string_bytes text.old) (string_bytes text.new) (global_field field.now)) }
+    ensures { Writes text.old text.new result (global_field field.now) }
 {
     write_beginning(text, Keyword::Global)?;
     write_global_type(text, field.global_type)?;
@@ -206,7 +207,7 @@ fn write_global(text: &mut String, field: &Global) -> Result<(), AllocError>
 
 // The word and the number of what is exported.
 fn write_numbered(text: &mut String, keyword: Keyword, n: u32) -> Result<(), AllocError>
-    ensures { OnOk result (Adds (string_bytes text.old) (string_bytes text.new) (numbered keyword n)) }
+    ensures { Writes text.old text.new result (numbered keyword n) }
 {
     write_opening(text, Gap::Space, keyword)?;
     write_count(text, n)?;
@@ -217,7 +218,7 @@ fn write_export_description(
     text: &mut String,
     description: ExportDescription,
 ) -> Result<(), AllocError>
-    ensures { OnOk result (Adds (string_bytes text.old) (string_bytes text.new) (export_description description)) }
+    ensures { Writes text.old text.new result (export_description description) }
 {
     match description {
         ExportDescription::Function(n) => write_numbered(text, Keyword::Func, n),
@@ -228,7 +229,7 @@ fn write_export_description(
 }
 
 fn write_export(text: &mut String, field: &Export) -> Result<(), AllocError>
-    ensures { OnOk result (Adds (string_bytes text.old) (string_bytes text.new) (export_field field.now)) }
+    ensures { Writes text.old text.new result (export_field field.now) }
 {
     write_beginning(text, Keyword::Export)?;
     write_string(text, field.name.as_str().as_bytes())?;
@@ -237,7 +238,7 @@ fn write_export(text: &mut String, field: &Export) -> Result<(), AllocError>
 }
 
 pub fn write_start(text: &mut String, start: Option<u32>) -> Result<(), AllocError>
-    ensures { OnOk result (Adds (string_bytes text.old) (string_bytes text.new) (start_field start)) }
+    ensures { Writes text.old text.new result (start_field start) }
 {
     match start {
         None => Ok(()),
@@ -251,7 +252,7 @@ pub fn write_start(text: &mut String, start: Option<u32>) -> Result<(), AllocErr
 
 fn write_element(text: &mut String, field: &Element) -> Result<(), AllocError>
     requires { IsBodyWithin field.now.offset }
-    ensures { OnOk result (Adds (string_bytes text.old) (string_bytes text.new) (element_field field.now)) }
+    ensures { Writes text.old text.new result (element_field field.now) }
 {
     write_beginning(text, Keyword::Elem)?;
     write_number_part(text, field.table)?;
@@ -262,7 +263,7 @@ fn write_element(text: &mut String, field: &Element) -> Result<(), AllocError>
 
 fn write_data(text: &mut String, field: &Data) -> Result<(), AllocError>
     requires { IsBodyWithin field.now.offset }
-    ensures { OnOk result (Adds (string_bytes text.old) (string_bytes text.new) (data_field field.now)) }
+    ensures { Writes text.old text.new result (data_field field.now) }
 {
     write_beginning(text, Keyword::Data)?;
     write_number_part(text, field.memory)?;
@@ -275,7 +276,7 @@ fn write_data(text: &mut String, field: &Data) -> Result<(), AllocError>
 
 /// Each on a line of its own.
 pub fn write_types(text: &mut String, fields: &[FuncType]) -> Result<(), AllocError>
-    ensures { OnOk result (Adds (string_bytes text.old) (string_bytes text.new) (each type_field fields.now)) }
+    ensures { Writes text.old text.new result (each type_field fields.now) }
 {
     for field in fields {
         write_type(text, field)?;
@@ -285,7 +286,7 @@ pub fn write_types(text: &mut String, fields: &[FuncType]) -> Result<(), AllocEr
 
 /// Each on a line of its own.
 pub fn write_imports(text: &mut String, fields: &[Import]) -> Result<(), AllocError>
-    ensures { OnOk result (Adds (string_bytes text.old) (string_bytes text.new) (each import_field fields.now)) }
+    ensures { Writes text.old text.new result (each import_field fields.now) }
 {
     for field in fields {
         write_import(text, field)?;
@@ -296,7 +297,7 @@ pub fn write_imports(text: &mut String, fields: &[Import]) -> Result<(), AllocEr
 /// Each on a line of its own.
 pub fn write_functions(text: &mut String, fields: &[Function]) -> Result<(), AllocError>
     requires { AllByRecursion (λ (f : AnyFunction). IsBodyWithin f.body) fields.now }
-    ensures { OnOk result (Adds (string_bytes text.old) (string_bytes text.new) (each function_field fields.now)) }
+    ensures { Writes text.old text.new result (each function_field fields.now) }
 {
     for field in fields {
         write_function(text, field)?;
@@ -306,7 +307,7 @@ pub fn write_functions(text: &mut String, fields: &[Function]) -> Result<(), All
 
 /// Each on a line of its own.
 pub fn write_tables(text: &mut String, fields: &[Limits]) -> Result<(), AllocError>
-    ensures { OnOk result (Adds (string_bytes text.old) (string_bytes text.new) (each table_field fields.now)) }
+    ensures { Writes text.old text.new result (each table_field fields.now) }
 {
     for field in fields {
         write_table(text, *field)?;
@@ -316,7 +317,7 @@ pub fn write_tables(text: &mut String, fields: &[Limits]) -> Result<(), AllocErr
 
 /// Each on a line of its own.
 pub fn write_memories(text: &mut String, fields: &[Limits]) -> Result<(), AllocError>
-    ensures { OnOk result (Adds (string_bytes text.old) (string_bytes text.new) (each memory_field fields.now)) }
+    ensures { Writes text.old text.new result (each memory_field fields.now) }
 {
     for field in fields {
         write_memory(text, *field)?;
@@ -327,7 +328,7 @@ pub fn write_memories(text: &mut String, fields: &[Limits]) -> Result<(), AllocE
 /// Each on a line of its own.
 pub fn write_globals(text: &mut String, fields: &[Global]) -> Result<(), AllocError>
     requires { AllByRecursion (λ (g : AnyGlobal). IsBodyWithin g.initial) fields.now }
-    ensures { OnOk result (Adds (string_bytes text.old) (string_bytes text.new) (each global_field fields.now)) }
+    ensures { Writes text.old text.new result (each global_field fields.now) }
 {
     for field in fields {
         write_global(text, field)?;
@@ -337,7 +338,7 @@ pub fn write_globals(text: &mut String, fields: &[Global]) -> Result<(), AllocEr
 
 /// Each on a line of its own.
 pub fn write_exports(text: &mut String, fields: &[Export]) -> Result<(), AllocError>
-    ensures { OnOk result (Adds (string_bytes text.old) (string_bytes text.new) (each export_field fields.now)) }
+    ensures { Writes text.old text.new result (each export_field fields.now) }
 {
     for field in fields {
         write_export(text, field)?;
@@ -348,7 +349,7 @@ pub fn write_exports(text: &mut String, fields: &[Export]) -> Result<(), AllocEr
 /// Each on a line of its own.
 pub fn write_elements(text: &mut String, fields: &[Element]) -> Result<(), AllocError>
     requires { AllByRecursion (λ (e : AnyElement). IsBodyWithin e.offset) fields.now }
-    ensures { OnOk result (Adds (string_bytes text.old) (string_bytes text.new) (each element_field fields.now)) }
+    ensures { Writes text.old text.new result (each element_field fields.now) }
 {
     for field in fields {
         write_element(text, field)?;
@@ -359,7 +360,7 @@ pub fn write_elements(text: &mut String, fields: &[Element]) -> Result<(), Alloc
 /// Each on a line of its own.
 pub fn write_segments(text: &mut String, fields: &[Data]) -> Result<(), AllocError>
     requires { AllByRecursion (λ (d : AnyData). IsBodyWithin d.offset) fields.now }
-    ensures { OnOk result (Adds (string_bytes text.old) (string_bytes text.new) (each data_field fields.now)) }
+    ensures { Writes text.old text.new result (each data_field fields.now) }
 {
     for field in fields {
         write_data(text, field)?;

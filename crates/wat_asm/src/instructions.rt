@@ -4,7 +4,8 @@ ghost use Rattle.std.specs.Prelude.{◌≡◌, ◌↔◌, ◌≤◌, ◌-◌, �
 ghost use Rattle.wasm_ast.specs.Code.{end};
 ghost use Rattle.wasm_ast.specs.View.{then_code};
 ghost use Rattle.wasm_ast.specs.Limits.{IsMemoryWithin, IsPlainWithin, IsCodeWithin, max_align};
-ghost use Rattle.wat_asm.specs.Pieces.{Adds, counts, each, says};
+ghost use Rattle.wat_asm.specs.inside.Writing.{Writes};
+ghost use Rattle.wat_asm.specs.Pieces.{counts, each, says};
 ghost use Rattle.wat_asm.specs.Instructions.{HasRoom, align_part, block_type, branch_line, code, constant_line, deeper, else_line, memory_argument, memory_line, number, offset_part, plain_line, type_use, variable_line};
 
 use crate::keyword::Keyword;
@@ -19,7 +20,7 @@ use wasm_ast::{
 
 /// A reference to a type, as `(type 0)`.
 pub fn write_type_use(text: &mut String, type_number: u32) -> Result<(), AllocError>
-    ensures { OnOk result (Adds (string_bytes text.old) (string_bytes text.new) (type_use type_number)) }
+    ensures { Writes text.old text.new result (type_use type_number) }
 {
     write_opening(text, Gap::Space, Keyword::FuncType)?;
     write_count(text, type_number)?;
@@ -28,7 +29,7 @@ pub fn write_type_use(text: &mut String, type_number: u32) -> Result<(), AllocEr
 
 /// Numbers, each with a blank before it.
 pub fn write_numbers(text: &mut String, numbers: &[u32]) -> Result<(), AllocError>
-    ensures { OnOk result (Adds (string_bytes text.old) (string_bytes text.new) (each number numbers.now)) }
+    ensures { Writes text.old text.new result (each number numbers.now) }
 {
     for n in numbers {
         write_count(text, *n)?;
@@ -37,14 +38,14 @@ pub fn write_numbers(text: &mut String, numbers: &[u32]) -> Result<(), AllocErro
 }
 
 fn write_numbered(text: &mut String, gap: Gap, keyword: Keyword, n: u32) -> Result<(), AllocError>
-    ensures { OnOk result (Adds (string_bytes text.old) (string_bytes text.new) (λ more. says gap keyword ∷ counts n ∷ more)) }
+    ensures { Writes text.old text.new result (λ more. says gap keyword ∷ counts n ∷ more) }
 {
     write_keyword(text, gap, keyword)?;
     write_count(text, n)
 }
 
 fn write_variable(text: &mut String, gap: Gap, op: Variable) -> Result<(), AllocError>
-    ensures { OnOk result (Adds (string_bytes text.old) (string_bytes text.new) (variable_line gap op)) }
+    ensures { Writes text.old text.new result (variable_line gap op) }
 {
     match op {
         Variable::LocalGet(n) => write_numbered(text, gap, Keyword::LocalGet, n),
@@ -56,7 +57,7 @@ fn write_variable(text: &mut String, gap: Gap, op: Variable) -> Result<(), Alloc
 }
 
 fn write_offset_part(text: &mut String, offset: u32) -> Result<(), AllocError>
-    ensures { OnOk result (Adds (string_bytes text.old) (string_bytes text.new) (offset_part offset)) }
+    ensures { Writes text.old text.new result (offset_part offset) }
 {
     if offset == 0 {
         Ok(())
@@ -66,7 +67,7 @@ fn write_offset_part(text: &mut String, offset: u32) -> Result<(), AllocError>
 }
 
 fn write_align_part(text: &mut String, alignment: u32, width: u32) -> Result<(), AllocError>
-    ensures { OnOk result (Adds (string_bytes text.old) (string_bytes text.new) (align_part alignment width)) }
+    ensures { Writes text.old text.new result (align_part alignment width) }
 {
     if alignment == width {
         Ok(())
@@ -89,7 +90,7 @@ fn write_memory_argument(
     argument: MemoryArgument,
 ) -> Result<(), AllocError>
     requires { argument.align ≤ max_align }
-    ensures { OnOk result (Adds (string_bytes text.old) (string_bytes text.new) (memory_argument width argument)) }
+    ensures { Writes text.old text.new result (memory_argument width argument) }
 {
     write_offset_part(text, argument.offset)?;
     write_align_part(text, alignment(argument.align), width)
@@ -97,7 +98,7 @@ fn write_memory_argument(
 
 fn write_memory(text: &mut String, gap: Gap, op: Memory) -> Result<(), AllocError>
     requires { IsMemoryWithin op }
-    ensures { OnOk result (Adds (string_bytes text.old) (string_bytes text.new) (memory_line gap op)) }
+    ensures { Writes text.old text.new result (memory_line gap op) }
 {
     match op {
         Memory::Load(load, argument) => {
@@ -114,7 +115,7 @@ fn write_memory(text: &mut String, gap: Gap, op: Memory) -> Result<(), AllocErro
 }
 
 fn write_constant(text: &mut String, gap: Gap, value: Value) -> Result<(), AllocError>
-    ensures { OnOk result (Adds (string_bytes text.old) (string_bytes text.new) (constant_line gap value)) }
+    ensures { Writes text.old text.new result (constant_line gap value) }
 {
     match value {
         Value::I32(x) => {
@@ -130,7 +131,7 @@ fn write_constant(text: &mut String, gap: Gap, value: Value) -> Result<(), Alloc
 
 fn write_plain(text: &mut String, gap: Gap, plain: Plain) -> Result<(), AllocError>
     requires { IsPlainWithin plain }
-    ensures { OnOk result (Adds (string_bytes text.old) (string_bytes text.new) (plain_line gap plain)) }
+    ensures { Writes text.old text.new result (plain_line gap plain) }
 {
     match plain {
         Plain::Nop => write_keyword(text, gap, Keyword::Nop),
@@ -144,7 +145,7 @@ fn write_plain(text: &mut String, gap: Gap, plain: Plain) -> Result<(), AllocErr
 }
 
 fn write_branch(text: &mut String, gap: Gap, branch: &Branch) -> Result<(), AllocError>
-    ensures { OnOk result (Adds (string_bytes text.old) (string_bytes text.new) (branch_line gap branch.now)) }
+    ensures { Writes text.old text.new result (branch_line gap branch.now) }
 {
     match branch {
         Branch::Br(label) => write_numbered(text, gap, Keyword::Br, *label),
@@ -159,7 +160,7 @@ fn write_branch(text: &mut String, gap: Gap, branch: &Branch) -> Result<(), Allo
 }
 
 fn write_block_type(text: &mut String, given: BlockType) -> Result<(), AllocError>
-    ensures { OnOk result (Adds (string_bytes text.old) (string_bytes text.new) (block_type given)) }
+    ensures { Writes text.old text.new result (block_type given) }
 {
     match given {
         None => Ok(()),
@@ -195,7 +196,7 @@ impl Gap {
 pub fn write_code(text: &mut String, gap: Gap, levels: u32, body: &Body) -> Result<(), AllocError>
     requires room { HasRoom gap levels }
     requires within { IsCodeWithin levels body.now }
-    ensures { OnOk result (Adds (string_bytes text.old) (string_bytes text.new) (code gap body.now)) }
+    ensures { Writes text.old text.new result (code gap body.now) }
 {
     for instr in body.as_slice() {
         write_instr(text, gap, levels, instr)?;
@@ -216,8 +217,8 @@ fn write_block(
     requires room { HasRoom gap levels }
     requires some { 1 ≤ levels }
     requires within { IsCodeWithin (levels - 1) body.now }
-    ensures { OnOk result (Adds (string_bytes text.old) (string_bytes text.new)
-        (λ more. says gap keyword ∷ block_type given (code (deeper gap) body.now more))) }
+    ensures { Writes text.old text.new result
+        (λ more. says gap keyword ∷ block_type given (code (deeper gap) body.now more)) }
 {
     write_keyword(text, gap, keyword)?;
     write_block_type(text, given)?;
@@ -231,7 +232,7 @@ fn is_empty(body: &Body) -> bool
 }
 
 fn write_else_word(text: &mut String, gap: Gap, other: &Body) -> Result<(), AllocError>
-    ensures { OnOk result (Adds (string_bytes text.old) (string_bytes text.new) (else_line gap other.now)) }
+    ensures { Writes text.old text.new result (else_line gap other.now) }
 {
     if is_empty(other) {
         Ok(())
@@ -246,8 +247,8 @@ fn write_else(text: &mut String, gap: Gap, levels: u32, other: &Body) -> Result<
     requires room { HasRoom gap levels }
     requires some { 1 ≤ levels }
     requires within { IsCodeWithin (levels - 1) other.now }
-    ensures { OnOk result (Adds (string_bytes text.old) (string_bytes text.new)
-        (λ more. else_line gap other.now (code (deeper gap) other.now more))) }
+    ensures { Writes text.old text.new result
+        (λ more. else_line gap other.now (code (deeper gap) other.now more)) }
 {
     write_else_word(text, gap, other)?;
     write_code(text, gap.deeper(levels), levels - 1, other)
@@ -257,7 +258,7 @@ fn write_else(text: &mut String, gap: Gap, levels: u32, other: &Body) -> Result<
 fn write_instr(text: &mut String, gap: Gap, levels: u32, instr: &Instr) -> Result<(), AllocError>
     requires room { HasRoom gap levels }
     requires within { IsCodeWithin levels (then_code instr.now end) }
-    ensures { OnOk result (Adds (string_bytes text.old) (string_bytes text.new) (code gap (then_code instr.now end))) }
+    ensures { Writes text.old text.new result (code gap (then_code instr.now end)) }
 {
     match instr {
         Instr::Plain(plain) => write_plain(text, gap, *plain),

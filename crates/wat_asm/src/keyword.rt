@@ -245,7 +245,7 @@ impl Keyword {
 
     /// The keyword that is spelled so, if there is one. No two are spelled alike.
     pub fn named(word: &str) -> Option<Keyword>
-        ensures { (keyword : AnyKeyword) → (result ≡ Some keyword) ↔ (keyword_text keyword ≡ word.now) }
+        ensures { (k : AnyKeyword) → (result ≡ Some k) ↔ (keyword_text k ≡ word.now) }
     {
         Keyword::spelled(word.as_bytes())
     }

@@ -9,9 +9,9 @@ mod words;
 
 ghost use Rattle.std.specs.Prelude.{List, IfOk};
 ghost use Rattle.wat_asm.specs.Pieces.{Piece};
-ghost use Rattle.wat_asm.specs.Follows.{IsRead};
+ghost use Rattle.wat_asm.specs.inside.Follows.{IsRead};
 ghost use Rattle.wat_asm.specs.Numbering.{TellNames};
-ghost use Rattle.wat_asm.specs.Tokens.{ArePiecesHeld, IsPrinted, sorted, toks_of};
+ghost use Rattle.wat_asm.specs.inside.Tokens.{ArePiecesHeld, IsPrinted, sorted, toks_of};
 
 use crate::fault::Failure;
 use cutting::one;

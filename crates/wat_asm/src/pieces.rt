@@ -2,7 +2,8 @@
 
 ghost use Rattle.std.specs.Prelude.{◌≡◌, ◌∷◌, ◌++◌, OnOk, string_bytes};
 ghost use Rattle.wat_asm.specs.Quoted.{escape, escaped, quoted, stands_as_itself};
-ghost use Rattle.wat_asm.specs.Pieces.{Adds, align_is, closes, closes_line, counts, gap_text, indent, offset_is, opens, quotes, says, signs};
+ghost use Rattle.wat_asm.specs.inside.Writing.{Writes};
+ghost use Rattle.wat_asm.specs.Pieces.{align_is, closes, closes_line, counts, gap_text, indent, offset_is, opens, quotes, says, signs};
 
 use crate::keyword::Keyword;
 use std::alloc::AllocError;
@@ -41,7 +42,7 @@ fn write_gap(text: &mut String, gap: Gap) -> Result<(), AllocError>
 /// A parenthesis and a keyword.
 #[tactic(auto, unfolding(crate::specs::Pieces::text))]
 pub fn write_opening(text: &mut String, gap: Gap, keyword: Keyword) -> Result<(), AllocError>
-    ensures { OnOk result (Adds (string_bytes text.old) (string_bytes text.new) (λ more. opens gap keyword ∷ more)) }
+    ensures { Writes text.old text.new result (λ more. opens gap keyword ∷ more) }
 {
     write_gap(text, gap)?;
     text.push_str("(")?;
@@ -50,7 +51,7 @@ pub fn write_opening(text: &mut String, gap: Gap, keyword: Keyword) -> Result<()
 
 #[tactic(auto, unfolding(crate::specs::Pieces::text))]
 pub fn write_keyword(text: &mut String, gap: Gap, keyword: Keyword) -> Result<(), AllocError>
-    ensures { OnOk result (Adds (string_bytes text.old) (string_bytes text.new) (λ more. says gap keyword ∷ more)) }
+    ensures { Writes text.old text.new result (λ more. says gap keyword ∷ more) }
 {
     write_gap(text, gap)?;
     text.push_str(keyword.text())
@@ -59,7 +60,7 @@ pub fn write_keyword(text: &mut String, gap: Gap, keyword: Keyword) -> Result<()
 /// A number without a sign, in decimal.
 #[tactic(auto, unfolding(crate::specs::Pieces::text))]
 pub fn write_count(text: &mut String, n: u32) -> Result<(), AllocError>
-    ensures { OnOk result (Adds (string_bytes text.old) (string_bytes text.new) (λ more. counts n ∷ more)) }
+    ensures { Writes text.old text.new result (λ more. counts n ∷ more) }
 {
     write!(text, " {n}")
 }
@@ -67,7 +68,7 @@ pub fn write_count(text: &mut String, n: u32) -> Result<(), AllocError>
 /// A number with a sign where it is below 0, in decimal.
 #[tactic(auto, unfolding(crate::specs::Pieces::text))]
 pub fn write_i32(text: &mut String, z: i32) -> Result<(), AllocError>
-    ensures { OnOk result (Adds (string_bytes text.old) (string_bytes text.new) (λ more. signs z ∷ more)) }
+    ensures { Writes text.old text.new result (λ more. signs z ∷ more) }
 {
     write!(text, " {z}")
 }
@@ -75,14 +76,14 @@ pub fn write_i32(text: &mut String, z: i32) -> Result<(), AllocError>
 /// A number with a sign where it is below 0, in decimal.
 #[tactic(auto, unfolding(crate::specs::Pieces::text))]
 pub fn write_i64(text: &mut String, z: i64) -> Result<(), AllocError>
-    ensures { OnOk result (Adds (string_bytes text.old) (string_bytes text.new) (λ more. signs z ∷ more)) }
+    ensures { Writes text.old text.new result (λ more. signs z ∷ more) }
 {
     write!(text, " {z}")
 }
 
 #[tactic(auto, unfolding(crate::specs::Pieces::text))]
 pub fn write_offset(text: &mut String, n: u32) -> Result<(), AllocError>
-    ensures { OnOk result (Adds (string_bytes text.old) (string_bytes text.new) (λ more. offset_is n ∷ more)) }
+    ensures { Writes text.old text.new result (λ more. offset_is n ∷ more) }
 {
     write!(text, " offset={n}")
 }
@@ -90,7 +91,7 @@ pub fn write_offset(text: &mut String, n: u32) -> Result<(), AllocError>
 /// An alignment in bytes.
 #[tactic(auto, unfolding(crate::specs::Pieces::text))]
 pub fn write_alignment(text: &mut String, n: u32) -> Result<(), AllocError>
-    ensures { OnOk result (Adds (string_bytes text.old) (string_bytes text.new) (λ more. align_is n ∷ more)) }
+    ensures { Writes text.old text.new result (λ more. align_is n ∷ more) }
 {
     write!(text, " align={n}")
 }
@@ -122,7 +123,7 @@ fn write_escaped(text: &mut String, b: u8) -> Result<(), AllocError>
 /// A string of these bytes.
 #[tactic(auto, unfolding(crate::specs::Pieces::text))]
 pub fn write_string(text: &mut String, bytes: &[u8]) -> Result<(), AllocError>
-    ensures { OnOk result (Adds (string_bytes text.old) (string_bytes text.new) (λ more. quotes bytes.now ∷ more)) }
+    ensures { Writes text.old text.new result (λ more. quotes bytes.now ∷ more) }
 {
     text.push_str(" \"")?;
     write_all_escaped(text, bytes)?;
@@ -141,7 +142,7 @@ fn write_all_escaped(text: &mut String, bytes: &[u8]) -> Result<(), AllocError>
 /// A closing parenthesis.
 #[tactic(auto, unfolding(crate::specs::Pieces::text))]
 pub fn write_closing(text: &mut String) -> Result<(), AllocError>
-    ensures { OnOk result (Adds (string_bytes text.old) (string_bytes text.new) (λ more. closes ∷ more)) }
+    ensures { Writes text.old text.new result (λ more. closes ∷ more) }
 {
     text.push_str(")")
 }
@@ -149,7 +150,7 @@ pub fn write_closing(text: &mut String) -> Result<(), AllocError>
 /// A closing parenthesis on a line of its own.
 #[tactic(auto, unfolding(crate::specs::Pieces::text))]
 pub fn write_closing_line(text: &mut String, level: u32) -> Result<(), AllocError>
-    ensures { OnOk result (Adds (string_bytes text.old) (string_bytes text.new) (λ more. closes_line level ∷ more)) }
+    ensures { Writes text.old text.new result (λ more. closes_line level ∷ more) }
 {
     text.push_str("\n")?;
     write_indent(text, level)?;

@@ -2,7 +2,7 @@
 
 ghost use Rattle.std.specs.Prelude.{◌≡◌, IfOk, OnOk, string_bytes};
 ghost use Rattle.wasm_ast.specs.Limits.{IsWithinLimits};
-ghost use Rattle.wat_asm.specs.Pieces.{Adds};
+ghost use Rattle.wat_asm.specs.inside.Writing.{Writes};
 ghost use Rattle.wat_asm.specs.Layout.{definitions, layout, pieces, uses};
 
 use crate::fields::{
@@ -32,7 +32,7 @@ pub fn print(alloc: Global, module: &Module) -> Result<String, AllocError>
 
 fn write_module(text: &mut String, module: &Module) -> Result<(), AllocError>
     requires { IsWithinLimits «module».now }
-    ensures { OnOk result (Adds (string_bytes text.old) (string_bytes text.new) (pieces «module».now)) }
+    ensures { Writes text.old text.new result (pieces «module».now) }
 {
     write_opening(text, Gap::Nothing, Keyword::Module)?;
     write_definitions(text, module)?;
@@ -44,7 +44,7 @@ fn write_module(text: &mut String, module: &Module) -> Result<(), AllocError>
 #[tactic(auto, using(crate::proofs::Codes::bodies_within))]
 fn write_definitions(text: &mut String, module: &Module) -> Result<(), AllocError>
     requires { IsWithinLimits «module».now }
-    ensures { OnOk result (Adds (string_bytes text.old) (string_bytes text.new) (definitions «module».now)) }
+    ensures { Writes text.old text.new result (definitions «module».now) }
 {
     write_types(text, module.types.as_slice())?;
     write_imports(text, module.imports.as_slice())?;
@@ -57,7 +57,7 @@ fn write_definitions(text: &mut String, module: &Module) -> Result<(), AllocErro
 // What stands for the module's use.
 fn write_uses(text: &mut String, module: &Module) -> Result<(), AllocError>
     requires { IsWithinLimits «module».now }
-    ensures { OnOk result (Adds (string_bytes text.old) (string_bytes text.new) (uses «module».now)) }
+    ensures { Writes text.old text.new result (uses «module».now) }
 {
     write_exports(text, module.exports.as_slice())?;
     write_start(text, module.start)?;

@@ -2,7 +2,7 @@
 
 ghost use Rattle.std.specs.Prelude.{◌≡◌};
 ghost use Rattle.bounded_profile.specs.Known.{division_premise};
-ghost use Rattle.bounded_profile.specs.Tracking.{asks_of, asked};
+ghost use Rattle.bounded_profile.specs.inside.Tracking.{asks_of, asked};
 
 use crate::constants::demands::Demand;
 use crate::wants::Premise;

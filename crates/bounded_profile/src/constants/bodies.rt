@@ -1,11 +1,9 @@
 //! Code that holds code (Core 1.0, 3.3.5), and the bodies of functions (3.4.1).
 
-ghost use Rattle.std.specs.Prelude.{◌≡◌, ◌∷◌, [], reverse, OnOk, MatchResult};
+ghost use Rattle.std.specs.Prelude.{◌≡◌, ◌∷◌, [], OnOk};
 ghost use Rattle.std.specs.List.{AllByRecursion};
-ghost use Rattle.wasm_ast.specs.Code.{Code};
-ghost use Rattle.wasm_ast.specs.View.{then_code};
-ghost use Rattle.bounded_profile.specs.ConstantsFaults.{Says, FalseBut, Settles};
-ghost use Rattle.bounded_profile.specs.Tracking.{operands_of, check, Passes};
+ghost use Rattle.bounded_profile.specs.inside.ConstantsFaults.{Says, Settles};
+ghost use Rattle.bounded_profile.specs.inside.Tracking.{operands_of, labels_of, check, StepsOver, Passes};
 
 use crate::constants::fault::ConstantsFault;
 use crate::constants::instructions::{check_branch, check_call, check_call_indirect, check_plain};
@@ -27,7 +25,7 @@ fn check_inside(
     nesting: &mut Nesting,
 ) -> Result<(), ConstantsFault>
     ensures kept { OnOk result (nesting.new.labels.items ≡ nesting.old.labels.items) }
-    ensures says { Says (check body.now setting.now (label ∷ reverse nesting.old.labels.items) []) result }
+    ensures says { Says (check body.now setting.now (label ∷ labels_of nesting.old) []) result }
 {
     nesting.enter(label)?;
     let mut operands = Operands::new(alloc);
@@ -48,7 +46,8 @@ fn check_instr(
     operands: &mut Operands,
 ) -> Result<(), ConstantsFault>
     ensures kept { OnOk result (nesting.new.labels.items ≡ nesting.old.labels.items) }
-    ensures finds { (rest : Code) → MatchResult result (λ _. check (then_code instr.now rest) setting.now (reverse nesting.old.labels.items) (operands_of operands.old) ≡ check rest setting.now (reverse nesting.old.labels.items) (operands_of operands.new)) (λ e. FalseBut e (check (then_code instr.now rest) setting.now (reverse nesting.old.labels.items) (operands_of operands.old))) }
+    ensures finds { StepsOver setting.now (labels_of nesting.old) instr.now
+        (operands_of operands.old) (operands_of operands.new) result }
 {
     let place = Place {
         function,

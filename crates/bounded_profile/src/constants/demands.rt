@@ -1,7 +1,7 @@
 //! What is asked of one operand.
 
 ghost use Rattle.std.specs.Prelude.{◌≡◌};
-ghost use Rattle.bounded_profile.specs.Tracking.{is_met};
+ghost use Rattle.bounded_profile.specs.inside.Tracking.{is_met};
 
 use crate::wants::Premise;
 use host_calls::SLOTS;

@@ -1,10 +1,7 @@
 //! Instructions that hold no others (Core 1.0, 3.3): what each asks of its operands, and what is known of what it gives.
 
-ghost use Rattle.std.specs.Prelude.{◌≡◌, ◌∷◌, [], reverse, OnOk};
-ghost use Rattle.bounded_profile.specs.declared.constants.operands.Operand.TheVariants.{Unknown as NotKnown};
-ghost use Rattle.bounded_profile.specs.ConstantsFaults.{Finds};
-ghost use Rattle.bounded_profile.specs.Memory.{number_of};
-ghost use Rattle.bounded_profile.specs.Tracking.{operands_of, below, change, numeric_demands, plain_step, variable_step, memory_step, branch_step, call_step, call_indirect_step, take_parameters};
+ghost use Rattle.std.specs.Prelude.{◌≡◌, OnOk};
+ghost use Rattle.bounded_profile.specs.inside.Tracking.{Goes, operands_of, labels_of, plain_step, numeric_step, select_step, variable_step, memory_step, branch_step, call_step, call_indirect_step, take_parameters};
 
 use crate::constants::asks::division_premise;
 use crate::constants::demands::Demand;
@@ -12,10 +9,11 @@ use crate::constants::fault::ConstantsFault;
 use crate::constants::nesting::Nesting;
 use crate::constants::operands::{Operand, Operands, first_of};
 use crate::constants::setting::ModuleSetting;
+use crate::memory_rules::number_of;
 use crate::wants::Premise;
 use std::alloc::AllocError;
 use validate::Place;
-use wasm_ast::{Branch, Memory, Numeric, Plain, ValType, Value, Variable};
+use wasm_ast::{Branch, Memory, Numeric, Plain, ValType, Variable};
 
 /// Core 1.0, 3.3.1, 3.3.2 and `nop` of 3.3.5.
 pub fn check_plain(
@@ -24,7 +22,7 @@ pub fn check_plain(
     place: Place,
     operands: &mut Operands,
 ) -> Result<(), ConstantsFault>
-    ensures { Finds (plain_step setting.now plain (operands_of operands.old)) result (operands_of operands.new) }
+    ensures { Goes (plain_step setting.now plain) operands.old operands.new result }
 {
     match plain {
         Plain::Nop => Ok(()),
@@ -49,17 +47,8 @@ pub fn check_plain(
     }
 }
 
-fn number_of(value: Value) -> u64
-    ensures { result ≡ number_of value }
-{
-    match value {
-        Value::I32(number) => u64::from(number),
-        Value::I64(number) => number,
-    }
-}
-
 fn select(operands: &mut Operands) -> Result<(), AllocError>
-    ensures { OnOk result (operands_of operands.new ≡ NotKnown ∷ below (below (below (operands_of operands.old)))) }
+    ensures { OnOk result (operands_of operands.new ≡ select_step (operands_of operands.old)) }
 {
     let _condition = operands.pop();
     let _second = operands.pop();
@@ -74,7 +63,7 @@ fn check_numeric(
     place: Place,
     operands: &mut Operands,
 ) -> Result<(), ConstantsFault>
-    ensures { Finds (change setting.now.bytes (numeric_demands setting.now.asks op) (NotKnown ∷ []) (operands_of operands.old)) result (operands_of operands.new) }
+    ensures { Goes (numeric_step setting.now op) operands.old operands.new result }
 {
     let unknown = Some(Operand::Unknown);
     let bytes = setting.bytes;
@@ -94,7 +83,8 @@ fn check_numeric(
 
 // Core 1.0, 3.3.3.
 fn move_variable(op: Variable, operands: &mut Operands) -> Result<(), AllocError>
-    ensures { OnOk result (operands_of operands.new ≡ variable_step op (operands_of operands.old)) }
+    ensures { OnOk result (operands_of operands.new
+        ≡ variable_step op (operands_of operands.old)) }
 {
     match op {
         Variable::LocalGet(_) | Variable::GlobalGet(_) => operands.push(Operand::Unknown),
@@ -116,7 +106,7 @@ fn check_memory(
     place: Place,
     operands: &mut Operands,
 ) -> Result<(), ConstantsFault>
-    ensures { Finds (memory_step setting.now op (operands_of operands.old)) result (operands_of operands.new) }
+    ensures { Goes (memory_step setting.now op) operands.old operands.new result }
 {
     match op {
         Memory::Load(load, argument) => {
@@ -148,7 +138,8 @@ pub fn check_branch(
     place: Place,
     operands: &mut Operands,
 ) -> Result<(), ConstantsFault>
-    ensures { Finds (branch_step (reverse nesting.now.labels.items) branch.now (operands_of operands.old)) result (operands_of operands.new) }
+    ensures { Goes (branch_step (labels_of nesting.now) branch.now)
+        operands.old operands.new result }
 {
     match branch {
         Branch::BrIf(label) => {
@@ -171,7 +162,7 @@ pub fn check_call(
     place: Place,
     operands: &mut Operands,
 ) -> Result<(), ConstantsFault>
-    ensures { Finds (call_step setting.now function (operands_of operands.old)) result (operands_of operands.new) }
+    ensures { Goes (call_step setting.now function) operands.old operands.new result }
 {
     let Some(called) = setting.called(function) else {
         return Err(ConstantsFault::Breaks(place));
@@ -191,7 +182,8 @@ fn pass_parameters(
     place: Place,
     operands: &mut Operands,
 ) -> Result<(), ConstantsFault>
-    ensures { Finds (take_parameters setting.now takes_slot parameters.now (operands_of operands.old)) result (operands_of operands.new) }
+    ensures { Goes (take_parameters setting.now takes_slot parameters.now)
+        operands.old operands.new result }
 {
     if !takes_slot {
         operands.forget_each(parameters);
@@ -214,7 +206,8 @@ pub fn check_call_indirect(
     place: Place,
     operands: &mut Operands,
 ) -> Result<(), ConstantsFault>
-    ensures { Finds (call_indirect_step setting.now type_number (operands_of operands.old)) result (operands_of operands.new) }
+    ensures { Goes (call_indirect_step setting.now type_number)
+        operands.old operands.new result }
 {
     let Some(called) = setting.type_at(type_number) else {
         return Err(ConstantsFault::Breaks(place));

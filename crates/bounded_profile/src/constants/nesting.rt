@@ -33,7 +33,8 @@ impl Nesting {
 
     /// Without the innermost label.
     pub fn leave(&mut self)
-        ensures { self.new.labels.items ≡ take (length self.old.labels.items - 1) self.old.labels.items }
+        ensures { self.new.labels.items
+            ≡ take (length self.old.labels.items - 1) self.old.labels.items }
     {
         let _label = self.labels.pop();
     }

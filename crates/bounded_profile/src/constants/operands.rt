@@ -1,8 +1,7 @@
 //! What is known of the operands at a place of a body.
 
 ghost use Rattle.std.specs.Prelude.{◌≡◌, [], ◌∷◌, ◌++◌, OnOk};
-ghost use Rattle.bounded_profile.specs.Tracking.{operands_of, fits, top, below, take_one, take_each, change, forget_each, forget_result, unknowns, given_of};
-ghost use Rattle.bounded_profile.specs.ConstantsFaults.{Finds};
+ghost use Rattle.bounded_profile.specs.inside.Tracking.{Goes, operands_of, fits, top, below, take_one, take_each, change, forget_each, forget_result, unknowns, given_of};
 ghost use Rattle.validate.specs.Spaces.{first_type};
 
 use crate::constants::demands::{Demand, is_met};
@@ -67,7 +66,7 @@ impl Operands {
 
     /// Takes one that is as demanded.
     pub fn take(&mut self, demand: Demand, bytes: u64, place: Place) -> Result<(), ConstantsFault>
-        ensures { Finds (take_one bytes demand (operands_of self.old)) result (operands_of self.new) }
+        ensures { Goes (take_one bytes demand) self.old self.new result }
     {
         let operand = self.pop();
         if fits(bytes, demand, operand) {
@@ -84,7 +83,7 @@ impl Operands {
         bytes: u64,
         place: Place,
     ) -> Result<(), ConstantsFault>
-        ensures { Finds (take_each bytes demands.now (operands_of self.old)) result (operands_of self.new) }
+        ensures { Goes (take_each bytes demands.now) self.old self.new result }
     {
         for demand in demands {
             self.take(*demand, bytes, place)?;
@@ -109,7 +108,7 @@ impl Operands {
         bytes: u64,
         place: Place,
     ) -> Result<(), ConstantsFault>
-        ensures { Finds (change bytes demands.now (given_of given) (operands_of self.old)) result (operands_of self.new) }
+        ensures { Goes (change bytes demands.now (given_of given)) self.old self.new result }
     {
         self.take_each(demands, bytes, place)?;
         self.push_given(given)?;

@@ -1,22 +1,18 @@
 //! What instructions are looked at in, the same for all functions of a module.
 
-ghost use Rattle.std.specs.Prelude.{◌≡◌, ◌++◌, map, slice_get, IfOk};
+ghost use Rattle.std.specs.Prelude.{◌≡◌, slice_get, IfOk};
 ghost use Rattle.std.specs.List.{filter_map};
 ghost use Rattle.std.specs.Option.{option_copied};
-ghost use Rattle.wasm_ast.specs.declared.module.Function.{Function as AnyFunction};
-ghost use Rattle.validate.specs.Spaces.{function_import, imported};
+ghost use Rattle.validate.specs.Spaces.{function_import};
 ghost use Rattle.bounded_profile.specs.Known.{takes_slot};
-ghost use Rattle.bounded_profile.specs.Memory.{bytes_of};
-ghost use Rattle.bounded_profile.specs.Tracking.{setting_of, imported_call, called, host_called};
+ghost use Rattle.bounded_profile.specs.inside.Tracking.{setting_of, type_numbers, imported_call, called, host_called};
 
 use crate::constants::asks::Asks;
+use crate::memory_rules::memory_bytes;
 use host_calls::HostCall;
 use std::alloc::{AllocError, Global};
 use std::marker::Model;
-use wasm_ast::{FuncType, Function, Import, ImportDescription, Limits, Module};
-
-/// How many bytes a page has (Core 1.0, 4.2.8).
-const PAGE: u64 = 65_536;
+use wasm_ast::{FuncType, Function, Import, ImportDescription, Module};
 
 /// What instructions are looked at in.
 #[derive(Drop)]
@@ -32,11 +28,17 @@ pub struct ModuleSetting<'a> {
 }
 
 impl<'a> Model for ModuleSetting<'a> {
-    ghost use Rattle.bounded_profile.specs.Tracking.{Setting};
+    ghost use Rattle.bounded_profile.specs.inside.Tracking.{Setting};
 
     ghost Value = { Setting };
 
-    ghost view = { λ a. record { types = a.types.now; functions = a.functions.items; host_calls = a.host_calls.items; bytes = a.bytes; asks = a.asks } };
+    ghost view = { λ a. record {
+      types = a.types.now;
+      functions = a.functions.items;
+      host_calls = a.host_calls.items;
+      bytes = a.bytes;
+      asks = a.asks;
+    } };
 }
 
 impl<'a> ModuleSetting<'a> {
@@ -53,7 +55,7 @@ impl<'a> ModuleSetting<'a> {
             types: module.types.as_slice(),
             functions: function_types(alloc, imports, module.functions.as_slice())?,
             host_calls: host_calls(alloc, imports)?,
-            bytes: memory_bytes(module.memories.as_slice()),
+            bytes: memory_bytes(module),
             asks,
         })
     }
@@ -96,7 +98,7 @@ fn function_types(
     imports: &[Import],
     functions: &[Function],
 ) -> Result<Vec<u32>, AllocError>
-    ensures { IfOk result (λ v. v.items ≡ imported function_import imports.now ++ map (λ (f : AnyFunction). f.type_number) functions.now) }
+    ensures { IfOk result (λ v. v.items ≡ type_numbers imports.now functions.now) }
 {
     imports
         .iter()
@@ -125,7 +127,7 @@ fn host_calls(alloc: Global, imports: &[Import]) -> Result<Vec<Option<HostCall>>
 }
 
 // What an import is by its name, if it is a function.
-#[tactic(auto, unfolding(crate::specs::Tracking::imported_call))]
+#[tactic(auto, unfolding(crate::specs::inside::Tracking::imported_call))]
 fn imported_call(import: &Import) -> Option<Option<HostCall>>
     ensures { result ≡ imported_call import.now }
 {
@@ -135,14 +137,5 @@ fn imported_call(import: &Import) -> Option<Option<HostCall>>
             import.name.as_str(),
         )),
         _ => None,
-    }
-}
-
-fn memory_bytes(memories: &[Limits]) -> u64
-    ensures { result ≡ bytes_of memories.now }
-{
-    match memories {
-        [first, ..] => PAGE * u64::from(first.minimum),
-        [] => 0,
     }
 }

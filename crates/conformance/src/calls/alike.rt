@@ -89,6 +89,6 @@ fn shortened<'a>(input: &CallInput<'a>, messages: usize, edges: usize) -> CallIn
 
 fn is_alike(alloc: Global, verified: &Verified, input: &CallInput) -> Result<bool, AllocError> {
     let slow = slow_answer(alloc, verified.module(), input, ENOUGH)?;
-    let fast = fast_answer(alloc, verified, input, ENOUGH)?;
+    let fast = fast_answer(alloc, verified, input)?;
     Ok(slow.as_str() == fast.as_str())
 }

@@ -67,7 +67,8 @@ fn printed(alloc: Global, calls: &str, vertices: &[Vertex]) -> Result<String, Al
 
 // The vertices without their edges.
 fn values_of(alloc: Global, vertices: &[Vertex]) -> Result<Vec<(u64, i64)>, AllocError>
-    ensures { IfOk result (λ values. values.items ≡ map (λ vertex. (vertex.id, vertex.value)) vertices.now) }
+    ensures { IfOk result (λ values.
+        values.items ≡ map (λ vertex. (vertex.id, vertex.value)) vertices.now) }
 {
     vertices
         .iter()

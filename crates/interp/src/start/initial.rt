@@ -1,76 +1,78 @@
 //! Globals and memory as a call begins (Core 1.0, 4.5.4).
 
-ghost use Rattle.std.specs.Prelude.{◌≡◌, [], length};
-ghost use Rattle.interp.specs.Begun.{Gives};
-ghost use Rattle.interp.specs.Start.{constant_value, constant_plain, initial_globals, initial_memory, laid_at, laid_in, pages_of};
+ghost use Rattle.std.specs.Prelude.{◌≡◌, ◌≤◌, ◌*◌, [], Some, IsSome, OnOk};
+ghost use Rattle.std.specs.List.{AllByRecursion};
+ghost use Rattle.wasm_ast.specs.declared.types.Limits.{Limits as AnyLimits};
+ghost use Rattle.bounded_profile.specs.Memory.{MinimumsWithin, bytes_of, max_minimum, page};
+ghost use Rattle.interp.specs.Start.{constant_value, constant_plain, initial_globals, initial_memory, laid_in, segment_laid};
 
-use crate::fault::WalkFault;
 use crate::globals::Globals;
-use crate::memory::{MAX_PAGES, Memory};
-use std::alloc::Global;
+use crate::memory::Memory;
+use std::alloc::{AllocError, Global};
 use wasm_ast::{
     Body, Data, Global as GlobalDefinition, Instr, Limits, Module, Plain, Value, Variable,
 };
 
-/// The initial value of each global; `Stuck` where an expression has none.
+/// The initial value of each global.
 pub fn lay_globals(
     alloc: Global,
     definitions: &[GlobalDefinition],
     globals: &mut Globals,
-) -> Result<(), WalkFault>
-    requires { globals.old ≡ [] }
-    ensures { Gives result (initial_globals definitions.now) globals.new }
+) -> Result<(), AllocError>
+    requires empty { globals.old ≡ [] }
+    requires there { IsSome (initial_globals definitions.now) }
+    ensures { OnOk result (initial_globals definitions.now ≡ Some globals.new) }
 {
     let none = Globals::new(alloc);
     for definition in definitions {
         match constant_value(&none, &definition.initial) {
             Some(value) => globals.add(value)?,
-            None => return Err(WalkFault::Stuck),
+            None => unreachable!(),
         }
     }
     Ok(())
 }
 
-/// Zeros, and the data segments in order; `Stuck` where there are too many pages, or a segment does not lie within them.
-pub fn lay_memory(module: &Module, globals: &Globals, memory: &mut Memory) -> Result<(), WalkFault>
-    ensures { Gives result (initial_memory globals.now «module».now) memory.new }
+/// Zeros, and the data segments in order.
+pub fn lay_memory(module: &Module, globals: &Globals, memory: &mut Memory) -> Result<(), AllocError>
+    requires minimums { MinimumsWithin «module».now }
+    requires there { IsSome (initial_memory globals.now «module».now) }
+    ensures { OnOk result (initial_memory globals.now «module».now ≡ Some memory.new) }
 {
-    let pages = page_count(module.memories.as_slice());
-    if pages > MAX_PAGES {
-        return Err(WalkFault::Stuck);
-    }
-    memory.renew(pages)?;
-    lay_segments(module.data.as_slice(), globals, memory)
-}
-
-fn lay_segments(segments: &[Data], globals: &Globals, memory: &mut Memory) -> Result<(), WalkFault>
-    ensures { Gives result (laid_in globals.now segments.now memory.old) memory.new }
-{
-    for segment in segments {
-        lay_segment(segment, globals, memory)?;
-    }
+    memory.renew(page_count(module.memories.as_slice()))?;
+    lay_segments(module.data.as_slice(), globals, memory);
     Ok(())
 }
 
-fn lay_segment(segment: &Data, globals: &Globals, memory: &mut Memory) -> Result<(), WalkFault>
-    ensures { Gives result (laid_at (constant_value globals.now segment.now.offset) segment.now.bytes memory.old) memory.new }
+fn lay_segments(segments: &[Data], globals: &Globals, memory: &mut Memory)
+    requires { IsSome (laid_in globals.now segments.now memory.old) }
+    ensures { laid_in globals.now segments.now memory.old ≡ Some memory.new }
+{
+    for segment in segments {
+        lay_segment(segment, globals, memory);
+    }
+}
+
+fn lay_segment(segment: &Data, globals: &Globals, memory: &mut Memory)
+    requires { IsSome (segment_laid globals.now segment.now memory.old) }
+    ensures { segment_laid globals.now segment.now memory.old ≡ Some memory.new }
 {
     match constant_value(globals, &segment.offset) {
         Some(Value::I32(place)) => {
-            if memory.lay(u64::from(place), segment.bytes.as_slice()) {
-                Ok(())
-            } else {
-                Err(WalkFault::Stuck)
+            if !memory.lay(u64::from(place), segment.bytes.as_slice()) {
+                unreachable!()
             }
         }
-        Some(Value::I64(_)) => Err(WalkFault::Stuck),
-        None => Err(WalkFault::Stuck),
+        Some(Value::I64(_)) => unreachable!(),
+        None => unreachable!(),
     }
 }
 
 // The pages of the one memory, if there is one.
 fn page_count(memories: &[Limits]) -> u32
-    ensures { result ≡ pages_of memories.now }
+    requires { AllByRecursion (λ (limits : AnyLimits). limits.minimum ≤ max_minimum) memories.now }
+    ensures few { result ≤ max_minimum }
+    ensures bytes { page * result ≡ bytes_of memories.now }
 {
     match memories.first() {
         Some(limits) => limits.minimum,

@@ -1,11 +1,10 @@
 //! Branches (Core 1.0, 4.4.5).
 
-ghost use Rattle.std.specs.Prelude.{◌≡◌, length, reverse, Option, if◌then◌else◌};
-ghost use Rattle.wasm_ast.specs.declared.types.Value.{Value as AnyValue};
-ghost use Rattle.interp.specs.Configuration.{State};
-ghost use Rattle.interp.specs.Machine.{Stuck, arrive, back, branch_unless_zero, first, jump, label_of, take_branch, taking};
-ghost use Rattle.interp.specs.Meaning.{layers_of, Ordered, floor_of};
-ghost use Rattle.interp.specs.Walk.{Turned};
+ghost use Rattle.std.specs.Prelude.{◌≡◌, reverse};
+ghost use Rattle.wasm_ast.specs.declared.plain.Branch.TheVariants as branches;
+ghost use Rattle.interp.specs.Machine.{label_of, take_branch};
+ghost use Rattle.interp.specs.inside.Meaning.{AreNested, floor_of, layers_round};
+ghost use Rattle.interp.specs.inside.Walk.{Turns, Unwinds, UnwindsFrame};
 
 use crate::fault::WalkFault;
 use crate::layers::{Layer, pop_layer};
@@ -18,7 +17,7 @@ impl<'a, 'b> Walk<'a, 'b> {
     /// An instruction that goes on elsewhere.
     #[inline]
     pub fn branch(&mut self, branch: &Branch) -> Result<Turn, WalkFault>
-        ensures { Turned result (take_branch branch.now self.old.values self.old.code self.old.layers self.old.state) self.new }
+        ensures { Turns result (take_branch branch.now) self.old self.new }
     {
         match branch {
             Branch::Br(label) => self.jump(*label),
@@ -30,7 +29,7 @@ impl<'a, 'b> Walk<'a, 'b> {
 
     #[inline]
     fn branch_if(&mut self, label: u32) -> Result<Turn, WalkFault>
-        ensures { Turned result (taking self.old.values self.old.state.count (λ n us. branch_unless_zero n label us self.old.code self.old.layers self.old.state)) self.new }
+        ensures { Turns result (take_branch (branches.BrIf label)) self.old self.new }
     {
         if self.operands.pop_i32()? == 0 {
             Ok(Turn::Next)
@@ -40,7 +39,7 @@ impl<'a, 'b> Walk<'a, 'b> {
     }
 
     fn branch_by(&mut self, labels: &[u32], other: u32) -> Result<Turn, WalkFault>
-        ensures { Turned result (taking self.old.values self.old.state.count (λ n us. jump (label_of labels.now n other) (first us) self.old.layers self.old.state)) self.new }
+        ensures { Turns result (take_branch (branches.BrTable labels.now other)) self.old self.new }
     {
         let place = self.operands.pop_i32()?;
         self.jump(label_at(labels, place, other))
@@ -48,7 +47,7 @@ impl<'a, 'b> Walk<'a, 'b> {
 
     /// To a label.
     fn jump(&mut self, label: u32) -> Result<Turn, WalkFault>
-        ensures { Turned result (jump label (first self.old.values) self.old.layers self.old.state) self.new }
+        ensures { Turns result (take_branch (branches.Br label)) self.old self.new }
     {
         let top = self.operands.top();
         if !unwind(&mut self.layers, &mut self.operands, &self.locals, label) {
@@ -59,7 +58,7 @@ impl<'a, 'b> Walk<'a, 'b> {
 
     /// Out of the innermost frame.
     fn back(&mut self) -> Result<Turn, WalkFault>
-        ensures { Turned result (back (first self.old.values) self.old.layers self.old.state) self.new }
+        ensures { Turns result (take_branch branches.Return) self.old self.new }
     {
         let top = self.operands.top();
         unwind_all(&mut self.layers, &mut self.operands, &self.locals);
@@ -84,9 +83,11 @@ fn unwind<'a>(
     locals: &Locals,
     labels: u32,
 ) -> bool
-    requires { Ordered (reverse layers.old.items) (length operands.old.below) (length locals.now.below) }
-    ensures ordered { Ordered (reverse layers.new.items) (length operands.new.below) (length locals.now.below) }
-    ensures jump { (top : Option AnyValue) (st : State) → jump labels top (layers_of (reverse layers.old.items) operands.old.below locals.now.below) st ≡ (if result then arrive top (layers_of (reverse layers.new.items) operands.new.below locals.now.below) st else Stuck st.count) }
+    requires { AreNested layers.old.items operands.old locals.now }
+    ensures ordered { AreNested layers.new.items operands.new locals.now }
+    ensures jump { Unwinds labels result
+        (layers_round layers.old.items operands.old locals.now)
+        (layers_round layers.new.items operands.new locals.now) }
 {
     for _ in 0..labels {
         match pop_layer(layers) {
@@ -111,9 +112,11 @@ fn innermost_label(layers: &[Layer]) -> Option<usize>
 
 /// Takes all labels of the innermost frame off.
 fn unwind_all<'a>(layers: &mut Vec<Layer<'a>>, operands: &mut Operands, locals: &Locals)
-    requires { Ordered (reverse layers.old.items) (length operands.old.below) (length locals.now.below) }
-    ensures ordered { Ordered (reverse layers.new.items) (length operands.new.below) (length locals.now.below) }
-    ensures back { (top : Option AnyValue) (st : State) → back top (layers_of (reverse layers.old.items) operands.old.below locals.now.below) st ≡ arrive top (layers_of (reverse layers.new.items) operands.new.below locals.now.below) st }
+    requires { AreNested layers.old.items operands.old locals.now }
+    ensures ordered { AreNested layers.new.items operands.new locals.now }
+    ensures back { UnwindsFrame
+        (layers_round layers.old.items operands.old locals.now)
+        (layers_round layers.new.items operands.new locals.now) }
 {
     while let Some(floor) = innermost_label(layers.as_slice()) {
         operands.fall(floor);

@@ -1,9 +1,9 @@
 //! Calls of functions by number (Core 1.0, 4.4.7).
 
-ghost use Rattle.std.specs.Prelude.{◌≡◌, slice_get, Some};
-ghost use Rattle.interp.specs.Machine.{enter, functions_of, take_call};
-ghost use Rattle.interp.specs.Meaning.{AreImports};
-ghost use Rattle.interp.specs.Walk.{Turned};
+ghost use Rattle.std.specs.Prelude.{Some};
+ghost use Rattle.interp.specs.Machine.{enter};
+ghost use Rattle.interp.specs.inside.Meaning.{AreImports};
+ghost use Rattle.interp.specs.inside.Walk.{Turns, called, entered};
 
 use crate::fault::WalkFault;
 use crate::layers::{Layer, push_layer};
@@ -15,7 +15,7 @@ impl<'a, 'b> Walk<'a, 'b> {
     /// A call of the function with this number.
     pub fn call(&mut self, program: Program<'a>, number: u32) -> Result<Turn, WalkFault>
         requires { AreImports program.calls.now program.«module».now }
-        ensures { Turned result (take_call program.entry.«module».now (slice_get (functions_of program.entry.«module».now) number) self.old.values self.old.code self.old.layers self.old.state) self.new }
+        ensures { Turns result (called program.entry.«module».now number) self.old self.new }
     {
         match program.callee(number) {
             None => Err(WalkFault::Stuck),
@@ -25,7 +25,7 @@ impl<'a, 'b> Walk<'a, 'b> {
     }
 
     fn enter(&mut self, program: Program<'a>, function: &'a Function) -> Result<Turn, WalkFault>
-        ensures { Turned result (enter function.now (slice_get program.entry.«module».now.types function.now.type_number) self.old.values self.old.code self.old.layers self.old.state) self.new }
+        ensures { Turns result (entered program.entry.«module».now function.now) self.old self.new }
     {
         let types = program.module.types.as_slice();
         match types.get(function.type_number as usize) {
@@ -39,7 +39,7 @@ impl<'a, 'b> Walk<'a, 'b> {
         function: &'a Function,
         func_type: &FuncType,
     ) -> Result<Turn, WalkFault>
-        ensures { Turned result (enter function.now (Some func_type.now) self.old.values self.old.code self.old.layers self.old.state) self.new }
+        ensures { Turns result (enter function.now (Some func_type.now)) self.old self.new }
     {
         let count = func_type.parameters.as_slice().len();
         let keeps = !func_type.results.as_slice().is_empty();

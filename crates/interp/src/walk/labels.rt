@@ -1,9 +1,8 @@
 //! Blocks (Core 1.0, 4.4.5), and what goes on after them.
 
-ghost use Rattle.std.specs.Prelude.{◌≡◌, ◌∷◌, [], Option, Some, if◌then◌else◌};
 ghost use Rattle.wasm_ast.specs.View.{code_of};
-ghost use Rattle.interp.specs.Machine.{Running, Label, arrive, arm, leave, taking};
-ghost use Rattle.interp.specs.Walk.{Turned};
+ghost use Rattle.interp.specs.Machine.{arrive, leave};
+ghost use Rattle.interp.specs.inside.Walk.{Turned, Turns, chosen, opened};
 
 use crate::fault::WalkFault;
 use crate::layers::{Layer, pop_layer, push_layer};
@@ -89,7 +88,7 @@ impl<'a, 'b> Walk<'a, 'b> {
         target: &'a [Instr],
         body: &'a Body,
     ) -> Result<Turn, WalkFault>
-        ensures { Turned result (Running [] body.now (Label keeps self.old.values (code_of target.now) self.old.code ∷ self.old.layers) self.old.state) self.new }
+        ensures { Turns result (opened keeps (code_of target.now) body.now) self.old self.new }
     {
         let floor = self.operands.floor();
         let label = Layer::Label {
@@ -112,7 +111,7 @@ impl<'a, 'b> Walk<'a, 'b> {
         then_body: &'a Body,
         else_body: &'a Body,
     ) -> Result<Turn, WalkFault>
-        ensures { Turned result (taking self.old.values self.old.state.count (λ n us. Running [] (arm n then_body.now else_body.now) (Label keeps us self.old.code self.old.code ∷ self.old.layers) self.old.state)) self.new }
+        ensures { Turns result (chosen keeps then_body.now else_body.now) self.old self.new }
     {
         if self.operands.pop_i32()? == 0 {
             self.open(keeps, self.code, else_body)

@@ -29,7 +29,8 @@ pub fn write_code_section(
     scratch: &mut Vec<u8>,
     functions: &[Function],
 ) -> Result<(), AllocError>
-    ensures { OnOk result (out.new.items ≡ out.old.items ++ vector_section 10 function_bytes functions.now) }
+    ensures { OnOk result (out.new.items
+        ≡ out.old.items ++ vector_section 10 function_bytes functions.now) }
 {
     if functions.is_empty() {
         return Ok(());
@@ -99,7 +100,8 @@ fn group_count(first: ValType, others: &[ValType]) -> usize
 }
 
 fn write_groups(out: &mut Vec<u8>, first: ValType, others: &[ValType]) -> Result<(), AllocError>
-    ensures { OnOk result (out.new.items ≡ out.old.items ++ flat_map group_bytes (groups_from 1 first others.now)) }
+    ensures { OnOk result (out.new.items
+        ≡ out.old.items ++ flat_map group_bytes (groups_from 1 first others.now)) }
 {
     let mut count = 1;
     let mut val_type = first;

@@ -3,7 +3,8 @@
 ghost use Rattle.std.specs.Prelude.{◌≡◌, ◌++◌, ◌∷◌, [], OnOk};
 ghost use Rattle.leb.specs.Spelling.{u32_spelling};
 ghost use Rattle.wasm_ast.specs.View.{code_of};
-ghost use Rattle.wasm_decode.specs.Canonical.{plain_bytes, const_bytes, variable_bytes, memory_bytes, memory_argument_bytes, branch_bytes, code_bytes, instr_bytes, else_bytes, block_type_byte, expression_bytes};
+ghost use Rattle.wasm_decode.specs.Canonical.{plain_bytes, const_bytes, variable_bytes, memory_bytes, branch_bytes, code_bytes, instr_bytes, block_type_byte, expression_bytes};
+ghost use Rattle.wasm_decode.specs.inside.Writing.{opening_bytes, block_bytes, arm_bytes, choice_bytes, call_indirect_bytes, access_bytes};
 
 use super::opcodes::{load_opcode, numeric_opcode, store_opcode, val_type_byte};
 use super::parts::write_vector;
@@ -60,7 +61,8 @@ fn write_block(
     block_type: BlockType,
     body: &Body,
 ) -> Result<(), AllocError>
-    ensures { OnOk result (out.new.items ≡ out.old.items ++ opcode ∷ block_type_byte block_type ∷ (code_bytes body.now ++ 0x0B ∷ [])) }
+    ensures { OnOk result (out.new.items
+        ≡ out.old.items ++ block_bytes opcode block_type body.now) }
 {
     write_opening(out, opcode, block_type)?;
     write_body(out, body)?;
@@ -76,7 +78,8 @@ fn write_choice(
     body: &Body,
     other: &Body,
 ) -> Result<(), AllocError>
-    ensures { OnOk result (out.new.items ≡ out.old.items ++ 0x04 ∷ block_type_byte block_type ∷ (code_bytes body.now ++ (else_bytes other.now (code_bytes other.now) ++ 0x0B ∷ []))) }
+    ensures { OnOk result (out.new.items
+        ≡ out.old.items ++ choice_bytes block_type body.now other.now) }
 {
     write_opening(out, 0x04, block_type)?;
     write_body(out, body)?;
@@ -87,7 +90,7 @@ fn write_choice(
 // The arm for 0, with its `else`; nothing where the arm is empty.
 #[cycle(instructions)]
 fn write_else(out: &mut Vec<u8>, arm: &Body) -> Result<(), AllocError>
-    ensures { OnOk result (out.new.items ≡ out.old.items ++ else_bytes arm.now (code_bytes arm.now)) }
+    ensures { OnOk result (out.new.items ≡ out.old.items ++ arm_bytes arm.now) }
 {
     if arm.as_slice().is_empty() {
         return Ok(());
@@ -98,7 +101,7 @@ fn write_else(out: &mut Vec<u8>, arm: &Body) -> Result<(), AllocError>
 
 // An opcode and the type of a block.
 fn write_opening(out: &mut Vec<u8>, opcode: u8, block_type: BlockType) -> Result<(), AllocError>
-    ensures { OnOk result (out.new.items ≡ out.old.items ++ opcode ∷ block_type_byte block_type ∷ []) }
+    ensures { OnOk result (out.new.items ≡ out.old.items ++ opening_bytes opcode block_type) }
 {
     out.push(opcode)?;
     out.push(block_type_byte(block_type))?;
@@ -123,7 +126,7 @@ pub fn write_numbered(out: &mut Vec<u8>, opcode: u8, number: u32) -> Result<(), 
 }
 
 fn write_call_indirect(out: &mut Vec<u8>, type_number: u32) -> Result<(), AllocError>
-    ensures { OnOk result (out.new.items ≡ out.old.items ++ 0x11 ∷ (u32_spelling type_number ++ 0x00 ∷ [])) }
+    ensures { OnOk result (out.new.items ≡ out.old.items ++ call_indirect_bytes type_number) }
 {
     write_numbered(out, 0x11, type_number)?;
     write_byte(out, 0x00)
@@ -196,7 +199,7 @@ fn write_memory(out: &mut Vec<u8>, memory: Memory) -> Result<(), AllocError>
 
 // A load or a store, by its opcode.
 fn write_access(out: &mut Vec<u8>, opcode: u8, argument: MemoryArgument) -> Result<(), AllocError>
-    ensures { OnOk result (out.new.items ≡ out.old.items ++ opcode ∷ memory_argument_bytes argument) }
+    ensures { OnOk result (out.new.items ≡ out.old.items ++ access_bytes opcode argument) }
 {
     out.push(opcode)?;
     write_u32(out, argument.align)?;

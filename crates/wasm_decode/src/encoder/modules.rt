@@ -2,7 +2,8 @@
 
 ghost use Rattle.std.specs.Prelude.{◌≡◌, ◌++◌, ◌<◌, ◌≤◌, length, OnOk, IfOk, IsOkUnless};
 ghost use Rattle.wasm_ast.specs.Limits.{max_module_bytes, IsWithinLimits};
-ghost use Rattle.wasm_decode.specs.Canonical.{canonical, sections_bytes, declarations_bytes, spaces_bytes, contents_bytes, vector_section, table_bytes, vector, start_section};
+ghost use Rattle.wasm_decode.specs.Canonical.{canonical, sections_bytes, vector_section, table_bytes, vector, start_section};
+ghost use Rattle.wasm_decode.specs.inside.Writing.{declarations_bytes, spaces_bytes, contents_bytes};
 
 use super::fault::EncodeFault;
 use super::functions::write_code_section;
@@ -16,8 +17,9 @@ use leb::write_u32;
 use std::alloc::{AllocError, Global};
 use wasm_ast::{Limits, MAX_MODULE_BYTES, Module};
 
-/// The module's canonical spelling (Core 1.0, section 5): of all its spellings the shortest, with no custom section, no
-/// section whose vector is empty, one group for neighbouring locals of one type, and no `else` for an arm that is empty.
+/// The module's canonical spelling (Core 1.0, section 5): of all its spellings the shortest, with no
+/// custom section, no section whose vector is empty, one group for neighbouring locals of one type,
+/// and no `else` for an arm that is empty.
 ///
 /// `OverLimit` comes where that spelling is longer than 1,048,576 bytes, and `OutOfMemory` where memory runs out. The
 /// work is linear in the module.
@@ -25,7 +27,8 @@ pub fn encode(alloc: Global, module: &Module) -> Result<Vec<u8>, EncodeFault>
     requires { IsWithinLimits «module».now }
     ensures ok { IfOk result (λ bytes. bytes.items ≡ canonical «module».now) }
     ensures small { IfOk result (λ bytes. length bytes.items ≤ max_module_bytes) }
-    ensures over { result ≡ Err EncodeFault.OverLimit → max_module_bytes < length (canonical «module».now) }
+    ensures over { result ≡ Err EncodeFault.OverLimit
+        → max_module_bytes < length (canonical «module».now) }
 {
     let bytes = spelling(alloc, module)?;
     if bytes.len() > MAX_MODULE_BYTES {
@@ -57,7 +60,7 @@ fn write_sections(alloc: Global, out: &mut Vec<u8>, module: &Module) -> Result<(
 }
 
 // Types, imports, the types of functions, and tables.
-#[tactic(auto, unfolding(crate::specs::Canonical::declarations_bytes))]
+#[tactic(auto, unfolding(crate::specs::inside::Writing::declarations_bytes))]
 fn write_declarations(
     out: &mut Vec<u8>,
     content: &mut Vec<u8>,
@@ -72,7 +75,7 @@ fn write_declarations(
 }
 
 // Memories, globals, exports, and the function that starts the module.
-#[tactic(auto, unfolding(crate::specs::Canonical::spaces_bytes))]
+#[tactic(auto, unfolding(crate::specs::inside::Writing::spaces_bytes))]
 fn write_spaces(out: &mut Vec<u8>, content: &mut Vec<u8>, module: &Module) -> Result<(), AllocError>
     ensures { OnOk result (out.new.items ≡ out.old.items ++ spaces_bytes «module».now) }
 {
@@ -83,7 +86,7 @@ fn write_spaces(out: &mut Vec<u8>, content: &mut Vec<u8>, module: &Module) -> Re
 }
 
 // Elements, functions and data.
-#[tactic(auto, unfolding(crate::specs::Canonical::contents_bytes))]
+#[tactic(auto, unfolding(crate::specs::inside::Writing::contents_bytes))]
 fn write_contents(
     alloc: Global,
     out: &mut Vec<u8>,
@@ -103,7 +106,8 @@ fn write_table_section(
     content: &mut Vec<u8>,
     tables: &[Limits],
 ) -> Result<(), AllocError>
-    ensures { OnOk result (out.new.items ≡ out.old.items ++ vector_section 4 table_bytes tables.now) }
+    ensures { OnOk result (out.new.items
+        ≡ out.old.items ++ vector_section 4 table_bytes tables.now) }
 {
     if tables.is_empty() {
         return Ok(());

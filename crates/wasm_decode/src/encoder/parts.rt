@@ -80,7 +80,8 @@ pub fn write_vector_section<T: Part>(
     number: u8,
     items: &[T],
 ) -> Result<(), AllocError>
-    ensures { OnOk result (out.new.items ≡ out.old.items ++ vector_section number T.spelling items.now) }
+    ensures { OnOk result (out.new.items
+        ≡ out.old.items ++ vector_section number T.spelling items.now) }
 {
     if items.is_empty() {
         return Ok(());

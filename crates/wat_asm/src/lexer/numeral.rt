@@ -2,7 +2,7 @@
 
 ghost use Rattle.std.specs.Prelude.{◌≡◌, ℕ, Some, None, IfErr, negsuc, suc, ◌<◌, ◌^◌};
 ghost use Rattle.wat_asm.specs.declared.lexer.numeral.Numeral.TheVariants.{Value};
-ghost use Rattle.wat_asm.specs.Lexing.{Tells, as_align, as_negative, as_number, as_offset, as_positive, begins_with_digit, numeral_of};
+ghost use Rattle.wat_asm.specs.inside.Lexing.{Tells, as_align, as_negative, as_number, as_offset, as_positive, begins_with_digit, numeral_of};
 ghost use Rattle.wat_asm.specs.Numbering.{number_in};
 
 use super::token::Token;

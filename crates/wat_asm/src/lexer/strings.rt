@@ -1,10 +1,10 @@
 //! Strings (Core 1.0, 6.3.3).
 
 ghost use Rattle.std.specs.Prelude.{◌≡◌, ◌<◌, ◌≤◌, ℕ, List, Some, None, drop, length, false, IfOk, IfSome, IsSomeAnd, IsTrue};
-ghost use Rattle.wat_asm.specs.Follows.{FollowsSome};
-ghost use Rattle.wat_asm.specs.Lexing.{IsLeft};
+ghost use Rattle.wat_asm.specs.inside.Follows.{FollowsSome};
+ghost use Rattle.wat_asm.specs.inside.Lexing.{IsLeft};
 ghost use Rattle.wat_asm.specs.Quoted.{stands_as_itself};
-ghost use Rattle.wat_asm.specs.Strings.{hex_digit, plain, quote_at, escape_at, step_at, string_of};
+ghost use Rattle.wat_asm.specs.inside.Strings.{hex_digit, plain, quote_at, escape_at, step_at, string_of};
 
 use std::alloc::{AllocError, Global};
 
@@ -144,7 +144,8 @@ fn step(text: &[u8]) -> Option<(Part, &[u8])>
 /// What is left behind a string, of which this is the inside and what follows; none where it is no string.
 #[tactic(auto, using(crate::proofs::Left::left))]
 pub fn behind(text: &[u8]) -> Option<&[u8]>
-    ensures again { (bytes rest : List ℕ) → quote_at plain text.now ≡ Some (bytes, rest) → IsSomeAnd result (λ x. x.now ≡ rest) }
+    ensures again { (bytes rest : List ℕ) → quote_at plain text.now ≡ Some (bytes, rest)
+        → IsSomeAnd result (λ x. x.now ≡ rest) }
     ensures shrinks { IfSome result (λ x. length x.now < length text.now) }
     ensures ends { IfSome result (λ x. IsLeft text.now x.now) }
 {
@@ -161,7 +162,8 @@ pub fn behind(text: &[u8]) -> Option<&[u8]>
 
 /// The bytes of the string that begins at this place of the text, as a token tells it.
 pub fn string(alloc: Global, source: &[u8], place: usize) -> Result<Vec<u8>, AllocError>
-    ensures { (bytes : List ℕ) → string_of (drop place source.now) ≡ Some bytes → IfOk result (λ v. v.items ≡ bytes) }
+    ensures { (bytes : List ℕ) → string_of (drop place source.now) ≡ Some bytes
+        → IfOk result (λ v. v.items ≡ bytes) }
 {
     let mut bytes = Vec::new(alloc);
     if place > source.len() {

@@ -1,12 +1,12 @@
 //! What words mean.
 
 ghost use Rattle.std.specs.Prelude.{◌≡◌, List, None, ℕ, IfOk};
-ghost use Rattle.wat_asm.specs.Follows.{Follows};
+ghost use Rattle.wat_asm.specs.inside.Follows.{Follows};
 ghost use Rattle.wat_asm.specs.Keywords.{lookup};
 ghost use Rattle.wat_asm.specs.declared.keyword.TheConstants.{KEYWORDS};
-ghost use Rattle.wat_asm.specs.Lexing.{Tells, as_key, plain_of, word_of};
+ghost use Rattle.wat_asm.specs.inside.Lexing.{Tells, as_key, plain_of, word_of};
 ghost use Rattle.wat_asm.specs.Numbering.{Grows, IsNumbered, number_in};
-ghost use Rattle.wat_asm.specs.Tokens.{tok_of};
+ghost use Rattle.wat_asm.specs.inside.Tokens.{tok_of};
 
 use super::numbering::Numbering;
 use super::numeral::{alignment, negative, offset, positive, unsigned};
@@ -115,7 +115,7 @@ fn plain(word: &[u8]) -> Token
 }
 
 /// The token that a word is.
-#[tactic(auto, unfolding(crate::specs::Lexing::word_of))]
+#[tactic(auto, unfolding(crate::specs::inside::Lexing::word_of))]
 pub fn token_of<'t>(names: &mut Numbering<'t>, word: &'t [u8]) -> Result<Token, Failure>
     ensures again { (source : List ℕ) → Follows (tok_of source) result (word_of word.now) }
     ensures named { IfOk result (IsNumbered names.new word.now) }

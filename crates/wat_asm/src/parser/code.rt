@@ -1,10 +1,9 @@
 //! Instructions one after another, linear and folded, and those that hold others (Core 1.0, 6.5).
 
-ghost use Rattle.std.specs.Prelude.{◌≡◌, ◌<◌, ◌≤◌, ℕ, length, IfOk};
-ghost use Rattle.wat_asm.specs.Follows.{Follows};
-ghost use Rattle.wat_asm.specs.Reading.{State, state_of, unnamed_at};
-ghost use Rattle.wat_asm.specs.ReadingCode.{code_at, else_with, end_at, ended_with, if_with, inner_at, instr_with, instrs_at, linear_with, other_with, stops, typed_with};
-ghost use Rattle.wat_asm.specs.Tokens.{toks_of};
+ghost use Rattle.std.specs.Prelude.{◌≡◌, ◌<◌};
+ghost use Rattle.wat_asm.specs.inside.Parsing.{Advances, AddsAny, ShowsAny, GivesAny, Fewer, GoesOn, InRoom, NoMore, Passes, toks};
+ghost use Rattle.wat_asm.specs.inside.Reading.{unnamed_at};
+ghost use Rattle.wat_asm.specs.inside.ReadingCode.{code_at, else_in, end_at, ended_in, if_in, inner_at, instr_in, instrs_at, linear_in, other_in, stops, typed_in};
 
 use crate::fault::{Failure, Wrong};
 use crate::keyword::Keyword;
@@ -48,22 +47,18 @@ impl Room {
 
 // Whether a token stands next that ends a sequence.
 fn is_stop(parser: &Parser<'_>) -> bool
-    ensures { result ≡ stops (toks_of parser.now.source.now parser.now.rest.now) }
+    ensures { result ≡ stops (toks parser.now) }
 {
-    match parser.rest {
-        [] => true,
-        [Token::Close, ..] => true,
-        [Token::Key(Keyword::End), ..] => true,
-        [Token::Key(Keyword::Else), ..] => true,
-        _ => false,
-    }
+    matches!(
+        parser.rest,
+        [] | [Token::Close | Token::Key(Keyword::End | Keyword::Else), ..]
+    )
 }
 
 /// Instructions up to what ends them.
-#[tactic(auto, unfolding(crate::specs::ReadingCode::code_at))]
+#[tactic(auto, unfolding(crate::specs::inside::ReadingCode::code_at))]
 pub fn sequence(parser: &mut Parser<'_>, room: Room) -> Result<Body, Failure>
-    ensures again { (n : ℕ) → 0 < room.parentheses → Follows (λ body. (body, state_of parser.new)) result (code_at room.levels n (state_of parser.old)) }
-    ensures shrinks { IfOk result (λ _. length parser.new.rest.now ≤ length parser.old.rest.now) }
+    ensures { GoesOn parser.old parser.new result (InRoom room (GivesAny (code_at room.levels))) }
 {
     let mut instrs = Vec::new(parser.alloc);
     instructions(parser, room, &mut instrs)?;
@@ -72,10 +67,10 @@ pub fn sequence(parser: &mut Parser<'_>, room: Room) -> Result<Body, Failure>
 
 // Instructions up to what ends them are added to these.
 #[cycle(parser)]
-#[tactic(auto, unfolding(crate::specs::ReadingCode::instrs_at))]
+#[tactic(auto, unfolding(crate::specs::inside::ReadingCode::instrs_at))]
 fn instructions(parser: &mut Parser<'_>, room: Room, instrs: &mut Vec<Instr>) -> Result<(), Failure>
-    ensures again { (n : ℕ) → 0 < room.parentheses → Follows (λ _. (instrs.new.items, state_of parser.new)) result (instrs_at room.levels n (instrs.old.items, state_of parser.old)) }
-    ensures shrinks { IfOk result (λ _. length parser.new.rest.now ≤ length parser.old.rest.now) }
+    ensures { GoesOn parser.old parser.new result
+        (InRoom room (AddsAny instrs.old instrs.new (instrs_at room.levels))) }
 {
     'each: while !is_stop(parser) {
         if parser.is_open() {
@@ -90,10 +85,10 @@ fn instructions(parser: &mut Parser<'_>, room: Room, instrs: &mut Vec<Instr>) ->
 
 // One instruction that is not folded.
 #[cycle(parser)]
-#[tactic(auto, unfolding(crate::specs::ReadingCode::instr_with))]
+#[tactic(auto, unfolding(crate::specs::inside::ReadingCode::instr_with))]
 fn instruction(parser: &mut Parser<'_>, room: Room) -> Result<Instr, Failure>
-    ensures again { (n : ℕ) → 0 < room.parentheses → Follows (λ i. (i, state_of parser.new)) result (instr_with n (inner_at room.levels n) (state_of parser.old)) }
-    ensures shrinks { IfOk result (λ _. length parser.new.rest.now < length parser.old.rest.now) }
+    ensures { Advances parser.old parser.new result
+        (InRoom room (GivesAny (instr_in room.levels))) }
 {
     match parser.rest {
         [Token::Key(keyword), rest @ ..] => {
@@ -106,10 +101,10 @@ fn instruction(parser: &mut Parser<'_>, room: Room) -> Result<Instr, Failure>
 
 // An instruction that is not folded, behind its keyword.
 #[cycle(parser)]
-#[tactic(auto, unfolding(crate::specs::ReadingCode::linear_with, crate::specs::ReadingCode::block_with, crate::specs::ReadingCode::loop_with))]
+#[tactic(auto, unfolding(crate::specs::inside::ReadingCode::linear_with, crate::specs::inside::ReadingCode::block_with, crate::specs::inside::ReadingCode::loop_with))]
 fn linear(parser: &mut Parser<'_>, room: Room, keyword: Keyword) -> Result<Instr, Failure>
-    ensures again { (n : ℕ) → 0 < room.parentheses → Follows (λ i. (i, state_of parser.new)) result (linear_with n (inner_at room.levels n) keyword (state_of parser.old)) }
-    ensures shrinks { IfOk result (λ _. length parser.new.rest.now ≤ length parser.old.rest.now) }
+    ensures { GoesOn parser.old parser.new result
+        (InRoom room (GivesAny (linear_in room.levels keyword))) }
 {
     match keyword {
         Keyword::Block => {
@@ -127,10 +122,10 @@ fn linear(parser: &mut Parser<'_>, room: Room, keyword: Keyword) -> Result<Instr
 
 // The type and the body of a block, behind its keyword, and its `end`.
 #[cycle(parser)]
-#[tactic(auto, unfolding(crate::specs::ReadingCode::ended_with))]
+#[tactic(auto, unfolding(crate::specs::inside::ReadingCode::ended_with))]
 fn block(parser: &mut Parser<'_>, room: Room) -> Result<(BlockType, Body), Failure>
-    ensures again { (n : ℕ) → 0 < room.parentheses → Follows (λ x. ((x.0, x.1), state_of parser.new)) result (ended_with (inner_at room.levels n) (state_of parser.old)) }
-    ensures shrinks { IfOk result (λ _. length parser.new.rest.now ≤ length parser.old.rest.now) }
+    ensures { GoesOn parser.old parser.new result
+        (InRoom room (ShowsAny (λ x. (x.0, x.1)) (ended_in room.levels))) }
 {
     let (name, given, body) = typed_body(parser, room)?;
     ended(parser, name)?;
@@ -139,13 +134,13 @@ fn block(parser: &mut Parser<'_>, room: Room) -> Result<(BlockType, Body), Failu
 
 // The name, the type and the body of a block, behind its keyword.
 #[cycle(parser)]
-#[tactic(auto, unfolding(crate::specs::ReadingCode::typed_with))]
+#[tactic(auto, unfolding(crate::specs::inside::ReadingCode::typed_with))]
 fn typed_body(
     parser: &mut Parser<'_>,
     room: Room,
 ) -> Result<(Option<u32>, BlockType, Body), Failure>
-    ensures again { (n : ℕ) → 0 < room.parentheses → Follows (λ x. ((x.1, x.2), state_of parser.new)) result (typed_with (inner_at room.levels n) (state_of parser.old)) }
-    ensures shrinks { IfOk result (λ _. length parser.new.rest.now ≤ length parser.old.rest.now) }
+    ensures { GoesOn parser.old parser.new result
+        (InRoom room (ShowsAny (λ x. (x.1, x.2)) (typed_in room.levels))) }
 {
     let name = parser.name();
     let given = parser.block_type(room.parentheses)?;
@@ -155,10 +150,9 @@ fn typed_body(
 
 // What follows `if`.
 #[cycle(parser)]
-#[tactic(auto, unfolding(crate::specs::ReadingCode::if_with))]
+#[tactic(auto, unfolding(crate::specs::inside::ReadingCode::if_with))]
 fn choice(parser: &mut Parser<'_>, room: Room) -> Result<Instr, Failure>
-    ensures again { (n : ℕ) → 0 < room.parentheses → Follows (λ i. (i, state_of parser.new)) result (if_with (inner_at room.levels n) (state_of parser.old)) }
-    ensures shrinks { IfOk result (λ _. length parser.new.rest.now ≤ length parser.old.rest.now) }
+    ensures { GoesOn parser.old parser.new result (InRoom room (GivesAny (if_in room.levels))) }
 {
     let (name, given, body) = typed_body(parser, room)?;
     let other = other_arm(parser, room, name)?;
@@ -167,10 +161,9 @@ fn choice(parser: &mut Parser<'_>, room: Room) -> Result<Instr, Failure>
 
 // The arm for 0 of an `if`, and the `end`.
 #[cycle(parser)]
-#[tactic(auto, unfolding(crate::specs::ReadingCode::other_with))]
+#[tactic(auto, unfolding(crate::specs::inside::ReadingCode::other_with))]
 fn other_arm(parser: &mut Parser<'_>, room: Room, name: Option<u32>) -> Result<Body, Failure>
-    ensures again { (n : ℕ) → 0 < room.parentheses → Follows (λ body. (body, state_of parser.new)) result (other_with (inner_at room.levels n) (state_of parser.old)) }
-    ensures shrinks { IfOk result (λ _. length parser.new.rest.now ≤ length parser.old.rest.now) }
+    ensures { GoesOn parser.old parser.new result (InRoom room (GivesAny (other_in room.levels))) }
 {
     let other = else_arm(parser, room, name)?;
     ended(parser, name)?;
@@ -179,10 +172,9 @@ fn other_arm(parser: &mut Parser<'_>, room: Room, name: Option<u32>) -> Result<B
 
 // The arm behind `else`, which is empty where there is none.
 #[cycle(parser)]
-#[tactic(auto, unfolding(crate::specs::ReadingCode::else_with))]
+#[tactic(auto, unfolding(crate::specs::inside::ReadingCode::else_with))]
 fn else_arm(parser: &mut Parser<'_>, room: Room, name: Option<u32>) -> Result<Body, Failure>
-    ensures again { (n : ℕ) → 0 < room.parentheses → Follows (λ body. (body, state_of parser.new)) result (else_with (inner_at room.levels n) (state_of parser.old)) }
-    ensures shrinks { IfOk result (λ _. length parser.new.rest.now ≤ length parser.old.rest.now) }
+    ensures { GoesOn parser.old parser.new result (InRoom room (GivesAny (else_in room.levels))) }
 {
     match parser.rest {
         [Token::Key(Keyword::Else), rest @ ..] => {
@@ -195,10 +187,9 @@ fn else_arm(parser: &mut Parser<'_>, room: Room, name: Option<u32>) -> Result<Bo
 }
 
 // The `end` of a block with this name.
-#[tactic(auto, unfolding(crate::specs::ReadingCode::end_at))]
+#[tactic(auto, unfolding(crate::specs::inside::ReadingCode::end_at))]
 fn ended(parser: &mut Parser<'_>, name: Option<u32>) -> Result<(), Failure>
-    ensures again { Follows (λ _. state_of parser.new) result (end_at (state_of parser.old)) }
-    ensures shrinks { IfOk result (λ _. length parser.new.rest.now < length parser.old.rest.now) }
+    ensures { Advances parser.old parser.new result (Passes end_at) }
 {
     match parser.rest {
         [Token::Key(Keyword::End), rest @ ..] => {
@@ -210,10 +201,9 @@ fn ended(parser: &mut Parser<'_>, name: Option<u32>) -> Result<(), Failure>
 }
 
 // Passes a label that repeats this one, where one stands.
-#[tactic(auto, unfolding(crate::specs::Reading::unnamed_at))]
+#[tactic(auto, unfolding(crate::specs::inside::Reading::unnamed_at))]
 fn same_label(parser: &mut Parser<'_>, name: Option<u32>) -> Result<(), Failure>
-    ensures again { Follows (λ _. state_of parser.new) result (unnamed_at (state_of parser.old)) }
-    ensures shrinks { IfOk result (λ _. length parser.new.rest.now ≤ length parser.old.rest.now) }
+    ensures { GoesOn parser.old parser.new result (Passes unnamed_at) }
 {
     match parser.rest {
         [Token::Name(again), rest @ ..] => {
@@ -229,10 +219,9 @@ fn same_label(parser: &mut Parser<'_>, name: Option<u32>) -> Result<(), Failure>
 
 // The instructions in a block of this name.
 #[cycle(parser)]
-#[tactic(auto, unfolding(crate::specs::ReadingCode::inner_at, crate::specs::ReadingCode::instrs_at))]
+#[tactic(auto, unfolding(crate::specs::inside::ReadingCode::inner_at, crate::specs::inside::ReadingCode::instrs_at))]
 fn inner(parser: &mut Parser<'_>, room: Room, name: Option<u32>) -> Result<Body, Failure>
-    ensures again { (n : ℕ) → 0 < room.parentheses → Follows (λ body. (body, state_of parser.new)) result (inner_at room.levels n (state_of parser.old)) }
-    ensures shrinks { IfOk result (λ _. length parser.new.rest.now ≤ length parser.old.rest.now) }
+    ensures { GoesOn parser.old parser.new result (InRoom room (GivesAny (inner_at room.levels))) }
 {
     if room.levels == 0 {
         return Err(parser.fault(Wrong::OverLimit));
@@ -247,7 +236,7 @@ fn inner(parser: &mut Parser<'_>, room: Room, name: Option<u32>) -> Result<Body,
 /// A folded instruction, of which the operands stand first, is added to these.
 #[cycle(parser)]
 pub fn folded(parser: &mut Parser<'_>, room: Room, instrs: &mut Vec<Instr>) -> Result<(), Failure>
-    ensures shrinks { IfOk result (λ _. length parser.new.rest.now < length parser.old.rest.now) }
+    ensures shrinks { Fewer parser.old parser.new result }
 {
     if room.parentheses == 0 {
         return Err(parser.fault(Wrong::OverLimit));
@@ -260,7 +249,7 @@ pub fn folded(parser: &mut Parser<'_>, room: Room, instrs: &mut Vec<Instr>) -> R
 
 // Passes the parenthesis and the keyword of a folded instruction.
 fn folded_keyword(parser: &mut Parser<'_>) -> Result<Keyword, Failure>
-    ensures shrinks { IfOk result (λ _. length parser.new.rest.now < length parser.old.rest.now) }
+    ensures shrinks { Fewer parser.old parser.new result }
 {
     match parser.rest {
         [Token::Open, Token::Key(keyword), rest @ ..] => {
@@ -283,7 +272,7 @@ fn unfolded(
     keyword: Keyword,
     instrs: &mut Vec<Instr>,
 ) -> Result<Instr, Failure>
-    ensures shrinks { IfOk result (λ _. length parser.new.rest.now ≤ length parser.old.rest.now) }
+    ensures shrinks { NoMore parser.old parser.new result }
 {
     match keyword {
         Keyword::Block => {
@@ -306,7 +295,7 @@ fn unfolded(
 // The operands of a folded instruction.
 #[cycle(parser)]
 fn operands(parser: &mut Parser<'_>, room: Room, instrs: &mut Vec<Instr>) -> Result<(), Failure>
-    ensures shrinks { IfOk result (λ _. length parser.new.rest.now ≤ length parser.old.rest.now) }
+    ensures shrinks { NoMore parser.old parser.new result }
 {
     'each: while is_operand(parser) {
         folded(parser, room, instrs)?;
@@ -329,7 +318,7 @@ fn folded_choice(
     room: Room,
     instrs: &mut Vec<Instr>,
 ) -> Result<Instr, Failure>
-    ensures shrinks { IfOk result (λ _. length parser.new.rest.now ≤ length parser.old.rest.now) }
+    ensures shrinks { NoMore parser.old parser.new result }
 {
     let name = parser.name();
     let given = parser.block_type(room.parentheses)?;
@@ -346,7 +335,7 @@ fn folded_choice(
 // The arm in `(then ..)`.
 #[cycle(parser)]
 fn then_arm(parser: &mut Parser<'_>, room: Room, name: Option<u32>) -> Result<Body, Failure>
-    ensures shrinks { IfOk result (λ _. length parser.new.rest.now ≤ length parser.old.rest.now) }
+    ensures shrinks { NoMore parser.old parser.new result }
 {
     match parser.opening() {
         Some(Keyword::Then) => arm(parser, room, name),
@@ -357,7 +346,7 @@ fn then_arm(parser: &mut Parser<'_>, room: Room, name: Option<u32>) -> Result<Bo
 // The arm in `(else ..)`, which is empty where there is none.
 #[cycle(parser)]
 fn folded_else(parser: &mut Parser<'_>, room: Room, name: Option<u32>) -> Result<Body, Failure>
-    ensures shrinks { IfOk result (λ _. length parser.new.rest.now ≤ length parser.old.rest.now) }
+    ensures shrinks { NoMore parser.old parser.new result }
 {
     match parser.opening() {
         Some(Keyword::Else) => arm(parser, room, name),
@@ -368,7 +357,7 @@ fn folded_else(parser: &mut Parser<'_>, room: Room, name: Option<u32>) -> Result
 // The instructions in the parenthesis that stands next, of a folded `if` of this name.
 #[cycle(parser)]
 fn arm(parser: &mut Parser<'_>, room: Room, name: Option<u32>) -> Result<Body, Failure>
-    ensures shrinks { IfOk result (λ _. length parser.new.rest.now ≤ length parser.old.rest.now) }
+    ensures shrinks { NoMore parser.old parser.new result }
 {
     parser.enter();
     let body = inner(parser, room, name)?;

@@ -35,7 +35,7 @@ pub struct Imported {
 impl Draft {
     ghost use Rattle.std.specs.Prelude.{◌≡◌};
     ghost use Rattle.wasm_ast.specs.Modules.{empty_module};
-    ghost use Rattle.wat_asm.specs.ReadingModule.{drafted, has_definition, with_types};
+    ghost use Rattle.wat_asm.specs.inside.ReadingModule.{drafted, has_definition, with_types};
 
     /// Nothing yet; it takes no memory.
     pub fn new(alloc: Heap) -> Draft
@@ -86,19 +86,19 @@ impl Draft {
     /// The export of what is defined next of this kind, if there is one.
     pub fn next_export(&self, kind: Kind) -> Option<ExportDescription> {
         let (imported, defined) = match kind {
-            Kind::Type => return None,
             Kind::Function => (self.imported.functions, self.functions.len()),
             Kind::Table => (self.imported.tables, self.tables.len()),
             Kind::Memory => (self.imported.memories, self.memories.len()),
             Kind::Global => (self.imported.globals, self.globals.len()),
+            _ => return None,
         };
         let number = u32::try_from(imported.checked_add(defined)?).ok()?;
         match kind {
-            Kind::Type => None,
             Kind::Function => Some(ExportDescription::Function(number)),
             Kind::Table => Some(ExportDescription::Table(number)),
             Kind::Memory => Some(ExportDescription::Memory(number)),
             Kind::Global => Some(ExportDescription::Global(number)),
+            _ => None,
         }
     }
 

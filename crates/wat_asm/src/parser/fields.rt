@@ -1,17 +1,16 @@
 //! The fields of a module (Core 1.0, 6.6).
 
-ghost use Rattle.std.specs.Prelude.{◌≡◌, ◌<◌, ◌≤◌, ℕ, Bool, Some, None, length, IfOk, is_some, if◌then◌else◌};
-ghost use Rattle.wat_asm.specs.Follows.{Follows};
-ghost use Rattle.wat_asm.specs.Reading.{group_step, groups_at, limits_at, local_first, number_at, state_of};
-ghost use Rattle.wat_asm.specs.ReadingModule.{added, bytes_at, defined_at, drafted, element_at, export_at, export_description_at, exported_at, field_at, field_first, field_step, function_at, global_at, has_definition, heading_at, import_at, import_description_at, imported_at, inline_at, inline_first, inner_offset_at, number_or_0_at, numbers_at, offset_at, offset_first, segment_at, table_at, text_first, with_element, with_export, with_function, with_global, with_import, with_memory, with_segment, with_start, with_table};
-ghost use Rattle.wat_asm.specs.Tokens.{toks_of};
+ghost use Rattle.std.specs.Prelude.{◌≡◌, Bool, Some};
+ghost use Rattle.wat_asm.specs.inside.Parsing.{Advances, AddsAny, DraftsAny, ShowsAny, GivesAny, Drafts, Fewer, GoesOn, NoMore, Gives, toks};
+ghost use Rattle.wat_asm.specs.inside.Reading.{group_step, groups_at, local_first};
+ghost use Rattle.wat_asm.specs.inside.ReadingModule.{bytes_at, element_at, element_field_at, export_at, export_description_at, export_field_at, exported_at, field_first, field_step, function_at, function_field_at, global_at, global_field_at, heading_at, import_at, import_description_at, import_field_at, imported_at, inline_at, inline_first, inner_offset_at, keyword_at, memory_field_at, number_or_0_at, numbers_at, offset_at, offset_first, segment_at, segment_field_at, start_field_at, table_at, table_field_at, text_first};
 
 use crate::fault::{Failure, Wrong};
 use crate::keyword::Keyword;
 use crate::lexer::Token;
 use crate::parser::code::{Room, folded, sequence};
 use crate::parser::draft::Draft;
-use crate::parser::names::{Kind, declare};
+use crate::parser::names::Kind;
 use crate::parser::tokens::Parser;
 use crate::parser::types::ParameterNames;
 use wasm_ast::{
@@ -35,21 +34,17 @@ const INNER_ROOM: Room = Room {
 };
 
 /// Whether a field begins here.
-#[tactic(auto, unfolding(crate::specs::ReadingModule::field_first))]
+#[tactic(auto, unfolding(crate::specs::inside::ReadingModule::field_first))]
 pub fn is_field(parser: &Parser<'_>) -> bool
-    ensures { field_first (toks_of parser.now.source.now parser.now.rest.now) ≡ Some result }
+    ensures { field_first (toks parser.now) ≡ Some result }
 {
-    match parser.rest {
-        [Token::Open, Token::Key(_), ..] => true,
-        _ => false,
-    }
+    matches!(parser.rest, [Token::Open, Token::Key(_), ..])
 }
 
 /// One field is added to what was read before.
-#[tactic(auto, unfolding(crate::specs::ReadingModule::field_step))]
+#[tactic(auto, unfolding(crate::specs::inside::ReadingModule::field_step))]
 pub fn field(parser: &mut Parser<'_>, draft: &mut Draft) -> Result<(), Failure>
-    ensures again { (n : ℕ) → Follows (λ _. (drafted draft.new, state_of parser.new)) result (field_step n (drafted draft.old, state_of parser.old)) }
-    ensures shrinks { IfOk result (λ _. length parser.new.rest.now < length parser.old.rest.now) }
+    ensures { Advances parser.old parser.new result (DraftsAny draft.old draft.new field_step) }
 {
     let keyword = parser.opened()?;
     behind_keyword(parser, draft, keyword)?;
@@ -57,14 +52,14 @@ pub fn field(parser: &mut Parser<'_>, draft: &mut Draft) -> Result<(), Failure>
 }
 
 // What follows a field's keyword, up to its closing parenthesis.
-#[tactic(auto, unfolding(crate::specs::ReadingModule::field_at))]
+#[tactic(auto, unfolding(crate::specs::inside::ReadingModule::field_at))]
 fn behind_keyword(
     parser: &mut Parser<'_>,
     draft: &mut Draft,
     keyword: Keyword,
 ) -> Result<(), Failure>
-    ensures again { (n : ℕ) → Follows (λ _. (drafted draft.new, state_of parser.new)) result (field_at n keyword (drafted draft.old, state_of parser.old)) }
-    ensures shrinks { IfOk result (λ _. length parser.new.rest.now ≤ length parser.old.rest.now) }
+    ensures { GoesOn parser.old parser.new result
+        (DraftsAny draft.old draft.new (keyword_at keyword)) }
 {
     match keyword {
         Keyword::Import => import(parser, draft),
@@ -83,7 +78,7 @@ fn behind_keyword(
 
 // A type that stands behind another field. Where all types were wanted before, it is read already.
 fn later_type(parser: &mut Parser<'_>) -> Result<(), Failure>
-    ensures shrinks { IfOk result (λ _. length parser.new.rest.now ≤ length parser.old.rest.now) }
+    ensures shrinks { NoMore parser.old parser.new result }
 {
     let t = parser.defined_type()?;
     if !parser.are_types_read {
@@ -95,8 +90,7 @@ fn later_type(parser: &mut Parser<'_>) -> Result<(), Failure>
 // ---- imports and exports
 
 fn import(parser: &mut Parser<'_>, draft: &mut Draft) -> Result<(), Failure>
-    ensures again { Follows (λ _. (drafted draft.new, state_of parser.new)) result ((if has_definition (drafted draft.old) then None else added import_at with_import (drafted draft.old, state_of parser.old))) }
-    ensures shrinks { IfOk result (λ _. length parser.new.rest.now ≤ length parser.old.rest.now) }
+    ensures { GoesOn parser.old parser.new result (Drafts draft.old draft.new import_field_at) }
 {
     if draft.has_definition() {
         return Err(parser.fault(Wrong::Syntax));
@@ -107,10 +101,9 @@ fn import(parser: &mut Parser<'_>, draft: &mut Draft) -> Result<(), Failure>
     Ok(())
 }
 
-#[tactic(auto, unfolding(crate::specs::ReadingModule::import_at))]
+#[tactic(auto, unfolding(crate::specs::inside::ReadingModule::import_at))]
 fn import_item(parser: &mut Parser<'_>) -> Result<Import, Failure>
-    ensures again { Follows (λ i. (i, state_of parser.new)) result (import_at (state_of parser.old)) }
-    ensures shrinks { IfOk result (λ _. length parser.new.rest.now ≤ length parser.old.rest.now) }
+    ensures { GoesOn parser.old parser.new result (Gives import_at) }
 {
     let module = parser.text()?;
     let name = parser.text()?;
@@ -122,10 +115,9 @@ fn import_item(parser: &mut Parser<'_>) -> Result<Import, Failure>
     })
 }
 
-#[tactic(auto, unfolding(crate::specs::ReadingModule::import_description_at))]
+#[tactic(auto, unfolding(crate::specs::inside::ReadingModule::import_description_at))]
 fn import_description(parser: &mut Parser<'_>) -> Result<ImportDescription, Failure>
-    ensures again { Follows (λ d. (d, state_of parser.new)) result (import_description_at (state_of parser.old)) }
-    ensures shrinks { IfOk result (λ _. length parser.new.rest.now ≤ length parser.old.rest.now) }
+    ensures { GoesOn parser.old parser.new result (Gives import_description_at) }
 {
     let keyword = parser.opened()?;
     let _name = parser.name();
@@ -135,56 +127,44 @@ fn import_description(parser: &mut Parser<'_>) -> Result<ImportDescription, Fail
 }
 
 // What is imported, behind its keyword and its name.
-#[tactic(auto, unfolding(crate::specs::ReadingModule::imported_at))]
+#[tactic(auto, unfolding(crate::specs::inside::ReadingModule::imported_at))]
 fn imported(parser: &mut Parser<'_>, keyword: Keyword) -> Result<ImportDescription, Failure>
-    ensures again { Follows (λ d. (d, state_of parser.new)) result (imported_at keyword (state_of parser.old)) }
-    ensures shrinks { IfOk result (λ _. length parser.new.rest.now ≤ length parser.old.rest.now) }
+    ensures { GoesOn parser.old parser.new result (Gives (imported_at keyword)) }
 {
     match keyword {
         Keyword::Func => {
             parser.forget_locals();
-            let number = parser.type_use(ParameterNames::Bound, INNER_ROOM.parentheses)?;
-            Ok(ImportDescription::Function(number))
+            parser
+                .type_use(ParameterNames::Bound, INNER_ROOM.parentheses)
+                .map(ImportDescription::Function)
         }
-        Keyword::Table => {
-            let limits = table_limits(parser)?;
-            Ok(ImportDescription::Table(limits))
-        }
-        Keyword::Memory => {
-            let limits = parser.limits()?;
-            Ok(ImportDescription::Memory(limits))
-        }
-        Keyword::Global => {
-            let t = parser.global_type()?;
-            Ok(ImportDescription::Global(t))
-        }
+        Keyword::Table => table_limits(parser).map(ImportDescription::Table),
+        Keyword::Memory => parser.limits().map(ImportDescription::Memory),
+        Keyword::Global => parser.global_type().map(ImportDescription::Global),
         _ => Err(parser.unexpected()),
     }
 }
 
 fn export(parser: &mut Parser<'_>, draft: &mut Draft) -> Result<(), Failure>
-    ensures again { Follows (λ _. (drafted draft.new, state_of parser.new)) result (added export_at with_export (drafted draft.old, state_of parser.old)) }
-    ensures shrinks { IfOk result (λ _. length parser.new.rest.now ≤ length parser.old.rest.now) }
+    ensures { GoesOn parser.old parser.new result (Drafts draft.old draft.new export_field_at) }
 {
     let export = export_item(parser)?;
     draft.exports.push(export)?;
     Ok(())
 }
 
-#[tactic(auto, unfolding(crate::specs::ReadingModule::export_at))]
+#[tactic(auto, unfolding(crate::specs::inside::ReadingModule::export_at))]
 fn export_item(parser: &mut Parser<'_>) -> Result<Export, Failure>
-    ensures again { Follows (λ e. (e, state_of parser.new)) result (export_at (state_of parser.old)) }
-    ensures shrinks { IfOk result (λ _. length parser.new.rest.now ≤ length parser.old.rest.now) }
+    ensures { GoesOn parser.old parser.new result (Gives export_at) }
 {
     let name = parser.text()?;
     let description = export_description(parser)?;
     Ok(Export { name, description })
 }
 
-#[tactic(auto, unfolding(crate::specs::ReadingModule::export_description_at))]
+#[tactic(auto, unfolding(crate::specs::inside::ReadingModule::export_description_at))]
 fn export_description(parser: &mut Parser<'_>) -> Result<ExportDescription, Failure>
-    ensures again { Follows (λ d. (d, state_of parser.new)) result (export_description_at (state_of parser.old)) }
-    ensures shrinks { IfOk result (λ _. length parser.new.rest.now ≤ length parser.old.rest.now) }
+    ensures { GoesOn parser.old parser.new result (Gives export_description_at) }
 {
     let keyword = parser.opened()?;
     let description = exported(parser, keyword)?;
@@ -193,52 +173,36 @@ fn export_description(parser: &mut Parser<'_>) -> Result<ExportDescription, Fail
 }
 
 // What is exported, behind its keyword.
-#[tactic(auto, unfolding(crate::specs::ReadingModule::exported_at))]
+#[tactic(auto, unfolding(crate::specs::inside::ReadingModule::exported_at))]
 fn exported(parser: &mut Parser<'_>, keyword: Keyword) -> Result<ExportDescription, Failure>
-    ensures again { Follows (λ d. (d, state_of parser.new)) result (exported_at keyword (state_of parser.old)) }
-    ensures shrinks { IfOk result (λ _. length parser.new.rest.now ≤ length parser.old.rest.now) }
+    ensures { GoesOn parser.old parser.new result (Gives (exported_at keyword)) }
 {
     match keyword {
-        Keyword::Func => {
-            let n = parser.index(Kind::Function)?;
-            Ok(ExportDescription::Function(n))
-        }
-        Keyword::Table => {
-            let n = parser.index(Kind::Table)?;
-            Ok(ExportDescription::Table(n))
-        }
-        Keyword::Memory => {
-            let n = parser.index(Kind::Memory)?;
-            Ok(ExportDescription::Memory(n))
-        }
-        Keyword::Global => {
-            let n = parser.index(Kind::Global)?;
-            Ok(ExportDescription::Global(n))
-        }
+        Keyword::Func => parser
+            .index(Kind::Function)
+            .map(ExportDescription::Function),
+        Keyword::Table => parser.index(Kind::Table).map(ExportDescription::Table),
+        Keyword::Memory => parser.index(Kind::Memory).map(ExportDescription::Memory),
+        Keyword::Global => parser.index(Kind::Global).map(ExportDescription::Global),
         _ => Err(parser.unexpected()),
     }
 }
 
 // Whether an export or an import stands next, inside of a field.
 fn is_inline(parser: &Parser<'_>) -> bool
-    ensures { result ≡ inline_first (toks_of parser.now.source.now parser.now.rest.now) }
+    ensures { result ≡ inline_first (toks parser.now) }
 {
-    match parser.opening() {
-        Some(Keyword::Export) => true,
-        Some(Keyword::Import) => true,
-        _ => false,
-    }
+    matches!(parser.opening(), Some(Keyword::Export | Keyword::Import))
 }
 
 // The exports inside of a field, of what the field defines. An import there is not taken.
-#[tactic(auto, unfolding(crate::specs::ReadingModule::inline_at))]
+#[tactic(auto, unfolding(crate::specs::inside::ReadingModule::inline_at))]
 fn inline_exports(
     parser: &mut Parser<'_>,
     draft: &mut Draft,
     description: Option<ExportDescription>,
 ) -> Result<(), Failure>
-    ensures again { Follows (λ _. (drafted draft.new, state_of parser.new)) result (inline_at (drafted draft.old, state_of parser.old)) }
-    ensures shrinks { IfOk result (λ _. length parser.new.rest.now ≤ length parser.old.rest.now) }
+    ensures { GoesOn parser.old parser.new result (Drafts draft.old draft.new inline_at) }
 {
     'each: while is_inline(parser) {
         inline_export(parser, draft, description)?;
@@ -251,7 +215,7 @@ fn inline_export(
     draft: &mut Draft,
     description: Option<ExportDescription>,
 ) -> Result<(), Failure>
-    ensures shrinks { IfOk result (λ _. length parser.new.rest.now < length parser.old.rest.now) }
+    ensures shrinks { Fewer parser.old parser.new result }
 {
     match (parser.opening(), description) {
         (Some(Keyword::Export), Some(description)) => named_export(parser, draft, description),
@@ -266,7 +230,7 @@ fn named_export(
     draft: &mut Draft,
     description: ExportDescription,
 ) -> Result<(), Failure>
-    ensures shrinks { IfOk result (λ _. length parser.new.rest.now < length parser.old.rest.now) }
+    ensures shrinks { Fewer parser.old parser.new result }
 {
     parser.enter();
     let name = parser.text()?;
@@ -277,20 +241,19 @@ fn named_export(
 // ---- definitions
 
 // The name and the exports of a definition, behind its keyword.
-#[tactic(auto, unfolding(crate::specs::ReadingModule::heading_at))]
+#[tactic(auto, unfolding(crate::specs::inside::ReadingModule::heading_at))]
 fn heading(parser: &mut Parser<'_>, draft: &mut Draft, kind: Kind) -> Result<(), Failure>
-    ensures again { Follows (λ _. (drafted draft.new, state_of parser.new)) result (heading_at (drafted draft.old, state_of parser.old)) }
-    ensures shrinks { IfOk result (λ _. length parser.new.rest.now ≤ length parser.old.rest.now) }
+    ensures { GoesOn parser.old parser.new result (Drafts draft.old draft.new heading_at) }
 {
     let _name = parser.name();
     let description = draft.next_export(kind);
     inline_exports(parser, draft, description)
 }
 
-#[tactic(auto, unfolding(crate::specs::ReadingModule::defined_at))]
+#[tactic(auto, unfolding(crate::specs::inside::ReadingModule::defined_at))]
 fn function(parser: &mut Parser<'_>, draft: &mut Draft) -> Result<(), Failure>
-    ensures again { (n : ℕ) → Follows (λ _. (drafted draft.new, state_of parser.new)) result (defined_at (function_at n) with_function (drafted draft.old, state_of parser.old)) }
-    ensures shrinks { IfOk result (λ _. length parser.new.rest.now ≤ length parser.old.rest.now) }
+    ensures { GoesOn parser.old parser.new result
+        (DraftsAny draft.old draft.new function_field_at) }
 {
     heading(parser, draft, Kind::Function)?;
     let item = function_item(parser)?;
@@ -298,10 +261,9 @@ fn function(parser: &mut Parser<'_>, draft: &mut Draft) -> Result<(), Failure>
     Ok(())
 }
 
-#[tactic(auto, unfolding(crate::specs::ReadingModule::function_at))]
+#[tactic(auto, unfolding(crate::specs::inside::ReadingModule::function_at))]
 fn function_item(parser: &mut Parser<'_>) -> Result<Function, Failure>
-    ensures again { (n : ℕ) → Follows (λ f. (f, state_of parser.new)) result (function_at n (state_of parser.old)) }
-    ensures shrinks { IfOk result (λ _. length parser.new.rest.now ≤ length parser.old.rest.now) }
+    ensures { GoesOn parser.old parser.new result (GivesAny function_at) }
 {
     parser.forget_locals();
     let type_number = parser.type_use(ParameterNames::Bound, ROOM.parentheses)?;
@@ -316,14 +278,14 @@ fn function_item(parser: &mut Parser<'_>) -> Result<Function, Failure>
 }
 
 // All groups of locals that stand next, in a function of this type, are added to these.
-#[tactic(auto, unfolding(crate::specs::Reading::groups_at))]
+#[tactic(auto, unfolding(crate::specs::inside::Reading::groups_at))]
 fn all_locals(
     parser: &mut Parser<'_>,
     type_number: u32,
     locals: &mut Vec<ValType>,
 ) -> Result<(), Failure>
-    ensures again { (n : ℕ) → Follows (λ _. (locals.new.items, state_of parser.new)) result (groups_at local_first n (locals.old.items, state_of parser.old)) }
-    ensures shrinks { IfOk result (λ _. length parser.new.rest.now ≤ length parser.old.rest.now) }
+    ensures { GoesOn parser.old parser.new result
+        (AddsAny locals.old locals.new (groups_at local_first)) }
 {
     'each: while is_locals(parser) {
         local_group(parser, type_number, locals)?;
@@ -332,23 +294,19 @@ fn all_locals(
 }
 
 fn is_locals(parser: &Parser<'_>) -> bool
-    ensures { local_first (toks_of parser.now.source.now parser.now.rest.now) ≡ Some result }
+    ensures { local_first (toks parser.now) ≡ Some result }
 {
-    match parser.opening() {
-        Some(Keyword::Local) => true,
-        _ => false,
-    }
+    matches!(parser.opening(), Some(Keyword::Local))
 }
 
 // A group of locals, which stands next: several types, or a name and one type.
-#[tactic(auto, unfolding(crate::specs::Reading::group_step, crate::specs::Reading::nameless_at))]
+#[tactic(auto, unfolding(crate::specs::inside::Reading::group_step, crate::specs::inside::Reading::nameless_at))]
 fn local_group(
     parser: &mut Parser<'_>,
     type_number: u32,
     locals: &mut Vec<ValType>,
 ) -> Result<(), Failure>
-    ensures again { (n : ℕ) → Follows (λ _. (locals.new.items, state_of parser.new)) result (group_step n (locals.old.items, state_of parser.old)) }
-    ensures shrinks { IfOk result (λ _. length parser.new.rest.now < length parser.old.rest.now) }
+    ensures { Advances parser.old parser.new result (AddsAny locals.old locals.new group_step) }
 {
     parser.enter();
     let left = parser.rest.len();
@@ -366,18 +324,17 @@ fn named_local(
     left: usize,
     locals: &mut Vec<ValType>,
 ) -> Result<(), Failure>
-    ensures { IfOk result (λ _. length parser.new.rest.now < length parser.old.rest.now) }
+    ensures { Fewer parser.old parser.new result }
 {
     let parameters = parser.parameter_count(type_number)?;
     let number = parameters.saturating_add(locals.len());
-    declare(&mut parser.locals, name, number, left)?;
+    parser.locals.declare(name, number, left)?;
     parser.one_type(locals)
 }
 
-#[tactic(auto, unfolding(crate::specs::ReadingModule::defined_at))]
+#[tactic(auto, unfolding(crate::specs::inside::ReadingModule::defined_at))]
 fn table(parser: &mut Parser<'_>, draft: &mut Draft) -> Result<(), Failure>
-    ensures again { Follows (λ _. (drafted draft.new, state_of parser.new)) result (defined_at table_at with_table (drafted draft.old, state_of parser.old)) }
-    ensures shrinks { IfOk result (λ _. length parser.new.rest.now ≤ length parser.old.rest.now) }
+    ensures { GoesOn parser.old parser.new result (Drafts draft.old draft.new table_field_at) }
 {
     heading(parser, draft, Kind::Table)?;
     let item = table_limits(parser)?;
@@ -386,20 +343,18 @@ fn table(parser: &mut Parser<'_>, draft: &mut Draft) -> Result<(), Failure>
 }
 
 // The limits of a table, whose elements are functions.
-#[tactic(auto, unfolding(crate::specs::ReadingModule::table_at))]
+#[tactic(auto, unfolding(crate::specs::inside::ReadingModule::table_at))]
 fn table_limits(parser: &mut Parser<'_>) -> Result<Limits, Failure>
-    ensures again { Follows (λ l. (l, state_of parser.new)) result (table_at (state_of parser.old)) }
-    ensures shrinks { IfOk result (λ _. length parser.new.rest.now ≤ length parser.old.rest.now) }
+    ensures { GoesOn parser.old parser.new result (Gives table_at) }
 {
     let limits = parser.limits()?;
     parser.funcref()?;
     Ok(limits)
 }
 
-#[tactic(auto, unfolding(crate::specs::ReadingModule::defined_at))]
+#[tactic(auto, unfolding(crate::specs::inside::ReadingModule::defined_at))]
 fn memory(parser: &mut Parser<'_>, draft: &mut Draft) -> Result<(), Failure>
-    ensures again { Follows (λ _. (drafted draft.new, state_of parser.new)) result (defined_at limits_at with_memory (drafted draft.old, state_of parser.old)) }
-    ensures shrinks { IfOk result (λ _. length parser.new.rest.now ≤ length parser.old.rest.now) }
+    ensures { GoesOn parser.old parser.new result (Drafts draft.old draft.new memory_field_at) }
 {
     heading(parser, draft, Kind::Memory)?;
     let limits = parser.limits()?;
@@ -407,10 +362,9 @@ fn memory(parser: &mut Parser<'_>, draft: &mut Draft) -> Result<(), Failure>
     Ok(())
 }
 
-#[tactic(auto, unfolding(crate::specs::ReadingModule::defined_at))]
+#[tactic(auto, unfolding(crate::specs::inside::ReadingModule::defined_at))]
 fn global(parser: &mut Parser<'_>, draft: &mut Draft) -> Result<(), Failure>
-    ensures again { (n : ℕ) → Follows (λ _. (drafted draft.new, state_of parser.new)) result (defined_at (global_at n) with_global (drafted draft.old, state_of parser.old)) }
-    ensures shrinks { IfOk result (λ _. length parser.new.rest.now ≤ length parser.old.rest.now) }
+    ensures { GoesOn parser.old parser.new result (DraftsAny draft.old draft.new global_field_at) }
 {
     heading(parser, draft, Kind::Global)?;
     let item = global_item(parser)?;
@@ -418,10 +372,9 @@ fn global(parser: &mut Parser<'_>, draft: &mut Draft) -> Result<(), Failure>
     Ok(())
 }
 
-#[tactic(auto, unfolding(crate::specs::ReadingModule::global_at))]
+#[tactic(auto, unfolding(crate::specs::inside::ReadingModule::global_at))]
 fn global_item(parser: &mut Parser<'_>) -> Result<Global, Failure>
-    ensures again { (n : ℕ) → Follows (λ g. (g, state_of parser.new)) result (global_at n (state_of parser.old)) }
-    ensures shrinks { IfOk result (λ _. length parser.new.rest.now ≤ length parser.old.rest.now) }
+    ensures { GoesOn parser.old parser.new result (GivesAny global_at) }
 {
     let global_type = parser.global_type()?;
     let initial = sequence(parser, ROOM)?;
@@ -432,8 +385,7 @@ fn global_item(parser: &mut Parser<'_>) -> Result<Global, Failure>
 }
 
 fn start(parser: &mut Parser<'_>, draft: &mut Draft) -> Result<(), Failure>
-    ensures again { Follows (λ _. (drafted draft.new, state_of parser.new)) result ((if is_some draft.old.start then None else added number_at with_start (drafted draft.old, state_of parser.old))) }
-    ensures shrinks { IfOk result (λ _. length parser.new.rest.now ≤ length parser.old.rest.now) }
+    ensures { GoesOn parser.old parser.new result (Drafts draft.old draft.new start_field_at) }
 {
     if draft.start.is_some() {
         return Err(parser.fault(Wrong::Syntax));
@@ -446,10 +398,9 @@ fn start(parser: &mut Parser<'_>, draft: &mut Draft) -> Result<(), Failure>
 // ---- segments
 
 // The offset of a segment: `(offset ..)`, or one folded instruction (Core 1.0, 6.6.11).
-#[tactic(auto, unfolding(crate::specs::ReadingModule::offset_at))]
+#[tactic(auto, unfolding(crate::specs::inside::ReadingModule::offset_at))]
 fn offset(parser: &mut Parser<'_>) -> Result<Body, Failure>
-    ensures again { (n : ℕ) → Follows (λ b. (b, state_of parser.new)) result (offset_at n (state_of parser.old)) }
-    ensures shrinks { IfOk result (λ _. length parser.new.rest.now ≤ length parser.old.rest.now) }
+    ensures { GoesOn parser.old parser.new result (GivesAny offset_at) }
 {
     if is_offset(parser) {
         return parenthesized_offset(parser);
@@ -460,19 +411,15 @@ fn offset(parser: &mut Parser<'_>) -> Result<Body, Failure>
 }
 
 fn is_offset(parser: &Parser<'_>) -> bool
-    ensures { result ≡ offset_first (toks_of parser.now.source.now parser.now.rest.now) }
+    ensures { result ≡ offset_first (toks parser.now) }
 {
-    match parser.opening() {
-        Some(Keyword::Offset) => true,
-        _ => false,
-    }
+    matches!(parser.opening(), Some(Keyword::Offset))
 }
 
 // What stands in `(offset ..)`.
-#[tactic(auto, unfolding(crate::specs::ReadingModule::inner_offset_at))]
+#[tactic(auto, unfolding(crate::specs::inside::ReadingModule::inner_offset_at))]
 fn parenthesized_offset(parser: &mut Parser<'_>) -> Result<Body, Failure>
-    ensures again { (n : ℕ) → Follows (λ b. (b, state_of parser.new)) result (inner_offset_at n (state_of parser.old)) }
-    ensures shrinks { IfOk result (λ _. length parser.new.rest.now ≤ length parser.old.rest.now) }
+    ensures { GoesOn parser.old parser.new result (GivesAny inner_offset_at) }
 {
     parser.enter();
     let body = sequence(parser, INNER_ROOM)?;
@@ -481,10 +428,9 @@ fn parenthesized_offset(parser: &mut Parser<'_>) -> Result<Body, Failure>
 }
 
 // The number of a thing of this kind, which is 0 where none stands.
-#[tactic(auto, unfolding(crate::specs::ReadingModule::number_or_0_at))]
+#[tactic(auto, unfolding(crate::specs::inside::ReadingModule::number_or_0_at))]
 fn number_or_0(parser: &mut Parser<'_>, kind: Kind) -> Result<u32, Failure>
-    ensures again { Follows (λ n. (n, state_of parser.new)) result (number_or_0_at (state_of parser.old)) }
-    ensures shrinks { IfOk result (λ _. length parser.new.rest.now ≤ length parser.old.rest.now) }
+    ensures { GoesOn parser.old parser.new result (Gives number_or_0_at) }
 {
     if parser.is_index() {
         parser.index(kind)
@@ -494,18 +440,17 @@ fn number_or_0(parser: &mut Parser<'_>, kind: Kind) -> Result<u32, Failure>
 }
 
 fn element(parser: &mut Parser<'_>, draft: &mut Draft) -> Result<(), Failure>
-    ensures again { (n : ℕ) → Follows (λ _. (drafted draft.new, state_of parser.new)) result (added (element_at n) with_element (drafted draft.old, state_of parser.old)) }
-    ensures shrinks { IfOk result (λ _. length parser.new.rest.now ≤ length parser.old.rest.now) }
+    ensures { GoesOn parser.old parser.new result
+        (DraftsAny draft.old draft.new element_field_at) }
 {
     let item = element_item(parser)?;
     draft.elements.push(item)?;
     Ok(())
 }
 
-#[tactic(auto, unfolding(crate::specs::ReadingModule::element_at))]
+#[tactic(auto, unfolding(crate::specs::inside::ReadingModule::element_at))]
 fn element_item(parser: &mut Parser<'_>) -> Result<Element, Failure>
-    ensures again { (n : ℕ) → Follows (λ e. (e, state_of parser.new)) result (element_at n (state_of parser.old)) }
-    ensures shrinks { IfOk result (λ _. length parser.new.rest.now ≤ length parser.old.rest.now) }
+    ensures { GoesOn parser.old parser.new result (GivesAny element_at) }
 {
     let table = number_or_0(parser, Kind::Table)?;
     let offset = offset(parser)?;
@@ -518,10 +463,9 @@ fn element_item(parser: &mut Parser<'_>) -> Result<Element, Failure>
 }
 
 // All functions that stand next by their numbers or names.
-#[tactic(auto, unfolding(crate::specs::ReadingModule::numbers_at))]
+#[tactic(auto, unfolding(crate::specs::inside::ReadingModule::numbers_at))]
 fn functions(parser: &mut Parser<'_>) -> Result<Vec<u32>, Failure>
-    ensures again { (n : ℕ) → Follows (λ v. (v.items, state_of parser.new)) result (numbers_at n (state_of parser.old)) }
-    ensures shrinks { IfOk result (λ _. length parser.new.rest.now ≤ length parser.old.rest.now) }
+    ensures { GoesOn parser.old parser.new result (ShowsAny (λ v. v.items) numbers_at) }
 {
     let mut functions = Vec::new(parser.alloc);
     'each: while parser.is_index() {
@@ -532,18 +476,17 @@ fn functions(parser: &mut Parser<'_>) -> Result<Vec<u32>, Failure>
 }
 
 fn segment(parser: &mut Parser<'_>, draft: &mut Draft) -> Result<(), Failure>
-    ensures again { (n : ℕ) → Follows (λ _. (drafted draft.new, state_of parser.new)) result (added (segment_at n) with_segment (drafted draft.old, state_of parser.old)) }
-    ensures shrinks { IfOk result (λ _. length parser.new.rest.now ≤ length parser.old.rest.now) }
+    ensures { GoesOn parser.old parser.new result
+        (DraftsAny draft.old draft.new segment_field_at) }
 {
     let item = segment_item(parser)?;
     draft.segments.push(item)?;
     Ok(())
 }
 
-#[tactic(auto, unfolding(crate::specs::ReadingModule::segment_at))]
+#[tactic(auto, unfolding(crate::specs::inside::ReadingModule::segment_at))]
 fn segment_item(parser: &mut Parser<'_>) -> Result<Data, Failure>
-    ensures again { (n : ℕ) → Follows (λ d. (d, state_of parser.new)) result (segment_at n (state_of parser.old)) }
-    ensures shrinks { IfOk result (λ _. length parser.new.rest.now ≤ length parser.old.rest.now) }
+    ensures { GoesOn parser.old parser.new result (GivesAny segment_at) }
 {
     let memory = number_or_0(parser, Kind::Memory)?;
     let offset = offset(parser)?;
@@ -556,10 +499,9 @@ fn segment_item(parser: &mut Parser<'_>) -> Result<Data, Failure>
 }
 
 // The bytes of all strings that stand next.
-#[tactic(auto, unfolding(crate::specs::ReadingModule::bytes_at))]
+#[tactic(auto, unfolding(crate::specs::inside::ReadingModule::bytes_at))]
 fn bytes(parser: &mut Parser<'_>) -> Result<Vec<u8>, Failure>
-    ensures again { (n : ℕ) → Follows (λ v. (v.items, state_of parser.new)) result (bytes_at n (state_of parser.old)) }
-    ensures shrinks { IfOk result (λ _. length parser.new.rest.now ≤ length parser.old.rest.now) }
+    ensures { GoesOn parser.old parser.new result (ShowsAny (λ v. v.items) bytes_at) }
 {
     let mut bytes = Vec::new(parser.alloc);
     'each: while is_text(parser) {
@@ -569,12 +511,9 @@ fn bytes(parser: &mut Parser<'_>) -> Result<Vec<u8>, Failure>
     Ok(bytes)
 }
 
-#[tactic(auto, unfolding(crate::specs::ReadingModule::text_first))]
+#[tactic(auto, unfolding(crate::specs::inside::ReadingModule::text_first))]
 fn is_text(parser: &Parser<'_>) -> bool
-    ensures { (b : Bool) → text_first (toks_of parser.now.source.now parser.now.rest.now) ≡ Some b → result ≡ b }
+    ensures { (b : Bool) → text_first (toks parser.now) ≡ Some b → result ≡ b }
 {
-    match parser.rest {
-        [Token::Text(_), ..] => true,
-        _ => false,
-    }
+    matches!(parser.rest, [Token::Text(_), ..])
 }

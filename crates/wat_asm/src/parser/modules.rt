@@ -1,12 +1,12 @@
 //! A module from its tokens (Core 1.0, 6.6.13).
 
-ghost use Rattle.std.specs.Prelude.{◌≡◌, ◌<◌, ◌≤◌, ℕ, true, Some, length, IfOk};
+ghost use Rattle.std.specs.Prelude.{◌≡◌, ℕ, true, Some, IfOk};
 ghost use Rattle.wasm_ast.specs.declared.module.Module.{Module as AnyModule};
 ghost use Rattle.wasm_ast.specs.Limits.{IsWithinLimits};
-ghost use Rattle.wat_asm.specs.Follows.{Follows, IsRead};
-ghost use Rattle.wat_asm.specs.Reading.{state_of};
-ghost use Rattle.wat_asm.specs.ReadingModule.{drafted, fields_at, is_empty, module_at, module_open_at, nameless, only_at, type_step, types_at, whole_at};
-ghost use Rattle.wat_asm.specs.Tokens.{toks_of};
+ghost use Rattle.wat_asm.specs.inside.Follows.{Follows, IsRead};
+ghost use Rattle.wat_asm.specs.inside.Parsing.{Advances, Answers, DraftsAny, MakesAny, PassesAny, Passes, toks};
+ghost use Rattle.wat_asm.specs.inside.ReadingModule.{fields_at, is_empty, module_at, module_open_at, nameless, only_at, type_step, types_at, whole_at};
+ghost use Rattle.wat_asm.specs.inside.Tokens.{toks_of};
 
 use crate::fault::{Failure, Wrong};
 use crate::keyword::Keyword;
@@ -21,7 +21,8 @@ use wasm_ast::{Module, within_limits};
 /// The module that the tokens of this text spell. A failure's place is told by the tokens that are left.
 pub fn parse(alloc: Global, source: &[u8], tokens: &[Token]) -> Result<Module, Failure>
     ensures within { IfOk result (λ m. IsWithinLimits m) }
-    ensures again { (n : ℕ) (m : AnyModule) → nameless tokens.now ≡ true → module_at n (toks_of source.now tokens.now) ≡ Some m
+    ensures again { (n : ℕ) (m : AnyModule) → nameless tokens.now ≡ true
+        → module_at n (toks_of source.now tokens.now) ≡ Some m
         → IsWithinLimits m → IsRead (λ x. x) result m }
 {
     let names = declared(alloc, tokens)?;
@@ -31,7 +32,8 @@ pub fn parse(alloc: Global, source: &[u8], tokens: &[Token]) -> Result<Module, F
 // The module, whose names are known, if it is within the limits.
 fn limited(alloc: Global, source: &[u8], names: &Names, tokens: &[Token]) -> Result<Module, Failure>
     ensures within { IfOk result (λ m. IsWithinLimits m) }
-    ensures again { (n : ℕ) (m : AnyModule) → module_at n (toks_of source.now tokens.now) ≡ Some m → IsWithinLimits m → IsRead (λ x. x) result m }
+    ensures again { (n : ℕ) (m : AnyModule) → module_at n (toks_of source.now tokens.now) ≡ Some m
+        → IsWithinLimits m → IsRead (λ x. x) result m }
 {
     let module = module(alloc, source, names, tokens)?;
     if within_limits(&module) {
@@ -52,9 +54,9 @@ fn module(alloc: Global, source: &[u8], names: &Names, tokens: &[Token]) -> Resu
 }
 
 // A module's fields, between its parentheses, and nothing behind them.
-#[tactic(auto, unfolding(crate::specs::ReadingModule::only_at))]
+#[tactic(auto, unfolding(crate::specs::inside::ReadingModule::only_at))]
 fn only(parser: &mut Parser<'_>, draft: &mut Draft) -> Result<(), Failure>
-    ensures again { (n : ℕ) → Follows (λ _. (drafted draft.new, state_of parser.new)) result (only_at n (drafted draft.old, state_of parser.old)) }
+    ensures again { Answers parser.old parser.new result (DraftsAny draft.old draft.new only_at) }
 {
     whole(parser, draft)?;
     if is_at_end(parser) {
@@ -65,9 +67,9 @@ fn only(parser: &mut Parser<'_>, draft: &mut Draft) -> Result<(), Failure>
 }
 
 // A module's fields, between its parentheses.
-#[tactic(auto, unfolding(crate::specs::ReadingModule::whole_at))]
+#[tactic(auto, unfolding(crate::specs::inside::ReadingModule::whole_at))]
 fn whole(parser: &mut Parser<'_>, draft: &mut Draft) -> Result<(), Failure>
-    ensures again { (n : ℕ) → Follows (λ _. (drafted draft.new, state_of parser.new)) result (whole_at n (drafted draft.old, state_of parser.old)) }
+    ensures again { Answers parser.old parser.new result (DraftsAny draft.old draft.new whole_at) }
 {
     open_module(parser)?;
     types(parser)?;
@@ -76,17 +78,14 @@ fn whole(parser: &mut Parser<'_>, draft: &mut Draft) -> Result<(), Failure>
 }
 
 fn is_at_end(parser: &Parser<'_>) -> bool
-    ensures { result ≡ is_empty (toks_of parser.now.source.now parser.now.rest.now) }
+    ensures { result ≡ is_empty (toks parser.now) }
 {
-    match parser.rest {
-        [] => true,
-        _ => false,
-    }
+    parser.rest.is_empty()
 }
 
-#[tactic(auto, unfolding(crate::specs::ReadingModule::module_open_at))]
+#[tactic(auto, unfolding(crate::specs::inside::ReadingModule::module_open_at))]
 fn open_module(parser: &mut Parser<'_>) -> Result<(), Failure>
-    ensures again { Follows (λ _. state_of parser.new) result (module_open_at (state_of parser.old)) }
+    ensures again { Answers parser.old parser.new result (Passes module_open_at) }
 {
     match parser.rest {
         [Token::Open, Token::Key(Keyword::Module), rest @ ..] => {
@@ -99,9 +98,9 @@ fn open_module(parser: &mut Parser<'_>) -> Result<(), Failure>
 }
 
 // The types that stand before all other fields.
-#[tactic(auto, unfolding(crate::specs::ReadingModule::types_at))]
+#[tactic(auto, unfolding(crate::specs::inside::ReadingModule::types_at))]
 fn types(parser: &mut Parser<'_>) -> Result<(), Failure>
-    ensures { (n : ℕ) → Follows (λ _. state_of parser.new) result (types_at n (state_of parser.old)) }
+    ensures { Answers parser.old parser.new result (PassesAny types_at) }
 {
     'each: while parser.is_type() {
         one_type(parser)?;
@@ -109,10 +108,9 @@ fn types(parser: &mut Parser<'_>) -> Result<(), Failure>
     Ok(())
 }
 
-#[tactic(auto, unfolding(crate::specs::ReadingModule::type_step))]
+#[tactic(auto, unfolding(crate::specs::inside::ReadingModule::type_step))]
 fn one_type(parser: &mut Parser<'_>) -> Result<(), Failure>
-    ensures again { (n : ℕ) → Follows (λ u. (u, state_of parser.new)) result (type_step n (tt, state_of parser.old)) }
-    ensures shrinks { IfOk result (λ _. length parser.new.rest.now < length parser.old.rest.now) }
+    ensures { Advances parser.old parser.new result (MakesAny tt tt type_step) }
 {
     parser.enter();
     let t = parser.defined_type()?;
@@ -121,9 +119,9 @@ fn one_type(parser: &mut Parser<'_>) -> Result<(), Failure>
 }
 
 // All other fields.
-#[tactic(auto, unfolding(crate::specs::ReadingModule::fields_at))]
+#[tactic(auto, unfolding(crate::specs::inside::ReadingModule::fields_at))]
 fn fields(parser: &mut Parser<'_>, draft: &mut Draft) -> Result<(), Failure>
-    ensures { (n : ℕ) → Follows (λ _. (drafted draft.new, state_of parser.new)) result (fields_at n (drafted draft.old, state_of parser.old)) }
+    ensures { Answers parser.old parser.new result (DraftsAny draft.old draft.new fields_at) }
 {
     'each: while is_field(parser) {
         field(parser, draft)?;

@@ -1,10 +1,9 @@
 //! What is still to be read, and the readers of single tokens.
 
-ghost use Rattle.std.specs.Prelude.{◌≡◌, ◌<◌, ◌≤◌, ℕ, [], Bool, Some, None, length, IfOk};
-ghost use Rattle.wat_asm.specs.Follows.{Follows};
-ghost use Rattle.wat_asm.specs.Reading.{State, closed_at, funcref_at, inside, name_at, number_at, number_first, open_first, opened_at, opening, state_of, text_at, type_first, unnamed_at};
-ghost use Rattle.wat_asm.specs.Names.{AtName, IsFound, number_of, space_of};
-ghost use Rattle.wat_asm.specs.Tokens.{toks_of};
+ghost use Rattle.std.specs.Prelude.{◌≡◌, ◌≤◌, [], Bool, Some, None, length};
+ghost use Rattle.wat_asm.specs.inside.Parsing.{Advances, Passes, Shows, Gives, toks};
+ghost use Rattle.wat_asm.specs.inside.Reading.{State, closed_at, funcref_at, inside, name_at, number_at, number_first, open_first, opened_at, opening, state_of, text_at, type_first, unnamed_at};
+ghost use Rattle.wat_asm.specs.inside.Tokens.{toks_of};
 
 use crate::fault::{Failure, Wrong};
 use crate::keyword::Keyword;
@@ -66,10 +65,9 @@ impl<'a> Parser<'a> {
     }
 
     /// Passes a closing parenthesis.
-    #[tactic(auto, unfolding(crate::specs::Reading::closed_at))]
+    #[tactic(auto, unfolding(crate::specs::inside::Reading::closed_at))]
     pub fn close(&mut self) -> Result<(), Failure>
-        ensures again { Follows (λ _. state_of self.new) result (closed_at (state_of self.old)) }
-        ensures shrinks { IfOk result (λ _. length self.new.rest.now < length self.old.rest.now) }
+        ensures { Advances self.old self.new result (Passes closed_at) }
     {
         match self.rest {
             [Token::Close, rest @ ..] => {
@@ -81,10 +79,9 @@ impl<'a> Parser<'a> {
     }
 
     /// Passes `funcref`.
-    #[tactic(auto, unfolding(crate::specs::Reading::funcref_at))]
+    #[tactic(auto, unfolding(crate::specs::inside::Reading::funcref_at))]
     pub fn funcref(&mut self) -> Result<(), Failure>
-        ensures again { Follows (λ _. state_of self.new) result (funcref_at (state_of self.old)) }
-        ensures shrinks { IfOk result (λ _. length self.new.rest.now < length self.old.rest.now) }
+        ensures { Advances self.old self.new result (Passes funcref_at) }
     {
         match self.rest {
             [Token::Key(Keyword::Funcref), rest @ ..] => {
@@ -97,7 +94,7 @@ impl<'a> Parser<'a> {
 
     /// The keyword behind the parenthesis that stands next, if one does.
     pub fn opening(&self) -> Option<Keyword>
-        ensures { result ≡ opening (toks_of self.now.source.now self.now.rest.now) }
+        ensures { result ≡ opening (toks self.now) }
     {
         match self.rest {
             [Token::Open, Token::Key(keyword), ..] => Some(*keyword),
@@ -116,10 +113,9 @@ impl<'a> Parser<'a> {
     }
 
     /// Passes a parenthesis and a keyword, which it returns.
-    #[tactic(auto, unfolding(crate::specs::Reading::opened_at))]
+    #[tactic(auto, unfolding(crate::specs::inside::Reading::opened_at))]
     pub fn opened(&mut self) -> Result<Keyword, Failure>
-        ensures again { Follows (λ k. (k, state_of self.new)) result (opened_at (state_of self.old)) }
-        ensures shrinks { IfOk result (λ _. length self.new.rest.now < length self.old.rest.now) }
+        ensures { Advances self.old self.new result (Gives opened_at) }
     {
         match self.rest {
             [Token::Open, Token::Key(keyword), rest @ ..] => {
@@ -132,50 +128,42 @@ impl<'a> Parser<'a> {
 
     /// Whether a type, or its use by its number, stands next.
     pub fn is_type(&self) -> bool
-        ensures { result ≡ type_first (toks_of self.now.source.now self.now.rest.now) }
+        ensures { result ≡ type_first (toks self.now) }
     {
-        match self.opening() {
-            Some(Keyword::FuncType) => true,
-            _ => false,
-        }
+        matches!(self.opening(), Some(Keyword::FuncType))
     }
 
     /// No parameter and no local has a name from now on.
     pub fn forget_locals(&mut self)
         ensures again { state_of self.new ≡ state_of self.old }
         ensures shrinks { self.new.rest.now ≡ self.old.rest.now }
-        ensures none { (q : ℕ) → number_of self.new.locals q ≡ None }
     {
         self.locals = Space::new(self.alloc);
     }
 
     /// Whether an opening parenthesis stands next.
     pub fn is_open(&self) -> bool
-        ensures { result ≡ open_first (toks_of self.now.source.now self.now.rest.now) }
+        ensures { result ≡ open_first (toks self.now) }
     {
-        match self.rest {
-            [Token::Open, ..] => true,
-            _ => false,
-        }
+        matches!(self.rest, [Token::Open, ..])
     }
 
     /// Whether a number or a name stands next.
-    #[tactic(auto, unfolding(crate::specs::Reading::number_first))]
+    #[tactic(auto, unfolding(crate::specs::inside::Reading::number_first))]
     pub fn is_index(&self) -> bool
-        ensures { (b : Bool) → number_first (toks_of self.now.source.now self.now.rest.now) ≡ Some b → result ≡ b }
+        ensures { (b : Bool) → number_first (toks self.now) ≡ Some b → result ≡ b }
     {
-        match self.rest {
-            [Token::Number(_), ..] => true,
-            [Token::Name(_), ..] => true,
-            [Token::OutOfRange, ..] => true,
-            _ => false,
-        }
+        matches!(
+            self.rest,
+            [Token::Number(_) | Token::Name(_) | Token::OutOfRange, ..]
+        )
     }
 
     /// A name, where one stands next.
-    #[tactic(auto, unfolding(crate::specs::Reading::unnamed_at))]
+    #[tactic(auto, unfolding(crate::specs::inside::Reading::unnamed_at))]
     pub fn name(&mut self) -> Option<u32>
-        ensures again { (s : State) → unnamed_at (state_of self.old) ≡ Some s → (result ≡ None) × (state_of self.new ≡ s) }
+        ensures again { (s : State) → unnamed_at (state_of self.old) ≡ Some s
+            → (result ≡ None) × (state_of self.new ≡ s) }
         ensures shrinks { length self.new.rest.now ≤ length self.old.rest.now }
     {
         match self.rest {
@@ -188,10 +176,9 @@ impl<'a> Parser<'a> {
     }
 
     /// A number of 32 bits without a sign (Core 1.0, 6.3.1).
-    #[tactic(auto, unfolding(crate::specs::Reading::number_at))]
+    #[tactic(auto, unfolding(crate::specs::inside::Reading::number_at))]
     pub fn number(&mut self) -> Result<u32, Failure>
-        ensures again { Follows (λ n. (n, state_of self.new)) result (number_at (state_of self.old)) }
-        ensures shrinks { IfOk result (λ _. length self.new.rest.now < length self.old.rest.now) }
+        ensures { Advances self.old self.new result (Gives number_at) }
     {
         match self.rest {
             [Token::Number(n), rest @ ..] => match u32::try_from(*n) {
@@ -205,73 +192,36 @@ impl<'a> Parser<'a> {
         }
     }
 
-    // A number, or what the name that stands next was found to stand for.
-    #[tactic(auto, unfolding(crate::specs::Reading::number_at))]
-    fn found(&mut self, found: Option<u32>) -> Result<u32, Failure>
-        ensures named { AtName (λ _. IsFound result found (length self.old.rest.now)) self.old.rest.now }
-        ensures again { Follows (λ n. (n, state_of self.new)) result (number_at (state_of self.old)) }
-        ensures shrinks { IfOk result (λ _. length self.new.rest.now < length self.old.rest.now) }
+    // What a name of this kind stands for, if it stands for anything.
+    fn named(&self, kind: Kind, name: u32) -> Option<u32> {
+        match kind {
+            Kind::Local => self.locals.find(name),
+            Kind::Label => label(self.labels.as_slice(), name),
+            _ => self.names.find(kind, name),
+        }
+    }
+
+    /// The number of a thing of this kind, which may stand by its name (Core 1.0, 6.5.1 and 6.6.1).
+    #[tactic(auto, unfolding(crate::specs::inside::Reading::number_at))]
+    pub fn index(&mut self, kind: Kind) -> Result<u32, Failure>
+        ensures { Advances self.old self.new result (Gives number_at) }
     {
         match self.rest {
-            [Token::Name(_), rest @ ..] => match found {
+            [Token::Name(name), rest @ ..] => match self.named(kind, *name) {
                 Some(n) => {
                     self.rest = rest;
                     Ok(n)
                 }
-                None => Err(Failure::Fault(Wrong::UnknownName, self.rest.len())),
+                None => Err(self.fault(Wrong::UnknownName)),
             },
             _ => self.number(),
         }
     }
 
-    // What the name that stands next stands for, if one does.
-    fn found_in(&self, space: &Space) -> Option<u32>
-        ensures { AtName (λ name. result ≡ number_of space.now name) self.now.rest.now }
-    {
-        match self.rest {
-            [Token::Name(name), ..] => space.find(*name),
-            _ => None,
-        }
-    }
-
-    /// The number of a thing of this kind (Core 1.0, 6.6.1).
-    pub fn index(&mut self, kind: Kind) -> Result<u32, Failure>
-        ensures named { AtName (λ name. IsFound result (number_of (space_of self.old.names.now kind) name) (length self.old.rest.now)) self.old.rest.now }
-        ensures again { Follows (λ n. (n, state_of self.new)) result (number_at (state_of self.old)) }
-        ensures shrinks { IfOk result (λ _. length self.new.rest.now < length self.old.rest.now) }
-    {
-        let names = self.names;
-        let found = self.found_in(names.space(kind));
-        self.found(found)
-    }
-
-    /// The number of a parameter or a local (Core 1.0, 6.6.1).
-    pub fn local_index(&mut self) -> Result<u32, Failure>
-        ensures named { AtName (λ name. IsFound result (number_of self.old.locals name) (length self.old.rest.now)) self.old.rest.now }
-        ensures again { Follows (λ n. (n, state_of self.new)) result (number_at (state_of self.old)) }
-        ensures shrinks { IfOk result (λ _. length self.new.rest.now < length self.old.rest.now) }
-    {
-        let found = self.found_in(&self.locals);
-        self.found(found)
-    }
-
-    /// The number of a label, 0 being the innermost (Core 1.0, 6.5.1).
-    pub fn label_index(&mut self) -> Result<u32, Failure>
-        ensures again { Follows (λ n. (n, state_of self.new)) result (number_at (state_of self.old)) }
-        ensures shrinks { IfOk result (λ _. length self.new.rest.now < length self.old.rest.now) }
-    {
-        let found = match self.rest {
-            [Token::Name(name), ..] => label(self.labels.as_slice(), *name),
-            _ => None,
-        };
-        self.found(found)
-    }
-
     /// The bytes of a string (Core 1.0, 6.3.3).
-    #[tactic(auto, unfolding(crate::specs::Reading::text_at))]
+    #[tactic(auto, unfolding(crate::specs::inside::Reading::text_at))]
     pub fn bytes(&mut self) -> Result<Vec<u8>, Failure>
-        ensures again { Follows (λ v. (v.items, state_of self.new)) result (text_at (state_of self.old)) }
-        ensures shrinks { IfOk result (λ _. length self.new.rest.now < length self.old.rest.now) }
+        ensures { Advances self.old self.new result (Shows (λ v. v.items) text_at) }
     {
         match self.rest {
             [Token::Text(place), rest @ ..] => {
@@ -284,10 +234,9 @@ impl<'a> Parser<'a> {
     }
 
     /// A string in UTF-8 (Core 1.0, 6.3.4).
-    #[tactic(auto, unfolding(crate::specs::Reading::name_at))]
+    #[tactic(auto, unfolding(crate::specs::inside::Reading::name_at))]
     pub fn text(&mut self) -> Result<Name, Failure>
-        ensures again { Follows (λ x. (x, state_of self.new)) result (name_at (state_of self.old)) }
-        ensures shrinks { IfOk result (λ _. length self.new.rest.now < length self.old.rest.now) }
+        ensures { Advances self.old self.new result (Gives name_at) }
     {
         let fault = self.fault(Wrong::Lex);
         let bytes = self.bytes()?;

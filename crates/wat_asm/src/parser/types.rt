@@ -1,14 +1,13 @@
 //! Types and their uses (Core 1.0, 6.4 and 6.6.3).
 
-ghost use Rattle.std.specs.Prelude.{◌≡◌, ◌<◌, ◌≤◌, ℕ, Some, length, IfOk};
-ghost use Rattle.wat_asm.specs.Follows.{Follows};
-ghost use Rattle.wat_asm.specs.Reading.{block_type_at, defined_type_at, func_at, global_type_at, group_at, group_first, group_step, groups_at, limits_at, maximum_at, mut_first, mut_type_at, named_use_at, nameless_at, signature_at, signature_first, state_of, type_use_at, val_type_at, val_type_first, val_types_at};
-ghost use Rattle.wat_asm.specs.Tokens.{toks_of};
+ghost use Rattle.std.specs.Prelude.{◌≡◌, ◌<◌, Some};
+ghost use Rattle.wat_asm.specs.inside.Parsing.{Advances, AddsAny, GivesAny, Fewer, GoesOn, NoMore, Passes, Gives, When, toks};
+ghost use Rattle.wat_asm.specs.inside.Reading.{block_type_at, defined_type_at, func_at, global_type_at, group_at, group_first, group_step, groups_at, limits_at, maximum_at, mut_first, mut_type_at, named_use_at, signature_at, signature_first, type_use_at, val_type_at, val_type_first, val_types_at};
 
 use crate::fault::{Failure, Wrong};
 use crate::keyword::Keyword;
 use crate::lexer::Token;
-use crate::parser::names::{Kind, declare};
+use crate::parser::names::Kind;
 use crate::parser::tokens::Parser;
 use wasm_ast::{BlockType, FuncType, GlobalType, Limits, Mutability, Sequence, ValType};
 
@@ -30,10 +29,9 @@ enum Group {
 
 impl<'a> Parser<'a> {
     /// A value type (Core 1.0, 6.4.1).
-    #[tactic(auto, unfolding(crate::specs::Reading::val_type_at))]
+    #[tactic(auto, unfolding(crate::specs::inside::Reading::val_type_at))]
     pub fn val_type(&mut self) -> Result<ValType, Failure>
-        ensures again { Follows (λ t. (t, state_of self.new)) result (val_type_at (state_of self.old)) }
-        ensures shrinks { IfOk result (λ _. length self.new.rest.now < length self.old.rest.now) }
+        ensures { Advances self.old self.new result (Gives val_type_at) }
     {
         match self.rest {
             [Token::Key(Keyword::Type(t)), rest @ ..] => {
@@ -44,21 +42,17 @@ impl<'a> Parser<'a> {
         }
     }
 
-    #[tactic(auto, unfolding(crate::specs::Reading::val_type_first))]
+    #[tactic(auto, unfolding(crate::specs::inside::Reading::val_type_first))]
     fn is_val_type(&self) -> bool
-        ensures { val_type_first (toks_of self.now.source.now self.now.rest.now) ≡ Some result }
+        ensures { val_type_first (toks self.now) ≡ Some result }
     {
-        match self.rest {
-            [Token::Key(Keyword::Type(_)), ..] => true,
-            _ => false,
-        }
+        matches!(self.rest, [Token::Key(Keyword::Type(_)), ..])
     }
 
     // All value types that stand next are added to these.
-    #[tactic(auto, unfolding(crate::specs::Reading::val_types_at))]
+    #[tactic(auto, unfolding(crate::specs::inside::Reading::val_types_at))]
     fn val_types(&mut self, types: &mut Vec<ValType>) -> Result<(), Failure>
-        ensures again { (n : ℕ) → Follows (λ _. (types.new.items, state_of self.new)) result (val_types_at n (types.old.items, state_of self.old)) }
-        ensures shrinks { IfOk result (λ _. length self.new.rest.now ≤ length self.old.rest.now) }
+        ensures { GoesOn self.old self.new result (AddsAny types.old types.new val_types_at) }
     {
         'each: while self.is_val_type() {
             let t = self.val_type()?;
@@ -68,10 +62,9 @@ impl<'a> Parser<'a> {
     }
 
     /// The result of a block, if it has one, with room for so many more parentheses (Core 1.0, 6.5.2).
-    #[tactic(auto, unfolding(crate::specs::Reading::block_type_at))]
+    #[tactic(auto, unfolding(crate::specs::inside::Reading::block_type_at))]
     pub fn block_type(&mut self, parentheses: u32) -> Result<BlockType, Failure>
-        ensures again { 0 < parentheses → Follows (λ t. (t, state_of self.new)) result (block_type_at (state_of self.old)) }
-        ensures shrinks { IfOk result (λ _. length self.new.rest.now ≤ length self.old.rest.now) }
+        ensures { GoesOn self.old self.new result (When (0 < parentheses) (Gives block_type_at)) }
     {
         if !self.is_group(Group::Results) {
             return Ok(None);
@@ -86,45 +79,36 @@ impl<'a> Parser<'a> {
     }
 
     /// Limits (Core 1.0, 6.4.4).
-    #[tactic(auto, unfolding(crate::specs::Reading::limits_at))]
+    #[tactic(auto, unfolding(crate::specs::inside::Reading::limits_at))]
     pub fn limits(&mut self) -> Result<Limits, Failure>
-        ensures again { Follows (λ x. (x, state_of self.new)) result (limits_at (state_of self.old)) }
-        ensures shrinks { IfOk result (λ _. length self.new.rest.now ≤ length self.old.rest.now) }
+        ensures { GoesOn self.old self.new result (Gives limits_at) }
     {
         let minimum = self.number()?;
         let maximum = self.maximum()?;
         Ok(Limits { minimum, maximum })
     }
 
-    #[tactic(auto, unfolding(crate::specs::Reading::maximum_at))]
+    #[tactic(auto, unfolding(crate::specs::inside::Reading::maximum_at))]
     fn maximum(&mut self) -> Result<Option<u32>, Failure>
-        ensures again { Follows (λ x. (x, state_of self.new)) result (maximum_at (state_of self.old)) }
-        ensures shrinks { IfOk result (λ _. length self.new.rest.now ≤ length self.old.rest.now) }
+        ensures { GoesOn self.old self.new result (Gives maximum_at) }
     {
         match self.rest {
-            [Token::Number(_), ..] => {
-                let n = self.number()?;
-                Ok(Some(n))
-            }
+            [Token::Number(_), ..] => self.number().map(Some),
             [Token::OutOfRange, ..] => Err(self.fault(Wrong::NumberRange)),
             _ => Ok(None),
         }
     }
 
     fn is_mut(&self) -> bool
-        ensures { result ≡ mut_first (toks_of self.now.source.now self.now.rest.now) }
+        ensures { result ≡ mut_first (toks self.now) }
     {
-        match self.opening() {
-            Some(Keyword::Mut) => true,
-            _ => false,
-        }
+        matches!(self.opening(), Some(Keyword::Mut))
     }
 
     // What stands in `(mut ..)`.
-    #[tactic(auto, unfolding(crate::specs::Reading::mut_type_at))]
+    #[tactic(auto, unfolding(crate::specs::inside::Reading::mut_type_at))]
     fn mut_type(&mut self) -> Result<GlobalType, Failure>
-        ensures again { Follows (λ t. (t, state_of self.new)) result (mut_type_at (state_of self.old)) }
-        ensures shrinks { IfOk result (λ _. length self.new.rest.now ≤ length self.old.rest.now) }
+        ensures { GoesOn self.old self.new result (Gives mut_type_at) }
     {
         self.enter();
         let value = self.val_type()?;
@@ -136,16 +120,14 @@ impl<'a> Parser<'a> {
     }
 
     /// The type of a global (Core 1.0, 6.4.7).
-    #[tactic(auto, unfolding(crate::specs::Reading::global_type_at))]
+    #[tactic(auto, unfolding(crate::specs::inside::Reading::global_type_at))]
     pub fn global_type(&mut self) -> Result<GlobalType, Failure>
-        ensures again { Follows (λ t. (t, state_of self.new)) result (global_type_at (state_of self.old)) }
-        ensures shrinks { IfOk result (λ _. length self.new.rest.now ≤ length self.old.rest.now) }
+        ensures { GoesOn self.old self.new result (Gives global_type_at) }
     {
         if self.is_mut() {
             return self.mut_type();
         }
-        let value = self.val_type()?;
-        Ok(GlobalType {
+        self.val_type().map(|value| GlobalType {
             mutability: Mutability::Constant,
             value,
         })
@@ -153,20 +135,15 @@ impl<'a> Parser<'a> {
 
     /// Whether parameters or results stand next.
     pub fn is_signature(&self) -> bool
-        ensures { result ≡ signature_first (toks_of self.now.source.now self.now.rest.now) }
+        ensures { result ≡ signature_first (toks self.now) }
     {
-        match self.opening() {
-            Some(Keyword::Param) => true,
-            Some(Keyword::Result) => true,
-            _ => false,
-        }
+        matches!(self.opening(), Some(Keyword::Param | Keyword::Result))
     }
 
     /// Parameters and results (Core 1.0, 6.4.3). It takes what follows the keyword of a type.
-    #[tactic(auto, unfolding(crate::specs::Reading::signature_at))]
+    #[tactic(auto, unfolding(crate::specs::inside::Reading::signature_at))]
     pub fn signature(&mut self, names: ParameterNames) -> Result<FuncType, Failure>
-        ensures again { (n : ℕ) → Follows (λ t. (t, state_of self.new)) result (signature_at n (state_of self.old)) }
-        ensures shrinks { IfOk result (λ _. length self.new.rest.now ≤ length self.old.rest.now) }
+        ensures { GoesOn self.old self.new result (GivesAny signature_at) }
     {
         let mut parameters = Vec::new(self.alloc);
         let mut results = Vec::new(self.alloc);
@@ -180,25 +157,19 @@ impl<'a> Parser<'a> {
 
     // Whether a group of this kind stands next.
     fn is_group(&self, group: Group) -> bool
-        ensures { group_first group (toks_of self.now.source.now self.now.rest.now) ≡ Some result }
+        ensures { group_first group (toks self.now) ≡ Some result }
     {
         match group {
-            Group::Parameters(_) => match self.opening() {
-                Some(Keyword::Param) => true,
-                _ => false,
-            },
-            Group::Results => match self.opening() {
-                Some(Keyword::Result) => true,
-                _ => false,
-            },
+            Group::Parameters(_) => matches!(self.opening(), Some(Keyword::Param)),
+            Group::Results => matches!(self.opening(), Some(Keyword::Result)),
         }
     }
 
     // All groups of this kind that stand next: what is in them is added to these types.
-    #[tactic(auto, unfolding(crate::specs::Reading::groups_at))]
+    #[tactic(auto, unfolding(crate::specs::inside::Reading::groups_at))]
     fn groups(&mut self, group: Group, types: &mut Vec<ValType>) -> Result<(), Failure>
-        ensures again { (n : ℕ) → Follows (λ _. (types.new.items, state_of self.new)) result (groups_at (group_first group) n (types.old.items, state_of self.old)) }
-        ensures shrinks { IfOk result (λ _. length self.new.rest.now ≤ length self.old.rest.now) }
+        ensures { GoesOn self.old self.new result
+            (AddsAny types.old types.new (groups_at (group_first group))) }
     {
         'each: while self.is_group(group) {
             self.one_group(group, types)?;
@@ -207,10 +178,9 @@ impl<'a> Parser<'a> {
     }
 
     // A group of this kind, which stands next: several types, or a name and one type.
-    #[tactic(auto, unfolding(crate::specs::Reading::group_step, crate::specs::Reading::nameless_at))]
+    #[tactic(auto, unfolding(crate::specs::inside::Reading::group_step, crate::specs::inside::Reading::nameless_at))]
     fn one_group(&mut self, group: Group, types: &mut Vec<ValType>) -> Result<(), Failure>
-        ensures again { (n : ℕ) → Follows (λ _. (types.new.items, state_of self.new)) result (group_step n (types.old.items, state_of self.old)) }
-        ensures shrinks { IfOk result (λ _. length self.new.rest.now < length self.old.rest.now) }
+        ensures { Advances self.old self.new result (AddsAny types.old types.new group_step) }
     {
         self.enter();
         let left = self.rest.len();
@@ -228,18 +198,18 @@ impl<'a> Parser<'a> {
         left: usize,
         types: &mut Vec<ValType>,
     ) -> Result<(), Failure>
-        ensures { IfOk result (λ _. length self.new.rest.now < length self.old.rest.now) }
+        ensures { Fewer self.old self.new result }
     {
         let Group::Parameters(ParameterNames::Bound) = group else {
             return Err(Failure::Fault(Wrong::Syntax, left));
         };
-        declare(&mut self.locals, name, types.len(), left)?;
+        self.locals.declare(name, types.len(), left)?;
         self.one_type(types)
     }
 
     /// The one type of a group with a name, which is added to these, and the parenthesis that closes the group.
     pub fn one_type(&mut self, types: &mut Vec<ValType>) -> Result<(), Failure>
-        ensures { IfOk result (λ _. length self.new.rest.now < length self.old.rest.now) }
+        ensures { Fewer self.old self.new result }
     {
         let t = self.val_type()?;
         types.push(t)?;
@@ -247,10 +217,9 @@ impl<'a> Parser<'a> {
     }
 
     /// Value types, which are added to these, and the parenthesis that closes their group.
-    #[tactic(auto, unfolding(crate::specs::Reading::group_at))]
+    #[tactic(auto, unfolding(crate::specs::inside::Reading::group_at))]
     pub fn group(&mut self, types: &mut Vec<ValType>) -> Result<(), Failure>
-        ensures again { (n : ℕ) → Follows (λ _. (types.new.items, state_of self.new)) result (group_at n (types.old.items, state_of self.old)) }
-        ensures shrinks { IfOk result (λ _. length self.new.rest.now < length self.old.rest.now) }
+        ensures { Advances self.old self.new result (AddsAny types.old types.new group_at) }
     {
         self.val_types(types)?;
         self.close()
@@ -258,10 +227,9 @@ impl<'a> Parser<'a> {
 
     /// The use of a type, with room for so many more parentheses: its number (Core 1.0, 6.6.3). Where only parameters and
     /// results stand, it is the first type that is equal to them, and where there is none, a new one behind all others.
-    #[tactic(auto, unfolding(crate::specs::Reading::type_use_at))]
+    #[tactic(auto, unfolding(crate::specs::inside::Reading::type_use_at))]
     pub fn type_use(&mut self, names: ParameterNames, parentheses: u32) -> Result<u32, Failure>
-        ensures again { 0 < parentheses → Follows (λ n. (n, state_of self.new)) result (type_use_at (state_of self.old)) }
-        ensures shrinks { IfOk result (λ _. length self.new.rest.now ≤ length self.old.rest.now) }
+        ensures { GoesOn self.old self.new result (When (0 < parentheses) (Gives type_use_at)) }
     {
         if parentheses == 0 && self.is_open() {
             return Err(self.fault(Wrong::OverLimit));
@@ -274,10 +242,9 @@ impl<'a> Parser<'a> {
     }
 
     // The use of a type by its number or name.
-    #[tactic(auto, unfolding(crate::specs::Reading::named_use_at))]
+    #[tactic(auto, unfolding(crate::specs::inside::Reading::named_use_at))]
     fn named_use(&mut self, names: ParameterNames) -> Result<u32, Failure>
-        ensures again { Follows (λ n. (n, state_of self.new)) result (named_use_at (state_of self.old)) }
-        ensures shrinks { IfOk result (λ _. length self.new.rest.now ≤ length self.old.rest.now) }
+        ensures { GoesOn self.old self.new result (Gives named_use_at) }
     {
         self.enter();
         let number = self.index(Kind::Type)?;
@@ -290,7 +257,7 @@ impl<'a> Parser<'a> {
 
     // Reads the parameters and results beside the number of a type, which have to be the type's.
     fn agree(&mut self, names: ParameterNames, number: u32) -> Result<(), Failure>
-        ensures shrinks { IfOk result (λ _. length self.new.rest.now ≤ length self.old.rest.now) }
+        ensures shrinks { NoMore self.old self.new result }
     {
         let fault = self.fault(Wrong::TypeUse);
         let t = self.signature(names)?;
@@ -346,10 +313,9 @@ impl<'a> Parser<'a> {
         }
     }
 
-    #[tactic(auto, unfolding(crate::specs::Reading::func_at))]
+    #[tactic(auto, unfolding(crate::specs::inside::Reading::func_at))]
     fn open_func(&mut self) -> Result<(), Failure>
-        ensures again { Follows (λ _. state_of self.new) result (func_at (state_of self.old)) }
-        ensures shrinks { IfOk result (λ _. length self.new.rest.now < length self.old.rest.now) }
+        ensures { Advances self.old self.new result (Passes func_at) }
     {
         match self.rest {
             [Token::Open, Token::Key(Keyword::Func), rest @ ..] => {
@@ -361,10 +327,9 @@ impl<'a> Parser<'a> {
     }
 
     /// A type that the module defines, behind its keyword and without the last parenthesis (Core 1.0, 6.6.2).
-    #[tactic(auto, unfolding(crate::specs::Reading::defined_type_at))]
+    #[tactic(auto, unfolding(crate::specs::inside::Reading::defined_type_at))]
     pub fn defined_type(&mut self) -> Result<FuncType, Failure>
-        ensures again { (n : ℕ) → Follows (λ t. (t, state_of self.new)) result (defined_type_at n (state_of self.old)) }
-        ensures shrinks { IfOk result (λ _. length self.new.rest.now < length self.old.rest.now) }
+        ensures { Advances self.old self.new result (GivesAny defined_type_at) }
     {
         let _name = self.name();
         self.open_func()?;
@@ -403,7 +368,7 @@ impl<'a> Parser<'a> {
 
     // The definition of a type is added to these.
     fn later_type(&mut self, types: &mut Vec<FuncType>) -> Result<(), Failure>
-        ensures { IfOk result (λ _. length self.new.rest.now < length self.old.rest.now) }
+        ensures { Fewer self.old self.new result }
     {
         self.enter();
         let t = self.defined_type()?;

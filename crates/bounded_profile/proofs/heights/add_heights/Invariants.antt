@@ -1,5 +1,5 @@
 use Rattle.std.proofs.Common.{◌≡◌, ◌+◌, length}
-use Rattle.bounded_profile.specs.Levels.{AreToldBelow}
+use Rattle.bounded_profile.specs.inside.Levels.{AreToldBelow}
 use Rattle.bounded_profile.proofs.heights.add_heights.Given as goal
 
 abbrev pub invariant-loop-index : goal.invariant-loop-index

@@ -1,5 +1,5 @@
 use Rattle.std.proofs.Common.{◌≡◌, length}
-use Rattle.bounded_profile.specs.Levels.{AreTold}
+use Rattle.bounded_profile.specs.inside.Levels.{AreTold}
 use Rattle.bounded_profile.proofs.heights.operand_height.Given as goal
 
 abbrev pub invariant-loop-rank : goal.invariant-loop-rank

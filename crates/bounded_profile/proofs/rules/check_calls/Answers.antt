@@ -1,7 +1,7 @@
-use Rattle.std.proofs.Common.{rules, subst, sym}
+use Rattle.std.proofs.Common.{rules, refl, subst, sym}
 use Rattle.cost.specs.Marks.{rank_at}
 use Rattle.bounded_profile.specs.Faults.{Refuses}
-use Rattle.bounded_profile.specs.Profile.{SlotsKnown, SizeWithin}
+use Rattle.bounded_profile.specs.Profile.{IsBounded, SizeWithin}
 use Rattle.bounded_profile.proofs.Refusals.{refused_part, refused_cycle}
 use Rattle.bounded_profile.proofs.rules.check_calls.Goals as goal
 
@@ -16,7 +16,7 @@ pub returns-in_err-check_known : goal.returns-in_err-check_known
 returns-in_err-check_known c =
     let m = c.args.valid.now in
     let e = c.in_err-check_known.field-0.0 in
-    let refused : Refuses m e = refused_part m e (SlotsKnown m) (λ b. b.slots) c.in_err-check_known.ensures in
+    let refused : Refuses m e = refused_part m e (IsBounded m) (λ b. b) c.in_err-check_known.ensures in
     search rules
 
 pub returns-in_err-size : goal.returns-in_err-size
@@ -29,4 +29,4 @@ returns-in_err-size c =
 pub returns : goal.returns
 returns c =
     let ranked = c.in_ok-ranks.ensures.ranked in
-    (record { acyclic = c.in_ok-ranks.ensures.decided; slots = c.in_ok-check_known.ensures; size = c.in_ok-size.ensures.0 }, record { size = c.in_ok-size.ensures.1; operands = c.in_ok-max_operands.ensures; frames = (rank_at c.in_ok-ranks.ranks, ranked.least, sym c.rank-max_frames.ensures) })
+    (record { acyclic = c.in_ok-ranks.ensures.decided; size = c.in_ok-size.ensures.0 }, record { number = refl; size = c.in_ok-size.ensures.1; operands = c.in_ok-max_operands.ensures; frames = (rank_at c.in_ok-ranks.ranks, ranked.least, sym c.rank-max_frames.ensures) })

@@ -1,9 +1,8 @@
 use Rattle.std.proofs.Common.{rules, subst}
 use Rattle.bounded_profile.specs.Compute.{IsComputeNumber}
 use Rattle.bounded_profile.specs.Faults.{Denies, Refuses}
-use Rattle.bounded_profile.specs.Known.{ConstantsKnown}
-use Rattle.bounded_profile.specs.Profile.{IsBounded, AddressesWithin, DivisorsKnown, asks_all}
-use Rattle.bounded_profile.specs.Stages.{PartsHold, ShapesHold}
+use Rattle.bounded_profile.specs.Profile.{IsBounded}
+use Rattle.bounded_profile.specs.inside.Stages.{PartsHold, ShapesHold}
 use Rattle.bounded_profile.proofs.Refusals.{refused_part, bounded, facts_hold}
 use Rattle.bounded_profile.proofs.rules.check_rules.Goals as goal
 
@@ -25,21 +24,21 @@ pub returns-in_err-check_memory : goal.returns-in_err-check_memory
 returns-in_err-check_memory c =
     let m = c.args.valid.now in
     let e = c.in_err-check_memory.field-0.0 in
-    let refused : Refuses m e = refused_part m e (AddressesWithin m) (λ b. b.addresses) c.in_err-check_memory.ensures in
+    let refused : Refuses m e = refused_part m e (IsBounded m) (λ b. b) c.in_err-check_memory.ensures in
     search rules
 
 pub returns-in_err-check_known : goal.returns-in_err-check_known
 returns-in_err-check_known c =
     let m = c.args.valid.now in
     let e = c.in_err-check_known.field-0.0 in
-    let refused : Refuses m e = refused_part m e (DivisorsKnown m) (λ b. b.divisors) c.in_err-check_known.ensures in
+    let refused : Refuses m e = refused_part m e (IsBounded m) (λ b. b) c.in_err-check_known.ensures in
     search rules
 
 pub returns-in_err-check_known-2 : goal.returns-in_err-check_known-2
 returns-in_err-check_known-2 c =
     let m = c.args.valid.now in
     let e = c.in_err-check_known-2.field-0.0 in
-    let refused : Refuses m e = refused_part m e (ConstantsKnown asks_all m) (λ b. b.constants) c.in_err-check_known-2.ensures in
+    let refused : Refuses m e = refused_part m e (IsBounded m) (λ b. b) c.in_err-check_known-2.ensures in
     search rules
 
 pub returns : goal.returns
@@ -48,4 +47,4 @@ returns c =
     let n = c.in_ok-compute.compute in
     let parts : PartsHold m × IsComputeNumber m n = subst (λ k. PartsHold k × IsComputeNumber k n) c.module-module.ensures.value c.in_ok-compute.ensures in
     let shapes : ShapesHold m = subst ShapesHold c.module-module.ensures.value c.in_ok-check_shapes.ensures in
-    (bounded m n parts.0 parts.1 shapes c.in_ok-check_memory.ensures c.in_ok-check_known.ensures c.in_ok-facts.ensures.0 c.in_ok-check_known-2.ensures, facts_hold m n c.in_ok-facts.facts parts.1 c.in_ok-facts.ensures.1)
+    (bounded m n parts.0 parts.1 shapes c.in_ok-check_memory.ensures c.in_ok-facts.ensures.0 c.in_ok-check_known-2.ensures, facts_hold m n c.in_ok-facts.facts parts.1 c.in_ok-facts.ensures.1)

@@ -3,8 +3,8 @@ use Rattle.bounded_profile.specs.Faults.{Denies}
 use Rattle.bounded_profile.specs.Profile.{IsBounded, NoIndirectCalls, NoUnreachable, NoGrowth, NothingAfterBranches, EachBody}
 use Rattle.bounded_profile.specs.Hosts.{call_at}
 use Rattle.bounded_profile.specs.Shapes.{Keeps}
-use Rattle.bounded_profile.specs.declared.shapes.Shape.TheVariants.{Opening}
-use Rattle.bounded_profile.proofs.Opening.{by_table}
+use Rattle.bounded_profile.specs.declared.shapes.Shape.TheVariants.{Taking}
+use Rattle.bounded_profile.proofs.HostTable.{by_table}
 use Rattle.bounded_profile.proofs.Refusals.{part_denied}
 use Rattle.bounded_profile.proofs.rules.check_shapes.Goals as goal
 
@@ -42,7 +42,7 @@ returns-in_err-check_shape-5 c =
     let e = c.in_err-check_shape-5.field-0.0 in
     let table = c.deref-5.result.now in
     let same = by_table m table (c.deref-5.ensures.value ∙ c.in_ok-hosts.ensures) in
-    let denied : Denies e (IsBounded m) = part_denied e (IsBounded m) (EachBody (Keeps (call_at table) Opening) m) (λ b. same.1 b.loops) c.in_err-check_shape-5.ensures in
+    let denied : Denies e (IsBounded m) = part_denied e (IsBounded m) (EachBody (Keeps (call_at table) Taking) m) (λ b. same.1 b.loops) c.in_err-check_shape-5.ensures in
     search rules
 
 pub returns : goal.returns

@@ -1,20 +1,29 @@
-use Rattle.std.proofs.Common.{◌≡◌, subst, sym}
+use Rattle.std.proofs.Common.{◌≡◌, inl, inr, subst, sym}
 use Rattle.wasm_ast.specs.declared.module.Module.{Module}
 use Rattle.console.specs.Engine.{Answers}
-use Rattle.console.proofs.Faults.{OnOk-along, refuses_text}
+use Rattle.console.proofs.Faults.{IfErr-along, IfOk-along, is_fault}
 use Rattle.console.proofs.engine.call.Goals as goal
 
+pub returns-in_err-verified-clause-answered : goal.returns-in_err-verified-clause-answered
+returns-in_err-verified-clause-answered c = λ m lines spelled verified answers.
+    rw (is_fault _ _ c.from_residual.ensures.1) (c.in_err-verified.ensures.only m spelled verified)
+
+pub returns-in_err-verified-clause-refused : goal.returns-in_err-verified-clause-refused
+returns-in_err-verified-clause-refused c = rw (is_fault _ _ c.from_residual.ensures.1) (inl c.in_err-verified.ensures.refused)
+
 pub returns-clause-answer : goal.returns-clause-answer
-returns-clause-answer g c =
-    OnOk-along c.answer.result
-    (λ h. (h.0, record { m = c.in_ok-verified.verified; loads = c.in_ok-verified.ensures.loaded; answers = h.1 }, h.2))
+returns-clause-answer c =
+    IfOk-along c.answer.result
+    (λ lines is. record { m = c.in_ok-verified.verified; loads = c.in_ok-verified.ensures.loaded; answers = is })
     c.answer.ensures.answer
 
 pub returns-clause-answered : goal.returns-clause-answered
-returns-clause-answered g c = λ lines is.
-    let same : c.in_ok-verified.verified ≡ is.m = c.in_ok-verified.ensures.only is.m is.loads in
-    c.answer.ensures.answered lines (subst (λ (m : Module). Answers m c.args.input.now lines) (sym same) is.answers)
+returns-clause-answered c = λ m lines spelled verified answers.
+    let same : c.in_ok-verified.verified ≡ m = c.in_ok-verified.ensures.only m spelled verified in
+    c.answer.ensures.answered lines (subst (λ (x : Module). Answers x c.args.input.now lines) (sym same) answers)
 
 pub returns-clause-refused : goal.returns-clause-refused
-returns-clause-refused g c =
-    refuses_text c.args.module.now c.args.input.now c.in_ok-verified.verified c.answer.result c.in_ok-verified.ensures.loaded c.answer.ensures.refused
+returns-clause-refused c =
+    IfErr-along c.answer.result
+    (λ fault is. inr (c.in_ok-verified.verified, c.in_ok-verified.ensures.loaded, is))
+    c.answer.ensures.refused

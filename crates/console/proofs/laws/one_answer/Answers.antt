@@ -6,7 +6,7 @@ use Rattle.console.proofs.laws.one_answer.Goals as goal
 
 pub returns : goal.returns
 returns c = λ bytes text a b x y.
-    let same : x.m ≡ y.m = c.spells_one_module.ensures bytes x.m y.m x.loads.spelled y.loads.spelled in
+    let same : x.m ≡ y.m = c.spells_one_module.ensures bytes x.m y.m x.loads.means y.loads.means in
     let first : Answers y.m text a = subst (λ (m : Module). Answers m text a) same x.answers in
     let second = y.answers in
     let ends = outcome_of_meaning y.m text first.input second.input first.outcome first.means second.means first.ends in

@@ -1,8 +1,25 @@
-use Rattle.console.proofs.Told.{refusal_told}
+use Rattle.std.proofs.Common.{inl, refl, subst, sym}
+use Rattle.console.specs.Lines.{line}
+use Rattle.console.specs.Refusal.{fault_text, status_of}
+use Rattle.console.specs.Program.{Answered}
+use Rattle.console.proofs.Telling.{refusal_told}
 use Rattle.console.proofs.program.command.Goals as goal
+
+pub returns-in-Ok-clause-told : goal.returns-in-Ok-clause-told
+returns-in-Ok-clause-told g c =
+    let before = g.F.Files.disk c.args.files.now in
+    let after = g.F.Files.disk c.carry_out.new.files in
+    let answered = subst (λ told. Answered before after c.args.options told) (sym c.as_bytes.ensures.value) c.in-Ok.ensures.answered in
+    (0, c.as_bytes.result.now, inl (refl, answered), c.tell.ensures.told)
 
 pub returns-in-Err-clause-told : goal.returns-in-Err-clause-told
 returns-in-Err-clause-told g c =
-    refusal_told (g.F.Files.disk c.args.files.now) (g.F.Files.disk c.carry_out.new.files) c.args.options c.in-Err.fault c.tell.result
-    (g.W.Write.contents c.args.out.now) (g.W.Write.contents c.carry_out.new.out) (g.W.Write.contents c.tell.new.out)
-    c.in-Err.ensures.refused c.in-Err.ensures.before c.in-Err.ensures.unwritten c.tell.ensures
+    let before = g.F.Files.disk c.args.files.now in
+    let after = g.F.Files.disk c.carry_out.new.files in
+    let other = c.refuse.ensures.told.0 in (
+      status_of other,
+      line (fault_text other),
+      refusal_told before after c.args.options c.in-Err.fault other c.in-Err.ensures.refused c.in-Err.ensures.before
+          c.in-Err.ensures.tried c.refuse.ensures.told.1,
+      c.refuse.ensures.told.2,
+    )

@@ -1,6 +1,6 @@
 use Rattle.std.proofs.Common.{length, reverse, refl, subst, sym, ap, ◌∙◌}
 use Rattle.cost.specs.Cycles.{IsCycle, LeastFirst}
-use Rattle.cost.specs.Stops.{Leaves}
+use Rattle.cost.specs.inside.Stops.{Leaves}
 use Rattle.cost.proofs.Cycles.{turned_cycle, written_back}
 use Rattle.cost.proofs.cycle.explain.Goals as goal
 

@@ -1,6 +1,7 @@
 use Rattle.std.proofs.Common.{◌≡◌, ◌<◌, ℕ}
 use Rattle.cost.specs.declared.table.Mark.TheVariants.{Open}
-use Rattle.cost.specs.Marks.{mark_at, IsDone, Settled}
+use Rattle.cost.specs.Marks.{mark_at}
+use Rattle.cost.specs.inside.Walks.{IsDone, Settled}
 use Rattle.cost.proofs.order.rank_all.Given as goal
 
 abbrev pub invariant-loop-function : goal.invariant-loop-function

@@ -1,7 +1,7 @@
 use Rattle.std.proofs.Common.{◌≡◌, ◌+◌, ◌<◌, min, length, arith, sym, ap, ◌∙◌}
 use Rattle.std.specs.Prelude.{sum_by}
-use Rattle.cost.specs.Outline.{cap}
-use Rattle.cost.specs.Outlines.{outline_at, own_at, called}
+use Rattle.cost.specs.inside.Outline.{cap}
+use Rattle.cost.specs.inside.Outlines.{outline_at, own_at, called}
 use Rattle.cost.specs.Marks.{size_at}
 use Rattle.cost.proofs.Walking.{begins, has_mark, called_there, room, ends}
 use Rattle.cost.proofs.walk.+visit.Goals as goal

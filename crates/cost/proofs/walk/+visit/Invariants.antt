@@ -1,4 +1,4 @@
-use Rattle.cost.specs.Marks.{unseen}
+use Rattle.cost.specs.inside.Walks.{unseen}
 use Rattle.cost.proofs.Walking.{Walking}
 use Rattle.cost.proofs.walk.+visit.Given as goal
 

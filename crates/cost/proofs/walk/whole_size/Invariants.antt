@@ -1,6 +1,6 @@
 use Rattle.std.proofs.Common.{◌≡◌, ◌+◌, ◌≤◌, min, take}
 use Rattle.std.specs.Prelude.{sum_by}
-use Rattle.cost.specs.Outline.{cap}
+use Rattle.cost.specs.inside.Outline.{cap}
 use Rattle.cost.specs.Marks.{size_at}
 use Rattle.cost.proofs.walk.whole_size.Given as goal
 

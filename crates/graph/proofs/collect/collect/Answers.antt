@@ -2,7 +2,7 @@ use Rattle.std.proofs.Common.{◌≢◌, length, rules}
 use Rattle.std.proofs.lemmas.List.{length_push}
 use Rattle.std.proofs.lemmas.Iterator.Consumers.{YieldsList-at, YieldsList-from_enumerate, YieldsList-turn, YieldsList-end}
 use Rattle.std.proofs.lemmas.Iterator.Splits.{YieldsList-from_lines}
-use Rattle.graph.specs.Collected.{CanBeSaid}
+use Rattle.graph.specs.inside.Collected.{CanBeSaid}
 use Rattle.graph.specs.declared.fault.GraphFault.TheVariants.{OutOfMemory}
 use Rattle.graph.specs.Said.{lines_of}
 use Rattle.graph.proofs.Collecting.{fails_next, line_comes, says_all, says_next}

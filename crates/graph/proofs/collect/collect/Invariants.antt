@@ -1,5 +1,5 @@
 use Rattle.std.proofs.Common.{length, take}
-use Rattle.graph.specs.Collected.{Says}
+use Rattle.graph.specs.inside.Collected.{Says}
 use Rattle.graph.specs.Said.{lines_of}
 use Rattle.graph.proofs.collect.collect.Given as goal
 

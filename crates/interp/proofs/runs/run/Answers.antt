@@ -1,31 +1,44 @@
-use Rattle.std.proofs.Common.{subst}
+use Rattle.std.proofs.Common.{sym, subst}
 use Rattle.wasm_ast.specs.declared.module.Module.{Module}
-use Rattle.interp.specs.declared.fault.WalkFault.TheVariants.{Budget, Trap, Stuck}
-use Rattle.interp.specs.Begun.{Answered}
-use Rattle.interp.proofs.Answering.{at_fault, no_outcome_past, never_traps, never_sticks}
+use Rattle.bounded_profile.specs.Memory.{MinimumsWithin}
+use Rattle.interp.specs.inside.Begun.{BeginsAt}
+use Rattle.interp.specs.Start.{Starts}
+use Rattle.interp.specs.inside.Place.{running}
+use Rattle.interp.specs.inside.Walk.{EndsWithin}
+use Rattle.interp.proofs.Running.{begins_at, ends_within, fails_never, outcome_told, bound_told}
 use Rattle.interp.proofs.runs.run.Goals as goal
 
-pub unreachable-requires : goal.unreachable-requires
-unreachable-requires c =
-    let m = c.args.verified.now in
-    let a = subst (λ (n : Module). Answered c.answer.result n c.args.input.now c.args.steps) c.module.ensures.value c.answer.ensures.answered in
-    never_traps m c.args.input.now c.args.steps c.module.ensures.typed c.module.ensures.bounded (at_fault c.answer.result c.in-Err-Trap.field-0 Trap m c.args.input.now c.args.steps a c.in-Err-Trap.is c.in-Err-Trap.field-0-is)
+pub begin-requires-clause-begins : goal.begin-requires-clause-begins
+begin-requires-clause-begins c =
+    let told = c.of-program.ensures in
+    subst (λ (m : Module). BeginsAt m c.compute.result) (sym told.same) (begins_at c.args.verified.now told.typed told.bounded c.compute.result c.compute.ensures c.args.input.now)
 
-pub unreachable-requires-in-Err-Stuck : goal.unreachable-requires-in-Err-Stuck
-unreachable-requires-in-Err-Stuck c =
-    let m = c.args.verified.now in
-    let a = subst (λ (n : Module). Answered c.answer.result n c.args.input.now c.args.steps) c.module.ensures.value c.answer.ensures.answered in
-    never_sticks m c.args.input.now c.args.steps c.module.ensures.typed c.module.ensures.bounded (at_fault c.answer.result c.in-Err-Stuck.field-0 Stuck m c.args.input.now c.args.steps a c.in-Err-Stuck.is c.in-Err-Stuck.field-0-is)
+pub begin-requires-clause-minimums : goal.begin-requires-clause-minimums
+begin-requires-clause-minimums c =
+    let told = c.of-program.ensures in
+    subst (λ (m : Module). MinimumsWithin m) (sym told.same) told.bounded.addresses.minimums
 
-pub returns-in-Ok-clause-passes : goal.returns-in-Ok-clause-passes
-returns-in-Ok-clause-passes c passes =
-    let a = subst (λ (n : Module). Answered c.answer.result n c.args.input.now c.args.steps) c.module.ensures.value c.answer.ensures.answered in
-    let o = subst (λ r. Answered r c.args.verified.now c.args.input.now c.args.steps) c.in-Ok.is a in
-    absurd (no_outcome_past c.args.verified.now c.args.input.now c.args.steps c.in-Ok.outcome passes o.0 o.1)
+pub finish-ended-requires-clause-ends : goal.finish-ended-requires-clause-ends
+finish-ended-requires-clause-ends c =
+    let told = c.of-program.ensures in
+    let x = running c.in_ok-walk.walk in
+    let starts = subst (λ (m : Module). Starts m c.args.input.now x) told.same c.in_ok-walk.ensures in
+    let ends = ends_within c.args.verified.now told.typed told.bounded c.args.input.now c.size.result c.size.ensures x starts in
+    subst (λ (m : Module). EndsWithin m x c.most_units-most.result) (sym told.same) (subst (λ n. EndsWithin c.args.verified.now x n) (sym c.most_units-most.ensures) ends)
 
-pub returns-in-Err-Budget-clause-gives : goal.returns-in-Err-Budget-clause-gives
-returns-in-Err-Budget-clause-gives c outcome is within =
-    let m = c.args.verified.now in
-    let a = subst (λ (n : Module). Answered c.answer.result n c.args.input.now c.args.steps) c.module.ensures.value c.answer.ensures.answered in
-    let passes = at_fault c.answer.result c.in-Err-Budget.field-0 Budget m c.args.input.now c.args.steps a c.in-Err-Budget.is c.in-Err-Budget.field-0-is in
-    absurd (no_outcome_past m c.args.input.now c.args.steps outcome passes is within)
+pub returns-clause-outcome : goal.returns-clause-outcome
+returns-clause-outcome c =
+    let told = c.of-program.ensures in
+    outcome_told c.finish-ended.result.0 c.of-program.result.module.now c.args.verified.now c.args.input.now (running c.in_ok-walk.walk) told.same c.in_ok-walk.ensures c.finish-ended.ensures
+
+pub returns-clause-units : goal.returns-clause-units
+returns-clause-units c =
+    let told = c.of-program.ensures in
+    bound_told c.finish-ended.result.0 c.args.verified.now told.typed told.bounded c.args.input.now
+    (outcome_told c.finish-ended.result.0 c.of-program.result.module.now c.args.verified.now c.args.input.now (running c.in_ok-walk.walk) told.same c.in_ok-walk.ensures c.finish-ended.ensures)
+
+pub returns-clause-fails_never : goal.returns-clause-fails_never
+returns-clause-fails_never c = let told = c.of-program.ensures in fails_never c.args.verified.now told.typed told.bounded c.args.input.now
+
+pub returns-in_err-walk-clause-fails_never : goal.returns-in_err-walk-clause-fails_never
+returns-in_err-walk-clause-fails_never c = let told = c.of-program.ensures in fails_never c.args.verified.now told.typed told.bounded c.args.input.now

@@ -1,4 +1,4 @@
-use Rattle.leb.specs.Reading.{signed_at}
+use Rattle.leb.specs.inside.Reading.{signed_at}
 use Rattle.leb.specs.Spelling.{IsSigned}
 use Rattle.leb.proofs.Places.{one_reading}
 use Rattle.leb.proofs.Signed.{signed_again}

@@ -1,4 +1,4 @@
-use Rattle.leb.specs.Reading.{unsigned_at}
+use Rattle.leb.specs.inside.Reading.{unsigned_at}
 use Rattle.leb.specs.Spelling.{IsUnsigned}
 use Rattle.leb.proofs.Places.{one_reading}
 use Rattle.leb.proofs.Unsigned.{unsigned_again}

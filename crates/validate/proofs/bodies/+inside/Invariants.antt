@@ -1,9 +1,9 @@
 use Rattle.std.proofs.Common.{◌≡◌, ◌++◌, ◌∷◌, [], drop}
 use Rattle.wasm_ast.specs.View.{code_of}
 use Rattle.validate.specs.Instructions.{with_label}
-use Rattle.validate.specs.Stack.{bottom}
-use Rattle.validate.specs.Steps.{run}
-use Rattle.validate.specs.Answers.{stack_of, context_of}
+use Rattle.validate.specs.inside.Stack.{bottom}
+use Rattle.validate.specs.inside.Steps.{run}
+use Rattle.validate.specs.inside.Answers.{stack_of, context_of}
 use Rattle.validate.proofs.bodies.+inside.Given as goal
 
 abbrev pub decreases-check_inside : goal.decreases-check_inside
@@ -14,7 +14,7 @@ decreases-check_instr l = goal.size-check_instr l
 
 abbrev pub invariant-check_inside-loop-instr : goal.invariant-check_inside-loop-instr
 invariant-check_inside-loop-instr l =
-    let inner = with_label l.fn.label (context_of l.frame l.fn.nesting.labels.items) in
+    let inner = with_label l.fn.label (context_of l.frame l.fn.nesting) in
     record {
       kept : l.nesting.labels.items ≡ l.fn.nesting.labels.items ++ l.fn.label ∷ [];
       runs : run (code_of l.instr-items) inner bottom ≡ run (code_of (drop l.instr-index l.instr-items)) inner (stack_of l.operands);

@@ -1,7 +1,7 @@
 use Rattle.std.proofs.Common.{refl, rules}
 use Rattle.wasm_ast.specs.Limits.{IsWithinLimits}
 use Rattle.validate.specs.Modules.{IsTyped}
-use Rattle.validate.specs.Faults.{Denies}
+use Rattle.validate.specs.inside.Findings.{Denies}
 use Rattle.validate.proofs.Whole.{settled, outer_denied}
 use Rattle.validate.proofs.valid.check_module.Goals as goal
 

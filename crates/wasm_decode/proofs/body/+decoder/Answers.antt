@@ -2,7 +2,7 @@ use Rattle.std.proofs.Common.{◌≡◌, Option, ◌<◌, ◌≤◌, suc, false,
 use Rattle.std.proofs.lemmas.Result.{err_from_is_err_and}
 use Rattle.wasm_ast.specs.declared.types.ValType.{ValType}
 use Rattle.wasm_ast.specs.Code.{Code}
-use Rattle.wasm_decode.specs.ReadingCode.{stops, code_at}
+use Rattle.wasm_decode.specs.inside.ReadingCode.{stops, code_at}
 use Rattle.wasm_decode.proofs.Nested.{starts, reads_on, has_no_instr, ends, opcode_first, typed_some, typed_fails, typed_levels, if_some, if_fails, else_arm}
 use Rattle.wasm_decode.proofs.Shrinks.{byte_shortens, block_type_shortens, typed_shortens, instr_shortens}
 use Rattle.wasm_decode.proofs.body.+decoder.Goals as goal

@@ -1,5 +1,5 @@
 use Rattle.std.proofs.Common.{◌<◌, ◌+◌, ◌*◌, ℕ, length}
-use Rattle.wasm_decode.specs.ReadingCode.{code_at}
+use Rattle.wasm_decode.specs.inside.ReadingCode.{code_at}
 use Rattle.wasm_decode.proofs.Nested.{Completes}
 use Rattle.wasm_decode.proofs.body.+decoder.Given as goal
 

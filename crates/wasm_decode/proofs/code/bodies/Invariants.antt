@@ -1,5 +1,5 @@
 use Rattle.std.proofs.Common.{◌≡◌, drop}
-use Rattle.wasm_decode.specs.ReadingModule.{bodies_at}
+use Rattle.wasm_decode.specs.inside.ReadingModule.{bodies_at}
 use Rattle.wasm_decode.proofs.Loops.{behind}
 use Rattle.wasm_decode.proofs.code.bodies.Given as goal
 

@@ -1,5 +1,5 @@
 use Rattle.std.proofs.Common.{◌≡◌, ◌-◌}
-use Rattle.wasm_decode.specs.ReadingModule.{groups_at}
+use Rattle.wasm_decode.specs.inside.ReadingModule.{groups_at}
 use Rattle.wasm_decode.proofs.Loops.{behind}
 use Rattle.wasm_decode.proofs.code.groups.Given as goal
 

@@ -1,5 +1,5 @@
 use Rattle.std.proofs.lemmas.Result.{err_from_is_err_and}
-use Rattle.wasm_decode.specs.Reading.{items_at}
+use Rattle.wasm_decode.specs.inside.Reading.{items_at}
 use Rattle.wasm_decode.proofs.Loops.{items_go_on, items_fail, items_done}
 use Rattle.wasm_decode.proofs.item.items.Goals as goal
 

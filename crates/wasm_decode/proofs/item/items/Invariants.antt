@@ -1,5 +1,5 @@
 use Rattle.std.proofs.Common.{◌≡◌, ◌-◌}
-use Rattle.wasm_decode.specs.Reading.{items_at}
+use Rattle.wasm_decode.specs.inside.Reading.{items_at}
 use Rattle.wasm_decode.proofs.Loops.{behind}
 use Rattle.wasm_decode.proofs.item.items.Given as goal
 

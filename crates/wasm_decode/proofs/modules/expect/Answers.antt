@@ -1,5 +1,5 @@
 use Rattle.std.proofs.lemmas.Result.{err_from_is_err_and}
-use Rattle.wasm_decode.specs.ReadingModule.{after_bytes}
+use Rattle.wasm_decode.specs.inside.ReadingModule.{after_bytes}
 use Rattle.wasm_decode.proofs.Headers.{expect_fails, expect_refuses, expect_goes_on}
 use Rattle.wasm_decode.proofs.modules.expect.Goals as goal
 

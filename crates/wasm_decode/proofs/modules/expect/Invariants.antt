@@ -1,5 +1,5 @@
 use Rattle.std.proofs.Common.{◌≡◌, drop}
-use Rattle.wasm_decode.specs.ReadingModule.{after_bytes}
+use Rattle.wasm_decode.specs.inside.ReadingModule.{after_bytes}
 use Rattle.wasm_decode.proofs.modules.expect.Given as goal
 
 abbrev pub invariant-loop-byte : goal.invariant-loop-byte

@@ -1,6 +1,6 @@
 use Rattle.std.proofs.Common.{sym, ◌∙◌}
 use Rattle.std.proofs.lemmas.Result.{err_from_is_err_and}
-use Rattle.wasm_decode.specs.ReadingModule.{skip_customs}
+use Rattle.wasm_decode.specs.inside.ReadingModule.{skip_customs}
 use Rattle.wasm_decode.proofs.Customs.{is_custom, is_no_custom, customs_fail, customs_shorter, customs_go_on, customs_done}
 use Rattle.wasm_decode.proofs.sections.skip_customs.Goals as goal
 

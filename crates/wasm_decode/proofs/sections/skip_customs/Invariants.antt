@@ -1,5 +1,5 @@
 use Rattle.std.proofs.Common.{length}
-use Rattle.wasm_decode.specs.ReadingModule.{skip_customs}
+use Rattle.wasm_decode.specs.inside.ReadingModule.{skip_customs}
 use Rattle.wasm_decode.proofs.Customs.{Skips}
 use Rattle.wasm_decode.proofs.sections.skip_customs.Given as goal
 

@@ -1,8 +1,8 @@
 use Rattle.std.proofs.Common.{length, List}
-use Rattle.wat_asm.specs.Lexing.{IsLeft}
+use Rattle.wat_asm.specs.inside.Lexing.{IsLeft}
 use Rattle.wat_asm.specs.Numbering.{AreApart, AreNumbered}
 use Rattle.wat_asm.specs.Pieces.{Piece}
-use Rattle.wat_asm.specs.Tokens.{ArePiecesHeld, IsPrinted, sorted, toks_of}
+use Rattle.wat_asm.specs.inside.Tokens.{ArePiecesHeld, IsPrinted, sorted, toks_of}
 use Rattle.wat_asm.proofs.Lexes.{Continues}
 use Rattle.wat_asm.proofs.lexer.lex.Given as goal
 

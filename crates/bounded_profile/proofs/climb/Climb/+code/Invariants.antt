@@ -1,6 +1,6 @@
 use Rattle.std.proofs.Common.{◌≡◌, drop}
 use Rattle.wasm_ast.specs.View.{code_of}
-use Rattle.bounded_profile.specs.Climbs.{ground_level, with_code}
+use Rattle.bounded_profile.specs.inside.Climbs.{ground_level, with_code}
 use Rattle.bounded_profile.proofs.climb.Climb.+code.Given as goal
 
 abbrev pub decreases-most_along : goal.decreases-most_along

@@ -1,6 +1,6 @@
 use Rattle.std.proofs.Common.{◌≡◌, ◌++◌, ◌∷◌, [], drop, reverse}
 use Rattle.wasm_ast.specs.View.{code_of}
-use Rattle.bounded_profile.specs.Tracking.{operands_of, check}
+use Rattle.bounded_profile.specs.inside.Tracking.{operands_of, check}
 use Rattle.bounded_profile.proofs.constants.bodies.+inside.Given as goal
 
 abbrev pub decreases-check_inside : goal.decreases-check_inside

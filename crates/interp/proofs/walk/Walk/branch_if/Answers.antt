@@ -1,6 +1,6 @@
 use Rattle.std.proofs.Common.{ap}
 use Rattle.std.proofs.lemmas.Result.{err_from_is_err_and}
-use Rattle.interp.specs.Place.{Place}
+use Rattle.interp.specs.inside.Place.{Place}
 use Rattle.interp.proofs.Taking.{taking_fails}
 use Rattle.interp.proofs.walk.Walk.branch_if.Goals as goal
 

@@ -1,5 +1,5 @@
 use Rattle.std.proofs.Common.{◌≡◌, ◌≤◌, ◌++◌, length, reverse, ap, sym, ◌∙◌, subst, arith, length-append}
-use Rattle.interp.specs.Meaning.{Ordered}
+use Rattle.interp.specs.inside.Meaning.{Ordered}
 use Rattle.interp.proofs.Stacked.{ordered_on}
 use Rattle.interp.proofs.walk.Walk.enter_typed.Goals as goal
 

@@ -1,5 +1,5 @@
 use Rattle.std.proofs.Common.{◌≡◌, suc, refl, ◌∙◌, ◌+◌, ◌-◌, length, reverse, arith}
-use Rattle.interp.specs.Meaning.{layers_of}
+use Rattle.interp.specs.inside.Meaning.{layers_of}
 use Rattle.interp.proofs.Stacked.{label_floor, label_off, frame_floors, frame_off, ordered_on, jump_label, jump_frame, jump_none}
 use Rattle.interp.proofs.walk.branches.unwind.Goals as goal
 

@@ -2,7 +2,7 @@ use Rattle.std.proofs.Common.{◌≡◌, length, reverse, Option}
 use Rattle.wasm_ast.specs.declared.types.Value.{Value}
 use Rattle.interp.specs.Machine.{back}
 use Rattle.interp.specs.Configuration.{State}
-use Rattle.interp.specs.Meaning.{layers_of, Ordered}
+use Rattle.interp.specs.inside.Meaning.{layers_of, Ordered}
 use Rattle.interp.proofs.walk.branches.unwind_all.Given as goal
 
 abbrev pub invariant-loop-floor : goal.invariant-loop-floor

@@ -1,5 +1,5 @@
 use Rattle.std.proofs.Common.{◌≡◌, drop, reverse}
-use Rattle.validate.specs.Steps.{all_take}
+use Rattle.validate.specs.inside.Steps.{all_take}
 use Rattle.validate.proofs.nesting.Nesting.check_targets.Given as goal
 
 abbrev pub invariant-loop-target : goal.invariant-loop-target

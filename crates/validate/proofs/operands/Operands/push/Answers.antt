@@ -1,4 +1,4 @@
-use Rattle.validate.specs.Answers.{base_of}
+use Rattle.validate.specs.inside.Answers.{base_of}
 use Rattle.validate.proofs.Piles.{popped}
 use Rattle.validate.proofs.operands.Operands.push.Goals as goal
 

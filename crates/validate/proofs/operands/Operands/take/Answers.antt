@@ -1,4 +1,4 @@
-use Rattle.validate.specs.Answers.{base_of}
+use Rattle.validate.specs.inside.Answers.{base_of}
 use Rattle.validate.proofs.Piles.{take_popped}
 use Rattle.validate.proofs.Refusals.{none_but}
 use Rattle.validate.proofs.operands.Operands.take.Goals as goal

@@ -1,6 +1,6 @@
 use Rattle.std.proofs.Common.{◌≡◌, drop}
-use Rattle.validate.specs.Stack.{take_all}
-use Rattle.validate.specs.Answers.{stack_of}
+use Rattle.validate.specs.inside.Stack.{take_all}
+use Rattle.validate.specs.inside.Answers.{stack_of}
 use Rattle.validate.proofs.operands.Operands.take_all.Given as goal
 
 abbrev pub invariant-loop-expected : goal.invariant-loop-expected

@@ -1,6 +1,6 @@
 use Rattle.std.proofs.Common.{ap}
-use Rattle.validate.specs.Stack.{take_any}
-use Rattle.validate.specs.Answers.{base_of}
+use Rattle.validate.specs.inside.Stack.{take_any}
+use Rattle.validate.specs.inside.Answers.{base_of}
 use Rattle.validate.proofs.Piles.{popped}
 use Rattle.validate.proofs.operands.Operands.take_any.Goals as goal
 

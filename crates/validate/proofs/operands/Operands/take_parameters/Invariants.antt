@@ -1,6 +1,6 @@
 use Rattle.std.proofs.Common.{◌≡◌, ◌≤◌, take, reverse, length}
-use Rattle.validate.specs.Stack.{take_all}
-use Rattle.validate.specs.Answers.{stack_of}
+use Rattle.validate.specs.inside.Stack.{take_all}
+use Rattle.validate.specs.inside.Answers.{stack_of}
 use Rattle.validate.proofs.operands.Operands.take_parameters.Given as goal
 
 abbrev pub invariant-loop-left : goal.invariant-loop-left

@@ -1,4 +1,4 @@
-use Rattle.wasm_ast.specs.Same.{same_is}
+use Rattle.wasm_ast.specs.inside.Same.{same_is}
 use Rattle.wasm_ast.proofs.same.Same.equals.Goals as goal
 
 pub returns-clause-value : goal.returns-clause-value

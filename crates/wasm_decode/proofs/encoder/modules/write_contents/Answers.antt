@@ -1,5 +1,6 @@
 use Rattle.std.proofs.Common.{◌≡◌, ℕ, List, OnOk, subst}
-use Rattle.wasm_decode.specs.Canonical.{contents_bytes, vector_section, data_bytes}
+use Rattle.wasm_decode.specs.Canonical.{vector_section, data_bytes}
+use Rattle.wasm_decode.specs.inside.Writing.{contents_bytes}
 use Rattle.wasm_decode.proofs.CanonicalSections.{three_in_order}
 use Rattle.wasm_decode.proofs.encoder.modules.write_contents.Goals as goal
 

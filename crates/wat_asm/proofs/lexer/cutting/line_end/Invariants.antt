@@ -1,5 +1,5 @@
 use Rattle.std.proofs.Common.{length}
-use Rattle.wat_asm.specs.Lexing.{IsLeft}
+use Rattle.wat_asm.specs.inside.Lexing.{IsLeft}
 use Rattle.wat_asm.proofs.lexer.cutting.line_end.Given as goal
 
 abbrev pub invariant-each : goal.invariant-each

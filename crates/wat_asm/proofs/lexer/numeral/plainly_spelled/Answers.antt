@@ -1,6 +1,6 @@
 use Rattle.std.proofs.Common.{◌≡◌, Some, ap, ◌∙◌}
 use Rattle.std.specs.Result.{result_ok}
-use Rattle.wat_asm.specs.Lexing.{numeral_of}
+use Rattle.wat_asm.specs.inside.Lexing.{numeral_of}
 use Rattle.wat_asm.proofs.Numerals.{numeral_ok, numeral_utf8}
 use Rattle.wat_asm.proofs.lexer.numeral.plainly_spelled.Goals as goal
 

@@ -1,6 +1,6 @@
 use Rattle.std.proofs.Common.{◌≡◌, true, arith}
 use Rattle.std.proofs.lemmas.Grind.{common_steps}
-use Rattle.wat_asm.specs.Lexing.{begins_with_digit}
+use Rattle.wat_asm.specs.inside.Lexing.{begins_with_digit}
 use Rattle.wat_asm.proofs.Numerals.{numeral_begins}
 use Rattle.wat_asm.proofs.lexer.numeral.read.Goals as goal
 

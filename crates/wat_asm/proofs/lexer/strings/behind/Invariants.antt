@@ -1,6 +1,6 @@
 use Rattle.std.proofs.Common.{◌≡◌, length, List, ℕ, Some}
-use Rattle.wat_asm.specs.Lexing.{IsLeft}
-use Rattle.wat_asm.specs.Strings.{plain, quote_at}
+use Rattle.wat_asm.specs.inside.Lexing.{IsLeft}
+use Rattle.wat_asm.specs.inside.Strings.{plain, quote_at}
 use Rattle.wat_asm.proofs.lexer.strings.behind.Given as goal
 
 abbrev pub invariant-each : goal.invariant-each

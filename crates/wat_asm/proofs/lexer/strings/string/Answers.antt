@@ -1,7 +1,7 @@
 use Rattle.std.proofs.Common.{◌≡◌, ◌++◌, [], ◌-◌, List, ℕ, Some, None, length, drop, ap, sym, subst, refl, ◌∙◌, arith}
 use Rattle.std.proofs.lemmas.List.{drop_all, take_all, length-drop}
 use Rattle.wat_asm.specs.declared.lexer.strings.Part.{Part}
-use Rattle.wat_asm.specs.Strings.{string_of}
+use Rattle.wat_asm.specs.inside.Strings.{string_of}
 use Rattle.wat_asm.proofs.Quotes.{Continues, goes_on, ends, no_character, not_ended, nothing_there}
 use Rattle.wat_asm.proofs.lexer.strings.string.Goals as goal
 

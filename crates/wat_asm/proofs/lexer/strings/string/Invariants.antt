@@ -1,5 +1,5 @@
 use Rattle.std.proofs.Common.{◌≡◌, ◌++◌, drop, length, List, ℕ, Some}
-use Rattle.wat_asm.specs.Strings.{string_of}
+use Rattle.wat_asm.specs.inside.Strings.{string_of}
 use Rattle.wat_asm.proofs.lexer.strings.string.Given as goal
 
 abbrev pub invariant-each : goal.invariant-each

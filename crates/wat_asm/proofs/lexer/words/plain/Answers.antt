@@ -1,5 +1,5 @@
 use Rattle.std.specs.Prelude.{codes}
-use Rattle.wat_asm.specs.Lexing.{plain_of}
+use Rattle.wat_asm.specs.inside.Lexing.{plain_of}
 use Rattle.wat_asm.proofs.Words.{stripped, not_stripped}
 use Rattle.wat_asm.proofs.lexer.words.plain.Goals as goal
 

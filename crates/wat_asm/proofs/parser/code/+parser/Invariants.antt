@@ -1,6 +1,6 @@
 use Rattle.std.proofs.Common.{◌<◌, ◌≤◌, ◌+◌, ◌*◌, ℕ, length}
-use Rattle.wat_asm.specs.Reading.{state_of}
-use Rattle.wat_asm.specs.ReadingCode.{goes_on, instr_step, inner_at}
+use Rattle.wat_asm.specs.inside.Reading.{state_of}
+use Rattle.wat_asm.specs.inside.ReadingCode.{goes_on, instr_step, inner_at}
 use Rattle.wat_asm.proofs.Repeats.{Onward}
 use Rattle.wat_asm.proofs.parser.code.+parser.Given as goal
 

@@ -1,17 +1,20 @@
-use Rattle.std.proofs.Common.{arith}
+use Rattle.std.proofs.Common.{arith, rules}
 use Rattle.std.proofs.lemmas.Result.{err_from_is_err_and}
-use Rattle.wat_asm.specs.Reading.{state_of, groups_at, local_first, group_step}
+use Rattle.wat_asm.specs.inside.Reading.{state_of, groups_at, local_first, group_step}
 use Rattle.wat_asm.proofs.Repeats.{answers, loop_steps, loop_fails, loop_done}
 use Rattle.wat_asm.proofs.parser.fields.all_locals.Goals as goal
 
-pub returns-in_err-local_group-clause-again : goal.returns-in_err-local_group-clause-again
+pub returns-in_err-local_group : goal.returns-in_err-local_group
 unfolding groups_at
-returns-in_err-local_group-clause-again c = λ n.
-    let p = err_from_is_err_and c.from_residual.result c.from_residual.ensures.1 in
-    rw (p.1, p.2) (loop_fails local_first (group_step n) (c.args.locals.now.items, state_of c.args.parser.now) (c.each.locals.items, state_of c.each.parser) c.in_err-local_group.field-0.0 n
-    (answers _ _ (rw c.each-test.true at c.is_locals.ensures))
-    (c.in_err-local_group.ensures.again n)
-    (c.each.invariant.onward n))
+returns-in_err-local_group c = record {
+  again = λ n.
+      let p = err_from_is_err_and c.from_residual.result c.from_residual.ensures.1 in
+      rw (p.1, p.2) (loop_fails local_first (group_step n) (c.args.locals.now.items, state_of c.args.parser.now) (c.each.locals.items, state_of c.each.parser) c.in_err-local_group.field-0.0 n
+      (answers _ _ (rw c.each-test.true at c.is_locals.ensures))
+      (c.in_err-local_group.ensures.again n)
+      (c.each.invariant.onward n));
+  shrinks = search rules;
+}
 
 pub each-preserved : goal.each-preserved
 each-preserved c = record {
@@ -22,9 +25,12 @@ each-preserved c = record {
       (c.each.invariant.onward n);
 }
 
-pub returns-clause-again : goal.returns-clause-again
+pub returns : goal.returns
 unfolding groups_at
-returns-clause-again c = λ n.
-    loop_done local_first (group_step n) (c.args.locals.now.items, state_of c.args.parser.now) (c.each.locals.items, state_of c.each.parser) n
-    (answers _ _ (rw c.each-test.false at c.is_locals.ensures))
-    (c.each.invariant.onward n)
+returns c = record {
+  again = λ n.
+      loop_done local_first (group_step n) (c.args.locals.now.items, state_of c.args.parser.now) (c.each.locals.items, state_of c.each.parser) n
+      (answers _ _ (rw c.each-test.false at c.is_locals.ensures))
+      (c.each.invariant.onward n);
+  shrinks = search rules;
+}

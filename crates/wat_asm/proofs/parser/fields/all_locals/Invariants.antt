@@ -1,5 +1,5 @@
 use Rattle.std.proofs.Common.{ℕ, ◌≤◌, length}
-use Rattle.wat_asm.specs.Reading.{state_of, local_first, group_step}
+use Rattle.wat_asm.specs.inside.Reading.{state_of, local_first, group_step}
 use Rattle.wat_asm.proofs.Repeats.{Onward}
 use Rattle.wat_asm.proofs.parser.fields.all_locals.Given as goal
 

@@ -1,6 +1,6 @@
 use Rattle.std.proofs.Common.{◌≤◌, length}
-use Rattle.wat_asm.specs.Reading.{state_of}
-use Rattle.wat_asm.specs.ReadingModule.{text_first, text_step}
+use Rattle.wat_asm.specs.inside.Reading.{state_of}
+use Rattle.wat_asm.specs.inside.ReadingModule.{text_first, text_step}
 use Rattle.wat_asm.proofs.Repeats.{Onward}
 use Rattle.wat_asm.proofs.parser.fields.bytes.Given as goal
 

@@ -1,5 +1,5 @@
 use Rattle.std.proofs.Common.{◌≤◌, length}
-use Rattle.wat_asm.specs.Reading.{state_of, number_first, number_at, item_step}
+use Rattle.wat_asm.specs.inside.Reading.{state_of, number_first, number_at, item_step}
 use Rattle.wat_asm.proofs.Repeats.{Onward}
 use Rattle.wat_asm.proofs.parser.fields.functions.Given as goal
 

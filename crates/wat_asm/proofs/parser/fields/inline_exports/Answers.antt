@@ -1,6 +1,6 @@
 use Rattle.std.proofs.Common.{◌≡◌, true, false, refl, ap, ◌∙◌, arith}
-use Rattle.wat_asm.specs.Reading.{State, state_of}
-use Rattle.wat_asm.specs.ReadingModule.{inline_first}
+use Rattle.wat_asm.specs.inside.Reading.{State, state_of}
+use Rattle.wat_asm.specs.inside.ReadingModule.{inline_first}
 use Rattle.wat_asm.proofs.parser.fields.inline_exports.Goals as goal
 
 pub each-init : goal.each-init

@@ -1,6 +1,6 @@
 use Rattle.std.proofs.Common.{◌≡◌, ◌≤◌, length, false}
-use Rattle.wat_asm.specs.Reading.{state_of}
-use Rattle.wat_asm.specs.ReadingModule.{drafted, inline_first}
+use Rattle.wat_asm.specs.inside.Reading.{state_of}
+use Rattle.wat_asm.specs.inside.ReadingModule.{drafted, inline_first}
 use Rattle.wat_asm.proofs.parser.fields.inline_exports.Given as goal
 
 abbrev pub invariant-each : goal.invariant-each

@@ -1,6 +1,6 @@
 use Rattle.std.proofs.lemmas.Result.{err_from_is_err_and}
-use Rattle.wat_asm.specs.Reading.{state_of}
-use Rattle.wat_asm.specs.ReadingModule.{drafted, field_first, field_step, fields_at}
+use Rattle.wat_asm.specs.inside.Reading.{state_of}
+use Rattle.wat_asm.specs.inside.ReadingModule.{drafted, field_first, field_step, fields_at}
 use Rattle.wat_asm.proofs.Repeats.{answers, loop_steps, loop_fails, loop_done}
 use Rattle.wat_asm.proofs.parser.modules.fields.Goals as goal
 

@@ -1,6 +1,6 @@
 use Rattle.std.proofs.Common.{ℕ, length}
-use Rattle.wat_asm.specs.Reading.{state_of}
-use Rattle.wat_asm.specs.ReadingModule.{drafted, field_first, field_step}
+use Rattle.wat_asm.specs.inside.Reading.{state_of}
+use Rattle.wat_asm.specs.inside.ReadingModule.{drafted, field_first, field_step}
 use Rattle.wat_asm.proofs.Repeats.{Onward}
 use Rattle.wat_asm.proofs.parser.modules.fields.Given as goal
 

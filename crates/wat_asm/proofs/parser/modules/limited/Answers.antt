@@ -1,6 +1,6 @@
 use Rattle.std.proofs.lemmas.Result.{err_from_is_err_and}
-use Rattle.wat_asm.specs.Tokens.{toks_of}
-use Rattle.wat_asm.specs.ReadingModule.{module_at}
+use Rattle.wat_asm.specs.inside.Tokens.{toks_of}
+use Rattle.wat_asm.specs.inside.ReadingModule.{module_at}
 use Rattle.wat_asm.proofs.Repeats.{said, failed}
 use Rattle.wat_asm.proofs.parser.modules.limited.Goals as goal
 

@@ -1,7 +1,7 @@
 use Rattle.std.proofs.lemmas.Result.{err_from_is_err_and}
-use Rattle.wat_asm.specs.Tokens.{toks_of}
-use Rattle.wat_asm.specs.Reading.{state_of}
-use Rattle.wat_asm.specs.ReadingModule.{drafted}
+use Rattle.wat_asm.specs.inside.Tokens.{toks_of}
+use Rattle.wat_asm.specs.inside.Reading.{state_of}
+use Rattle.wat_asm.specs.inside.ReadingModule.{drafted}
 use Rattle.wat_asm.proofs.Modules.{module_failed, module_said}
 use Rattle.wat_asm.proofs.parser.modules.module.Goals as goal
 

@@ -1,7 +1,7 @@
 use Rattle.std.proofs.Common.{Bool, Some, refl, sym, ap}
 use Rattle.std.proofs.lemmas.Result.{err_from_is_err_and}
-use Rattle.wat_asm.specs.Reading.{state_of, repeated}
-use Rattle.wat_asm.specs.ReadingModule.{goes_on_with_type, type_step, types_at}
+use Rattle.wat_asm.specs.inside.Reading.{state_of, repeated}
+use Rattle.wat_asm.specs.inside.ReadingModule.{goes_on_with_type, type_step, types_at}
 use Rattle.wat_asm.proofs.Repeats.{answers, loop_steps, loop_fails, loop_done, then_said, first_failed}
 use Rattle.wat_asm.proofs.parser.modules.types.Goals as goal
 

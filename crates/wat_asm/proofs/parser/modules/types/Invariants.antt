@@ -1,6 +1,6 @@
 use Rattle.std.proofs.Common.{ℕ, length}
-use Rattle.wat_asm.specs.Reading.{state_of}
-use Rattle.wat_asm.specs.ReadingModule.{goes_on_with_type, type_step}
+use Rattle.wat_asm.specs.inside.Reading.{state_of}
+use Rattle.wat_asm.specs.inside.ReadingModule.{goes_on_with_type, type_step}
 use Rattle.wat_asm.proofs.Repeats.{Onward}
 use Rattle.wat_asm.proofs.parser.modules.types.Given as goal
 

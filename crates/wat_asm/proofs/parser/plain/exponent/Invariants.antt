@@ -1,5 +1,5 @@
 use Rattle.std.proofs.Common.{◌≡◌, ◌-◌}
-use Rattle.wat_asm.specs.ReadingCode.{exponent, exponent_from}
+use Rattle.wat_asm.specs.inside.ReadingCode.{exponent, exponent_from}
 use Rattle.wat_asm.proofs.parser.plain.exponent.Given as goal
 
 abbrev pub invariant-loop-e : goal.invariant-loop-e

@@ -1,5 +1,5 @@
 use Rattle.std.proofs.Common.{arith, ◌<◌, length, ◌∙◌}
-use Rattle.bounded_profile.specs.Tracking.{operands_of}
+use Rattle.bounded_profile.specs.inside.Tracking.{operands_of}
 use Rattle.bounded_profile.proofs.KnownPiles.{forget_more}
 use Rattle.bounded_profile.proofs.constants.operands.Operands.forget_each.Goals as goal
 

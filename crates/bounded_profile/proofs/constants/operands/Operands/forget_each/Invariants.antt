@@ -1,5 +1,5 @@
 use Rattle.std.proofs.Common.{◌≡◌, drop}
-use Rattle.bounded_profile.specs.Tracking.{operands_of, forget_each}
+use Rattle.bounded_profile.specs.inside.Tracking.{operands_of, forget_each}
 use Rattle.bounded_profile.proofs.constants.operands.Operands.forget_each.Given as goal
 
 abbrev pub invariant-loop-taken : goal.invariant-loop-taken

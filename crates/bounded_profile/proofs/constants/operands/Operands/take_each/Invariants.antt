@@ -1,5 +1,5 @@
 use Rattle.std.proofs.Common.{◌≡◌, drop}
-use Rattle.bounded_profile.specs.Tracking.{operands_of, take_each}
+use Rattle.bounded_profile.specs.inside.Tracking.{operands_of, take_each}
 use Rattle.bounded_profile.proofs.constants.operands.Operands.take_each.Given as goal
 
 abbrev pub invariant-loop-demand : goal.invariant-loop-demand

@@ -1,6 +1,6 @@
 use Rattle.std.proofs.Common.{◌≤◌, length}
-use Rattle.wat_asm.specs.Reading.{state_of, number_first}
-use Rattle.wat_asm.specs.ReadingCode.{label_step}
+use Rattle.wat_asm.specs.inside.Reading.{state_of, number_first}
+use Rattle.wat_asm.specs.inside.ReadingCode.{label_step}
 use Rattle.wat_asm.proofs.Repeats.{Onward}
 use Rattle.wat_asm.proofs.parser.tokens.Parser.branch_table.Given as goal
 

@@ -1,5 +1,5 @@
 use Rattle.std.proofs.Common.{◌≤◌, length}
-use Rattle.wat_asm.specs.Reading.{state_of, val_type_first, val_type_at, item_step}
+use Rattle.wat_asm.specs.inside.Reading.{state_of, val_type_first, val_type_at, item_step}
 use Rattle.wat_asm.proofs.Repeats.{Onward}
 use Rattle.wat_asm.proofs.parser.tokens.Parser.val_types.Given as goal
 

@@ -1,0 +1,135 @@
+-- What one step says of files, after another that wrote nothing.
+use Rattle.std.proofs.Common.{inl, inr, ◌≡◌, ◌∙◌, ◌≤◌, ℕ, Bool, true, false, List, length, Some, None, Result, Ok, Err, ap, subst, sym}
+use Rattle.std.specs.Prelude.{OnErr}
+use Rattle.wasm_ast.specs.declared.module.Module.{Module}
+use Rattle.wasm_ast.specs.Limits.{IsWithinLimits, max_module_bytes}
+use Rattle.wasm_decode.specs.Canonical.{canonical}
+use Rattle.console.specs.declared.fault.CommandFault.{CommandFault}
+use Rattle.console.specs.declared.fault.CommandFault.TheVariants as command
+use Rattle.console.specs.declared.sources.Source.{Source}
+use Rattle.console.specs.Disk.{Disk, HoldsAt, Stays, Tries, Writes, unknown}
+use Rattle.console.specs.Modules.{IsModuleAt, MeansBy, is_text_path}
+use Rattle.console.specs.Engine.{RefusesModule, content, is_text}
+use Rattle.console.specs.inside.Answering.{HoldsSource}
+use Rattle.console.specs.Program.{IsBeforeWriting, IsNoFile, IsRefusedAt, IsUnread, IsUnspelled, IsUnwritable, RefusesSpelled, TellsSpelling, length_line}
+
+-- nothing was done
+pub stays_same : (disk : Disk) → Stays disk disk
+stays_same disk = record { holds = λ path found held. held; refuses = λ path refuses. refuses; wrote = λ writes wrote. wrote }
+
+-- nothing is written in two steps that write nothing
+pub stays_again : (before middle after : Disk) → Stays before middle → Stays middle after → Stays before after
+stays_again before middle after first then = record {
+  holds = λ path found held. first.holds path found (then.holds path found held);
+  refuses = λ path refuses. first.refuses path (then.refuses path refuses);
+  wrote = λ writes wrote. then.wrote writes (first.wrote writes wrote);
+}
+
+pub writes_then : (path bytes : List ℕ) (before middle after : Disk) → Stays before middle → Writes path bytes middle after → Writes path bytes before after
+writes_then path bytes before middle after first writes = λ earlier wrote. writes earlier (first.wrote earlier wrote)
+
+pub tries_then : (path bytes : List ℕ) (before middle after : Disk) → Stays before middle → Tries path bytes middle after → Tries path bytes before after
+tries_then path bytes before middle after first tries = λ earlier wrote. tries earlier (first.wrote earlier wrote)
+
+-- what is not tried is tried and came to nothing
+pub tries_nothing : (path bytes : List ℕ) (disk : Disk) → Tries path bytes disk disk
+tries_nothing path bytes disk = λ earlier wrote. inl wrote
+
+-- what may be found after a read could be found before
+pub holds_before : (before after : Disk) (path : List ℕ) (P : List ℕ → Type 0) → Stays before after → HoldsAt after path P → HoldsAt before path P
+holds_before before after path P stays (content, held, is) = (content, stays.holds path (Some content) held, is)
+
+no_file_before : (is_text : Bool) (before after : Disk) (path : List ℕ) → Stays before after → IsNoFile is_text after path → IsNoFile is_text before path
+no_file_before true before after path stays (inl none) = inl (stays.holds path None none)
+no_file_before true before after path stays (inr (bytes, held, bad)) = inr (bytes, stays.holds path (Some bytes) held, bad)
+no_file_before false before after path stays none = stays.holds path None none
+
+-- what cannot be read after a read could not be read before
+pub unread_before : (is_text : Bool) (before after : Disk) (path : List ℕ) → Stays before after → (fault : CommandFault)
+    → IsUnread is_text after path fault → IsUnread is_text before path fault
+unread_before is_text before after path stays (command.Unread missing) (same, none) = (same, no_file_before is_text before after path stays none)
+unread_before is_text before after path stays command.OutOfMemory is = tt
+unread_before is_text before after path stays (command.Decode fault) is = absurd is
+unread_before is_text before after path stays (command.Text fault) is = absurd is
+unread_before is_text before after path stays (command.Invalid fault) is = absurd is
+unread_before is_text before after path stays (command.Unbounded fault) is = absurd is
+unread_before is_text before after path stays (command.Input fault) is = absurd is
+unread_before is_text before after path stays command.Run is = absurd is
+unread_before is_text before after path stays (command.Encode fault) is = absurd is
+unread_before is_text before after path stays (command.Unwritable refused) is = absurd is
+
+-- what cannot be written after a read could not be written before
+pub unspelled_before : (before after : Disk) (path : List ℕ) (m : Module) → Stays before after → (fault : CommandFault)
+    → IsUnspelled after path m fault → IsUnspelled before path m fault
+unspelled_before before after path m stays (command.Unwritable refused) (same, refuses) = (same, stays.refuses path refuses)
+unspelled_before before after path m stays (command.Encode fault) is = is
+unspelled_before before after path m stays command.OutOfMemory is = tt
+unspelled_before before after path m stays (command.Decode fault) is = absurd is
+unspelled_before before after path m stays (command.Text fault) is = absurd is
+unspelled_before before after path m stays (command.Invalid fault) is = absurd is
+unspelled_before before after path m stays (command.Unbounded fault) is = absurd is
+unspelled_before before after path m stays (command.Input fault) is = absurd is
+unspelled_before before after path m stays command.Run is = absurd is
+unspelled_before before after path m stays (command.Unread missing) is = absurd is
+
+-- ---- modules
+
+-- the source that was read of a file means this module
+pub module_at : (disk : Disk) (path : List ℕ) (read : Source) → HoldsSource disk path read → (m : Module)
+    → MeansBy (is_text read) (content read) m → IsModuleAt disk path m
+module_at disk path read holds m means = (content read, holds.held, subst (λ b. MeansBy b (content read) m) holds.kind means)
+
+-- the source that was read of a file is refused
+pub refused_at : (disk : Disk) (path : List ℕ) (read : Source) (refuses : Bool → List ℕ → CommandFault → Type 0) → HoldsSource disk path read
+    → (fault : CommandFault) → refuses (is_text read) (content read) fault → IsRefusedAt disk path refuses fault
+refused_at disk path read refuses holds fault refused =
+    inr (content read, holds.held, subst (λ b. refuses b (content read) fault) holds.kind refused)
+
+-- the module is not read, and so not spelled
+pub not_spelled : (disk : Disk) (path binary_path : List ℕ) (fault : CommandFault) → IsRefusedAt disk path RefusesModule fault
+    → IsRefusedAt disk path (RefusesSpelled disk binary_path) fault
+not_spelled disk path binary_path fault (inl unread) = inl unread
+not_spelled disk path binary_path fault (inr (content, held, refused)) = inr (content, held, inl refused)
+
+within_by : (is_text : Bool) (content : List ℕ) (m : Module) → MeansBy is_text content m → IsWithinLimits m
+within_by true content m means = means.within
+within_by false content m means = means.limited
+
+pub within_at : (disk : Disk) (path : List ℕ) (m : Module) → IsModuleAt disk path m → IsWithinLimits m
+within_at disk path m read = within_by (is_text_path path) read.0 m read.2
+
+-- ---- spellings
+
+-- the module's spelling is not written
+pub unwritable : (disk : Disk) (path : List ℕ) (m : Module) (fault : CommandFault) → IsUnwritable disk path fault → IsUnspelled disk path m fault
+unwritable disk path m (command.Encode fault) is = absurd is
+unwritable disk path m fault is = is
+
+-- a file that cannot be written is told of after that
+pub written_late : (disk : Disk) (path : List ℕ) (fault : CommandFault) (P : Type 0) → IsUnwritable disk path fault → IsBeforeWriting fault → P
+written_late disk path (command.Unwritable refused) P is before = absurd before
+written_late disk path command.OutOfMemory P is before = absurd before
+written_late disk path fault P is before = absurd is
+
+-- its length is told
+pub spelling_told : (before after : Disk) (binary_path bytes seen told : List ℕ) (m : Module) (count : ℕ) → bytes ≡ canonical m
+    → length bytes ≤ max_module_bytes → seen ≡ bytes → count ≡ length bytes → told ≡ length_line count
+    → Writes binary_path seen before after → TellsSpelling before after m binary_path told
+spelling_told before after binary_path bytes seen told m count same small view counted line writes = record {
+  small = rw (sym same) small;
+  written = subst (λ bs. Writes binary_path bs before after) (view ∙ same) writes;
+  line_of_length = line ∙ ap length_line (counted ∙ ap length same);
+}
+
+pub spelling_then : (before middle after : Disk) (binary_path told : List ℕ) (m : Module) → Stays before middle
+    → TellsSpelling middle after m binary_path told → TellsSpelling before after m binary_path told
+spelling_then before middle after binary_path told m first is = record {
+  small = is.small;
+  written = writes_then binary_path (canonical m) before middle after first is.written;
+  line_of_length = is.line_of_length;
+}
+
+-- of files of which nothing is known
+pub tries_unknown : {A E : Type 0} (result : Result A E) (path bytes : List ℕ) → OnErr result (Tries path bytes unknown unknown)
+tries_unknown (Ok value) path bytes = tt
+tries_unknown (Err error) path bytes = λ writes before. inl tt

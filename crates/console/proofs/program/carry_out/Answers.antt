@@ -1,0 +1,7 @@
+use Rattle.console.proofs.program.carry_out.Goals as goal
+
+pub returns-in-Call-clause-refused : goal.returns-in-Call-clause-refused
+returns-in-Call-clause-refused g c = rw c.in-Call.is c.call_files.ensures.refused
+
+pub returns-in-Assemble-clause-tried : goal.returns-in-Assemble-clause-tried
+returns-in-Assemble-clause-tried g c = rw c.in-Assemble.is c.assemble_file.ensures.tried

@@ -1,0 +1,3 @@
+-- What the steps of the code answer. No contract of a public function cites these.
+pub mod Adding
+pub mod Answering

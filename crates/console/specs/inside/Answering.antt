@@ -1,0 +1,30 @@
+-- What the steps of a command answer.
+use Rattle.std.specs.Prelude.{◌≡◌, ◌⊎◌, ℕ, List, Option, Result, Some}
+use Rattle.wasm_ast.specs.declared.module.Module.{Module}
+use Rattle.host_calls.specs.declared.call.CallInput.{CallInput}
+use Rattle.host_calls.specs.declared.call.CallOutcome.{CallOutcome}
+use Rattle.console.specs.declared.fault.CommandFault.{CommandFault}
+use Rattle.console.specs.declared.fault.CommandFault.TheVariants as command
+use Rattle.console.specs.declared.sources.Source.{Source}
+use Rattle.console.specs.Disk.{Disk}
+use Rattle.console.specs.Lines.{line, outcome_lines}
+use Rattle.console.specs.Modules.{is_text_path}
+use Rattle.interp.specs.Call.{IsOutcome}
+use Rattle.console.specs.Engine.{content, is_text}
+use Rattle.console.specs.Refusal.{fault_text, status_of}
+use Rattle.console.specs.Program.{IsTold}
+
+-- the file at the path has this of a module
+pub record HoldsSource (disk : Disk) (path : List ℕ) (source : Source) : Type 0 where
+  pub kind : is_text source ≡ is_text_path path
+  pub held : disk.holds path (Some (content source))
+
+-- the lines are those of the outcome of a call with this input
+abbrev pub AnswersInput : Module → CallInput → (lines : List ℕ) → Type 0
+AnswersInput m input lines = (outcome : CallOutcome) × IsOutcome m input outcome × (lines ≡ outcome_lines outcome)
+
+-- this fault is told, or the want of memory for its line
+abbrev pub IsFaultTold : {E : Type 0} → (old new : Option (List ℕ)) → CommandFault → Result ℕ E → Type 0
+IsFaultTold old new fault answer =
+    (told : CommandFault) × ((told ≡ fault) ⊎ (told ≡ command.OutOfMemory))
+    × IsTold old new (status_of told) (line (fault_text told)) answer

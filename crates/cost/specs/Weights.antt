@@ -1,0 +1,69 @@
+-- What instructions count: the table of weights. The size of code, the machine's count and the running call all go by it.
+use Rattle.std.specs.Prelude.{ℕ, List, map, filter, slice_get, slice_index_or, Option, Some, None}
+use Rattle.std.specs.Option.{option_and_then}
+use Rattle.wasm_ast.specs.declared.numeric.Binary.TheVariants.{Mul}
+use Rattle.wasm_ast.specs.declared.numeric.Numeric.{Numeric}
+use Rattle.wasm_ast.specs.declared.numeric.Numeric.TheVariants as numeric
+use Rattle.wasm_ast.specs.declared.plain.Memory.{Memory}
+use Rattle.wasm_ast.specs.declared.plain.Memory.TheVariants as memory
+use Rattle.wasm_ast.specs.declared.plain.Plain.{Plain}
+use Rattle.wasm_ast.specs.declared.plain.Plain.TheVariants as plain
+use Rattle.wasm_ast.specs.declared.plain.Branch.{Branch}
+use Rattle.wasm_ast.specs.declared.plain.Branch.TheVariants as branch
+use Rattle.wasm_ast.specs.declared.body.Instr.{Instr}
+use Rattle.wasm_ast.specs.declared.body.Instr.TheVariants as instr
+use Rattle.wasm_ast.specs.declared.module.Import.{Import}
+use Rattle.wasm_ast.specs.declared.module.Module.{Module}
+use Rattle.wasm_ast.specs.Limits.{is_function}
+use Rattle.host_calls.specs.declared.imports.HostCall.{HostCall}
+use Rattle.host_calls.specs.declared.imports.HostCall.TheVariants.{Send, Aggregate}
+use Rattle.host_calls.specs.Imports.{call_of}
+
+-- numeric instructions (Core 1.0, 2.4.1): div and rem, and mul, count more than the others
+abbrev pub numeric_units : Numeric → ℕ
+numeric_units (numeric.Division t op) = 6
+numeric_units (numeric.Binary t Mul) = 3
+numeric_units _ = 1
+
+-- memory instructions (2.4.4): loads and stores
+abbrev pub memory_units : Memory → ℕ
+memory_units (memory.Load op argument) = 2
+memory_units (memory.Store op argument) = 2
+memory_units _ = 1
+
+-- instructions that neither branch nor call
+abbrev pub plain_units : Plain → ℕ
+plain_units (plain.Numeric op) = numeric_units op
+plain_units (plain.Memory op) = memory_units op
+plain_units _ = 1
+
+-- branches (2.4.5)
+abbrev pub branch_units : Branch → ℕ
+branch_units (branch.BrTable labels other) = 2
+branch_units _ = 1
+
+-- a call of the host's function, or, where there is none, of another
+abbrev pub host_units : Option HostCall → ℕ
+host_units (Some Send) = 8
+host_units (Some Aggregate) = 8
+host_units _ = 2
+
+-- A call of the function with this number (2.4.5), imports first (2.5.1): more for the imports `send` and `aggregate` of
+-- module `pregel`.
+unfoldable pub call_units : Module → ℕ → ℕ
+call_units m f = host_units (option_and_then call_of (slice_get (filter is_function m.imports) f))
+
+-- what taking the instruction from a sequence counts
+abbrev pub units_of : Module → Instr → ℕ
+units_of m (instr.Plain p) = plain_units p
+units_of m (instr.Branch b) = branch_units b
+units_of m (instr.Call f) = call_units m f
+units_of m _ = 1
+
+-- what a call of each imported function counts
+abbrev pub imported_units : List Import → List ℕ
+imported_units is = map (λ (i : Import). host_units (call_of i)) (filter is_function is)
+
+-- the one at this number; past them, that of another function
+abbrev pub units_at : List ℕ → ℕ → ℕ
+units_at imported f = slice_index_or imported f (host_units None)

@@ -1,0 +1,128 @@
+//! What instructions count.
+
+ghost use Rattle.std.specs.Prelude.{◌≡◌, ◌≤◌, IfOk};
+ghost use Rattle.wasm_ast.specs.Limits.{is_function};
+ghost use Rattle.cost.specs.Weights.{plain_units, branch_units, host_units, call_units, units_of, imported_units, units_at};
+
+use host_calls::HostCall;
+use std::alloc::{AllocError, Global};
+use std::marker::Model;
+use wasm_ast::{Binary, Branch, Import, ImportDescription, Instr, Memory, Module, Numeric, Plain};
+
+/// What an instruction that neither branches nor calls counts.
+#[inline]
+pub fn plain_units(plain: Plain) -> u32
+    ensures { result ≡ plain_units plain }
+{
+    match plain {
+        Plain::Numeric(Numeric::Division(_, _)) => 6,
+        Plain::Numeric(Numeric::Binary(_, Binary::Mul)) => 3,
+        Plain::Memory(Memory::Load(_, _) | Memory::Store(_, _)) => 2,
+        _ => 1,
+    }
+}
+
+/// What a branch counts.
+#[inline]
+pub fn branch_units(branch: &Branch) -> u32
+    ensures { result ≡ branch_units branch.now }
+{
+    match branch {
+        Branch::BrTable(_, _) => 2,
+        _ => 1,
+    }
+}
+
+/// What a call of this function of the host counts, or, where there is none, a call of another function.
+#[inline]
+pub fn host_units(call: Option<HostCall>) -> u32
+    ensures { result ≡ host_units call }
+{
+    match call {
+        Some(HostCall::Send | HostCall::Aggregate) => 8,
+        _ => 2,
+    }
+}
+
+/// What the instructions of a module count.
+#[derive(Drop)]
+pub struct Weights<'a> {
+    module: &'a Module,
+    // what a call of each imported function counts
+    imported: Vec<u32>,
+}
+
+impl<'a> Model for Weights<'a> {
+    ghost use Rattle.std.specs.Prelude.{◌≡◌};
+    ghost use Rattle.wasm_ast.specs.declared.module.Module.{Module as AnyModule};
+    ghost use Rattle.wasm_ast.specs.contracts.module.Module as module_type;
+    ghost use Rattle.cost.specs.Weights.{imported_units};
+
+    ghost Value = { AnyModule };
+
+    ghost coded = { module_type.the_row.coded };
+
+    ghost view = { λ a. a.«module».now };
+
+    ghost invariant = { λ a. a.imported.items ≡ imported_units a.«module».now.imports };
+}
+
+impl<'a> Weights<'a> {
+    /// Those of the module.
+    pub fn of(alloc: Global, module: &'a Module) -> Result<Weights<'a>, AllocError>
+        ensures { IfOk result (λ weights. weights ≡ «module».now) }
+    {
+        Ok(Weights {
+            module,
+            imported: imported_units(alloc, module.imports.as_slice())?,
+        })
+    }
+
+    /// What the instruction counts.
+    pub fn units(&self, instr: &Instr) -> u32
+        ensures { result ≡ units_of self.now instr.now }
+    {
+        match instr {
+            Instr::Plain(plain) => plain_units(*plain),
+            Instr::Branch(branch) => branch_units(branch),
+            Instr::Call(function) => self.call(*function),
+            _ => 1,
+        }
+    }
+
+    fn call(&self, function: u32) -> u32
+        ensures { result ≡ call_units self.now function }
+    {
+        units_at(&self.imported, function)
+    }
+}
+
+// What a call of the function with this number counts, where those of the imported functions count so.
+fn units_at(imported: &[u32], function: u32) -> u32
+    ensures { result ≡ units_at imported.now function }
+{
+    match imported.get(function as usize) {
+        Some(units) => *units,
+        None => host_units(None),
+    }
+}
+
+fn imported_units(alloc: Global, imports: &[Import]) -> Result<Vec<u32>, AllocError>
+    ensures { IfOk result (λ units. units.items ≡ imported_units imports.now) }
+{
+    let mut units = Vec::new(alloc);
+    for import in imports {
+        if is_function(import) {
+            let call = HostCall::named(import.module.as_str(), import.name.as_str());
+            units.push(host_units(call))?;
+        }
+    }
+    Ok(units)
+}
+
+/// Whether the import is a function.
+pub fn is_function(import: &Import) -> bool
+    ensures { result ≡ is_function import.now }
+{
+    matches!(import.description, ImportDescription::Function(_))
+}

@@ -1,0 +1,86 @@
+-- What a call of a module in the bounded profile begins with, and what it comes to.
+use Rattle.std.proofs.Common.{◌≡◌, ℕ, ◌+◌, ◌*◌, ◌≤◌, Result, Ok, Err, sym, ap, ◌∙◌, subst}
+use Rattle.std.specs.Prelude.{IfOk}
+use Rattle.wasm_ast.specs.declared.module.Module.{Module}
+use Rattle.host_calls.specs.declared.call.CallInput.{CallInput}
+use Rattle.host_calls.specs.declared.call.CallOutcome.{CallOutcome}
+use Rattle.host_calls.specs.Host.{Leaves}
+use Rattle.validate.specs.Modules.{IsTyped}
+use Rattle.bounded_profile.specs.Compute.{IsComputeNumber}
+use Rattle.bounded_profile.specs.Facts.{IsSizeOfCompute}
+use Rattle.bounded_profile.specs.Profile.{IsBounded}
+use Rattle.interp.specs.inside.Begun.{BeginsAt, EndsWith}
+use Rattle.interp.specs.Bounded.{Ends, IsWithinBound, NeverFails, items_of}
+use Rattle.interp.specs.Call.{IsOutcome, outcome_of, shown}
+use Rattle.interp.specs.Configuration.{State}
+use Rattle.interp.specs.Machine.{Machine, run}
+use Rattle.interp.specs.Start.{Starts}
+use Rattle.interp.specs.inside.Walk.{EndsWithin}
+use Rattle.interp.proofs.Faults.{no_fault, never_fails}
+use Rattle.interp.proofs.Fixed.{depths_there, heights_there}
+use Rattle.interp.proofs.OneEnd.{one_start}
+use Rattle.interp.proofs.Starting.{exported_number}
+use Rattle.interp.proofs.Told.{always_ends}
+use Rattle.interp.proofs.Values.{some_is}
+use Rattle.interp.proofs.Whole.{calls_end}
+
+module _ (m : Module) (typed : IsTyped m) (bounded : IsBounded m) where
+  pub begins_at : (n : ℕ) → IsComputeNumber m n → CallInput → BeginsAt m n
+  begins_at n number input =
+      let s = (always_ends m typed bounded input).3.starts in
+      record {
+        function = s.function;
+        globals = s.globals;
+        bytes = s.bytes;
+        begins = s.begins;
+        here = some_is s.begins.number number.compute.number (sym s.begins.exported ∙ exported_number m typed number.compute) ∙ number.here;
+      }
+
+  module _ (input : CallInput) where
+    pub fails_never : NeverFails m input
+    fails_never = let e = always_ends m typed bounded input in never_fails m input e.0 e.1 e.2 e.3
+
+    module _ (size : ℕ) (told : IsSizeOfCompute m size) where
+      sized : (operands : ℕ) × (frames : ℕ) × Ends m input (size * (1 + items_of input)) operands frames
+      sized =
+          let f = bounded.compute.number in
+          let s = told bounded.compute in
+          let h = heights_there m bounded.acyclic in
+          let d = depths_there m bounded.acyclic in
+          (h.0 f, d.0 f, subst (λ (n : ℕ). Ends m input (n * (1 + items_of input)) (h.0 f) (d.0 f)) s.2 (calls_end m typed bounded s.0 h.0 d.0 s.1 h.1 d.1 input))
+
+      pub ends_within : (x : Machine) → Starts m input x → EndsWithin m x (size * (1 + items_of input))
+      ends_within x s =
+          let e = sized.2 in
+          record { steps = e.steps; final = e.final; done = ap (λ (y : Machine). run m e.steps y) (one_start m input x e.first s e.starts) ∙ e.done; within = e.within }
+
+      within : (outcome : CallOutcome) → IsOutcome m input outcome → outcome.units ≤ size * (1 + items_of input)
+      within outcome is = let e = sized in (no_fault m input (size * (1 + items_of input)) e.0 e.1 e.2).outcome outcome is
+
+    pub within_bound : (outcome : CallOutcome) → IsOutcome m input outcome → IsWithinBound m input outcome
+    within_bound outcome is size told = within size told outcome is
+
+left : (outcome : CallOutcome) (st : State) → Leaves outcome st.host st.count → shown outcome ≡ outcome_of st
+left outcome st l =
+    let e1 = l.value in
+    let e2 = l.sends in
+    let e3 = l.contributions in
+    let e4 = l.halted in
+    let e5 = l.units_taken in
+    cc
+
+pub comes_to : (m : Module) (input : CallInput) (x : Machine) (outcome : CallOutcome) → Starts m input x → EndsWith m x outcome → IsOutcome m input outcome
+comes_to m input x outcome s c =
+    record { first = x; starts = s; steps = c.1.steps; final = c.0; done = c.1.done; least = c.1.least; leaves = left outcome c.0 c.2 }
+
+-- ---- the answer
+
+along : {A E : Type 0} {P Q : A → Type 0} (r : Result A E) → ((x : A) → P x → Q x) → IfOk r P → IfOk r Q
+along (Ok x) go h = go x h
+along (Err e) go h = h
+
+pub outcome_told : {E : Type 0} (r : Result CallOutcome E) (n m : Module) (input : CallInput) (x : Machine) → n ≡ m → Starts n input x → IfOk r (EndsWith n x) → IfOk r (IsOutcome m input)
+outcome_told r n m input x same s = subst (λ (m : Module). IfOk r (EndsWith n x) → IfOk r (IsOutcome m input)) same (along r (λ outcome c. comes_to n input x outcome s c))
+
+pub bound_told : {E : Type 0} (r : Result CallOutcome E) (m : Module) → IsTyped m → IsBounded m → (input : CallInput) → IfOk r (IsOutcome m input) → IfOk r (IsWithinBound m input)
+bound_told r m typed bounded input = along r (λ outcome is. within_bound m typed bounded input outcome is)

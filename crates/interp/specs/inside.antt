@@ -1,0 +1,12 @@
+-- Words that mirror the code for its proof. No contract of a public function cites them.
+
+-- operands and locals in two parts, and where a run is
+pub mod Split
+pub mod Place
+-- what the walk's lists mean
+pub mod Meaning
+-- what its parts do
+pub mod Acts
+pub mod Walk
+-- how a call begins and ends
+pub mod Begun

@@ -1,0 +1,73 @@
+-- What the walk's lists mean.
+use Rattle.std.specs.Prelude.{◌≡◌, ℕ, ◌-◌, ◌≤◌, List, [], ◌∷◌, map, length, take, drop, reverse, Option, Some, None}
+use Rattle.wasm_ast.specs.declared.types.Value.{Value}
+use Rattle.wasm_ast.specs.declared.module.Module.{Module}
+use Rattle.wasm_ast.specs.View.{code_of}
+use Rattle.host_calls.specs.declared.imports.HostCall.{HostCall}
+use Rattle.interp.specs.Machine as machine
+use Rattle.interp.specs.inside.Place.{Place}
+use Rattle.interp.specs.inside.Split.{Split}
+use Rattle.interp.specs.declared.layers.Layer.{Layer}
+use Rattle.interp.specs.declared.layers.Layer.TheVariants as layer
+use Rattle.interp.specs.declared.program.Callee.{Callee}
+use Rattle.interp.specs.declared.program.Callee.TheVariants as callee
+use Rattle.interp.specs.declared.walk.Walk.TheInside.{Inside}
+
+-- ---- functions
+
+abbrev pub callee_of : Callee → machine.Callee
+callee_of (callee.Host call) = machine.host (Some call)
+callee_of (callee.Defined f) = machine.defined f.now
+
+abbrev pub host_callee : HostCall → machine.Callee
+host_callee call = machine.host (Some call)
+
+-- the calls are those that the module's imports bring in
+abbrev pub AreImports : List HostCall → Module → Type 0
+AreImports calls m = machine.imported_functions m.imports ≡ map host_callee calls
+
+-- ---- layers
+
+-- the layers, innermost first, over the operands and the locals below the innermost layer's
+abbrev pub layers_of : List Layer → List Value → List Value → List machine.Layer
+layers_of [] vs ls = []
+layers_of (layer.Label keeps floor target after ∷ rs) vs ls =
+    machine.Label keeps (take (length vs - floor) vs) (code_of target.now) (code_of after.now) ∷ layers_of rs (drop (length vs - floor) vs) ls
+layers_of (layer.Frame keeps floor base after ∷ rs) vs ls =
+    machine.Frame keeps (drop base ls) (take (length vs - floor) vs) (code_of after.now) ∷ layers_of rs (drop (length vs - floor) vs) (take base ls)
+
+-- each layer's floors lie at or below those above it
+abbrev pub Ordered : List Layer → ℕ → ℕ → Type 0
+Ordered [] vs ls = Unit {0}
+Ordered (layer.Label keeps floor target after ∷ rs) vs ls = (floor ≤ vs) × Ordered rs floor ls
+Ordered (layer.Frame keeps floor base after ∷ rs) vs ls = (floor ≤ vs) × (base ≤ ls) × Ordered rs floor base
+
+-- the layers of a walk as they are kept, the innermost last
+abbrev pub AreNested : List Layer → (operands locals : Split) → Type 0
+AreNested layers operands locals = Ordered (reverse layers) (length operands.below) (length locals.below)
+
+abbrev pub layers_round : List Layer → (operands locals : Split) → List machine.Layer
+layers_round layers operands locals = layers_of (reverse layers) operands.below locals.below
+
+-- where the operands beyond the innermost layer begin, if it is a label
+abbrev pub floor_of : List Layer → Option ℕ
+floor_of [] = None
+floor_of (layer.Label keeps floor target after ∷ rs) = Some floor
+floor_of (layer.Frame keeps floor base after ∷ rs) = None
+
+abbrev pub place_of : Inside → Place
+place_of a = record {
+  values = a.operands.here;
+  code = code_of a.code.now;
+  layers = layers_of (reverse a.layers.items) a.operands.below a.locals.below;
+  state = record {
+    locals = a.locals.here;
+    globals = a.globals;
+    memory = a.memory;
+    host = a.host;
+    count = a.count;
+  };
+}
+
+abbrev pub IsOrdered : Inside → Type 0
+IsOrdered a = Ordered (reverse a.layers.items) (length a.operands.below) (length a.locals.below)

@@ -1,0 +1,90 @@
+-- What the answers of the walk say of the machine's run.
+use Rattle.std.specs.Prelude.{◌≡◌, ◌≢◌, ℕ, ◌+◌, ◌-◌, ◌*◌, ◌^◌, ◌<◌, ◌≤◌, List, [], ◌∷◌, length, slice_get, Bool, Option, Result, Ok, Err, if◌then◌else◌}
+use Rattle.wasm_ast.specs.declared.types.Value.{Value}
+use Rattle.wasm_ast.specs.declared.module.Function.{Function}
+use Rattle.wasm_ast.specs.declared.module.Module.{Module}
+use Rattle.wasm_ast.specs.Code.{Code}
+use Rattle.interp.specs.declared.fault.WalkFault.{WalkFault}
+use Rattle.interp.specs.declared.fault.WalkFault.TheVariants as fault
+use Rattle.interp.specs.declared.walk.Turn.{Turn}
+use Rattle.interp.specs.declared.walk.Turn.TheVariants as turn
+use Rattle.interp.specs.Configuration.{State, Effect}
+use Rattle.interp.specs.Machine.{Machine, Running, Done, Trapped, Stuck, Layer, Label, after_effect, arm, arrive, back, enter, functions_of, jump, next_units, run, take_call, take_next, taking}
+use Rattle.interp.specs.inside.Place.{Place, running}
+
+-- the machine is this, and where it runs it is at that place
+abbrev pub Turned : Result Turn WalkFault → Machine → Place → Type 0
+Turned (Ok turn.Next) x p = x ≡ running p
+Turned (Ok turn.Finished) x p = x ≡ Done p.state
+Turned (Err fault.Trap) x p = x ≡ Trapped p.state.count
+Turned (Err fault.Stuck) x p = x ≡ Stuck p.state.count
+Turned (Err fault.OutOfMemory) x p = Unit {0}
+
+-- ---- what the parts of a walk do, by the operands, the code, the layers and the state
+
+-- the walk was turned so from one place to another
+abbrev pub Turns : Result Turn WalkFault → (List Value → Code → List Layer → State → Machine) → (old new : Place) → Type 0
+Turns r step old new = Turned r (step old.values old.code old.layers old.state) new
+
+-- a step of a whole sequence, of which the rest is the code
+abbrev pub taken : Module → (whole : Code) → List Value → Code → List Layer → State → Machine
+taken m whole vs is ls st = take_next m vs whole ls st
+
+abbrev pub affected : (List Value → State → Effect) → List Value → Code → List Layer → State → Machine
+affected e vs is ls st = after_effect (e vs st) is ls st.count
+
+-- a sequence in a label
+abbrev pub opened : (keeps : Bool) (target body : Code) → List Value → Code → List Layer → State → Machine
+opened keeps target body vs is ls st = Running [] body (Label keeps vs target is ∷ ls) st
+
+-- one of two sequences in a label
+abbrev pub chosen : (keeps : Bool) (then_body else_body : Code) → List Value → Code → List Layer → State → Machine
+chosen keeps then_body else_body vs is ls st =
+    taking vs st.count (λ n us. Running [] (arm n then_body else_body) (Label keeps us is is ∷ ls) st)
+
+abbrev pub called : Module → (number : ℕ) → List Value → Code → List Layer → State → Machine
+called m number vs is ls st = take_call m (slice_get (functions_of m) number) vs is ls st
+
+abbrev pub entered : Module → Function → List Value → Code → List Layer → State → Machine
+entered m f vs is ls st = enter f (slice_get m.types f.type_number) vs is ls st
+
+-- layers without so many labels, if there are as many
+abbrev pub Unwinds : (labels : ℕ) (all : Bool) (old new : List Layer) → Type 0
+Unwinds labels all old new =
+    (top : Option Value) (st : State) → jump labels top old st ≡ (if all then arrive top new st else Stuck st.count)
+
+-- layers without the labels of the innermost frame
+abbrev pub UnwindsFrame : (old new : List Layer) → Type 0
+UnwindsFrame old new = (top : Option Value) (st : State) → back top old st ≡ arrive top new st
+
+-- the count has room for the next instruction
+abbrev pub HasRoom : Module → Place → Type 0
+HasRoom m p = p.state.count + next_units m p.code < 2 ^ 128
+
+-- ---- runs
+
+-- the run is done after so many steps and no fewer
+pub record Finishes (m : Module) (from : Machine) (final : State) : Type 0 where
+  pub steps : ℕ
+  pub done : run m steps from ≡ Done final
+  pub least : (n : ℕ) → n < steps → (st : State) → run m n from ≢ Done st
+
+-- the machine comes to this one
+pub record Comes (m : Module) (from to : Machine) : Type 0 where
+  pub steps : ℕ
+  pub there : run m steps from ≡ to
+
+-- the run from one place is done at another
+abbrev pub FinishesAt : Module → (old new : Place) → Type 0
+FinishesAt m old new = Finishes m (running old) new.state
+
+-- The run from here comes to its end within so many units.
+pub record EndsWithin (m : Module) (from : Machine) (most : ℕ) : Type 0 where
+  pub steps : ℕ
+  pub final : State
+  pub done : run m steps from ≡ Done final
+  pub within : final.count ≤ most
+
+-- how many steps may be left
+abbrev pub left_of : ℕ → Place → ℕ
+left_of most p = 2 * (most - p.state.count) + length p.layers

@@ -1,6 +1,0 @@
-use Rattle.wat_asm.specs.Names.{number_of}
-use Rattle.wat_asm.proofs.Found.{name_found}
-use Rattle.wat_asm.proofs.parser.tokens.Parser.local_index.Goals as goal
-
-pub returns-clause-named : goal.returns-clause-named
-returns-clause-named c = name_found c.args.self.now.rest.now _ (number_of c.args.self.now.locals) _ _ c.found_in-found.ensures c.found.ensures.named

@@ -5,7 +5,6 @@ mod bodies;
 mod demands;
 mod fault;
 mod instructions;
-mod nesting;
 mod operands;
 mod setting;
 

@@ -15,7 +15,8 @@ use Rattle.console.specs.declared.input.InputFault.TheVariants as fault
 use Rattle.console.specs.declared.input_line.Line.{Line}
 use Rattle.console.specs.declared.input_line.Line.TheVariants.{Skipped, Id, Superstep, Count, Value, Message, Edge, Aggregate, Bad}
 use Rattle.console.specs.InputLine.{line_of}
-use Rattle.console.specs.InputSays.{AreInput, lines_of, is_good, set_slot, slots_after, slot_starts, all_ids, all_supersteps, all_counts, all_values, all_slots, id_by, superstep_by, count_by, value_by, message_by, edge_by, slot_by}
+use Rattle.host_calls.specs.Slots.{slot_starts}
+use Rattle.console.specs.InputSays.{AreInput, lines_of, is_good, set_slot, slots_after, all_ids, all_supersteps, all_counts, all_values, all_slots, id_by, superstep_by, count_by, value_by, message_by, edge_by, slot_by}
 use Rattle.console.specs.Input.{Says}
 use Rattle.console.specs.inside.Adding.{Adds, fits}
 use Rattle.console.specs.InputFaults.{IsFirstBad, IsInputFault}

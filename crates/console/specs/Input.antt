@@ -5,7 +5,8 @@ use Rattle.std.specs.List.{All}
 use Rattle.host_calls.specs.declared.call.CallInput.{CallInput}
 use Rattle.console.specs.declared.input.Input.{Input}
 use Rattle.console.specs.declared.input_line.Line.{Line}
-use Rattle.console.specs.InputSays.{AreInput, lines_of, is_good, all_ids, all_supersteps, all_counts, all_values, all_messages, all_edges, all_slots, slot_starts, slots_after}
+use Rattle.host_calls.specs.Slots.{slot_starts}
+use Rattle.console.specs.InputSays.{AreInput, lines_of, is_good, all_ids, all_supersteps, all_counts, all_values, all_messages, all_edges, all_slots, slots_after}
 
 -- what was said, or else this
 abbrev pub said_or : {A : Type 0} → A → List A → A

@@ -1,5 +1,5 @@
 -- What lines say, one after another.
-use Rattle.std.specs.Prelude.{◌≡◌, ◌≤◌, ℕ, ℤ, pos, negsuc, ◌-◌, ◌^◌, nat_lt, Bool, true, false, List, [], ◌∷◌, map, length, slice_set}
+use Rattle.std.specs.Prelude.{◌≡◌, ◌≤◌, ℕ, ℤ, pos, nat_lt, Bool, true, false, List, [], ◌∷◌, map, length, slice_set}
 use Rattle.std.specs.List.{All, flat_map, fold}
 use Rattle.std.specs.Str.Lines.{lines}
 use Rattle.host_calls.specs.declared.call.TheConstants.{SLOTS}
@@ -70,16 +70,6 @@ all_edges lines = flat_map edge_by lines
 
 abbrev pub all_slots : List Line → List (ℕ × ℤ)
 all_slots lines = flat_map slot_by lines
-
-abbrev pub greatest : ℤ
-greatest = pos (2 ^ 63 - 1)
-
-abbrev pub least : ℤ
-least = negsuc (2 ^ 63 - 1)
-
--- what each slot's fold starts with: two sums, two least, two greatest, two unions of bits
-abbrev pub slot_starts : List ℤ
-slot_starts = pos 0 ∷ pos 0 ∷ greatest ∷ greatest ∷ least ∷ least ∷ pos 0 ∷ pos 0 ∷ []
 
 abbrev pub set_slot : List ℤ → ℕ × ℤ → List ℤ
 set_slot slots said = slice_set slots said.0 said.1

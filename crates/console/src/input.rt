@@ -10,7 +10,7 @@ ghost use Rattle.console.specs.inside.Adding.{Adds, fits};
 ghost use Rattle.console.specs.InputFaults.{IsInputFault};
 
 use crate::input_line::{Line, line_of};
-use host_calls::{CallInput, SLOTS};
+use host_calls::{CallInput, SLOTS, slot_starts};
 use std::alloc::{AllocError, AllocFailed, Global};
 use thiserror::Error;
 
@@ -52,9 +52,6 @@ pub struct Input {
     edges: Vec<(u64, i64)>,
     aggregated: [i64; 8],
 }
-
-/// What the fold of each slot starts with: two sums, two least, two greatest, two unions of bits.
-const SLOT_STARTS: [i64; 8] = [0, 0, i64::MAX, i64::MAX, i64::MIN, i64::MIN, 0, 0];
 
 impl Input {
     /// The input that a text means.
@@ -104,7 +101,7 @@ impl Input {
             value: None,
             messages: Vec::new(alloc),
             edges: Vec::new(alloc),
-            aggregated: SLOT_STARTS,
+            aggregated: slot_starts(),
         }
     }
 

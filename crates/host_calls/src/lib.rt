@@ -5,9 +5,11 @@
 mod call;
 mod imports;
 mod laws;
+mod slots;
 mod state;
 
 pub use call::{CallInput, CallOutcome, SLOTS};
 pub use imports::{CallType, HostCall};
 pub use laws::{calls_fit_their_types, each_import_is_one_call};
+pub use slots::slot_starts;
 pub use state::CallState;

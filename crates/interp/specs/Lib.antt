@@ -1,5 +1,4 @@
--- In the order in which they are read.
-
+-- What a reader has to believe, in this order.
 -- the machine: what a configuration is, what instructions do to it, its steps
 pub mod Configuration
 pub mod Memory
@@ -15,5 +14,5 @@ pub mod Bounded
 -- what a sequence counts
 pub mod Typed
 pub mod Sequences
--- what mirrors the code
+-- what only mirrors the code, for its proofs
 pub mod inside

@@ -1,14 +1,15 @@
 //! Instructions that hold no others (Core 1.0, 3.3), each by its rule.
 
-ghost use Rattle.std.specs.Prelude.{◌≡◌};
-ghost use Rattle.validate.specs.inside.Steps.{is_aligned, variable_step, memory_step, plain_step, branch_step, call_step, call_indirect_step};
+ghost use Rattle.std.specs.Prelude.{◌≡◌, reverse};
+ghost use Rattle.validate.specs.inside.Steps.{is_aligned, variable_step, memory_step, plain_step, branch_step, all_take, same_taken, call_step, call_indirect_step};
 ghost use Rattle.validate.specs.inside.Answers.{Makes, context_of};
+ghost use Rattle.validate.specs.inside.Findings.{Says};
 
 use crate::fault::{Rule, ValidFault};
 use crate::frame::Frame;
 use crate::nesting::Nesting;
 use crate::operands::Operands;
-use wasm_ast::{Branch, Memory, Mutability, Plain, ValType, Value, Variable};
+use wasm_ast::{BlockType, Branch, Memory, Mutability, Plain, ValType, Value, Variable};
 
 /// Core 1.0, 3.3.1, 3.3.2 and `nop` of 3.3.5.
 pub fn check_plain(
@@ -150,11 +151,37 @@ pub fn check_branch(
             let Some(taken) = nesting.label_at(*label) else {
                 return Err(ValidFault::from(Rule::Label));
             };
-            nesting.check_targets(taken, targets.as_slice())?;
+            check_targets(nesting, taken, targets.as_slice())?;
             operands.take(ValType::I32)?;
             operands.leave(taken)
         }
         Branch::Return => operands.leave(frame.outcome),
+    }
+}
+
+// Whether a branch to each of the labels takes this.
+fn check_targets(nesting: &Nesting, taken: BlockType, targets: &[u32]) -> Result<(), ValidFault>
+    ensures { Says (all_take (reverse nesting.now.labels.items) taken targets.now) result }
+{
+    for target in targets {
+        let Some(found) = nesting.label_at(*target) else {
+            return Err(ValidFault::from(Rule::Label));
+        };
+        if !is_same(taken, found) {
+            return Err(ValidFault::from(Rule::Mismatch));
+        }
+    }
+    Ok(())
+}
+
+fn is_same(first: BlockType, second: BlockType) -> bool
+    ensures { result ≡ same_taken first second }
+{
+    match (first, second) {
+        (None, None) => true,
+        (Some(ValType::I32), Some(ValType::I32)) => true,
+        (Some(ValType::I64), Some(ValType::I64)) => true,
+        _ => false,
     }
 }
 

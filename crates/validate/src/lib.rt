@@ -16,4 +16,6 @@ mod types;
 mod valid;
 
 pub use fault::{Place, Rule, ValidFault};
+pub use nesting::Nesting;
+pub use operands::first_of;
 pub use valid::{Valid, validate};

@@ -1,13 +1,9 @@
-//! The labels in scope, and the number of the next instruction.
+//! The labels in scope (Core 1.0, 3.3.5), and the number of the next instruction.
 
-ghost use Rattle.std.specs.Prelude.{◌≡◌, ◌++◌, ◌∷◌, [], OnOk, reverse, slice_get};
-ghost use Rattle.validate.specs.inside.Answers.{without_last};
-ghost use Rattle.validate.specs.inside.Steps.{all_take, same_taken};
-ghost use Rattle.validate.specs.inside.Findings.{Says};
+ghost use Rattle.std.specs.Prelude.{◌≡◌, ◌++◌, ◌∷◌, [], OnOk, reverse, slice_get, take, length, ◌-◌};
 
-use crate::fault::{Rule, ValidFault};
 use std::alloc::{AllocError, Global};
-use wasm_ast::{BlockType, ValType};
+use wasm_ast::BlockType;
 
 /// How deep an instruction lies, and how many come before it.
 #[derive(Drop)]
@@ -37,7 +33,8 @@ impl Nesting {
 
     /// Without the innermost label.
     pub fn leave(&mut self)
-        ensures { self.new.labels.items ≡ without_last self.old.labels.items }
+        ensures { self.new.labels.items
+            ≡ take (length self.old.labels.items - 1) self.old.labels.items }
     {
         let _label = self.labels.pop();
     }
@@ -61,31 +58,5 @@ impl Nesting {
         } else {
             None
         }
-    }
-
-    /// Whether a branch to each of the labels takes the same.
-    pub fn check_targets(&self, taken: BlockType, targets: &[u32]) -> Result<(), ValidFault>
-        ensures { Says (all_take (reverse self.now.labels.items) taken targets.now) result }
-    {
-        for target in targets {
-            let Some(found) = self.label_at(*target) else {
-                return Err(ValidFault::from(Rule::Label));
-            };
-            if !is_same(taken, found) {
-                return Err(ValidFault::from(Rule::Mismatch));
-            }
-        }
-        Ok(())
-    }
-}
-
-fn is_same(first: BlockType, second: BlockType) -> bool
-    ensures { result ≡ same_taken first second }
-{
-    match (first, second) {
-        (None, None) => true,
-        (Some(ValType::I32), Some(ValType::I32)) => true,
-        (Some(ValType::I64), Some(ValType::I64)) => true,
-        _ => false,
     }
 }

@@ -220,7 +220,7 @@ impl Operands {
     }
 }
 
-/// What a function of these results gives, of which there is at most one.
+/// What a function of these results gives, of which there is at most one (Core 1.0, 3.2.2).
 pub fn first_of(results: &[ValType]) -> BlockType
     ensures { result ≡ first_type results.now }
 {

@@ -36,7 +36,7 @@ use Rattle.bounded_profile.specs.declared.constants.asks.Asks.TheVariants.{Addre
 use Rattle.bounded_profile.specs.declared.constants.demands.Demand.{Demand}
 use Rattle.bounded_profile.specs.declared.constants.demands.Demand.TheVariants.{Any, Constant}
 use Rattle.bounded_profile.specs.declared.constants.fault.ConstantsFault.{ConstantsFault}
-use Rattle.bounded_profile.specs.declared.constants.nesting.Nesting.{Nesting}
+use Rattle.validate.specs.declared.nesting.Nesting.{Nesting}
 use Rattle.bounded_profile.specs.declared.constants.operands.Operand.{Operand}
 use Rattle.bounded_profile.specs.declared.constants.operands.Operand.TheVariants.{Unknown, Known}
 use Rattle.bounded_profile.specs.declared.constants.operands.Operands.{Operands}

@@ -7,11 +7,10 @@ ghost use Rattle.bounded_profile.specs.inside.Tracking.{operands_of, labels_of, 
 
 use crate::constants::fault::ConstantsFault;
 use crate::constants::instructions::{check_branch, check_call, check_call_indirect, check_plain};
-use crate::constants::nesting::Nesting;
-use crate::constants::operands::{Operands, first_of};
+use crate::constants::operands::Operands;
 use crate::constants::setting::ModuleSetting;
 use std::alloc::Global;
-use validate::Place;
+use validate::{Nesting, Place, first_of};
 use wasm_ast::{BlockType, Body, Function, Instr};
 
 // A sequence that begins with no operands.

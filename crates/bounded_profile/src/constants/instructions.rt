@@ -6,13 +6,12 @@ ghost use Rattle.bounded_profile.specs.inside.Tracking.{Goes, operands_of, label
 use crate::constants::asks::division_premise;
 use crate::constants::demands::Demand;
 use crate::constants::fault::ConstantsFault;
-use crate::constants::nesting::Nesting;
-use crate::constants::operands::{Operand, Operands, first_of};
+use crate::constants::operands::{Operand, Operands};
 use crate::constants::setting::ModuleSetting;
 use crate::memory_rules::number_of;
 use crate::wants::Premise;
 use std::alloc::AllocError;
-use validate::Place;
+use validate::{Nesting, Place, first_of};
 use wasm_ast::{Branch, Memory, Numeric, Plain, ValType, Variable};
 
 /// Core 1.0, 3.3.1, 3.3.2 and `nop` of 3.3.5.

@@ -2,7 +2,6 @@
 
 ghost use Rattle.std.specs.Prelude.{◌≡◌, [], ◌∷◌, ◌++◌, OnOk};
 ghost use Rattle.bounded_profile.specs.inside.Tracking.{Goes, operands_of, fits, top, below, take_one, take_each, change, forget_each, forget_result, unknowns, given_of};
-ghost use Rattle.validate.specs.Spaces.{first_type};
 
 use crate::constants::demands::{Demand, is_met};
 use crate::constants::fault::ConstantsFault;
@@ -142,15 +141,5 @@ impl Operands {
             Some(_) => self.push(Operand::Unknown),
             None => Ok(()),
         }
-    }
-}
-
-/// What a function of these results gives, of which there is at most one (Core 1.0, 3.2.2).
-pub fn first_of(results: &[ValType]) -> BlockType
-    ensures { result ≡ first_type results.now }
-{
-    match results {
-        [first, ..] => Some(*first),
-        [] => None,
     }
 }

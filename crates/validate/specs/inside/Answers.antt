@@ -1,5 +1,5 @@
 -- How the code's values and answers are read.
-use Rattle.std.specs.Prelude.{◌≡◌, ◌-◌, Bool, true, false, List, [], length, reverse, take, Option, Result, MatchResult}
+use Rattle.std.specs.Prelude.{◌≡◌, Bool, true, false, List, [], reverse, Option, Result, MatchResult}
 use Rattle.wasm_ast.specs.declared.types.ValType.{ValType}
 use Rattle.wasm_ast.specs.declared.body.Instr.{Instr}
 use Rattle.wasm_ast.specs.Code.{Code}
@@ -25,9 +25,6 @@ stack_of o = pile (base_of o.is_dead) o.slots.items
 -- the labels, the innermost last
 abbrev pub context_of : Frame → Nesting → Context
 context_of f n = record { spaces = f.spaces.now; locals = f.locals.items; labels = reverse n.labels.items; outcome = f.outcome }
-
-abbrev pub without_last : {A : Type 0} → List A → List A
-without_last xs = take (length xs - 1) xs
 
 -- ---- what is done with operands
 

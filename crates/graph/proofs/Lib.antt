@@ -4,7 +4,6 @@ pub mod Cut
 pub mod Numbers
 pub mod Placing
 pub mod Ranges
-pub mod Same
 pub mod Splitting
 pub mod Texts
 pub mod Vertices

@@ -1,74 +1,25 @@
 -- Vertices, one after another, in the parts that they belong to.
-use Rattle.std.proofs.Common.{inl, inr, ◌≡◌, ℕ, zero, suc, ◌+◌, ◌%◌, ◌<◌, List, [], ◌∷◌, ◌++◌, length, get_or, map, set, cond, refl, ap, sym, subst, ◌∙◌, arith, eqb, append_assoc}
+use Rattle.std.proofs.Common.{◌≡◌, ℕ, ◌+◌, ◌%◌, ◌<◌, List, [], ◌∷◌, ◌++◌, length, get_or, map, set, ap, sym, ◌∙◌, arith}
 use Rattle.std.specs.List.{flat_map, range_with_len}
 use Rattle.std.specs.List.Sorted.{IsNonDecreasing, IsPermutation}
-use Rattle.std.proofs.lemmas.Bool.{ne_eqb}
-use Rattle.std.proofs.lemmas.Bool.Decides.{eqb_tells}
-use Rattle.std.proofs.lemmas.List.{append-nil, same_lists, get_or-map, get_or-set_same, get_or-set_other, length-map, length-set, map-append, map-set}
-use Rattle.std.proofs.lemmas.List.Elements.{filter-append}
+use Rattle.std.proofs.lemmas.List.{get_or-map, length-map, map-append, map-set}
 use Rattle.std.proofs.lemmas.List.Folds.{flat_map-map}
-use Rattle.std.proofs.lemmas.List.FromFn.{get_or-map-range_with_len, length-map-range_with_len, map-range_with_len_more}
-use Rattle.std.proofs.lemmas.List.Sorted.{IsPermutation-append_comm, IsPermutation-append_right, IsPermutation-refl, IsPermutation-sym, IsPermutation-trans, IsPermutation-append_left}
+use Rattle.std.proofs.lemmas.List.FromFn.{length-map-range_with_len, map-range_with_len_more}
+use Rattle.std.proofs.lemmas.List.Sorted.{IsPermutation-refl, IsPermutation-sym, IsPermutation-trans, IsPermutation-append_left}
 use Rattle.graph.specs.declared.parts.Part.{Part}
 use Rattle.graph.specs.declared.vertex.Vertex.{Vertex}
 use Rattle.graph.specs.Entry.{Entry, IsProper, entries_of, entry_of, id_at, ids, part_of_graph, parts_of}
 use Rattle.graph.specs.Parts.{part_entries}
-use Rattle.graph.proofs.Same.{equal, sorted_same}
+use Rattle.graph.specs.Rising.{sorted_same}
+use Rattle.graph.specs.Cutting.{joined, joined-push, joined_none, parts-push}
 
 -- So many vertices are in their parts.
 pub record IsSplit (count : ℕ) (split : List Part) (vertices : List Vertex) : Type 0 where
   pub parts : map part_entries split ≡ parts_of count (entries_of vertices)
   pub whole : IsPermutation (flat_map part_entries split) (entries_of vertices)
 
-abbrev joined : List (List Entry) → List Entry
-joined lists = flat_map (λ (list : List Entry). list) lists
-
-joined-push : (lists : List (List Entry)) (place : ℕ) (entry : Entry) → place < length lists
-    → IsPermutation (joined (set lists place (get_or lists place [] ++ entry ∷ []))) (joined lists ++ entry ∷ [])
-joined-push [] place entry below = absurd (omega arith)
-joined-push (list ∷ lists) zero entry below =
-    subst (λ xs. IsPermutation ((list ++ entry ∷ []) ++ joined lists) xs) (sym (append_assoc list (joined lists) (entry ∷ [])))
-    (subst (λ xs. IsPermutation xs (list ++ (joined lists ++ entry ∷ []))) (sym (append_assoc list (entry ∷ []) (joined lists)))
-    (IsPermutation-append_right list (entry ∷ joined lists) (joined lists ++ entry ∷ []) (IsPermutation-append_comm (entry ∷ []) (joined lists))))
-joined-push (list ∷ lists) (suc place) entry below =
-    subst (λ xs. IsPermutation (list ++ joined (set lists place (get_or lists place [] ++ entry ∷ []))) xs) (sym (append_assoc list (joined lists) (entry ∷ [])))
-    (IsPermutation-append_right list _ _ (joined-push lists place entry (omega arith)))
-
-part-push : (count part : ℕ) (graph : List Entry) (entry : Entry)
-    → part_of_graph count (graph ++ entry ∷ []) part ≡ part_of_graph count graph part ++ cond (eqb (entry.id % count) part) (entry ∷ []) []
-part-push count part graph entry = filter-append (λ e. eqb (e.id % count) part) graph (entry ∷ [])
-
-part_at : (count : ℕ) (graph : List Entry) (part : ℕ) (d : List Entry) → part < count → get_or (parts_of count graph) part d ≡ part_of_graph count graph part
-part_at count graph part d below = get_or-map-range_with_len (part_of_graph count graph) 0 count part part d below (omega arith)
-
-pushed_at : (count : ℕ) (graph : List Entry) (entry : Entry) (part : ℕ) (d : List Entry) → entry.id % count < count → part < count
-    → get_or (set (parts_of count graph) (entry.id % count) (get_or (parts_of count graph) (entry.id % count) [] ++ entry ∷ [])) part d
-    ≡ part_of_graph count (graph ++ entry ∷ []) part
-pushed_at count graph entry part d small below = elim (eqb_tells part (entry.id % count)) [
-  | inl h ↦
-      rw h.1 (get_or-set_same (parts_of count graph) (entry.id % count) _ d (rw (length-map-range_with_len (part_of_graph count graph) 0 count) small)
-      ∙ ap (λ xs. xs ++ entry ∷ []) (part_at count graph (entry.id % count) [] small)
-      ∙ sym (part-push count (entry.id % count) graph entry
-      ∙ ap (λ b. part_of_graph count graph (entry.id % count) ++ cond b (entry ∷ []) []) (equal (entry.id % count) (entry.id % count) refl)))
-  | inr h ↦
-      get_or-set_other (parts_of count graph) (entry.id % count) part _ d h.1
-      ∙ part_at count graph part d below
-      ∙ sym (part-push count part graph entry
-      ∙ ap (λ b. part_of_graph count graph part ++ cond b (entry ∷ []) []) (ne_eqb (entry.id % count) part (λ e. h.1 (sym e)))
-      ∙ append-nil (part_of_graph count graph part))
-]
-
-parts-push : (count : ℕ) (graph : List Entry) (entry : Entry) → entry.id % count < count
-    → set (parts_of count graph) (entry.id % count) (get_or (parts_of count graph) (entry.id % count) [] ++ entry ∷ []) ≡ parts_of count (graph ++ entry ∷ [])
-parts-push count graph entry small =
-    let long : length (set (parts_of count graph) (entry.id % count) (get_or (parts_of count graph) (entry.id % count) [] ++ entry ∷ [])) ≡ count =
-    length-set (parts_of count graph) (entry.id % count) _ ∙ length-map-range_with_len (part_of_graph count graph) 0 count in
-    same_lists _ _ (long ∙ sym (length-map-range_with_len (part_of_graph count (graph ++ entry ∷ [])) 0 count))
-    (λ part d short. let below : part < count = rw long at short in
-    pushed_at count graph entry part d small below ∙ sym (part_at count (graph ++ entry ∷ []) part d below))
-
-joined-parts : (split : List Part) → joined (map part_entries split) ≡ flat_map part_entries split
-joined-parts split = flat_map-map (λ (list : List Entry). list) part_entries split
+joined-entries : (split : List Part) → joined (map part_entries split) ≡ flat_map part_entries split
+joined-entries split = flat_map-map (λ (list : List Entry). list) part_entries split
 
 pub split_next : (count place : ℕ) (old new : List Part) (vertices : List Vertex) (vertex : Vertex) → IsSplit count old vertices
     → place ≡ vertex.id % count → place < count
@@ -81,22 +32,18 @@ split_next count place old new vertices vertex split is below pushed =
       parts =
           pushed
           ∙ ap (λ xs. set xs place (get_or xs place [] ++ entry_of vertex ∷ [])) split.parts
-          ∙ rw is (parts-push count (entries_of vertices) (entry_of vertex) (rw is at below))
+          ∙ rw is (parts-push id_at count (entries_of vertices) (entry_of vertex) (rw is at below))
           ∙ ap (parts_of count) (sym more);
       whole =
-          rw (more, ← joined-parts new, pushed)
+          rw (more, ← joined-entries new, pushed)
           (IsPermutation-trans _ _ _ (joined-push (map part_entries old) place (entry_of vertex) enough)
-          (rw (joined-parts old) (IsPermutation-append_left (entry_of vertex ∷ []) (flat_map part_entries old) (entries_of vertices) split.whole)));
+          (rw (joined-entries old) (IsPermutation-append_left (entry_of vertex ∷ []) (flat_map part_entries old) (entries_of vertices) split.whole)));
     }
-
-joined_empty : (lists : List (List Entry)) (numbers : List ℕ) (count : ℕ) → lists ≡ map (part_of_graph count []) numbers → joined lists ≡ []
-joined_empty lists [] count e = ap joined e
-joined_empty lists (n ∷ numbers) count e = ap joined e ∙ joined_empty (map (part_of_graph count []) numbers) numbers count refl
 
 pub split_none : (count : ℕ) (split : List Part) → map part_entries split ≡ parts_of count [] → IsSplit count split []
 split_none count split e = record {
   parts = e;
-  whole = rw (← joined-parts split, joined_empty (map part_entries split) (range_with_len 0 count) count e) (IsPermutation-refl []);
+  whole = rw (← joined-entries split, ap joined e, joined_none id_at (range_with_len 0 count) count) (IsPermutation-refl []);
 }
 
 -- one vertex more in a part

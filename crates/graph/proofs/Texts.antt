@@ -14,7 +14,7 @@ use Rattle.graph.specs.Graph.{IsSaid}
 use Rattle.graph.specs.Line.{is_good}
 use Rattle.graph.specs.inside.Placed.{AreEndsAmong, with_edges}
 use Rattle.graph.specs.Said.{all_declared, all_edges}
-use Rattle.graph.proofs.Same.{rising_same, sorted_same}
+use Rattle.graph.specs.Rising.{rising_same, sorted_same}
 
 abbrev id_of_head : ℕ × ℤ → ℕ
 id_of_head head = head.0

@@ -13,6 +13,7 @@ use Rattle.graph.specs.declared.vertex.Edge.{Edge}
 use Rattle.graph.specs.declared.vertex.Vertex.{Vertex}
 use Rattle.graph.specs.Entry.{Entry, end_of, entries_of, entry_of, ids, vertex_id}
 use Rattle.graph.specs.inside.Placed.{none, push_end, set_edge}
+use Rattle.graph.specs.Rising.{keys_sorted}
 
 pub ids_entries : (vertices : List Vertex) → ids (entries_of vertices) ≡ map vertex_id vertices
 ids_entries [] = refl
@@ -42,21 +43,8 @@ not_rising numbers i some below falls rise =
     let same : get_or numbers (i - 1 + 1) 0 ≡ get_or numbers i 0 = ap (λ n. get_or numbers n 0) last in
     omega arith
 
-at_default : (vertices : List Vertex) → IsNonDecreasingBy vertex_id vertices → (i j d : ℕ) → i ≤ j → j < length vertices
-    → get_or (ids (entries_of vertices)) i d ≤ get_or (ids (entries_of vertices)) j d
-at_default [] sorted i j d before below = absurd (omega arith)
-at_default (vertex ∷ vertices) sorted i j d before below =
-    let up = sorted i j vertex before below in
-    let low : get_or (ids (entries_of (vertex ∷ vertices))) i d ≡ (get_or (vertex ∷ vertices) i vertex).id =
-    ap (λ xs. get_or xs i d) (ids_entries (vertex ∷ vertices)) ∙ get_or-map vertex_id (vertex ∷ vertices) i vertex d (omega arith) in
-    let high : get_or (ids (entries_of (vertex ∷ vertices))) j d ≡ (get_or (vertex ∷ vertices) j vertex).id =
-    ap (λ xs. get_or xs j d) (ids_entries (vertex ∷ vertices)) ∙ get_or-map vertex_id (vertex ∷ vertices) j vertex d below in
-    omega arith
-
 pub ids_sorted : (vertices : List Vertex) → IsNonDecreasingBy vertex_id vertices → IsNonDecreasing (ids (entries_of vertices))
-ids_sorted vertices sorted = λ i j d before below.
-    let within : j < length vertices = rw (length_ids vertices) at below in
-    at_default vertices sorted i j d before within
+ids_sorted vertices sorted = rw (ids_entries vertices) (keys_sorted vertex_id vertices sorted)
 
 pub found_place : (numbers : List ℕ) (number : ℕ) (r : Result ℕ ℕ) → IsStrictlyIncreasing numbers → IsBinarySearchResult (λ y. nat_cmp y number) numbers r
     → MatchOption (result_ok r) (Contains numbers number → ⊥) (λ place. (place < length numbers) × (get_or numbers place 0 ≡ number))

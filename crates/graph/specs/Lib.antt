@@ -10,5 +10,8 @@ pub mod Graph
 pub mod Parts
 pub mod Output
 pub mod Print
+-- lists by rising keys, and lists cut into parts: facts for the proofs of this crate and of those above it
+pub mod Rising
+pub mod Cutting
 -- what only mirrors the code, for its proofs
 pub mod inside

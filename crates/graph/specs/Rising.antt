@@ -1,7 +1,9 @@
--- A list by a key that does not fall, with the elements of a list whose key rises, is that list.
-use Rattle.std.proofs.Common.{inl, inr, ◌≡◌, ◌⊎◌, ℕ, zero, suc, ◌<◌, List, [], ◌∷◌, length, get_or, map, true, refl, ap, sym, ◌∙◌, arith, eqb}
+-- A list by a key that does not fall, with the elements of a list whose key rises, is that list. For the proofs of this
+-- crate and of those above it.
+use Rattle.std.proofs.Common.{inl, inr, ◌≡◌, ◌⊎◌, ℕ, zero, suc, ◌<◌, ◌≤◌, List, [], ◌∷◌, length, get_or, map, true, refl, ap, sym, ◌∙◌, arith, eqb}
 use Rattle.std.specs.List.{AllByRecursion, Contains, IsDistinct}
-use Rattle.std.specs.List.Sorted.{IsNonDecreasing, IsPermutation, IsStrictlyIncreasing}
+use Rattle.std.specs.List.Sorted.{IsNonDecreasing, IsNonDecreasingBy, IsPermutation, IsStrictlyIncreasing}
+use Rattle.std.proofs.lemmas.List.{get_or-map}
 use Rattle.std.proofs.lemmas.Bool.{ne_eqb}
 use Rattle.std.proofs.lemmas.Bool.Decides.{eqb_tells}
 use Rattle.std.proofs.lemmas.List.Kept.{AllPairs-from_increasing}
@@ -116,3 +118,16 @@ rises_too key xs ys sorted rise same =
 pub sorted_same : {X : Type 0} (key : X → ℕ) (xs ys : List X) → IsNonDecreasing (map key xs) → IsStrictlyIncreasing (map key ys)
     → IsPermutation xs ys → xs ≡ ys
 sorted_same key xs ys sorted rise same = rising_same key xs ys (rises_too key xs ys sorted rise same) rise same
+
+at_default : {X : Type 0} (key : X → ℕ) (xs : List X) → IsNonDecreasingBy key xs → (i j d : ℕ) → i ≤ j → j < length xs
+    → get_or (map key xs) i d ≤ get_or (map key xs) j d
+at_default key [] sorted i j d before below = absurd (omega arith)
+at_default key (x ∷ xs) sorted i j d before below =
+    let up = sorted i j x before below in
+    let low : get_or (map key (x ∷ xs)) i d ≡ key (get_or (x ∷ xs) i x) = get_or-map key (x ∷ xs) i x d (omega arith) in
+    let high : get_or (map key (x ∷ xs)) j d ≡ key (get_or (x ∷ xs) j x) = get_or-map key (x ∷ xs) j x d below in
+    omega arith
+
+-- where a key does not fall along a list, the keys do not
+pub keys_sorted : {X : Type 0} (key : X → ℕ) (xs : List X) → IsNonDecreasingBy key xs → IsNonDecreasing (map key xs)
+keys_sorted key xs sorted = λ i j d before below. at_default key xs sorted i j d before (rw (length_map_here key xs) at below)

@@ -1,0 +1,95 @@
+-- A list cut into parts by the remainder of a key: its parts are together the list. For the proofs of this crate and of
+-- those above it.
+use Rattle.std.proofs.Common.{inl, inr, ◌≡◌, ℕ, zero, suc, ◌%◌, ◌<◌, List, [], ◌∷◌, ◌++◌, length, get_or, map, filter, set, cond, refl, ap, sym, subst, ◌∙◌, arith, eqb, append_assoc}
+use Rattle.std.specs.List.{flat_map, range_with_len}
+use Rattle.std.specs.List.Sorted.{IsPermutation}
+use Rattle.std.proofs.lemmas.Bool.{ne_eqb}
+use Rattle.std.proofs.lemmas.Bool.Decides.{eqb_tells}
+use Rattle.std.proofs.lemmas.List.{append-nil, same_lists, get_or-set_same, get_or-set_other, length-set}
+use Rattle.std.proofs.lemmas.List.Elements.{filter-append}
+use Rattle.std.proofs.lemmas.List.FromFn.{get_or-map-range_with_len, length-map-range_with_len}
+use Rattle.std.proofs.lemmas.List.Sorted.{IsPermutation-append_comm, IsPermutation-append_right, IsPermutation-refl, IsPermutation-trans, IsPermutation-append_left}
+use Rattle.graph.specs.Rising.{equal}
+
+-- the elements whose key has this remainder, of so many
+abbrev pub part_by : {X : Type 0} → (X → ℕ) → ℕ → List X → ℕ → List X
+part_by key count xs part = filter (λ x. eqb (key x % count) part) xs
+
+-- the parts, in order
+abbrev pub parts_by : {X : Type 0} → (X → ℕ) → ℕ → List X → List (List X)
+parts_by key count xs = map (part_by key count xs) (range_with_len 0 count)
+
+abbrev pub joined : {X : Type 0} → List (List X) → List X
+joined {X} lists = flat_map (λ (list : List X). list) lists
+
+pub joined-push : {X : Type 0} (lists : List (List X)) (place : ℕ) (x : X) → place < length lists
+    → IsPermutation (joined (set lists place (get_or lists place [] ++ x ∷ []))) (joined lists ++ x ∷ [])
+joined-push [] place x below = absurd (omega arith)
+joined-push (list ∷ lists) zero x below =
+    subst (λ xs. IsPermutation ((list ++ x ∷ []) ++ joined lists) xs) (sym (append_assoc list (joined lists) (x ∷ [])))
+    (subst (λ xs. IsPermutation xs (list ++ (joined lists ++ x ∷ []))) (sym (append_assoc list (x ∷ []) (joined lists)))
+    (IsPermutation-append_right list (x ∷ joined lists) (joined lists ++ x ∷ []) (IsPermutation-append_comm (x ∷ []) (joined lists))))
+joined-push (list ∷ lists) (suc place) x below =
+    subst (λ xs. IsPermutation (list ++ joined (set lists place (get_or lists place [] ++ x ∷ []))) xs) (sym (append_assoc list (joined lists) (x ∷ [])))
+    (IsPermutation-append_right list _ _ (joined-push lists place x (omega arith)))
+
+part-push : {X : Type 0} (key : X → ℕ) (count part : ℕ) (xs : List X) (x : X)
+    → part_by key count (xs ++ x ∷ []) part ≡ part_by key count xs part ++ cond (eqb (key x % count) part) (x ∷ []) []
+part-push key count part xs x = filter-append (λ y. eqb (key y % count) part) xs (x ∷ [])
+
+pub part_at : {X : Type 0} (key : X → ℕ) (count : ℕ) (xs : List X) (part : ℕ) (d : List X) → part < count
+    → get_or (parts_by key count xs) part d ≡ part_by key count xs part
+part_at key count xs part d below = get_or-map-range_with_len (part_by key count xs) 0 count part part d below (omega arith)
+
+pushed_at : {X : Type 0} (key : X → ℕ) (count : ℕ) (xs : List X) (x : X) (part : ℕ) (d : List X) → key x % count < count → part < count
+    → get_or (set (parts_by key count xs) (key x % count) (get_or (parts_by key count xs) (key x % count) [] ++ x ∷ [])) part d
+    ≡ part_by key count (xs ++ x ∷ []) part
+pushed_at key count xs x part d small below = elim (eqb_tells part (key x % count)) [
+  | inl h ↦
+      rw h.1 (get_or-set_same (parts_by key count xs) (key x % count) _ d (rw (length-map-range_with_len (part_by key count xs) 0 count) small)
+      ∙ ap (λ ys. ys ++ x ∷ []) (part_at key count xs (key x % count) [] small)
+      ∙ sym (part-push key count (key x % count) xs x
+      ∙ ap (λ b. part_by key count xs (key x % count) ++ cond b (x ∷ []) []) (equal (key x % count) (key x % count) refl)))
+  | inr h ↦
+      get_or-set_other (parts_by key count xs) (key x % count) part _ d h.1
+      ∙ part_at key count xs part d below
+      ∙ sym (part-push key count part xs x
+      ∙ ap (λ b. part_by key count xs part ++ cond b (x ∷ []) []) (ne_eqb (key x % count) part (λ e. h.1 (sym e)))
+      ∙ append-nil (part_by key count xs part))
+]
+
+-- one element more, at the end of the part that it belongs to
+pub parts-push : {X : Type 0} (key : X → ℕ) (count : ℕ) (xs : List X) (x : X) → key x % count < count
+    → set (parts_by key count xs) (key x % count) (get_or (parts_by key count xs) (key x % count) [] ++ x ∷ [])
+    ≡ parts_by key count (xs ++ x ∷ [])
+parts-push key count xs x small =
+    let long : length (set (parts_by key count xs) (key x % count) (get_or (parts_by key count xs) (key x % count) [] ++ x ∷ [])) ≡ count =
+    length-set (parts_by key count xs) (key x % count) _ ∙ length-map-range_with_len (part_by key count xs) 0 count in
+    same_lists _ _ (long ∙ sym (length-map-range_with_len (part_by key count (xs ++ x ∷ [])) 0 count))
+    (λ part d short. let below : part < count = rw long at short in
+    pushed_at key count xs x part d small below ∙ sym (part_at key count (xs ++ x ∷ []) part d below))
+
+pub joined_none : {X : Type 0} (key : X → ℕ) (numbers : List ℕ) (count : ℕ) → joined (map (part_by key count []) numbers) ≡ []
+joined_none key [] count = refl
+joined_none key (n ∷ numbers) count = joined_none key numbers count
+
+one_more : {X : Type 0} (key : X → ℕ) (count : ℕ) (xs : List X) (x : X) → key x % count < count
+    → IsPermutation (joined (parts_by key count xs)) xs → IsPermutation (joined (parts_by key count (xs ++ x ∷ []))) (xs ++ x ∷ [])
+one_more key count xs x small whole =
+    let enough : key x % count < length (parts_by key count xs) = rw (length-map-range_with_len (part_by key count xs) 0 count) small in
+    rw (← parts-push key count xs x small)
+    (IsPermutation-trans _ _ _ (joined-push (parts_by key count xs) (key x % count) x enough)
+    (IsPermutation-append_left (x ∷ []) (joined (parts_by key count xs)) xs whole))
+
+whole_from : {X : Type 0} (key : X → ℕ) (count : ℕ) (before after : List X) → 0 < count
+    → IsPermutation (joined (parts_by key count before)) before
+    → IsPermutation (joined (parts_by key count (before ++ after))) (before ++ after)
+whole_from key count before [] some whole = subst (λ xs. IsPermutation (joined (parts_by key count xs)) xs) (sym (append-nil before)) whole
+whole_from key count before (x ∷ after) some whole =
+    subst (λ xs. IsPermutation (joined (parts_by key count xs)) xs) (append_assoc before (x ∷ []) after)
+    (whole_from key count (before ++ x ∷ []) after some (one_more key count before x (omega arith) whole))
+
+-- the parts are together the list
+pub parts_whole : {X : Type 0} (key : X → ℕ) (count : ℕ) (xs : List X) → 0 < count → IsPermutation (joined (parts_by key count xs)) xs
+parts_whole key count xs some =
+    whole_from key count [] xs some (subst (λ ys. IsPermutation ys []) (sym (joined_none key (range_with_len 0 count) count)) (IsPermutation-refl []))

@@ -49,7 +49,7 @@ stays sent letter id goes = simp (filter-append, map-append, goes) (simp append-
 same_id : (n m : ℕ) → n ≡ m → int_eq (pos n) (pos m) ≡ true
 same_id n m e = grind (arith, nat_tests)
 
-other_id : (n m : ℕ) → m ≢ n → int_eq (pos n) (pos m) ≡ false
+pub other_id : (n m : ℕ) → m ≢ n → int_eq (pos n) (pos m) ≡ false
 other_id n m e = grind (arith, nat_tests)
 
 -- no id is negative

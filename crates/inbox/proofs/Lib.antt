@@ -1,4 +1,11 @@
+pub mod ByTarget
+pub mod Collected
 pub mod Concatenation
+pub mod Counting
 pub mod Delivery
+pub mod InOrder
+pub mod Kept
 pub mod OneOrder
 pub mod Order
+pub mod SideBySide
+pub mod Spread

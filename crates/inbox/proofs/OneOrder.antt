@@ -16,7 +16,7 @@ use Rattle.inbox.specs.Merging.{IsBySource, dropped_of, goes_to, inbox_of}
 use Rattle.inbox.proofs.Order.{source_total}
 
 -- what a list contains stands at its head or in its tail
-contained : {X : Type 0} (x : X) (xs : List X) (z : X) → Contains (x ∷ xs) z → (x ≡ z) ⊎ Contains xs z
+pub contained : {X : Type 0} (x : X) (xs : List X) (z : X) → Contains (x ∷ xs) z → (x ≡ z) ⊎ Contains xs z
 contained x xs z h = elim (Contains-append_cases (x ∷ []) xs z h) [ inl alone ↦ elim (Contains-push_cases [] x z alone) [ inl none ↦ absurd (omega (arith, none.1)) | inr is ↦ inl is ] | inr later ↦ inr later ]
 
 -- of two letters that both stand in the other's list, neither is later
@@ -32,11 +32,11 @@ member_rest : {X : Type 0} {R : X → X → Ordering} (o : IsTotalOrder R) (x y 
 member_rest {R = R} o x y xs ys z e up h (inl is) = let later = member_later R x xs z up h in let same = tied_itself o x in cc
 member_rest o x y xs ys z e up h (inr inside) = inside
 
-head_inside : {X : Type 0} (x : X) (xs : List X) → Contains (x ∷ xs) x
+pub head_inside : {X : Type 0} (x : X) (xs : List X) → Contains (x ∷ xs) x
 head_inside x xs = Contains-get_or (x ∷ xs) 0 x (omega arith)
 
 -- two lists that rise and contain the same are the same
-same_sorted : {X : Type 0} {R : X → X → Ordering} (o : IsTotalOrder R) (xs ys : List X) → IsStrictlySortedBy R xs → IsStrictlySortedBy R ys → ((z : X) → Contains xs z → Contains ys z) → ((z : X) → Contains ys z → Contains xs z) → xs ≡ ys
+pub same_sorted : {X : Type 0} {R : X → X → Ordering} (o : IsTotalOrder R) (xs ys : List X) → IsStrictlySortedBy R xs → IsStrictlySortedBy R ys → ((z : X) → Contains xs z → Contains ys z) → ((z : X) → Contains ys z → Contains xs z) → xs ≡ ys
 same_sorted o [] [] up up' to from = refl
 same_sorted o [] (y ∷ ys) up up' to from = absurd (omega (arith, (from y (head_inside y ys)).1))
 same_sorted o (x ∷ xs) [] up up' to from = absurd (omega (arith, (to x (head_inside x xs)).1))

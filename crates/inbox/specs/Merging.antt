@@ -1,6 +1,7 @@
 -- How letters become inboxes: by source, and those of one source in the order of sending.
-use Rattle.std.specs.Prelude.{ℕ, ℤ, pos, List, Bool, not, ◌&&◌, ◌==◌, map, filter, count_by}
-use Rattle.std.specs.List.{list_any}
+use Rattle.std.specs.Prelude.{◌≡◌, ℕ, ℤ, pos, List, Bool, not, ◌&&◌, ◌==◌, map, filter, count_by, vec_items, All}
+use Rattle.std.specs.List.{list_any, flat_map}
+use Rattle.std.specs.declared.vec.Vec.{Vec}
 use Rattle.std.specs.Ordering.{int_eq, nat_cmp, ordering_then}
 use Rattle.std.specs.declared.cmp.Ordering.{Ordering}
 use Rattle.std.specs.List.Sorted.{IsPermutation, IsStrictlySortedBy}
@@ -27,6 +28,19 @@ goes_to letter id = int_eq letter.to (pos id)
 abbrev pub inbox_of : List Letter → ℕ → List ℤ
 inbox_of ordered id = map (λ letter. letter.value) (filter (λ letter. goes_to letter id) ordered)
 
+-- what stands in the inboxes of these ids, one inbox for each
+abbrev pub inboxes_of : List Letter → List ℕ → List (List ℤ)
+inboxes_of ordered ids = map (inbox_of ordered) ids
+
 -- how many letters go to none of these ids
 abbrev pub dropped_of : List Letter → List ℕ → ℕ
 dropped_of letters ids = count_by (λ letter. not (list_any (goes_to letter) ids)) letters
+
+-- what these hold together: the letters of all lists, or the ids of all parts
+abbrev pub all_of : {X Z : Type 0} → List (Vec X Z) → List X
+all_of lists = flat_map vec_items lists
+
+-- what each source sends: letters of its own, in the order of their numbers
+pub record AreSent (sent_by : ℕ → List Letter) : Type 0 where
+  pub own : (source : ℕ) → All (λ letter. letter.from ≡ source) (sent_by source)
+  pub numbered : (source : ℕ) → IsStrictlySortedBy (λ a b. nat_cmp a.seq b.seq) (sent_by source)

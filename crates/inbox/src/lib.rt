@@ -9,10 +9,14 @@ mod inboxes;
 mod laws;
 mod letters;
 mod merging;
+mod parts;
 
 pub use inboxes::Inbox;
 pub use laws::{
-    inboxes_are_concatenated_by_source, letters_drop_alike_in_any_order, letters_have_one_order,
+    drops_add_up_over_sources, inboxes_are_concatenated_by_source,
+    letters_are_delivered_once_or_drop, letters_can_be_ordered, letters_drop_alike_in_any_order,
+    letters_have_one_order, letters_keep_their_order_in_any_lists, sources_send_in_any_order,
 };
 pub use letters::Letter;
 pub use merging::merge;
+pub use parts::merge_parts;

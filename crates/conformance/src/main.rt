@@ -12,6 +12,7 @@ mod graphs;
 mod host_functions;
 mod inboxes;
 mod inputs;
+mod jobs;
 mod leb_numbers;
 mod limits;
 mod modules;
@@ -25,6 +26,7 @@ mod widths;
 
 use anyhow::Result;
 use std::rt::Files;
+use std::thread::Threads;
 
 fn main(rt: HostRuntime) -> Result<()> {
     syntax(&rt)?;
@@ -56,13 +58,14 @@ fn judgements(rt: &(impl Files + Print + AllocGlobal)) -> Result<()> {
     costs::show(rt)
 }
 
-// Compute calls, graphs, inboxes, and the console.
-fn runs(rt: &(impl Files + Print + AllocGlobal)) -> Result<()> {
+// Compute calls, graphs, inboxes, jobs, and the console.
+fn runs(rt: &(impl Files + Print + AllocGlobal + Threads + Sync)) -> Result<()> {
     host_functions::show(rt)?;
     calls::show(rt)?;
     calls::alike::show(rt)?;
     graphs::show(rt)?;
     inboxes::show(rt)?;
+    jobs::show(rt)?;
     inputs::show(rt)?;
     commands::show(rt)
 }

@@ -1,0 +1,104 @@
+//! Jobs on one machine: `NAME: PARTS WORKERS EVERY LIMIT LEASE; MODULE; GRAPH` prints the values, how the job ended and in which
+//! superstep, its units, those of each superstep, and how many messages went to no vertex; or the setting that is out of its
+//! range. MODULE and GRAPH are files, or GRAPH is a text that stands there.
+
+use crate::cases::{is_case, named, spelled};
+use crate::modules::valid_of;
+use anyhow::{Result, bail};
+use bounded_profile::{Verified, verify};
+use graph::Graph;
+use std::alloc::{AllocError, Global};
+use std::fs;
+use std::num::ParseIntError;
+use std::rt::Files;
+use std::thread::Threads;
+use superstep::{Ended, How, Job, JobFault, Settings, one_machine};
+
+pub fn show(rt: &(impl Files + Print + AllocGlobal + Threads + Sync)) -> Result<()> {
+    let text = fs::read_to_string(rt, "jobs.txt")?;
+    for line in text.as_str().lines() {
+        if is_case(line) {
+            let (name, case) = named(line);
+            let answer = answer(rt, case)?;
+            println!(rt; "{name}: {answer}")?;
+        }
+    }
+    Ok(())
+}
+
+fn answer(rt: &(impl Files + AllocGlobal + Threads + Sync), case: &str) -> Result<String> {
+    let alloc = rt.alloc();
+    let (settings, rest) = case.split_once("; ").unwrap_or((case, ""));
+    let (module, graph) = rest.split_once("; ").unwrap_or((rest, ""));
+    let verified = verified_in(rt, module)?;
+    let graph = graph_in(rt, graph)?;
+    match Job::new(alloc, verified, graph, settings_of(settings)?) {
+        Ok(job) => Ok(told(alloc, &one_machine(rt, alloc, &job)?)?),
+        Err(fault) => Ok(fault_told(alloc, fault)?),
+    }
+}
+
+fn verified_in(rt: &(impl Files + AllocGlobal), path: &str) -> Result<Verified> {
+    let text = fs::read_to_string(rt, path)?;
+    let Ok(valid) = valid_of(rt.alloc(), text.as_str()) else {
+        bail!("no valid module");
+    };
+    match verify(rt.alloc(), valid) {
+        Ok(verified) => Ok(verified),
+        Err(_) => bail!("the module is not in the profile"),
+    }
+}
+
+fn graph_in(rt: &(impl Files + AllocGlobal), graph: &str) -> Result<Graph> {
+    let text = if graph.ends_with(".txt") {
+        fs::read_to_string(rt, graph)?
+    } else {
+        spelled(rt.alloc(), graph)?
+    };
+    Ok(Graph::read(rt.alloc(), text.as_str())?)
+}
+
+fn settings_of(text: &str) -> Result<Settings, ParseIntError> {
+    let mut words = text.split_ascii_whitespace();
+    Ok(Settings {
+        parts: words.next().unwrap_or("").parse()?,
+        workers: words.next().unwrap_or("").parse()?,
+        every: words.next().unwrap_or("").parse()?,
+        limit: words.next().unwrap_or("").parse()?,
+        lease: words.next().unwrap_or("").parse()?,
+    })
+}
+
+fn fault_told(alloc: Global, fault: JobFault) -> Result<String, AllocError> {
+    match fault {
+        JobFault::Settings(setting) => format!(in alloc; "settings {setting:?}"),
+        JobFault::OutOfMemory(place) => format!(in alloc; "{fault} {place:?}"),
+        _ => format!(in alloc; "{fault}"),
+    }
+}
+
+fn told(alloc: Global, ended: &Ended) -> Result<String, AllocError> {
+    let mut text = String::new(alloc);
+    for (id, value) in &ended.values {
+        write!(text, "v {id} {value}, ")?;
+    }
+    let how = match ended.how {
+        How::Finished => "finished",
+        How::Limit => "limit",
+    };
+    let (superstep, units, dropped) = (ended.superstep, ended.units, ended.dropped);
+    write!(
+        text,
+        "{how} supersteps {superstep} units {units} dropped {dropped}"
+    )?;
+    tell_units(ended.since, &ended.by_superstep, &mut text)?;
+    Ok(text)
+}
+
+fn tell_units(since: u32, by_superstep: &[u128], text: &mut String) -> Result<(), AllocError> {
+    write!(text, ", since {since}")?;
+    for units in by_superstep {
+        write!(text, " {units}")?;
+    }
+    Ok(())
+}

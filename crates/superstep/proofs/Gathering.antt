@@ -1,0 +1,101 @@
+-- What the parts left, gathered part by part.
+use Rattle.std.proofs.Common.{◌≡◌, ℕ, ℤ, ◌+◌, Bool, List, [], ◌∷◌, ◌++◌, map, vec_items, Some, refl, ap, sym, ◌∙◌, arith}
+use Rattle.std.specs.List.{AllByRecursion}
+use Rattle.std.proofs.lemmas.List.{append-nil, map-append}
+use Rattle.std.proofs.lemmas.List.Concat.{flat_map-append}
+use Rattle.std.proofs.lemmas.List.Sums.{sum_by-append}
+use Rattle.interp.specs.Call.{Outcome}
+use Rattle.inbox.specs.declared.letters.Letter.{Letter}
+use Rattle.superstep.specs.declared.closing.Gathered.{Gathered}
+use Rattle.superstep.specs.declared.state.VertexState.{VertexState}
+use Rattle.superstep.specs.Folds.{aggregated, capped}
+use Rattle.host_calls.specs.Slots.{slot_starts}
+use Rattle.superstep.specs.Superstep.{contributions_of, units_left}
+use Rattle.superstep.specs.Job.{Work}
+use Rattle.superstep.specs.State.{state_id}
+use Rattle.superstep.specs.Tasks.{DoneStamp, IsDone, Left, emptied, letters_of, outcomes_in}
+use Rattle.superstep.specs.inside.Closing.{IsGathered, IsPartLeft, PartLeft, left_ids, spread}
+use Rattle.superstep.specs.inside.Uniting.{united}
+use Rattle.superstep.proofs.Aggregating.{contributions_joined}
+
+each_append : {X : Type 0} (P : X → Type 0) (xs ys : List X) → AllByRecursion P xs → AllByRecursion P ys → AllByRecursion P (xs ++ ys)
+each_append P [] ys all all' = all'
+each_append P (x ∷ xs) ys all all' = (all.0, each_append P xs ys all.1 all')
+
+pub emptied_ids : (left : List Left) → map state_id (map emptied left) ≡ left_ids left
+emptied_ids [] = refl
+emptied_ids (one ∷ left) = ap (λ rest. one.0 ∷ rest) (emptied_ids left)
+
+spread_more : (parts : List PartLeft) (part : PartLeft) → spread (parts ++ part ∷ []) ≡ spread parts ++ part.1
+spread_more parts part =
+    flat_map-append (λ (one : PartLeft). one.1) parts (part ∷ []) ∙ ap (λ xs. spread parts ++ xs) (append-nil part.1)
+
+outcomes_more : (first second : List Left) → outcomes_in (first ++ second) ≡ outcomes_in first ++ outcomes_in second
+outcomes_more first second = map-append (λ (one : Left). one.1) first second
+
+slots_more : (first second : List Left) → aggregated (contributions_of (outcomes_in (first ++ second)))
+    ≡ united (aggregated (contributions_of (outcomes_in first))) (aggregated (contributions_of (outcomes_in second)))
+slots_more first second =
+    ap (λ outcomes. aggregated (contributions_of outcomes)) (outcomes_more first second) ∙ contributions_joined (outcomes_in first) (outcomes_in second)
+
+units_more : (first second : List Left) → units_left (outcomes_in (first ++ second)) ≡ units_left (outcomes_in first) + units_left (outcomes_in second)
+units_more first second =
+    ap units_left (outcomes_more first second) ∙ sum_by-append (λ (outcome : Outcome). outcome.units) (outcomes_in first) (outcomes_in second)
+
+pub capped_sum : (a b : ℕ) → capped (capped a + capped b) ≡ capped (a + b)
+capped_sum a b = omega arith
+
+-- What one more part has goes behind the others.
+pub record HasMore (old new : Gathered) (units : ℕ) (vertices : List VertexState) (letters : List Letter) (given : List ℤ) : Type 0 where
+  pub more_ids : map vec_items new.ids.items ≡ map vec_items old.ids.items ++ map state_id vertices ∷ []
+  pub more_vertices : map vec_items new.vertices.items ≡ map vec_items old.vertices.items ++ vertices ∷ []
+  pub more_letters : map vec_items new.letters.items ≡ map vec_items old.letters.items ++ letters ∷ []
+  pub more_slots : new.slots ≡ united old.slots given
+  pub more_units : new.units ≡ capped (old.units + units)
+
+pub gathered_more : (work : Work) (honest : Bool) (dones : List DoneStamp) (done : DoneStamp) (old new : Gathered)
+    (vertices : List VertexState) (letters : List Letter) (given : List ℤ)
+    → IsGathered work honest dones old → IsDone work honest done vertices letters given
+    → HasMore old new done.units vertices letters given
+    → IsGathered work honest (dones ++ done ∷ []) new
+gathered_more work honest dones done old new vertices letters given before is more =
+    let part : PartLeft = (done, is.left) in
+    let own_ids : map state_id vertices ≡ left_ids is.left = ap (map state_id) is.comes.vertices ∙ emptied_ids is.left in
+    record {
+      parts = before.parts ++ part ∷ [];
+      stamps = map-append (λ (one : PartLeft). one.0) before.parts (part ∷ []) ∙ ap (λ xs. xs ++ done ∷ []) before.stamps;
+      each = each_append (IsPartLeft work honest) before.parts (part ∷ []) before.each
+          (record { fits = is.fits ∙ ap Some own_ids; at = is.at }, tt);
+      ids = more.more_ids ∙ ap (λ xs. xs ++ map state_id vertices ∷ []) before.ids
+          ∙ ap (λ (own : List ℕ). map (λ (one : PartLeft). left_ids one.1) before.parts ++ own ∷ []) own_ids
+          ∙ sym (map-append (λ (one : PartLeft). left_ids one.1) before.parts (part ∷ []));
+      vertices = more.more_vertices ∙ ap (λ xs. xs ++ vertices ∷ []) before.vertices
+          ∙ ap (λ (own : List VertexState). map (λ (one : PartLeft). map emptied one.1) before.parts ++ own ∷ []) is.comes.vertices
+          ∙ sym (map-append (λ (one : PartLeft). map emptied one.1) before.parts (part ∷ []));
+      letters = more.more_letters ∙ ap (λ xs. xs ++ letters ∷ []) before.letters
+          ∙ ap (λ (own : List Letter). map (λ (one : PartLeft). letters_of one.1) before.parts ++ own ∷ []) is.comes.letters
+          ∙ sym (map-append (λ (one : PartLeft). letters_of one.1) before.parts (part ∷ []));
+      slots = more.more_slots ∙ ap (λ xs. united xs given) before.slots
+          ∙ ap (united (aggregated (contributions_of (outcomes_in (spread before.parts))))) is.comes.slots
+          ∙ sym (slots_more (spread before.parts) is.left)
+          ∙ ap (λ left. aggregated (contributions_of (outcomes_in left))) (sym (spread_more before.parts part));
+      units = more.more_units ∙ ap (λ n. capped (n + done.units)) before.units
+          ∙ ap (λ n. capped (capped (units_left (outcomes_in (spread before.parts))) + n)) is.comes.units
+          ∙ capped_sum (units_left (outcomes_in (spread before.parts))) (units_left (outcomes_in is.left))
+          ∙ ap capped (sym (units_more (spread before.parts) is.left))
+          ∙ ap (λ left. capped (units_left (outcomes_in left))) (sym (spread_more before.parts part));
+    }
+
+-- nothing is gathered yet
+pub gathered_none : (work : Work) (honest : Bool) (gathered : Gathered) → gathered.ids.items ≡ [] → gathered.vertices.items ≡ []
+    → gathered.letters.items ≡ [] → gathered.slots ≡ slot_starts → gathered.units ≡ 0 → IsGathered work honest [] gathered
+gathered_none work honest gathered no_ids no_vertices no_letters slots units = record {
+  parts = [];
+  stamps = refl;
+  each = tt;
+  ids = ap (map vec_items) no_ids;
+  vertices = ap (map vec_items) no_vertices;
+  letters = ap (map vec_items) no_letters;
+  slots = slots;
+  units = units;
+}

@@ -1,0 +1,28 @@
+-- A job's graph, by its parts.
+use Rattle.std.proofs.Common.{◌≡◌, ◌<◌, ◌≤◌, List, None, rules}
+use Rattle.std.specs.List.Sorted.{IsPermutation}
+use Rattle.std.proofs.lemmas.List.Sorted.{IsPermutation-sym, IsPermutation-trans}
+use Rattle.graph.specs.Entry.{Entry, id_at}
+use Rattle.graph.specs.Cutting.{joined, parts_whole}
+use Rattle.graph.specs.Rising.{rising_same}
+use Rattle.superstep.specs.Job.{IsGraphOf, Work}
+use Rattle.superstep.specs.Settings.{first_bad}
+use Rattle.superstep.specs.declared.settings.Settings.{Settings}
+
+-- there is a part
+pub some_parts : (settings : Settings) → first_bad settings ≡ None → 0 < settings.parts
+some_parts settings good = search rules
+
+-- the graph is, but for the order, what stands in its parts
+pub whole : (work : Work) (graph : List Entry) → 0 < work.settings.parts → IsGraphOf work graph → IsPermutation (joined work.parts) graph
+whole work graph some is = rw is.parts (parts_whole id_at work.settings.parts graph some)
+
+-- there is one graph with these parts
+pub one_graph : (work : Work) (first second : List Entry) → 0 < work.settings.parts → IsGraphOf work first → IsGraphOf work second → first ≡ second
+one_graph work first second some a b =
+    rising_same id_at first second a.proper.rising b.proper.rising
+    (IsPermutation-trans _ _ _ (IsPermutation-sym _ _ (whole work first some a)) (whole work second some b))
+
+-- there are no more than 256 parts
+pub few_parts : (settings : Settings) → first_bad settings ≡ None → settings.parts ≤ 256
+few_parts settings good = search rules

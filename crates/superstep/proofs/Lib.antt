@@ -1,0 +1,16 @@
+pub mod Aggregating
+pub mod Cutting
+pub mod Firsts
+pub mod Gathering
+pub mod Graphs
+pub mod Letters
+pub mod NextState
+pub mod PartCalls
+pub mod PartLeft
+pub mod PartStates
+pub mod Rejoining
+pub mod Runs
+pub mod Sending
+pub mod SlotFolds
+pub mod Spreading
+pub mod VertexCalls

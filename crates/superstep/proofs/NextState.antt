@@ -1,0 +1,233 @@
+-- The state after a superstep.
+use Rattle.std.proofs.Common.{◌≡◌, ℕ, ℤ, suc, ◌+◌, ◌-◌, ◌<◌, ◌≤◌, Bool, true, None, not, List, [], ◌∷◌, ◌++◌, length, map, vec_items, refl, ap, sym, ◌∙◌, subst, arith, length-append}
+use Rattle.std.specs.List.{range_with_len, sum, sum_by, zip}
+use Rattle.std.specs.List.Sorted.{IsPermutation, IsStrictlyIncreasing}
+use Rattle.std.proofs.lemmas.List.{map-append}
+use Rattle.std.proofs.lemmas.List.FromFn.{map-range_with_len_more}
+use Rattle.std.proofs.lemmas.List.Sorted.{IsPermutation-map, sum_by-IsPermutation}
+use Rattle.std.proofs.lemmas.List.Sums.{sum_by_push}
+use Rattle.std.proofs.lemmas.Simd.{map-map}
+use Rattle.interp.specs.Call.{Outcome}
+use Rattle.graph.specs.Entry.{ids}
+use Rattle.graph.specs.Cutting.{joined}
+use Rattle.superstep.specs.declared.closing.Gathered.{Gathered}
+use Rattle.superstep.specs.declared.state.VertexState.{VertexState}
+use Rattle.superstep.specs.declared.totals.Totals.{Totals}
+use Rattle.superstep.specs.Folds.{aggregated, capped}
+use Rattle.superstep.specs.Snapshot.{row_ids}
+use Rattle.superstep.specs.Superstep.{all_left, contributions_of, dropped_by, inbox_of, left_by, row_after, units_left}
+use Rattle.superstep.specs.PlainRun.{state_at, units_at}
+use Rattle.superstep.specs.Job.{HasGraph, IsGraphOf, Meaning, Work}
+use Rattle.superstep.specs.Settings.{first_bad}
+use Rattle.superstep.specs.State.{HasIdsOf, IsState, ShowsAt, bare, state_id}
+use Rattle.superstep.specs.Tasks.{DoneStamp, IsRow, Left, emptied, outcomes_in}
+use Rattle.superstep.specs.Totals.{AreTotals, SumsAt}
+use Rattle.superstep.specs.inside.Closing.{Follows, IsGathered, IsSpread, filled, left_id, left_ids, standing_of, with_inbox}
+use Rattle.superstep.specs.inside.Rows.{IsInOrder}
+use Rattle.superstep.proofs.Aggregating.{contributions_permuted}
+use Rattle.superstep.proofs.Graphs.{one_graph, some_parts}
+use Rattle.superstep.proofs.Rejoining.{is_spread, joined_spread, leaving, ordered, ordered_left, part_left}
+use Rattle.superstep.proofs.Spreading.{ids_found}
+
+-- ---- vertices
+
+-- a vertex as it left itself, with its inbox
+abbrev pub closed : (ℕ → List ℤ) → Left → VertexState
+closed inbox one = record { id = one.0; value = one.1.value; active = not one.1.halted; inbox = inbox one.0 }
+
+part_filled : (inbox : ℕ → List ℤ) (left : List Left) → map with_inbox (zip (map emptied left) (map inbox (left_ids left))) ≡ map (closed inbox) left
+part_filled inbox [] = refl
+part_filled inbox (one ∷ left) = ap (λ rest. closed inbox one ∷ rest) (part_filled inbox left)
+
+pub all_filled : (inbox : ℕ → List ℤ) (lefts : List (List Left))
+    → filled (map (map emptied) lefts) (map (λ left. map inbox (left_ids left)) lefts) ≡ map (closed inbox) (joined lefts)
+all_filled inbox [] = refl
+all_filled inbox (left ∷ lefts) =
+    ap (λ own. own ++ filled (map (map emptied) lefts) (map (λ other. map inbox (left_ids other)) lefts)) (part_filled inbox left)
+    ∙ ap (λ rest. map (closed inbox) left ++ rest) (all_filled inbox lefts)
+    ∙ sym (map-append (closed inbox) left (joined lefts))
+
+pub closed_ids : (inbox : ℕ → List ℤ) (left : List Left) → map state_id (map (closed inbox) left) ≡ left_ids left
+closed_ids inbox left = map-map state_id (closed inbox) left
+
+pub closed_in_order : (inbox : ℕ → List ℤ) (left ordered : List Left) → IsPermutation left ordered → IsStrictlyIncreasing (left_ids ordered)
+    → IsInOrder (map (closed inbox) left) (map (closed inbox) ordered)
+closed_in_order inbox left ordered same rising = record {
+  same = IsPermutation-map (closed inbox) left ordered same;
+  rising = subst (λ numbers. IsStrictlyIncreasing numbers) (sym (closed_ids inbox ordered)) rising;
+}
+
+-- the vertices of all parts, each with its inbox, and then in the order of their ids
+pub all_closed : (inbox : ℕ → List ℤ) (lefts : List (List Left)) (ordered : List Left) (parts : List (List VertexState)) (inboxes : List (List (List ℤ)))
+    (vertices sorted : List VertexState) → parts ≡ map (map emptied) lefts → inboxes ≡ map (λ left. map inbox (left_ids left)) lefts
+    → vertices ≡ filled parts inboxes → IsPermutation (joined lefts) ordered → IsStrictlyIncreasing (left_ids ordered)
+    → ((other : List VertexState) → IsInOrder vertices other → sorted ≡ other) → sorted ≡ map (closed inbox) ordered
+all_closed inbox lefts ordered parts inboxes vertices sorted are_parts are_inboxes are_filled same rising sorts =
+    sorts (map (closed inbox) ordered)
+    (subst (λ all. IsInOrder all (map (closed inbox) ordered))
+    (sym (are_filled ∙ (λ i. filled (are_parts i) (are_inboxes i)) ∙ all_filled inbox lefts))
+    (closed_in_order inbox (joined lefts) ordered same rising))
+
+-- ---- sums
+
+told_more : (old new : Totals) (took lost : ℕ) → AreTotals old → Follows took lost old new → new.since + length new.by_superstep.items ≡ new.superstep
+told_more old new took lost are later = omega (arith, are.told, later.superstep, later.since, ap length later.by_superstep, length-append old.by_superstep.items (took ∷ []))
+
+sum_more : (old new : Totals) (took lost : ℕ) → Follows took lost old new → sum new.by_superstep.items ≡ sum old.by_superstep.items + took
+sum_more old new took lost later = ap sum later.by_superstep ∙ sum_by_push (λ n. n) old.by_superstep.items took
+
+capped_low : (told total took : ℕ) → capped told ≤ total → capped (told + took) ≤ capped (total + took)
+capped_low told total took low = omega arith
+
+capped_more : (told took : ℕ) → capped (capped told + took) ≡ capped (told + took)
+capped_more told took = omega arith
+
+pub totals_more : (old new : Totals) (took lost : ℕ) → AreTotals old → Follows took lost old new → AreTotals new
+totals_more old new took lost are later = record {
+  told = told_more old new took lost are later;
+  least = rw (sum_more old new took lost later, later.units) (capped_low (sum old.by_superstep.items) old.units took are.least);
+  all = λ since.
+      later.units ∙ ap (λ n. capped (n + took)) (are.all (sym later.since ∙ since)) ∙ capped_more (sum old.by_superstep.items) took
+      ∙ ap capped (sym (sum_more old new took lost later));
+}
+
+pub is_state : (totals : Totals) (aggregates : List ℤ) (vertices : List VertexState) → AreTotals totals → IsStrictlyIncreasing (map state_id vertices)
+    → IsState (standing_of totals aggregates vertices)
+is_state totals aggregates vertices are rising = record { rising = rising; told = are.told; least = are.least; all = are.all }
+
+capped_inside : (before took : ℕ) → capped (before + capped took) ≡ capped (before + took)
+capped_inside before took = omega arith
+
+-- one superstep more is told
+units_more : (f : ℕ → ℕ) (since s : ℕ) → since ≤ s → map f (range_with_len since (suc s - since)) ≡ map f (range_with_len since (s - since)) ++ f s ∷ []
+units_more f since s up =
+    let longer : suc s - since ≡ (s - since) + 1 = omega arith in
+    ap (λ count. map f (range_with_len since count)) longer ∙ map-range_with_len_more f since (s - since) s (omega arith)
+
+-- ---- where each state is the job's
+
+slots_moved : (left moved : List Left) → IsPermutation left moved → aggregated (contributions_of (outcomes_in left)) ≡ aggregated (contributions_of (outcomes_in moved))
+slots_moved left moved same =
+    contributions_permuted (outcomes_in left) (outcomes_in moved) (IsPermutation-map (λ (one : Left). one.1) left moved same)
+
+units_moved : (left moved : List Left) → IsPermutation left moved → units_left (outcomes_in left) ≡ units_left (outcomes_in moved)
+units_moved left moved same =
+    sym (sum_by-IsPermutation (λ (outcome : Outcome). outcome.units) (outcomes_in left) (outcomes_in moved) (IsPermutation-map (λ (one : Left). one.1) left moved same))
+
+-- What the code makes of what all vertices left by rising id.
+pub record IsNext (left : List Left) (old new : Totals) (took lost : ℕ) (aggregates : List ℤ) (vertices : List VertexState) : Type 0 where
+  pub took_all : took ≡ capped (units_left (outcomes_in left))
+  pub lost_all : lost ≡ sum_by (dropped_by (left_ids left)) (outcomes_in left)
+  pub given_all : aggregates ≡ aggregated (contributions_of (outcomes_in left))
+  pub vertices_all : vertices ≡ map (closed (inbox_of (outcomes_in left))) left
+  pub later : Follows took lost old new
+  pub sums : AreTotals old
+
+pub next_shows : (work : Work) (meaning : Meaning work) (left : List Left) (old new : Totals) (took lost : ℕ) (aggregates : List ℤ) (vertices : List VertexState)
+    → left ≡ map (leaving meaning old.superstep) (state_at meaning.outcomes meaning.graph old.superstep).rows
+    → IsNext left old new took lost aggregates vertices → SumsAt work meaning old
+    → ShowsAt meaning.outcomes meaning.graph (suc old.superstep) (standing_of new aggregates vertices)
+unfolding state_at
+next_shows work meaning left old new took lost aggregates vertices from is at =
+    let s = old.superstep in
+    let before = state_at meaning.outcomes meaning.graph s in
+    let outcomes : outcomes_in left ≡ all_left meaning.outcomes s before =
+    ap outcomes_in from ∙ map-map (λ (one : Left). one.1) (leaving meaning s) before.rows in
+    let numbers : left_ids left ≡ row_ids before = ap left_ids from ∙ map-map left_id (leaving meaning s) before.rows in
+    record {
+      superstep = is.later.superstep ∙ omega arith;
+      vertices = is.vertices_all
+          ∙ (λ i. map (closed (inbox_of (outcomes i))) (from i))
+          ∙ map-map (closed (inbox_of (all_left meaning.outcomes s before))) (leaving meaning s) before.rows
+          ∙ sym (map-map bare (λ row. row_after (all_left meaning.outcomes s before) row (left_by meaning.outcomes s before row)) before.rows);
+      aggregates = is.given_all ∙ ap (λ all. aggregated (contributions_of all)) outcomes;
+      units = is.later.units ∙ (λ i. capped (at.units i + is.took_all i))
+          ∙ capped_inside before.units (units_left (outcomes_in left)) ∙ ap (λ all. capped (before.units + units_left all)) outcomes;
+      dropped = is.later.dropped ∙ (λ i. capped (at.dropped i + is.lost_all i))
+          ∙ (λ i. capped (before.dropped + sum_by (dropped_by (numbers i)) (outcomes i)));
+      by_superstep = is.later.by_superstep
+          ∙ (λ i. at.by_superstep i ++ is.took_all i ∷ [])
+          ∙ ap (λ all. map (units_at meaning.outcomes meaning.graph) (range_with_len old.since (s - old.since)) ++ capped (units_left all) ∷ []) outcomes
+          ∙ sym (units_more (units_at meaning.outcomes meaning.graph) old.since s (omega (arith, is.sums.told)))
+          ∙ ap (λ since. map (units_at meaning.outcomes meaning.graph) (range_with_len since (suc s - since))) (sym is.later.since);
+    }
+
+-- ---- the barrier
+
+-- What it begins with, and what the parts left.
+pub record IsReady (work now : Work) (honest : Bool) (totals : Totals) (dones : List DoneStamp) (gathered : Gathered) : Type 0 where
+  pub job : work ≡ now
+  pub good : first_bad now.settings ≡ None
+  pub graph : HasGraph now
+  pub row : IsRow now.settings.parts totals.superstep dones
+  pub sums : AreTotals totals
+  pub parts : IsGathered work honest dones gathered
+
+module _ (work now : Work) (honest : Bool) (totals : Totals) (dones : List DoneStamp) (gathered : Gathered) (ready : IsReady work now honest totals dones gathered) where
+  own_graph : IsGraphOf work ready.graph.0
+  own_graph = subst (λ (of : Work). IsGraphOf of ready.graph.0) (sym ready.job) ready.graph.1
+
+  own_row : IsRow work.settings.parts totals.superstep dones
+  own_row = subst (λ (of : Work). IsRow of.settings.parts totals.superstep dones) (sym ready.job) ready.row
+
+  own_some : 0 < work.settings.parts
+  own_some = subst (λ (of : Work). 0 < of.settings.parts) (sym ready.job) (some_parts now.settings ready.good)
+
+  -- what the vertices of each part left, and all of them by rising id
+  abbrev pub lefts : List (List Left)
+  lefts = map part_left ready.parts.parts
+
+  abbrev pub all : List Left
+  all = ordered ready.parts.parts ready.graph.0
+
+  pub lies : IsSpread (map vec_items gathered.ids.items) (map vec_items gathered.letters.items) lefts all
+  lies = is_spread work honest totals.superstep dones gathered ready.graph.0 own_some own_graph ready.parts own_row
+
+  -- What is made of it.
+  pub record IsMade (found : List (List (List ℤ))) (lost : ℕ) (vertices sorted : List VertexState) (later : Totals) : Type 0 where
+    pub inboxes : found ≡ map (λ left. map (inbox_of (outcomes_in all)) (left_ids left)) lefts
+    pub dropped : lost ≡ sum_by (dropped_by (left_ids all)) (outcomes_in all)
+    pub fills : vertices ≡ filled (map vec_items gathered.vertices.items) found
+    pub sorts : (other : List VertexState) → IsInOrder vertices other → sorted ≡ other
+    pub follows : Follows gathered.units lost totals later
+
+  pub next : (found : List (List (List ℤ))) (lost : ℕ) (vertices sorted : List VertexState) (later : Totals) → IsMade found lost vertices sorted later
+      → IsNext all totals later gathered.units lost gathered.slots sorted
+  next found lost vertices sorted later made =
+      let is = ready.parts in
+      let rejoined = sym (joined_spread is.parts) in
+      record {
+        took_all = is.units ∙ ap (λ left. capped (units_left (outcomes_in left))) rejoined ∙ ap capped (units_moved (joined lefts) all lies.same);
+        lost_all = made.dropped;
+        given_all = is.slots ∙ ap (λ left. aggregated (contributions_of (outcomes_in left))) rejoined ∙ slots_moved (joined lefts) all lies.same;
+        vertices_all = all_closed (inbox_of (outcomes_in all)) lefts all (map vec_items gathered.vertices.items) found vertices sorted
+            (is.vertices ∙ sym (map-map (map emptied) part_left is.parts)) made.inboxes made.fills lies.same lies.rising made.sorts;
+        later = made.follows;
+        sums = ready.sums;
+      }
+
+  pub next_ids : (found : List (List (List ℤ))) (lost : ℕ) (vertices sorted : List VertexState) (later : Totals) → IsMade found lost vertices sorted later
+      → map state_id sorted ≡ ids ready.graph.0
+  next_ids found lost vertices sorted later made =
+      ap (map state_id) (next found lost vertices sorted later made).vertices_all ∙ closed_ids (inbox_of (outcomes_in all)) all
+      ∙ ids_found (joined lefts) (ids ready.graph.0)
+
+  pub next_is_state : (found : List (List (List ℤ))) (lost : ℕ) (vertices sorted : List VertexState) (later : Totals) → IsMade found lost vertices sorted later
+      → IsState (standing_of later gathered.slots sorted)
+  next_is_state found lost vertices sorted later made =
+      is_state later gathered.slots sorted (totals_more totals later gathered.units lost ready.sums made.follows)
+      (subst (λ numbers. IsStrictlyIncreasing numbers) (sym (next_ids found lost vertices sorted later made)) ready.graph.1.proper.rising)
+
+  pub next_is_at : (found : List (List (List ℤ))) (lost : ℕ) (vertices sorted : List VertexState) (later : Totals) → IsMade found lost vertices sorted later
+      → honest ≡ true → (meaning : Meaning work) → SumsAt work meaning totals
+      → ShowsAt meaning.outcomes meaning.graph (suc totals.superstep) (standing_of later gathered.slots sorted)
+  next_is_at found lost vertices sorted later made sure meaning at =
+      next_shows work meaning all totals later gathered.units lost gathered.slots sorted
+      (ordered_left work honest totals.superstep dones gathered ready.graph.0 meaning own_some own_graph sure ready.parts own_row)
+      (next found lost vertices sorted later made) at
+
+  pub next_has_ids : (found : List (List (List ℤ))) (lost : ℕ) (vertices sorted : List VertexState) (later : Totals) → IsMade found lost vertices sorted later
+      → HasIdsOf now (standing_of later gathered.slots sorted)
+  next_has_ids found lost vertices sorted later made = λ other is.
+      next_ids found lost vertices sorted later made
+      ∙ ap ids (one_graph now ready.graph.0 other (some_parts now.settings ready.good) ready.graph.1 is)

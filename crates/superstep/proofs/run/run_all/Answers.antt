@@ -1,0 +1,43 @@
+use Rattle.std.proofs.Common.{sym, ap, ◌∙◌, arith, subst}
+use Rattle.std.proofs.lemmas.Result.{IfOk-weaker}
+use Rattle.superstep.specs.State.{IsStateAt}
+use Rattle.superstep.specs.declared.settings.Settings.{Settings}
+use Rattle.superstep.proofs.Runs.{comes_on, has_ended, not_over, over}
+use Rattle.superstep.proofs.run.run_all.Goals as goal
+
+pub loop-state-init : goal.loop-state-init
+loop-state-init g c =
+    let none = c.in_ok-state.ensures.superstep in
+    record {
+      come = record {
+        at = subst (λ n. IsStateAt c.args.job.now n c.in_ok-state.state) (sym none) c.in_ok-state.ensures.first;
+        has_ids = c.in_ok-state.ensures.ids;
+        within = omega (arith, none);
+        busy = λ meaning t before. absurd (omega (arith, none, before));
+      };
+      fits = c.in_ok-scratch.ensures ∙ c.verified.ensures;
+      limit = ap (λ (settings : Settings). settings.limit) c.settings-limit.ensures.settings;
+    }
+
+pub loop-state-smaller : goal.loop-state-smaller
+loop-state-smaller g c =
+    let due = not_over c.settings-limit.result.limit c.loop-state.state (sym c.is_over.ensures ∙ c.loop-state-test.true) in
+    omega (arith, due.1, c.in_ok-state-2.ensures.superstep)
+
+pub loop-state-preserved : goal.loop-state-preserved
+loop-state-preserved g c =
+    let kept = c.loop-state.invariant in
+    let due = not_over c.settings-limit.result.limit c.loop-state.state (sym c.is_over.ensures ∙ c.loop-state-test.true) in
+    let told = c.in_ok-state-2.ensures in
+    record {
+      come = comes_on c.args.job.now c.loop-state.state c.in_ok-state-2.state kept.come (omega (arith, due.1, kept.limit)) due.0 told.next told.ids told.superstep;
+      fits = told.kept ∙ kept.fits;
+      limit = kept.limit;
+    }
+
+pub returns : goal.returns
+returns g c =
+    IfOk-weaker c.tell_end.result _ _ (λ ended is.
+    let kept = c.loop-state.invariant in
+    has_ended c.args.job.now c.loop-state.state ended kept.come
+    (λ due. over c.settings-limit.result.limit c.loop-state.state (sym c.is_over.ensures ∙ c.loop-state-test.false) (omega (arith, kept.limit, kept.come.within)) due ∙ kept.limit) is) c.tell_end.ensures

@@ -1,0 +1,6 @@
+use Rattle.std.proofs.Common.{◌≡◌, take}
+use Rattle.superstep.specs.inside.Running.{states_values}
+use Rattle.superstep.proofs.run.values_of.Given as goal
+
+abbrev pub invariant-loop-vertex : goal.invariant-loop-vertex
+invariant-loop-vertex l = l.values.items ≡ states_values (take l.vertex-index l.vertices)

@@ -1,0 +1,32 @@
+-- What a job has summed up before a superstep.
+use Rattle.std.specs.Prelude.{◌≡◌, ◌≤◌, ◌+◌, ◌-◌, length, map}
+use Rattle.std.specs.List.{range_with_len, sum}
+use Rattle.superstep.specs.declared.totals.Totals.{Totals}
+use Rattle.superstep.specs.Folds.{capped}
+use Rattle.superstep.specs.PlainRun.{state_at, units_at}
+use Rattle.superstep.specs.Job.{Meaning, Work}
+use Rattle.superstep.specs.State.{Standing}
+
+-- the sums of a state
+pub record IsTotalsOf (state : Standing) (totals : Totals) : Type 0 where
+  pub superstep : totals.superstep ≡ state.superstep
+  pub since : totals.since ≡ state.since
+  pub by_superstep : totals.by_superstep.items ≡ state.by_superstep
+  pub units : totals.units ≡ state.units
+  pub dropped : totals.dropped ≡ state.dropped
+
+-- the units of each superstep from `since` on are told, and the total has those in it, and no others where they are all told
+pub record AreTotals (totals : Totals) : Type 0 where
+  pub told : totals.since + length totals.by_superstep.items ≡ totals.superstep
+  pub least : capped (sum totals.by_superstep.items) ≤ totals.units
+  pub all : totals.since ≡ 0 → totals.units ≡ capped (sum totals.by_superstep.items)
+
+-- they are those of the job before their superstep
+pub record SumsAt (work : Work) (meaning : Meaning work) (totals : Totals) : Type 0 where
+  pub units : totals.units ≡ (state_at meaning.outcomes meaning.graph totals.superstep).units
+  pub dropped : totals.dropped ≡ (state_at meaning.outcomes meaning.graph totals.superstep).dropped
+  pub by_superstep : totals.by_superstep.items
+      ≡ map (units_at meaning.outcomes meaning.graph) (range_with_len totals.since (totals.superstep - totals.since))
+
+abbrev pub AreTotalsOf : Work → Totals → Type 0
+AreTotalsOf work totals = (meaning : Meaning work) → SumsAt work meaning totals

@@ -1,0 +1,8 @@
+pub mod Closing
+pub mod Codes
+pub mod Cuts
+pub mod Leaving
+pub mod Opening
+pub mod Rows
+pub mod Running
+pub mod Uniting

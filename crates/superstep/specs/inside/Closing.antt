@@ -1,0 +1,78 @@
+-- What all parts left becomes the next state, as the code has it.
+use Rattle.std.specs.Prelude.{◌≡◌, ◌+◌, ◌++◌, ◌∷◌, ℕ, ℤ, Bool, true, List, [], map, slice_get, Some, vec_items}
+use Rattle.std.specs.List.{AllByRecursion, flat_map, zip}
+use Rattle.std.specs.List.Sorted.{IsPermutation, IsStrictlyIncreasing}
+use Rattle.graph.specs.Entry.{ids}
+use Rattle.graph.specs.Cutting.{joined}
+use Rattle.inbox.specs.declared.letters.Letter.{Letter}
+use Rattle.superstep.specs.declared.closing.Gathered.{Gathered}
+use Rattle.superstep.specs.declared.state.VertexState.{VertexState}
+use Rattle.superstep.specs.declared.totals.Totals.{Totals}
+use Rattle.superstep.specs.Folds.{aggregated, capped}
+use Rattle.superstep.specs.Superstep.{contributions_of, units_left}
+use Rattle.superstep.specs.Job.{Work}
+use Rattle.superstep.specs.State.{Standing}
+use Rattle.superstep.specs.Tasks.{DoneStamp, IsLeftAt, Left, emptied, letters_of, outcomes_in}
+
+-- what a state shows
+abbrev pub standing_of : Totals → List ℤ → List VertexState → Standing
+standing_of totals aggregates vertices = record {
+  superstep = totals.superstep;
+  since = totals.since;
+  by_superstep = totals.by_superstep.items;
+  units = totals.units;
+  dropped = totals.dropped;
+  aggregates = aggregates;
+  vertices = vertices;
+}
+
+-- a superstep later, whose calls took so many units, and of whose messages so many went to no vertex
+pub record Follows (took lost : ℕ) (old new : Totals) : Type 0 where
+  pub superstep : new.superstep ≡ old.superstep + 1
+  pub since : new.since ≡ old.since
+  pub by_superstep : new.by_superstep.items ≡ old.by_superstep.items ++ took ∷ []
+  pub units : new.units ≡ capped (old.units + took)
+  pub dropped : new.dropped ≡ capped (old.dropped + lost)
+
+abbrev pub left_id : Left → ℕ
+left_id one = one.0
+
+abbrev pub left_ids : List Left → List ℕ
+left_ids left = map left_id left
+
+-- a part's stamp, and what its vertices left
+abbrev pub PartLeft : Type 0
+PartLeft = DoneStamp × List Left
+
+pub record IsPartLeft (work : Work) (honest : Bool) (part : PartLeft) : Type 0 where
+  pub fits : slice_get (map ids work.parts) part.0.part ≡ Some (left_ids part.1)
+  pub at : honest ≡ true → IsLeftAt work part.0.superstep part.0.part part.1
+
+-- what all vertices of these parts left, one part after another
+abbrev pub spread : List PartLeft → List Left
+spread parts = flat_map (λ (part : PartLeft). part.1) parts
+
+-- this is what the parts with these stamps left
+pub record IsGathered (work : Work) (honest : Bool) (dones : List DoneStamp) (gathered : Gathered) : Type 0 where
+  pub parts : List PartLeft
+  pub stamps : map (λ (part : PartLeft). part.0) parts ≡ dones
+  pub each : AllByRecursion (IsPartLeft work honest) parts
+  pub ids : map vec_items gathered.ids.items ≡ map (λ (part : PartLeft). left_ids part.1) parts
+  pub vertices : map vec_items gathered.vertices.items ≡ map (λ (part : PartLeft). map emptied part.1) parts
+  pub letters : map vec_items gathered.letters.items ≡ map (λ (part : PartLeft). letters_of part.1) parts
+  pub slots : gathered.slots ≡ aggregated (contributions_of (outcomes_in (spread parts)))
+  pub units : gathered.units ≡ capped (units_left (outcomes_in (spread parts)))
+
+-- the ids and the letters of what vertices left, part by part, and the same vertices by rising id
+pub record IsSpread (all_ids : List (List ℕ)) (all_letters : List (List Letter)) (lefts : List (List Left)) (ordered : List Left) : Type 0 where
+  pub ids : all_ids ≡ map left_ids lefts
+  pub letters : all_letters ≡ map letters_of lefts
+  pub same : IsPermutation (joined lefts) ordered
+  pub rising : IsStrictlyIncreasing (left_ids ordered)
+
+abbrev pub with_inbox : VertexState × List ℤ → VertexState
+with_inbox given = record { id = given.0.id; value = given.0.value; active = given.0.active; inbox = given.1 }
+
+-- the vertices of all parts, each with its inbox, one part after another
+abbrev pub filled : List (List VertexState) → List (List (List ℤ)) → List VertexState
+filled parts inboxes = flat_map (λ (given : List VertexState × List (List ℤ)). map with_inbox (zip given.0 given.1)) (zip parts inboxes)

@@ -1,0 +1,182 @@
+//! The barrier between two supersteps (Pregel 2010, 2): what all parts left becomes the next state.
+
+ghost use Rattle.std.specs.Prelude.{◌≡◌, ◌<◌, ◌++◌, ◌∷◌, [], suc, true, List, map, vec_items, IfOk, OnOk};
+ghost use Rattle.std.specs.List.{sum_by, zip};
+ghost use Rattle.superstep.specs.State.{HasIdsOf, IsStateAt, state_id};
+ghost use Rattle.superstep.specs.Superstep.{dropped_by, inbox_of};
+ghost use Rattle.superstep.specs.Tasks.{DoneStamp, IsRow, Left as AnyLeft, outcomes_in};
+ghost use Rattle.superstep.specs.Totals.{AreTotals, AreTotalsOf};
+ghost use Rattle.superstep.specs.inside.Closing.{IsGathered, IsSpread, filled, left_ids, with_inbox};
+ghost use Rattle.superstep.specs.inside.Uniting.{united};
+
+use crate::job::Job;
+use crate::left::combined;
+use crate::order::sort_by_id;
+use crate::slice::Origin;
+use crate::state::{State, VertexState};
+use crate::task::Done;
+use crate::totals::Totals;
+use host_calls::slot_starts;
+use inbox::{
+    Inbox, Letter, drops_add_up_over_sources, inboxes_are_concatenated_by_source, merge_parts,
+    sources_send_in_any_order,
+};
+use std::alloc::{AllocError, Global};
+use std::thread::Threads;
+
+/// The state after a superstep: what all parts left, one for each part and in order, on what was summed up before.
+///
+/// Inboxes are built by as many threads as there are processors. The only refusal is that there is no memory.
+pub fn barrier<J: Origin>(
+    rt: &(impl Threads + Sync),
+    alloc: Global,
+    job: &Job,
+    totals: Totals,
+    dones: Vec<Done<J>>,
+) -> Result<State, AllocError>
+    requires job { J.work ≡ job.now }
+    requires row { IsRow job.now.settings.parts totals.superstep dones.items }
+    requires early { totals.superstep < job.now.settings.limit }
+    requires totals { AreTotals totals }
+    requires at { J.honest ≡ true → AreTotalsOf J.work totals }
+    ensures next { IfOk result (λ state. J.honest ≡ true
+        → IsStateAt J.work (suc totals.superstep) state) }
+    ensures superstep { IfOk result (λ state. state.superstep ≡ suc totals.superstep) }
+    ensures since { IfOk result (λ state. state.since ≡ totals.since) }
+    ensures ids { IfOk result (HasIdsOf job.now) }
+{
+    let Gathered {
+        ids,
+        vertices,
+        letters,
+        slots,
+        units,
+    } = gather(alloc, job.settings().parts, dones)?;
+    let (inboxes, dropped) = delivered(rt, alloc, &letters, &ids)?;
+    let mut vertices = filled(alloc, job.count(), vertices, inboxes)?;
+    sort_by_id(&mut vertices);
+    let totals = totals.after(units, dropped)?;
+    Ok(State::of(totals, slots, vertices))
+}
+
+// What the parts left: of each its ids, its vertices and its letters, and what they gave and took together.
+#[derive(Drop)]
+struct Gathered {
+    ids: Vec<Vec<u64>>,
+    vertices: Vec<Vec<VertexState>>,
+    letters: Vec<Vec<Letter>>,
+    slots: [i64; 8],
+    units: u128,
+}
+
+// What all parts left, of which there are so many.
+fn gather<J: Origin>(alloc: Global, parts: u32, dones: Vec<Done<J>>) -> Result<Gathered, AllocError>
+    ensures { IfOk result (IsGathered J.work J.honest dones.items) }
+{
+    let mut gathered = Gathered {
+        ids: Vec::with_capacity(alloc, parts as usize)?,
+        vertices: Vec::with_capacity(alloc, parts as usize)?,
+        letters: Vec::with_capacity(alloc, parts as usize)?,
+        slots: slot_starts(),
+        units: 0,
+    };
+    for done in dones {
+        gathered.add(alloc, done)?;
+    }
+    Ok(gathered)
+}
+
+impl Gathered {
+    // What one more part left.
+    fn add<J: Origin>(&mut self, alloc: Global, done: Done<J>) -> Result<(), AllocError>
+        ensures { OnOk result ((dones : List DoneStamp) → IsGathered J.work J.honest dones self.old
+            → IsGathered J.work J.honest (dones ++ done ∷ []) self.new) }
+    {
+        let Done {
+            units,
+            vertices,
+            letters,
+            slots,
+            ..
+        } = done;
+        self.ids.push(ids_of(alloc, &vertices)?)?;
+        self.vertices.push(vertices)?;
+        self.letters.push(letters)?;
+        unite(&mut self.slots, &slots);
+        self.units = self.units.saturating_add(units);
+        Ok(())
+    }
+}
+
+fn ids_of(alloc: Global, vertices: &[VertexState]) -> Result<Vec<u64>, AllocError>
+    ensures { IfOk result (λ ids. ids.items ≡ map state_id vertices.now) }
+{
+    vertices.iter().map(|vertex| vertex.id).collect(alloc)
+}
+
+// Unites what the slots hold with what other vertices gave to them.
+fn unite(slots: &mut [i64; 8], given: &[i64; 8])
+    ensures { slots.new ≡ united slots.old given.now }
+{
+    for slot in 0..8 {
+        let place = slot as usize;
+        slots[place] = combined(slot, slots[place], given[place]);
+    }
+}
+
+// What the vertices of each part find in their inboxes, and how many letters go to none of them.
+fn delivered(
+    rt: &(impl Threads + Sync),
+    alloc: Global,
+    letters: &[Vec<Letter>],
+    ids: &[Vec<u64>],
+) -> Result<(Vec<Vec<Inbox>>, u128), AllocError>
+    requires { (lefts : List (List AnyLeft)) × (ordered : List AnyLeft)
+        × IsSpread (map vec_items ids.now) (map vec_items letters.now) lefts ordered }
+    ensures inboxes { IfOk result (λ merged. (lefts : List (List AnyLeft)) (ordered : List AnyLeft)
+        → IsSpread (map vec_items ids.now) (map vec_items letters.now) lefts ordered
+        → map vec_items merged.0.items
+        ≡ map (λ left. map (inbox_of (outcomes_in ordered)) (left_ids left)) lefts) }
+    ensures dropped { IfOk result (λ merged. (lefts : List (List AnyLeft)) (ordered : List AnyLeft)
+        → IsSpread (map vec_items ids.now) (map vec_items letters.now) lefts ordered
+        → merged.1 ≡ sum_by (dropped_by (left_ids ordered)) (outcomes_in ordered)) }
+{
+    sources_send_in_any_order();
+    inboxes_are_concatenated_by_source();
+    drops_add_up_over_sources();
+    merge_parts(rt, alloc, letters, ids)
+}
+
+// All vertices, each with its inbox, one part after another.
+fn filled(
+    alloc: Global,
+    count: u32,
+    vertices: Vec<Vec<VertexState>>,
+    inboxes: Vec<Vec<Inbox>>,
+) -> Result<Vec<VertexState>, AllocError>
+    ensures { IfOk result (λ all.
+        all.items ≡ filled (map vec_items vertices.items) (map vec_items inboxes.items)) }
+{
+    let mut all = Vec::with_capacity(alloc, count as usize)?;
+    for (vertices, inboxes) in vertices.into_iter().zip(inboxes) {
+        push_filled(&mut all, vertices, inboxes)?;
+    }
+    Ok(all)
+}
+
+// The vertices of a part, each with its inbox, behind the others.
+fn push_filled(
+    all: &mut Vec<VertexState>,
+    vertices: Vec<VertexState>,
+    inboxes: Vec<Inbox>,
+) -> Result<(), AllocError>
+    ensures { OnOk result (all.new.items
+        ≡ all.old.items ++ map with_inbox (zip vertices.items inboxes.items)) }
+{
+    let filled = vertices
+        .into_iter()
+        .zip(inboxes)
+        .map(|(vertex, inbox)| VertexState { inbox, ..vertex });
+    all.extend(filled)?;
+    Ok(())
+}

@@ -1,0 +1,24 @@
+//! Jobs over graphs, superstep after superstep, as one machine runs them (Pregel 2010, 2).
+#![tactic(auto)]
+
+mod closing;
+mod fault;
+mod job;
+mod left;
+mod order;
+mod run;
+mod settings;
+mod slice;
+mod state;
+mod task;
+mod totals;
+
+pub use closing::barrier;
+pub use fault::{JobFault, Place};
+pub use job::Job;
+pub use run::{Ended, How, one_machine};
+pub use settings::{Setting, Settings};
+pub use slice::{Origin, Slice, slices};
+pub use state::{State, VertexState};
+pub use task::{Done, Task, TaskLost, run_task};
+pub use totals::Totals;

@@ -1,0 +1,272 @@
+//! Tasks: a superstep on one part.
+
+ghost use Rattle.std.specs.Prelude.{◌≡◌, All, true, map, IfOk, IfErr, OnOk};
+ghost use Rattle.graph.specs.Entry.{entries_of, entry_of, ids};
+ghost use Rattle.superstep.specs.State.{state_id};
+ghost use Rattle.superstep.specs.Tasks.{AreAggregatesAt};
+ghost use Rattle.superstep.specs.declared.fault.Place.TheVariants.{Call};
+ghost use Rattle.superstep.specs.inside.Leaving.{CallsPart, CallsVertex, HasProperIds};
+
+use crate::fault::Place;
+use crate::job::Job;
+use crate::left::Left;
+use crate::slice::{Origin, Slice};
+use crate::state::VertexState;
+use bounded_profile::Verified;
+use graph::Vertex;
+use host_calls::CallInput;
+use inbox::{Inbox, Letter};
+use interp::{Scratch, calls_are_a_function, run};
+use std::alloc::{AllocError, Global};
+use std::marker::{Model, PhantomData};
+
+/// A superstep on one part, for a worker. Contracts see its epoch, superstep and part.
+#[derive(Drop)]
+pub struct Task<J: Origin> {
+    epoch: u64,
+    slice: Slice<J>,
+    aggregated: [i64; 8],
+}
+
+impl<J: Origin> Model for Task<J> {
+    ghost use Rattle.std.specs.Prelude.{◌≡◌, true};
+    ghost use Rattle.superstep.specs.Tasks.{AreAggregatesAt, TaskStamp};
+
+    ghost Value = { TaskStamp };
+
+    ghost view = { λ task. record {
+      epoch = task.epoch;
+      superstep = task.slice.superstep;
+      part = task.slice.part;
+    } };
+
+    ghost invariant = { λ task. J.honest ≡ true
+        → AreAggregatesAt J.work task.slice.superstep task.aggregated };
+}
+
+impl<J: Origin> Task<J> {
+    /// The superstep on this slice. `aggregated` is what the slots were aggregated to in the superstep before. It takes no
+    /// memory.
+    pub fn new(epoch: u64, slice: Slice<J>, aggregated: [i64; 8]) -> Task<J>
+        requires { J.honest ≡ true → AreAggregatesAt J.work slice.superstep aggregated }
+        ensures epoch { result.epoch ≡ epoch }
+        ensures superstep { result.superstep ≡ slice.superstep }
+        ensures part { result.part ≡ slice.part }
+    {
+        Task {
+            epoch,
+            slice,
+            aggregated,
+        }
+    }
+
+    pub fn epoch(&self) -> u64
+        ensures { result ≡ self.now.epoch }
+    {
+        self.epoch
+    }
+
+    pub fn superstep(&self) -> u32
+        ensures { result ≡ self.now.superstep }
+    {
+        self.slice.superstep()
+    }
+
+    pub fn part(&self) -> u32
+        ensures { result ≡ self.now.part }
+    {
+        self.slice.part()
+    }
+}
+
+/// What comes back of a task. Contracts see its epoch, superstep and part, and its units.
+#[derive(Drop)]
+pub struct Done<J: Origin> {
+    pub(crate) epoch: u64,
+    pub(crate) superstep: u32,
+    pub(crate) part: u32,
+    pub(crate) units: u128,
+    pub(crate) vertices: Vec<VertexState>,
+    pub(crate) letters: Vec<Letter>,
+    pub(crate) slots: [i64; 8],
+    pub(crate) origin: PhantomData<J>,
+}
+
+impl<J: Origin> Model for Done<J> {
+    ghost use Rattle.superstep.specs.Tasks.{DoneStamp, IsDone};
+
+    ghost Value = { DoneStamp };
+
+    ghost view = { λ done. record {
+      epoch = done.epoch;
+      superstep = done.superstep;
+      part = done.part;
+      units = done.units;
+    } };
+
+    ghost invariant = { λ done. IsDone J.work J.honest
+        (record {
+          epoch = done.epoch;
+          superstep = done.superstep;
+          part = done.part;
+          units = done.units;
+        })
+        done.vertices.items done.letters.items done.slots };
+}
+
+impl<J: Origin> Done<J> {
+    pub fn epoch(&self) -> u64
+        ensures { result ≡ self.now.epoch }
+    {
+        self.epoch
+    }
+
+    pub fn superstep(&self) -> u32
+        ensures { result ≡ self.now.superstep }
+    {
+        self.superstep
+    }
+
+    pub fn part(&self) -> u32
+        ensures { result ≡ self.now.part }
+    {
+        self.part
+    }
+
+    /// The units of the part's calls, which stop at the greatest number of 128 bits.
+    pub fn units(&self) -> u128
+        ensures { result ≡ self.now.units }
+    {
+        self.units
+    }
+}
+
+/// A task that has no result, and the work that met the refusal.
+#[derive(Clone, Copy)]
+pub struct TaskLost {
+    pub place: Place,
+}
+
+/// The superstep on the task's part: a compute call of each vertex that is active or has messages (Pregel 2010, 2). The only
+/// refusal is that there is no memory; the scratch fits afterwards too.
+pub fn run_task<J: Origin>(
+    alloc: Global,
+    job: &Job,
+    task: Task<J>,
+    scratch: &mut Scratch,
+) -> Result<Done<J>, TaskLost>
+    requires job { J.work ≡ job.now }
+    requires fits { scratch.old ≡ job.now.«module» }
+    ensures kept { scratch.new ≡ scratch.old }
+    ensures epoch { IfOk result (λ done. done.epoch ≡ task.epoch) }
+    ensures superstep { IfOk result (λ done. done.superstep ≡ task.superstep) }
+    ensures part { IfOk result (λ done. done.part ≡ task.part) }
+    ensures lost { IfErr result (λ lost. lost.place ≡ Call) }
+{
+    calls_are_a_function();
+    let Task {
+        epoch,
+        slice,
+        aggregated,
+    } = task;
+    let Slice {
+        part,
+        superstep,
+        mut vertices,
+        origin,
+    } = slice;
+    let shared = Shared {
+        verified: job.verified(),
+        superstep,
+        count: job.count(),
+        aggregated,
+    };
+    let entries = &job.parts()[part as usize].vertices;
+    let ran = run_part(alloc, &shared, entries, &mut vertices, scratch);
+    let Ok(left) = ran else {
+        return Err(TaskLost { place: Place::Call });
+    };
+    let Left {
+        letters,
+        slots,
+        units,
+    } = left;
+    Ok(Done {
+        epoch,
+        superstep,
+        part,
+        units,
+        vertices,
+        letters,
+        slots,
+        origin,
+    })
+}
+
+// What all calls of a part are given alike.
+#[derive(Clone, Copy)]
+struct Shared<'a> {
+    verified: &'a Verified,
+    superstep: u32,
+    count: u32,
+    aggregated: [i64; 8],
+}
+
+// The calls of a part's vertices, one after another, and what they leave. Entries have their edges.
+fn run_part(
+    alloc: Global,
+    shared: &Shared,
+    entries: &[Vertex],
+    vertices: &mut [VertexState],
+    scratch: &mut Scratch,
+) -> Result<Left, AllocError>
+    requires same { ids (entries_of entries.now) ≡ map state_id vertices.old }
+    requires proper { All HasProperIds (entries_of entries.now) }
+    requires fits { scratch.old ≡ shared.now.verified.now }
+    ensures kept { scratch.new ≡ scratch.old }
+    ensures calls { IfOk result
+        (CallsPart shared.now (entries_of entries.now) vertices.old vertices.new) }
+{
+    let mut left = Left::nothing(alloc);
+    for index in 0..vertices.len() {
+        let vertex = &mut vertices[index];
+        run_vertex(alloc, shared, &entries[index], vertex, scratch, &mut left)?;
+    }
+    Ok(left)
+}
+
+// The call of a vertex that is active or has messages; any other stays as it is.
+fn run_vertex(
+    alloc: Global,
+    shared: &Shared,
+    entry: &Vertex,
+    vertex: &mut VertexState,
+    scratch: &mut Scratch,
+    left: &mut Left,
+) -> Result<(), AllocError>
+    requires same { entry.now.id ≡ vertex.old.id }
+    requires proper { HasProperIds (entry_of entry.now) }
+    requires fits { scratch.old ≡ shared.now.verified.now }
+    ensures kept { scratch.new ≡ scratch.old }
+    ensures calls { OnOk result (CallsVertex shared.now (entry_of entry.now)
+        vertex.old vertex.new left.old left.new) }
+{
+    if !vertex.active && vertex.inbox.as_slice().is_empty() {
+        return Ok(());
+    }
+    let input = CallInput {
+        id: vertex.id,
+        superstep: shared.superstep,
+        count: shared.count,
+        value: vertex.value,
+        messages: vertex.inbox.as_slice(),
+        edges: &entry.edges,
+        aggregated: shared.aggregated,
+    };
+    let outcome = run(alloc, shared.verified, &input, scratch)?;
+    left.add(vertex.id, &outcome)?;
+    vertex.value = outcome.value;
+    vertex.active = !outcome.halted;
+    vertex.inbox = Inbox::empty(alloc);
+    Ok(())
+}

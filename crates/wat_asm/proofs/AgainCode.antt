@@ -23,7 +23,7 @@ use Rattle.wat_asm.specs.Instructions.{plain_line, branch_line, block_type, deep
 use Rattle.wat_asm.specs.inside.Tokens.{sorted}
 use Rattle.wat_asm.specs.inside.Tokens as tok
 use Rattle.wat_asm.specs.inside.Reading.{State, repeated, closed_at, block_type_at, val_type_at}
-use Rattle.wat_asm.specs.inside.ReadingCode.{Inner, end_at, typed_with, ended_with, else_with, other_with, block_with, loop_with, if_with, instr_with, linear_with, stops, goes_on, instr_step, inner_at, instrs_at, code_at}
+use Rattle.wat_asm.specs.inside.ReadingCode.{Inner, end_at, header_at, ended_with, else_with, other_with, block_with, loop_with, if_with, instr_with, linear_with, stops, goes_on, instr_step, inner_at, instrs_at, code_at}
 use Rattle.wat_asm.proofs.AgainTools.{unnamed_again, Ends, key_ends, stops_ends, step_again, stop_again}
 use Rattle.wat_asm.proofs.AgainInstructions.{Stands, plain_stands, branch_stands, call_stands, call_indirect_stands, unreachable_stands}
 
@@ -69,22 +69,22 @@ module _ (n : ℕ) (inner : Inner) (g : Gap) where
   abbrev IsInside : Code → (inside after : List Piece) → Type 0
   IsInside c inside after = (types : List FuncType) → inner (sorted inside, types) ≡ Some (c, (sorted after, types))
 
-  typed_again : (t : Option ValType) (body : Code) (inside after : List Piece) (types : List FuncType) → Ends (sorted inside) → IsInside body inside after
-      → typed_with inner (sorted (block_type t inside), types) ≡ Some ((t, body), (sorted after, types))
-  unfolding typed_with
-  typed_again t body inside after types e read = rw (unnamed_again (block_type t inside) types, block_type_again t inside types e, read types) refl
+  header_again : (t : Option ValType) (inside : List Piece) (types : List FuncType) → Ends (sorted inside)
+      → header_at (sorted (block_type t inside), types) ≡ Some (t, (sorted inside, types))
+  unfolding header_at
+  header_again t inside types e = rw (unnamed_again (block_type t inside) types, block_type_again t inside types e) refl
 
   block_stands : (t : Option ValType) (body : Code) (inside more : List Piece) → Ends (sorted inside) → IsInside body inside (piece.says g keyword.End ∷ more)
       → Stands n inner (instr.Block t body) (piece.says g keyword.Block ∷ block_type t inside) more
   unfolding instr_with linear_with block_with ended_with
   block_stands t body inside more e read =
-      record { goes_on = refl; reads = λ types. rw (typed_again t body inside (piece.says g keyword.End ∷ more) types e read, end_again more types) refl }
+      record { goes_on = refl; reads = λ types. rw (header_again t inside types e, read types, end_again more types) refl }
 
   loop_stands : (t : Option ValType) (body : Code) (inside more : List Piece) → Ends (sorted inside) → IsInside body inside (piece.says g keyword.End ∷ more)
       → Stands n inner (instr.Loop t body) (piece.says g keyword.Loop ∷ block_type t inside) more
   unfolding instr_with linear_with loop_with ended_with
   loop_stands t body inside more e read =
-      record { goes_on = refl; reads = λ types. rw (typed_again t body inside (piece.says g keyword.End ∷ more) types e read, end_again more types) refl }
+      record { goes_on = refl; reads = λ types. rw (header_again t inside types e, read types, end_again more types) refl }
 
   -- the second arm, which may be empty
   abbrev arm : Code → List Piece → List Piece
@@ -105,7 +105,7 @@ module _ (n : ℕ) (inner : Inner) (g : Gap) where
       → Stands n inner (instr.If t body other) (piece.says g keyword.If ∷ block_type t inside) more
   unfolding instr_with linear_with if_with other_with
   if_stands t body other inside more e read second =
-      record { goes_on = refl; reads = λ types. rw (typed_again t body inside (arm other more) types e read, arm_again other more second types, end_again more types) refl }
+      record { goes_on = refl; reads = λ types. rw (header_again t inside types e, read types, arm_again other more second types, end_again more types) refl }
 
 -- ---- one after another
 

@@ -127,13 +127,13 @@ unfolding type_step defined_type_at unnamed_at func_at closed_at
 defined_type_again t n more types lt le = rw (signature_again t n (piece.closes ∷ more) types lt le) refl
 
 pub types_again : (ts : List FuncType) (n : ℕ) (more : List Piece) → AllByRecursion (λ (t : FuncType). (length t.parameters < n) × (length t.results < n)) ts → length ts < n
-    → goes_on_with_type (sorted more) ≡ Some false → types_at n (sorted (each type_field ts more), []) ≡ Some (sorted more, ts)
+    → goes_on_with_type (sorted more) ≡ Some false → types_at n (tt, (sorted (each type_field ts more), [])) ≡ Some (tt, (sorted more, ts))
 unfolding types_at
 types_again ts n more all lt off =
-    rw (each_again goes_on_with_type (type_step n) type_field (λ (t : FuncType). (length t.parameters < n) × (length t.results < n)) (λ front ps. (tt, (sorted ps, front)))
+    each_again goes_on_with_type (type_step n) type_field (λ (t : FuncType). (length t.parameters < n) × (length t.results < n)) (λ front ps. (tt, (sorted ps, front)))
     (λ front x after. refl)
     (λ front x after fine. defined_type_again x n after front fine.0 fine.1)
-    ts [] n more all lt off) refl
+    ts [] n more all lt off
 
 -- (type n), where neither parameters nor results follow
 pub type_use_again : (n : ℕ) (more : List Piece) (types : List FuncType) → IsU32 n → signature_first (sorted more) ≡ false

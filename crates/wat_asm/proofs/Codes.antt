@@ -46,3 +46,8 @@ empty_is_end (i ∷ is) c b e t = (λ h. absurd (not_true is b t h), λ z. absur
 pub bodies_within : (types : List FuncType) (fs : List Function) → AllByRecursion (IsFunctionWithin types) fs → AllByRecursion (λ (f : Function). IsBodyWithin f.body) fs
 bodies_within types [] h = tt
 bodies_within types (f ∷ fs) h = (h.0.1, bodies_within types fs h.1)
+
+-- where nothing is asked of any
+pub all_held : {A : Type 0} (xs : List A) → AllByRecursion (λ (x : A). Unit {0}) xs
+all_held [] = tt
+all_held (x ∷ xs) = (tt, all_held xs)

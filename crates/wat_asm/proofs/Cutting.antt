@@ -1,5 +1,5 @@
 -- One token after the other.
-use Rattle.std.proofs.Common.{◌≡◌, ◌≢◌, ◌≤◌, ℕ, ◌+◌, ◌-◌, List, [], ◌∷◌, ◌++◌, length, take, drop, get_or, Option, Some, None, Result, Ok, Err, Bor, refl, sym, ap, subst, ◌∙◌, append_assoc, arith}
+use Rattle.std.proofs.Common.{◌≡◌, ◌≢◌, ◌≤◌, false, ℕ, ◌+◌, ◌-◌, List, [], ◌∷◌, ◌++◌, length, take, drop, get_or, Option, Some, None, Result, Ok, Err, Bor, refl, sym, ap, subst, ◌∙◌, append_assoc, arith}
 use Rattle.std.specs.Prelude.{IsSomeAnd}
 use Rattle.std.specs.List.{prefix_len}
 use Rattle.std.proofs.lemmas.Bool.{ne_eqb}
@@ -8,7 +8,7 @@ use Rattle.wat_asm.specs.declared.fault.Failure.{Failure}
 use Rattle.wat_asm.specs.declared.lexer.token.Token.{Token}
 use Rattle.wat_asm.specs.declared.lexer.token.Token.TheVariants as token
 use Rattle.wat_asm.specs.inside.Follows.{◌>>=◌, Follows}
-use Rattle.wat_asm.specs.inside.Lexing.{EndsWith, is_word, one_at, opening_at, quoted_at, read_of, word_at, word_of}
+use Rattle.wat_asm.specs.inside.Lexing.{EndsWith, is_blank, is_word, one_at, opening_at, quoted_at, read_of, word_at, word_of}
 use Rattle.wat_asm.specs.inside.Strings.{plain, quote_at, string_of}
 use Rattle.wat_asm.specs.inside.Tokens.{Tok, tok_of, text, text_or_other}
 use Rattle.wat_asm.proofs.Quotes.{string_is}
@@ -100,10 +100,7 @@ one_quoted source (b ∷ bs) r some is ends h =
 
 -- a byte with which neither a blank nor a parenthesis, a comment or a string begins
 pub record IsOther (b : ℕ) : Type 0 where
-  pub space : b ≢ 32
-  pub feed : b ≢ 10
-  pub tab : b ≢ 9
-  pub carriage : b ≢ 13
+  pub blank : is_blank b ≡ false
   pub closing : b ≢ 41
   pub opening : b ≢ 40
   pub semicolon : b ≢ 59
@@ -113,10 +110,7 @@ pub one_at-other : (b : ℕ) (bs : List ℕ) → IsOther b → one_at (b ∷ bs)
 unfolding one_at
 one_at-other b bs other =
     rw (
-      ne_eqb b 32 other.space,
-      ne_eqb b 10 other.feed,
-      ne_eqb b 9 other.tab,
-      ne_eqb b 13 other.carriage,
+      other.blank,
       ne_eqb b 41 other.closing,
       ne_eqb b 40 other.opening,
       ne_eqb b 59 other.semicolon,

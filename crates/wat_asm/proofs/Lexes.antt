@@ -6,7 +6,7 @@ use Rattle.std.proofs.lemmas.List.{append-nil, take-append-drop}
 use Rattle.wat_asm.specs.declared.fault.Failure.{Failure}
 use Rattle.wat_asm.specs.declared.lexer.token.Token.{Token}
 use Rattle.wat_asm.specs.inside.Follows.{◌>>=◌, Follows, IsMemory}
-use Rattle.wat_asm.specs.inside.Lexing.{EndsWith, begins_comment, is_word, one_at, opening_at, quoted_at, read_of, word_at, word_of, listed, tokens_at}
+use Rattle.wat_asm.specs.inside.Lexing.{EndsWith, begins_comment, is_blank, is_word, one_at, opening_at, quoted_at, read_of, word_at, word_of, listed, tokens_at}
 use Rattle.wat_asm.specs.Pieces.{Piece}
 use Rattle.wat_asm.specs.Quoted.{stands_as_itself}
 use Rattle.wat_asm.specs.inside.Strings.{Within, plain, escape, digit, hex_digit, onto, quote_at}
@@ -67,14 +67,11 @@ one_ends : (bs : List ℕ) → Ends bs (one_at bs)
 unfolding one_at
 one_ends [] = tt
 one_ends (b ∷ bs) =
-    ends_if (b ∷ bs) (nat_eq b 32) (Some (None, bs)) _ (tail_ends b bs)
-    (ends_if (b ∷ bs) (nat_eq b 10) (Some (None, bs)) _ (tail_ends b bs)
-    (ends_if (b ∷ bs) (nat_eq b 9) None _ tt
-    (ends_if (b ∷ bs) (nat_eq b 13) None _ tt
+    ends_if (b ∷ bs) (is_blank b) (Some (None, bs)) _ (tail_ends b bs)
     (ends_if (b ∷ bs) (nat_eq b 41) (Some (Some closes, bs)) _ (tail_ends b bs)
     (ends_if (b ∷ bs) (nat_eq b 40) (opening_at bs) _ (ends_if (b ∷ bs) (begins_comment bs) None (Some (Some opens, bs)) tt (tail_ends b bs))
     (ends_if (b ∷ bs) (nat_eq b 59) None _ tt
-    (ends_if (b ∷ bs) (nat_eq b 34) (quoted_at bs) (word_at (b ∷ bs)) (ends_more b bs (quoted_at bs) (quoted_ends bs)) (word_ends (b ∷ bs)))))))))
+    (ends_if (b ∷ bs) (nat_eq b 34) (quoted_at bs) (word_at (b ∷ bs)) (ends_more b bs (quoted_at bs) (quoted_ends bs)) (word_ends (b ∷ bs))))))
 
 -- ---- one token after the other
 

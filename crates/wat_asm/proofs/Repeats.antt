@@ -1,10 +1,10 @@
 -- Steps one after another, as loops take them.
-use Rattle.std.proofs.Common.{◌≡◌, ℕ, zero, suc, Bool, true, false, List, [], ◌∷◌, ◌++◌, Option, Some, None, refl, sym, ap, ◌∙◌, subst}
+use Rattle.std.proofs.Common.{◌≡◌, ℕ, zero, suc, Bool, true, false, List, Option, Some, None, refl, sym, ap, ◌∙◌, subst}
 use Rattle.std.specs.Prelude.{if◌then◌else◌}
 use Rattle.wat_asm.specs.declared.fault.Failure.{Failure}
 use Rattle.wat_asm.specs.inside.Follows.{◌>>=◌, IsMemory}
 use Rattle.wat_asm.specs.inside.Tokens.{Tok}
-use Rattle.wat_asm.specs.inside.Reading.{State, Reads, repeated, item_step}
+use Rattle.wat_asm.specs.inside.Reading.{State, repeated}
 
 pub bind_some : {A B : Type 0} (r : Option A) (f : A → Option B) (y : B) → (r >>= f) ≡ Some y → (x : A) × (r ≡ Some x) × (f x ≡ Some y)
 bind_some (Some x) f y e = (x, refl, e)
@@ -59,13 +59,6 @@ IsAnswer o b = (a : Bool) → o ≡ Some a → b ≡ a
 pub answers : (o : Option Bool) (b : Bool) → o ≡ Some b → IsAnswer o b
 answers o b e a f = let same : Some b ≡ Some a = sym e ∙ f in cc
 
-pub starts : {A : Type 0} (goes : List Tok → Option Bool) (step : A × State → Option (A × State)) (start : A × State) → Onward goes step start start
-starts goes step start n total e = (n, e)
-
--- the same beginning, spelled otherwise
-pub from_equal : {A : Type 0} (goes : List Tok → Option Bool) (step : A × State → Option (A × State)) (a b : A) (s : State) (x : A × State) → a ≡ b → Onward goes step (a, s) x → Onward goes step (b, s) x
-from_equal goes step a b s x e h = subst (λ c. Onward goes step (c, s) x) e h
-
 -- a step that is taken
 abbrev Stepped : {A : Type 0} → (List Tok → Option Bool) → (A × State → Option (A × State)) → A × State → A × State → Type 0
 Stepped {A} goes step x total = (k : ℕ) × (z : A × State) × (step x ≡ Some z) × (repeated goes step k z ≡ Some total)
@@ -113,16 +106,3 @@ pub loop_done : {A : Type 0} (goes : List Tok → Option Bool) (step : A × Stat
 loop_done goes step start x n off so_far = says x (repeated goes step n start) (λ total e.
     let p = so_far n total e in
     stopped goes step p.0 x total off p.1)
-
--- an item that was read, and those that were read before it
-pub item_said : {A : Type 0} (item : Reads A) (front : List A) (s after : State) (a : A) → Said (a, after) (item s) → Said (front ++ a ∷ [], after) (item_step item (front, s))
-item_said {A} item front s after a read = says (front ++ a ∷ [], after) (item_step item (front, s)) (λ z e.
-    let p = bind_some (item s) (λ y. Some (front ++ y.0 ∷ [], y.1)) z e in
-    let one : (a, after) ≡ p.0 = said (a, after) (item s) p.0 read p.1 in
-    let two : (front ++ p.0.0 ∷ [], p.0.1) ≡ z = cc (p.2) in
-    ◌∙◌ {b = (front ++ p.0.0 ∷ [], p.0.1)} (ap (λ (y : A × State). (front ++ y.0 ∷ [], y.1)) one) two)
-
-pub item_failed : {A : Type 0} (item : Reads A) (front : List A) (s : State) (f : Failure) → Failed f (item s) → Failed f (item_step item (front, s))
-item_failed item front s f bad = fails f (item_step item (front, s)) (λ z e.
-    let p = bind_some (item s) (λ y. Some (front ++ y.0 ∷ [], y.1)) z e in
-    failed f (item s) p.0 bad p.1)

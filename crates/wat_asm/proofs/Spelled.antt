@@ -88,10 +88,7 @@ drop_front (b ∷ w) rest = drop_front w rest
 is_other : (b : ℕ) → is_word b ≡ true → IsOther b
 unfolding is_word
 is_other b h = record {
-  space = λ e. let z : is_word 32 ≡ true = subst (λ x. is_word x ≡ true) e h in cc;
-  feed = λ e. let z : is_word 10 ≡ true = subst (λ x. is_word x ≡ true) e h in cc;
-  tab = λ e. let z : is_word 9 ≡ true = subst (λ x. is_word x ≡ true) e h in cc;
-  carriage = λ e. let z : is_word 13 ≡ true = subst (λ x. is_word x ≡ true) e h in cc;
+  blank = grind (arith, nat_tests);
   closing = λ e. let z : is_word 41 ≡ true = subst (λ x. is_word x ≡ true) e h in cc;
   opening = λ e. let z : is_word 40 ≡ true = subst (λ x. is_word x ≡ true) e h in cc;
   semicolon = λ e. let z : is_word 59 ≡ true = subst (λ x. is_word x ≡ true) e h in cc;

@@ -1,22 +1,17 @@
 //! The lines of a module's fields.
 
-ghost use Rattle.std.specs.Prelude.{◌≡◌, ◌∷◌, ℕ, List, OnOk, string_bytes};
-ghost use Rattle.std.specs.List.{AllByRecursion};
-ghost use Rattle.wasm_ast.specs.declared.module.Function.{Function as AnyFunction};
+ghost use Rattle.std.specs.Prelude.{◌≡◌, ◌∷◌, ℕ, OnOk, string_bytes};
 ghost use Rattle.wasm_ast.specs.declared.module.ImportDescription.TheVariants as import;
-ghost use Rattle.wasm_ast.specs.declared.module.Global.{Global as AnyGlobal};
-ghost use Rattle.wasm_ast.specs.declared.module.Element.{Element as AnyElement};
-ghost use Rattle.wasm_ast.specs.declared.module.Data.{Data as AnyData};
 ghost use Rattle.wasm_ast.specs.Limits.{IsBodyWithin};
 ghost use Rattle.wat_asm.specs.inside.Writing.{Writes};
-ghost use Rattle.wat_asm.specs.Pieces.{each};
 ghost use Rattle.wat_asm.specs.Instructions.{code, type_word};
 ghost use Rattle.wat_asm.specs.Layout.{begins, data_field, element_field, export_description, export_field, function_field, global_field, global_type, import_description, import_field, limits, maximum_part, memory_field, number_part, numbered, offset, start_field, table_field, type_field, type_group};
 
-use crate::instructions::{write_code, write_numbers, write_type_use};
+use crate::instructions::{write_code, write_type_use};
 use crate::keyword::Keyword;
 use crate::pieces::{
-    Gap, write_closing, write_closing_line, write_count, write_keyword, write_opening, write_string,
+    Gap, Part, write_closing, write_closing_line, write_count, write_each, write_keyword,
+    write_opening, write_string,
 };
 use std::alloc::AllocError;
 use wasm_ast::{
@@ -26,16 +21,19 @@ use wasm_ast::{
 
 // ---- parts of fields
 
-fn write_val_types(text: &mut String, types: &[ValType]) -> Result<(), AllocError>
-    ensures { Writes text.old text.new result (each type_word types.now) }
-{
-    for t in types {
-        write_keyword(text, Gap::Space, Keyword::Type(*t))?;
+/// A type with a blank before it.
+impl Part for ValType {
+    type Of = ValType;
+
+    ghost pieces = { type_word };
+
+    fn write(text: &mut String, word: &ValType) -> Result<(), AllocError> {
+        write_keyword(text, Gap::Space, Keyword::Type(*word))
     }
-    Ok(())
 }
 
 // A keyword and types in parentheses, as `(param i32 i64)`, and nothing where there are no types.
+#[tactic(auto, using(crate::proofs::Codes::all_held))]
 fn write_type_group(
     text: &mut String,
     keyword: Keyword,
@@ -47,7 +45,7 @@ fn write_type_group(
         return Ok(());
     }
     write_opening(text, Gap::Space, keyword)?;
-    write_val_types(text, types)?;
+    write_each::<ValType>(text, types)?;
     write_closing(text)
 }
 
@@ -99,15 +97,20 @@ fn write_beginning(text: &mut String, keyword: Keyword) -> Result<(), AllocError
     write_opening(text, Gap::Line(1), keyword)
 }
 
-fn write_type(text: &mut String, field: &FuncType) -> Result<(), AllocError>
-    ensures { Writes text.old text.new result (type_field field.now) }
-{
-    write_beginning(text, Keyword::FuncType)?;
-    write_opening(text, Gap::Space, Keyword::Func)?;
-    write_type_group(text, Keyword::Param, field.parameters.as_slice())?;
-    write_type_group(text, Keyword::Result, field.results.as_slice())?;
-    write_closing(text)?;
-    write_closing(text)
+/// A type (Core 1.0, 6.6.2).
+impl Part for FuncType {
+    type Of = FuncType;
+
+    ghost pieces = { type_field };
+
+    fn write(text: &mut String, field: &FuncType) -> Result<(), AllocError> {
+        write_beginning(text, Keyword::FuncType)?;
+        write_opening(text, Gap::Space, Keyword::Func)?;
+        write_type_group(text, Keyword::Param, field.parameters.as_slice())?;
+        write_type_group(text, Keyword::Result, field.results.as_slice())?;
+        write_closing(text)?;
+        write_closing(text)
+    }
 }
 
 fn write_import_description(
@@ -157,52 +160,85 @@ fn write_imported_global(text: &mut String, global: GlobalType) -> Result<(), Al
     write_closing(text)
 }
 
-fn write_import(text: &mut String, field: &Import) -> Result<(), AllocError>
-    ensures { Writes text.old text.new result (import_field field.now) }
-{
-    write_beginning(text, Keyword::Import)?;
-    write_string(text, field.module.as_str().as_bytes())?;
-    write_string(text, field.name.as_str().as_bytes())?;
-    write_import_description(text, field.description)?;
-    write_closing(text)
+/// An import (Core 1.0, 6.6.4).
+impl Part for Import {
+    type Of = Import;
+
+    ghost pieces = { import_field };
+
+    fn write(text: &mut String, field: &Import) -> Result<(), AllocError> {
+        write_beginning(text, Keyword::Import)?;
+        write_string(text, field.module.as_str().as_bytes())?;
+        write_string(text, field.name.as_str().as_bytes())?;
+        write_import_description(text, field.description)?;
+        write_closing(text)
+    }
 }
 
-fn write_function(text: &mut String, field: &Function) -> Result<(), AllocError>
-    requires { IsBodyWithin field.now.body }
-    ensures { Writes text.old text.new result (function_field field.now) }
-{
-    write_beginning(text, Keyword::Func)?;
-    write_type_use(text, field.type_number)?;
-    write_type_group(text, Keyword::Local, field.locals.as_slice())?;
-    write_code(text, Gap::Line(2), MAX_NESTING, &field.body)?;
-    write_closing_line(text, 1)
+/// A function (Core 1.0, 6.6.5).
+impl Part for Function {
+    type Of = Function;
+
+    ghost pieces = { function_field };
+
+    ghost IsWithin = { λ f. IsBodyWithin f.body };
+
+    fn write(text: &mut String, field: &Function) -> Result<(), AllocError> {
+        write_beginning(text, Keyword::Func)?;
+        write_type_use(text, field.type_number)?;
+        write_type_group(text, Keyword::Local, field.locals.as_slice())?;
+        write_code(text, Gap::Line(2), MAX_NESTING, &field.body)?;
+        write_closing_line(text, 1)
+    }
 }
 
-fn write_table(text: &mut String, field: Limits) -> Result<(), AllocError>
-    ensures { Writes text.old text.new result (table_field field) }
-{
-    write_beginning(text, Keyword::Table)?;
-    write_limits(text, field)?;
-    write_keyword(text, Gap::Space, Keyword::Funcref)?;
-    write_closing(text)
+/// The limits of a table.
+pub struct Table;
+
+/// A table (Core 1.0, 6.6.6).
+impl Part for Table {
+    type Of = Limits;
+
+    ghost pieces = { table_field };
+
+    fn write(text: &mut String, field: &Limits) -> Result<(), AllocError> {
+        write_beginning(text, Keyword::Table)?;
+        write_limits(text, *field)?;
+        write_keyword(text, Gap::Space, Keyword::Funcref)?;
+        write_closing(text)
+    }
 }
 
-fn write_memory(text: &mut String, field: Limits) -> Result<(), AllocError>
-    ensures { Writes text.old text.new result (memory_field field) }
-{
-    write_beginning(text, Keyword::Memory)?;
-    write_limits(text, field)?;
-    write_closing(text)
+/// The limits of a memory.
+pub struct Memory;
+
+/// A memory (Core 1.0, 6.6.7).
+impl Part for Memory {
+    type Of = Limits;
+
+    ghost pieces = { memory_field };
+
+    fn write(text: &mut String, field: &Limits) -> Result<(), AllocError> {
+        write_beginning(text, Keyword::Memory)?;
+        write_limits(text, *field)?;
+        write_closing(text)
+    }
 }
 
-fn write_global(text: &mut String, field: &Global) -> Result<(), AllocError>
-    requires { IsBodyWithin field.now.initial }
-    ensures { Writes text.old text.new result (global_field field.now) }
-{
-    write_beginning(text, Keyword::Global)?;
-    write_global_type(text, field.global_type)?;
-    write_code(text, Gap::Space, MAX_NESTING, &field.initial)?;
-    write_closing(text)
+/// A global (Core 1.0, 6.6.8).
+impl Part for Global {
+    type Of = Global;
+
+    ghost pieces = { global_field };
+
+    ghost IsWithin = { λ g. IsBodyWithin g.initial };
+
+    fn write(text: &mut String, field: &Global) -> Result<(), AllocError> {
+        write_beginning(text, Keyword::Global)?;
+        write_global_type(text, field.global_type)?;
+        write_code(text, Gap::Space, MAX_NESTING, &field.initial)?;
+        write_closing(text)
+    }
 }
 
 // The word and the number of what is exported.
@@ -228,13 +264,18 @@ fn write_export_description(
     }
 }
 
-fn write_export(text: &mut String, field: &Export) -> Result<(), AllocError>
-    ensures { Writes text.old text.new result (export_field field.now) }
-{
-    write_beginning(text, Keyword::Export)?;
-    write_string(text, field.name.as_str().as_bytes())?;
-    write_export_description(text, field.description)?;
-    write_closing(text)
+/// An export (Core 1.0, 6.6.9).
+impl Part for Export {
+    type Of = Export;
+
+    ghost pieces = { export_field };
+
+    fn write(text: &mut String, field: &Export) -> Result<(), AllocError> {
+        write_beginning(text, Keyword::Export)?;
+        write_string(text, field.name.as_str().as_bytes())?;
+        write_export_description(text, field.description)?;
+        write_closing(text)
+    }
 }
 
 pub fn write_start(text: &mut String, start: Option<u32>) -> Result<(), AllocError>
@@ -250,120 +291,37 @@ pub fn write_start(text: &mut String, start: Option<u32>) -> Result<(), AllocErr
     }
 }
 
-fn write_element(text: &mut String, field: &Element) -> Result<(), AllocError>
-    requires { IsBodyWithin field.now.offset }
-    ensures { Writes text.old text.new result (element_field field.now) }
-{
-    write_beginning(text, Keyword::Elem)?;
-    write_number_part(text, field.table)?;
-    write_offset(text, &field.offset)?;
-    write_numbers(text, field.functions.as_slice())?;
-    write_closing(text)
-}
+/// Functions in a table (Core 1.0, 6.6.11).
+impl Part for Element {
+    type Of = Element;
 
-fn write_data(text: &mut String, field: &Data) -> Result<(), AllocError>
-    requires { IsBodyWithin field.now.offset }
-    ensures { Writes text.old text.new result (data_field field.now) }
-{
-    write_beginning(text, Keyword::Data)?;
-    write_number_part(text, field.memory)?;
-    write_offset(text, &field.offset)?;
-    write_string(text, field.bytes.as_slice())?;
-    write_closing(text)
-}
+    ghost pieces = { element_field };
 
-// ---- all fields of a kind
+    ghost IsWithin = { λ e. IsBodyWithin e.offset };
 
-/// Each on a line of its own.
-pub fn write_types(text: &mut String, fields: &[FuncType]) -> Result<(), AllocError>
-    ensures { Writes text.old text.new result (each type_field fields.now) }
-{
-    for field in fields {
-        write_type(text, field)?;
+    #[tactic(auto, using(crate::proofs::Codes::all_held))]
+    fn write(text: &mut String, field: &Element) -> Result<(), AllocError> {
+        write_beginning(text, Keyword::Elem)?;
+        write_number_part(text, field.table)?;
+        write_offset(text, &field.offset)?;
+        write_each::<u32>(text, field.functions.as_slice())?;
+        write_closing(text)
     }
-    Ok(())
 }
 
-/// Each on a line of its own.
-pub fn write_imports(text: &mut String, fields: &[Import]) -> Result<(), AllocError>
-    ensures { Writes text.old text.new result (each import_field fields.now) }
-{
-    for field in fields {
-        write_import(text, field)?;
-    }
-    Ok(())
-}
+/// Bytes in a memory (Core 1.0, 6.6.12).
+impl Part for Data {
+    type Of = Data;
 
-/// Each on a line of its own.
-pub fn write_functions(text: &mut String, fields: &[Function]) -> Result<(), AllocError>
-    requires { AllByRecursion (λ (f : AnyFunction). IsBodyWithin f.body) fields.now }
-    ensures { Writes text.old text.new result (each function_field fields.now) }
-{
-    for field in fields {
-        write_function(text, field)?;
-    }
-    Ok(())
-}
+    ghost pieces = { data_field };
 
-/// Each on a line of its own.
-pub fn write_tables(text: &mut String, fields: &[Limits]) -> Result<(), AllocError>
-    ensures { Writes text.old text.new result (each table_field fields.now) }
-{
-    for field in fields {
-        write_table(text, *field)?;
-    }
-    Ok(())
-}
+    ghost IsWithin = { λ d. IsBodyWithin d.offset };
 
-/// Each on a line of its own.
-pub fn write_memories(text: &mut String, fields: &[Limits]) -> Result<(), AllocError>
-    ensures { Writes text.old text.new result (each memory_field fields.now) }
-{
-    for field in fields {
-        write_memory(text, *field)?;
+    fn write(text: &mut String, field: &Data) -> Result<(), AllocError> {
+        write_beginning(text, Keyword::Data)?;
+        write_number_part(text, field.memory)?;
+        write_offset(text, &field.offset)?;
+        write_string(text, field.bytes.as_slice())?;
+        write_closing(text)
     }
-    Ok(())
-}
-
-/// Each on a line of its own.
-pub fn write_globals(text: &mut String, fields: &[Global]) -> Result<(), AllocError>
-    requires { AllByRecursion (λ (g : AnyGlobal). IsBodyWithin g.initial) fields.now }
-    ensures { Writes text.old text.new result (each global_field fields.now) }
-{
-    for field in fields {
-        write_global(text, field)?;
-    }
-    Ok(())
-}
-
-/// Each on a line of its own.
-pub fn write_exports(text: &mut String, fields: &[Export]) -> Result<(), AllocError>
-    ensures { Writes text.old text.new result (each export_field fields.now) }
-{
-    for field in fields {
-        write_export(text, field)?;
-    }
-    Ok(())
-}
-
-/// Each on a line of its own.
-pub fn write_elements(text: &mut String, fields: &[Element]) -> Result<(), AllocError>
-    requires { AllByRecursion (λ (e : AnyElement). IsBodyWithin e.offset) fields.now }
-    ensures { Writes text.old text.new result (each element_field fields.now) }
-{
-    for field in fields {
-        write_element(text, field)?;
-    }
-    Ok(())
-}
-
-/// Each on a line of its own.
-pub fn write_segments(text: &mut String, fields: &[Data]) -> Result<(), AllocError>
-    requires { AllByRecursion (λ (d : AnyData). IsBodyWithin d.offset) fields.now }
-    ensures { Writes text.old text.new result (each data_field fields.now) }
-{
-    for field in fields {
-        write_data(text, field)?;
-    }
-    Ok(())
 }

@@ -10,8 +10,8 @@ ghost use Rattle.wat_asm.specs.Instructions.{HasRoom, align_part, block_type, br
 
 use crate::keyword::Keyword;
 use crate::pieces::{
-    Gap, write_alignment, write_closing, write_count, write_i32, write_i64, write_keyword,
-    write_offset, write_opening,
+    Gap, Part, write_alignment, write_closing, write_count, write_each, write_i32, write_i64,
+    write_keyword, write_offset, write_opening,
 };
 use std::alloc::AllocError;
 use wasm_ast::{
@@ -27,14 +27,15 @@ pub fn write_type_use(text: &mut String, type_number: u32) -> Result<(), AllocEr
     write_closing(text)
 }
 
-/// Numbers, each with a blank before it.
-pub fn write_numbers(text: &mut String, numbers: &[u32]) -> Result<(), AllocError>
-    ensures { Writes text.old text.new result (each number numbers.now) }
-{
-    for n in numbers {
-        write_count(text, *n)?;
+/// A number with a blank before it.
+impl Part for u32 {
+    type Of = u32;
+
+    ghost pieces = { number };
+
+    fn write(text: &mut String, n: &u32) -> Result<(), AllocError> {
+        write_count(text, *n)
     }
-    Ok(())
 }
 
 fn write_numbered(text: &mut String, gap: Gap, keyword: Keyword, n: u32) -> Result<(), AllocError>
@@ -144,6 +145,7 @@ fn write_plain(text: &mut String, gap: Gap, plain: Plain) -> Result<(), AllocErr
     }
 }
 
+#[tactic(auto, using(crate::proofs::Codes::all_held))]
 fn write_branch(text: &mut String, gap: Gap, branch: &Branch) -> Result<(), AllocError>
     ensures { Writes text.old text.new result (branch_line gap branch.now) }
 {
@@ -152,7 +154,7 @@ fn write_branch(text: &mut String, gap: Gap, branch: &Branch) -> Result<(), Allo
         Branch::BrIf(label) => write_numbered(text, gap, Keyword::BrIf, *label),
         Branch::BrTable(labels, default) => {
             write_keyword(text, gap, Keyword::BrTable)?;
-            write_numbers(text, labels.as_slice())?;
+            write_each::<u32>(text, labels.as_slice())?;
             write_count(text, *default)
         }
         Branch::Return => write_keyword(text, gap, Keyword::Return),

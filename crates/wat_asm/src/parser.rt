@@ -4,6 +4,7 @@ mod code;
 mod draft;
 mod equal_types;
 mod fields;
+mod items;
 mod modules;
 mod names;
 mod plain;

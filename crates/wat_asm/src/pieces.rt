@@ -1,9 +1,10 @@
 //! The pieces of a printed text: tokens, each with the blanks before it.
 
-ghost use Rattle.std.specs.Prelude.{◌≡◌, ◌∷◌, ◌++◌, OnOk, string_bytes};
+ghost use Rattle.std.specs.Prelude.{◌≡◌, ◌∷◌, ◌++◌, List, OnOk, string_bytes};
+ghost use Rattle.std.specs.List.{AllByRecursion};
 ghost use Rattle.wat_asm.specs.Quoted.{escape, escaped, quoted, stands_as_itself};
 ghost use Rattle.wat_asm.specs.inside.Writing.{Writes};
-ghost use Rattle.wat_asm.specs.Pieces.{align_is, closes, closes_line, counts, gap_text, indent, offset_is, opens, quotes, says, signs};
+ghost use Rattle.wat_asm.specs.Pieces.{Piece, align_is, closes, closes_line, counts, each, gap_text, indent, offset_is, opens, quotes, says, signs};
 
 use crate::keyword::Keyword;
 use std::alloc::AllocError;
@@ -155,4 +156,29 @@ pub fn write_closing_line(text: &mut String, level: u32) -> Result<(), AllocErro
     text.push_str("\n")?;
     write_indent(text, level)?;
     text.push_str(")")
+}
+
+/// What is printed as pieces of its own.
+pub trait Part {
+    /// What is printed.
+    type Of;
+
+    ghost pieces: { Self.Of → List Piece → List Piece };
+
+    ghost IsWithin: { Self.Of → Type 0 } = { λ _. Unit {0} };
+
+    fn write(text: &mut String, part: &Self::Of) -> Result<(), AllocError>
+        requires { IsWithin part.now }
+        ensures { Writes text.old text.new result (pieces part.now) };
+}
+
+/// Parts of one kind, one after another.
+pub fn write_each<P: Part>(text: &mut String, parts: &[P::Of]) -> Result<(), AllocError>
+    requires { AllByRecursion P.IsWithin parts.now }
+    ensures { Writes text.old text.new result (each P.pieces parts.now) }
+{
+    for part in parts {
+        P::write(text, part)?;
+    }
+    Ok(())
 }

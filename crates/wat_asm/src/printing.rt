@@ -5,14 +5,11 @@ ghost use Rattle.wasm_ast.specs.Limits.{IsWithinLimits};
 ghost use Rattle.wat_asm.specs.inside.Writing.{Writes};
 ghost use Rattle.wat_asm.specs.Layout.{definitions, layout, pieces, uses};
 
-use crate::fields::{
-    write_elements, write_exports, write_functions, write_globals, write_imports, write_memories,
-    write_segments, write_start, write_tables, write_types,
-};
+use crate::fields::{Memory, Table, write_start};
 use crate::keyword::Keyword;
-use crate::pieces::{Gap, write_closing_line, write_opening};
+use crate::pieces::{Gap, write_closing_line, write_each, write_opening};
 use std::alloc::{AllocError, Global};
-use wasm_ast::Module;
+use wasm_ast::{Data, Element, Export, FuncType, Function, Global as ModuleGlobal, Import, Module};
 
 /// The module in the text format (Core 1.0, 6.6).
 ///
@@ -41,26 +38,27 @@ fn write_module(text: &mut String, module: &Module) -> Result<(), AllocError>
 }
 
 // What the module brings in and defines.
-#[tactic(auto, using(crate::proofs::Codes::bodies_within))]
+#[tactic(auto, using(crate::proofs::Codes::bodies_within, crate::proofs::Codes::all_held))]
 fn write_definitions(text: &mut String, module: &Module) -> Result<(), AllocError>
     requires { IsWithinLimits «module».now }
     ensures { Writes text.old text.new result (definitions «module».now) }
 {
-    write_types(text, module.types.as_slice())?;
-    write_imports(text, module.imports.as_slice())?;
-    write_functions(text, module.functions.as_slice())?;
-    write_tables(text, module.tables.as_slice())?;
-    write_memories(text, module.memories.as_slice())?;
-    write_globals(text, module.globals.as_slice())
+    write_each::<FuncType>(text, module.types.as_slice())?;
+    write_each::<Import>(text, module.imports.as_slice())?;
+    write_each::<Function>(text, module.functions.as_slice())?;
+    write_each::<Table>(text, module.tables.as_slice())?;
+    write_each::<Memory>(text, module.memories.as_slice())?;
+    write_each::<ModuleGlobal>(text, module.globals.as_slice())
 }
 
 // What stands for the module's use.
+#[tactic(auto, using(crate::proofs::Codes::all_held))]
 fn write_uses(text: &mut String, module: &Module) -> Result<(), AllocError>
     requires { IsWithinLimits «module».now }
     ensures { Writes text.old text.new result (uses «module».now) }
 {
-    write_exports(text, module.exports.as_slice())?;
+    write_each::<Export>(text, module.exports.as_slice())?;
     write_start(text, module.start)?;
-    write_elements(text, module.elements.as_slice())?;
-    write_segments(text, module.data.as_slice())
+    write_each::<Element>(text, module.elements.as_slice())?;
+    write_each::<Data>(text, module.data.as_slice())
 }

@@ -1,6 +1,6 @@
--- How a text is cut into tokens (Core 1.0, 6.3), as far as printed texts need it: blanks are spaces and line feeds, numbers
--- are decimal, and there are no comments and no names. None claims nothing.
-use Rattle.std.specs.Prelude.{◌≡◌, ◌≤◌, ◌-◌, ℕ, zero, suc, pos, negsuc, ◌^◌, Bool, false, ◌&&◌, not, nat_lt, nat_le, ◌==◌, List, [], ◌∷◌, ◌++◌, length, take, drop, codes, Option, Some, None, option_map, if◌then◌else◌}
+-- How a text is cut into tokens (Core 1.0, 6.3), as far as printed texts need it: numbers are decimal, and there are no
+-- comments and no names. None claims nothing.
+use Rattle.std.specs.Prelude.{◌≡◌, ◌≤◌, ◌-◌, ℕ, zero, suc, pos, negsuc, ◌^◌, Bool, false, ◌&&◌, ◌||◌, not, nat_lt, nat_le, ◌==◌, List, [], ◌∷◌, ◌++◌, length, take, drop, codes, Option, Some, None, option_map, if◌then◌else◌}
 use Rattle.std.specs.Borrow.{Bor}
 use Rattle.std.specs.List.{prefix_len}
 use Rattle.std.specs.Str.{all_ascii_digits}
@@ -108,19 +108,20 @@ opening_at bs = if begins_comment bs then None else Some (Some opens, bs)
 abbrev pub quoted_at : List ℕ → Option (Option Tok × List ℕ)
 quoted_at bs = quote_at plain bs >>= λ x. Some (Some (text x.0), x.1)
 
+-- a space, a tab or the end of a line
+abbrev pub is_blank : ℕ → Bool
+is_blank b = (b == 32) || (b == 10) || (b == 9) || (b == 13)
+
 -- one blank, or one token, and what is left behind it
 unfoldable pub one_at : List ℕ → Option (Option Tok × List ℕ)
 one_at [] = None
 one_at (b ∷ bs) =
-    if b == 32 then Some (None, bs)
-    else (if b == 10 then Some (None, bs)
-    else (if b == 9 then None
-    else (if b == 13 then None
+    if is_blank b then Some (None, bs)
     else (if b == 41 then Some (Some closes, bs)
     else (if b == 40 then opening_at bs
     else (if b == 59 then None
     else (if b == 34 then quoted_at bs
-    else word_at (b ∷ bs))))))))
+    else word_at (b ∷ bs)))))
 
 abbrev pub listed : Option Tok → List Tok → List Tok
 listed None ts = ts

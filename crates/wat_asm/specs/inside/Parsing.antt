@@ -66,9 +66,6 @@ ShowsAny view readers old new result = (n : ℕ) → Follows (λ x. (view x, new
 abbrev pub Passes : (State → Option State) → Answer (Unit {0})
 Passes reader old new result = Follows (λ _. new) result (reader old)
 
-abbrev pub PassesAny : (ℕ → State → Option State) → Answer (Unit {0})
-PassesAny readers old new result = (n : ℕ) → Follows (λ _. new) result (readers n old)
-
 -- nothing, but what is read makes one thing of another
 abbrev pub MakesAny : {A : Type 0} → (before after : A) → (ℕ → A × State → Option (A × State)) → Answer (Unit {0})
 MakesAny before after readers old new result = (n : ℕ) → Follows (λ _. (after, new)) result (readers n (before, old))

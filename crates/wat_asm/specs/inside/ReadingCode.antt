@@ -116,31 +116,32 @@ unfoldable pub end_at : State → Option State
 end_at (key keyword.End ∷ ts, types) = unnamed_at (ts, types)
 end_at _ = None
 
--- a block's type and its body, behind its keyword
-unfoldable pub typed_with : Inner → Reads (Option ValType × Code)
-typed_with inner s = unnamed_at s >>= λ a. block_type_at a >>= λ t. inner t.1 >>= λ body. Some ((t.0, body.0), body.1)
+-- a block's type, behind its keyword
+unfoldable pub header_at : Reads (Option ValType)
+header_at s = unnamed_at s >>= λ a. block_type_at a
 
 -- the body behind `else`, which is empty where there is none
 unfoldable pub else_with : Inner → Reads Code
 else_with inner (key keyword.Else ∷ ts, types) = unnamed_at (ts, types) >>= λ a. inner a
 else_with inner s = Some (end, s)
 
--- the same up to its end
-unfoldable pub ended_with : Inner → Reads (Option ValType × Code)
-ended_with inner s = typed_with inner s >>= λ x. end_at x.1 >>= λ e. Some (x.0, e)
+-- a block's body, and its end
+unfoldable pub ended_with : Inner → Reads Code
+ended_with inner s = inner s >>= λ body. end_at body.1 >>= λ e. Some (body.0, e)
 
 -- the arm for 0, and the end
 unfoldable pub other_with : Inner → Reads Code
 other_with inner s = else_with inner s >>= λ o. end_at o.1 >>= λ e. Some (o.0, e)
 
 unfoldable pub block_with : Inner → Reads Instr
-block_with inner s = ended_with inner s >>= λ x. Some (instr.Block x.0.0 x.0.1, x.1)
+block_with inner s = header_at s >>= λ t. ended_with inner t.1 >>= λ body. Some (instr.Block t.0 body.0, body.1)
 
 unfoldable pub loop_with : Inner → Reads Instr
-loop_with inner s = ended_with inner s >>= λ x. Some (instr.Loop x.0.0 x.0.1, x.1)
+loop_with inner s = header_at s >>= λ t. ended_with inner t.1 >>= λ body. Some (instr.Loop t.0 body.0, body.1)
 
 unfoldable pub if_with : Inner → Reads Instr
-if_with inner s = typed_with inner s >>= λ x. other_with inner x.1 >>= λ o. Some (instr.If x.0.0 x.0.1 o.0, o.1)
+if_with inner s =
+    header_at s >>= λ t. inner t.1 >>= λ body. other_with inner body.1 >>= λ o. Some (instr.If t.0 body.0 o.0, o.1)
 
 -- behind a keyword
 unfoldable pub linear_with : ℕ → Inner → Keyword → Reads Instr
@@ -189,11 +190,8 @@ instr_in levels n = instr_with n (inner_at levels n)
 abbrev pub linear_in : (levels : ℕ) → Keyword → (n : ℕ) → Reads Instr
 linear_in levels k n = linear_with n (inner_at levels n) k
 
-abbrev pub ended_in : (levels n : ℕ) → Reads (Option ValType × Code)
+abbrev pub ended_in : (levels n : ℕ) → Reads Code
 ended_in levels n = ended_with (inner_at levels n)
-
-abbrev pub typed_in : (levels n : ℕ) → Reads (Option ValType × Code)
-typed_in levels n = typed_with (inner_at levels n)
 
 abbrev pub if_in : (levels n : ℕ) → Reads Instr
 if_in levels n = if_with (inner_at levels n)

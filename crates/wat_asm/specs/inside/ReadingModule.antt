@@ -267,8 +267,8 @@ unfoldable pub type_step : ℕ → Unit {0} × State → Option (Unit {0} × Sta
 type_step n x =
     defined_type_at n (inside x.1) >>= λ t. closed_at (t.1.0, t.1.1 ++ t.0 ∷ []) >>= λ e. Some (x.0, e)
 
-unfoldable pub types_at : ℕ → State → Option State
-types_at n s = repeated goes_on_with_type (type_step n) n (tt, s) >>= λ x. Some x.1
+unfoldable pub types_at : ℕ → Unit {0} × State → Option (Unit {0} × State)
+types_at n x = repeated goes_on_with_type (type_step n) n x
 
 unfoldable pub module_open_at : State → Option State
 module_open_at (opens ∷ key keyword.Module ∷ ts, types) = unnamed_at (ts, types)
@@ -277,7 +277,7 @@ module_open_at _ = None
 -- the module's fields, between its parentheses
 unfoldable pub whole_at : ℕ → Making → Option Making
 whole_at n x =
-    module_open_at x.1 >>= λ a. types_at n a >>= λ b. fields_at n (x.0, b) >>= λ y. closed_at y.1 >>= λ e. Some (y.0, e)
+    module_open_at x.1 >>= λ a. types_at n (tt, a) >>= λ b. fields_at n (x.0, b.1) >>= λ y. closed_at y.1 >>= λ e. Some (y.0, e)
 
 -- the same, and nothing behind it
 unfoldable pub only_at : ℕ → Making → Option Making

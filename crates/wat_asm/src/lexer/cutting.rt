@@ -3,7 +3,7 @@
 ghost use Rattle.std.specs.Prelude.{◌≡◌, ◌+◌, ◌<◌, ◌≤◌, List, ℕ, Some, None, length, take, drop, IfOk, IfSome};
 ghost use Rattle.std.specs.List.{prefix_len};
 ghost use Rattle.wat_asm.specs.inside.Follows.{Follows};
-ghost use Rattle.wat_asm.specs.inside.Lexing.{EndsWith, IsLeft, first_word, is_word, one_at, opening_at, quoted_at, read_of, word_at};
+ghost use Rattle.wat_asm.specs.inside.Lexing.{EndsWith, IsLeft, first_word, is_blank, is_word, one_at, opening_at, quoted_at, read_of, word_at};
 ghost use Rattle.wat_asm.specs.Numbering.{Grows, IsNumbered, number_in};
 
 use super::numbering::Numbering;
@@ -28,6 +28,13 @@ fn is_word_byte(b: u8) -> bool
         && b != b']'
         && b != b'{'
         && b != b'}'
+}
+
+// A space, a tab or the end of a line.
+fn is_blank(b: u8) -> bool
+    ensures { result ≡ is_blank b }
+{
+    b == b' ' || b == b'\n' || b == b'\t' || b == b'\r'
 }
 
 // How many bytes the word has with which the text begins.
@@ -175,16 +182,17 @@ pub fn one<'t>(
 {
     match text {
         [] => Err(Failure::Fault(Wrong::Lex, 0)),
-        [first, rest @ ..] => match *first {
-            b' ' => Ok((None, rest)),
-            b'\n' => Ok((None, rest)),
-            b'\t' => Ok((None, rest)),
-            b'\r' => Ok((None, rest)),
-            b')' => Ok((Some(Token::Close), rest)),
-            b'(' => opening(text.len(), rest),
-            b';' => line_comment(text.len(), rest),
-            b'"' => quoted(size, text.len(), rest),
-            _ => spelled(names, text),
-        },
+        [first, rest @ ..] => {
+            if is_blank(*first) {
+                return Ok((None, rest));
+            }
+            match *first {
+                b')' => Ok((Some(Token::Close), rest)),
+                b'(' => opening(text.len(), rest),
+                b';' => line_comment(text.len(), rest),
+                b'"' => quoted(size, text.len(), rest),
+                _ => spelled(names, text),
+            }
+        }
     }
 }

@@ -1,9 +1,9 @@
 //! Instructions one after another, linear and folded, and those that hold others (Core 1.0, 6.5).
 
 ghost use Rattle.std.specs.Prelude.{◌≡◌, ◌<◌};
-ghost use Rattle.wat_asm.specs.inside.Parsing.{Advances, AddsAny, ShowsAny, GivesAny, Fewer, GoesOn, InRoom, NoMore, Passes, toks};
+ghost use Rattle.wat_asm.specs.inside.Parsing.{Advances, AddsAny, GivesAny, Fewer, GoesOn, InRoom, NoMore, Passes, Shows, toks};
 ghost use Rattle.wat_asm.specs.inside.Reading.{unnamed_at};
-ghost use Rattle.wat_asm.specs.inside.ReadingCode.{code_at, else_in, end_at, ended_in, if_in, inner_at, instr_in, instrs_at, linear_in, other_in, stops, typed_in};
+ghost use Rattle.wat_asm.specs.inside.ReadingCode.{code_at, else_in, end_at, ended_in, header_at, if_in, inner_at, instr_in, instrs_at, linear_in, other_in, stops};
 
 use crate::fault::{Failure, Wrong};
 use crate::keyword::Keyword;
@@ -108,11 +108,13 @@ fn linear(parser: &mut Parser<'_>, room: Room, keyword: Keyword) -> Result<Instr
 {
     match keyword {
         Keyword::Block => {
-            let (given, body) = block(parser, room)?;
+            let (name, given) = header(parser, room)?;
+            let body = ended_body(parser, room, name)?;
             Ok(Instr::Block(given, body))
         }
         Keyword::Loop => {
-            let (given, body) = block(parser, room)?;
+            let (name, given) = header(parser, room)?;
+            let body = ended_body(parser, room, name)?;
             Ok(Instr::Loop(given, body))
         }
         Keyword::If => choice(parser, room),
@@ -120,32 +122,25 @@ fn linear(parser: &mut Parser<'_>, room: Room, keyword: Keyword) -> Result<Instr
     }
 }
 
-// The type and the body of a block, behind its keyword, and its `end`.
-#[cycle(parser)]
-#[tactic(auto, unfolding(crate::specs::inside::ReadingCode::ended_with))]
-fn block(parser: &mut Parser<'_>, room: Room) -> Result<(BlockType, Body), Failure>
-    ensures { GoesOn parser.old parser.new result
-        (InRoom room (ShowsAny (λ x. (x.0, x.1)) (ended_in room.levels))) }
-{
-    let (name, given, body) = typed_body(parser, room)?;
-    ended(parser, name)?;
-    Ok((given, body))
-}
-
-// The name, the type and the body of a block, behind its keyword.
-#[cycle(parser)]
-#[tactic(auto, unfolding(crate::specs::inside::ReadingCode::typed_with))]
-fn typed_body(
-    parser: &mut Parser<'_>,
-    room: Room,
-) -> Result<(Option<u32>, BlockType, Body), Failure>
-    ensures { GoesOn parser.old parser.new result
-        (InRoom room (ShowsAny (λ x. (x.1, x.2)) (typed_in room.levels))) }
+// The name of a block and what it gives, behind its keyword.
+#[tactic(auto, unfolding(crate::specs::inside::ReadingCode::header_at))]
+fn header(parser: &mut Parser<'_>, room: Room) -> Result<(Option<u32>, BlockType), Failure>
+    ensures { GoesOn parser.old parser.new result (InRoom room (Shows (λ x. x.1) header_at)) }
 {
     let name = parser.name();
     let given = parser.block_type(room.parentheses)?;
+    Ok((name, given))
+}
+
+// The instructions in a block of this name, and its `end`.
+#[cycle(parser)]
+#[tactic(auto, unfolding(crate::specs::inside::ReadingCode::ended_with))]
+fn ended_body(parser: &mut Parser<'_>, room: Room, name: Option<u32>) -> Result<Body, Failure>
+    ensures { GoesOn parser.old parser.new result (InRoom room (GivesAny (ended_in room.levels))) }
+{
     let body = inner(parser, room, name)?;
-    Ok((name, given, body))
+    ended(parser, name)?;
+    Ok(body)
 }
 
 // What follows `if`.
@@ -154,7 +149,8 @@ fn typed_body(
 fn choice(parser: &mut Parser<'_>, room: Room) -> Result<Instr, Failure>
     ensures { GoesOn parser.old parser.new result (InRoom room (GivesAny (if_in room.levels))) }
 {
-    let (name, given, body) = typed_body(parser, room)?;
+    let (name, given) = header(parser, room)?;
+    let body = inner(parser, room, name)?;
     let other = other_arm(parser, room, name)?;
     Ok(Instr::If(given, body, other))
 }
@@ -276,11 +272,13 @@ fn unfolded(
 {
     match keyword {
         Keyword::Block => {
-            let (_name, given, body) = typed_body(parser, room)?;
+            let (name, given) = header(parser, room)?;
+            let body = inner(parser, room, name)?;
             Ok(Instr::Block(given, body))
         }
         Keyword::Loop => {
-            let (_name, given, body) = typed_body(parser, room)?;
+            let (name, given) = header(parser, room)?;
+            let body = inner(parser, room, name)?;
             Ok(Instr::Loop(given, body))
         }
         Keyword::If => folded_choice(parser, room, instrs),
@@ -320,8 +318,7 @@ fn folded_choice(
 ) -> Result<Instr, Failure>
     ensures shrinks { NoMore parser.old parser.new result }
 {
-    let name = parser.name();
-    let given = parser.block_type(room.parentheses)?;
+    let (name, given) = header(parser, room)?;
     operands(parser, room, instrs)?;
     if room.parentheses == 0 {
         return Err(parser.fault(Wrong::OverLimit));

@@ -1,15 +1,18 @@
 //! The fields of a module (Core 1.0, 6.6).
 
-ghost use Rattle.std.specs.Prelude.{◌≡◌, Bool, Some};
-ghost use Rattle.wat_asm.specs.inside.Parsing.{Advances, AddsAny, DraftsAny, ShowsAny, GivesAny, Drafts, Fewer, GoesOn, NoMore, Gives, toks};
-ghost use Rattle.wat_asm.specs.inside.Reading.{group_step, groups_at, local_first};
-ghost use Rattle.wat_asm.specs.inside.ReadingModule.{bytes_at, element_at, element_field_at, export_at, export_description_at, export_field_at, exported_at, field_first, field_step, function_at, function_field_at, global_at, global_field_at, heading_at, import_at, import_description_at, import_field_at, imported_at, inline_at, inline_first, inner_offset_at, keyword_at, memory_field_at, number_or_0_at, numbers_at, offset_at, offset_first, segment_at, segment_field_at, start_field_at, table_at, table_field_at, text_first};
+ghost use Rattle.std.specs.Prelude.{◌≡◌, ℕ, List, Some};
+ghost use Rattle.wasm_ast.specs.declared.types.ValType.{ValType as AnyValType};
+ghost use Rattle.wasm_ast.specs.declared.module.Module.{Module as AnyModule};
+ghost use Rattle.wat_asm.specs.inside.Parsing.{DraftsAny, ShowsAny, GivesAny, Drafts, Fewer, GoesOn, NoMore, Gives, toks};
+ghost use Rattle.wat_asm.specs.inside.Reading.{group_step, item_step, local_first, number_at, number_first};
+ghost use Rattle.wat_asm.specs.inside.ReadingModule.{bytes_at, drafted, element_at, element_field_at, export_at, export_description_at, export_field_at, exported_at, field_first, field_step, function_at, function_field_at, global_at, global_field_at, heading_at, import_at, import_description_at, import_field_at, imported_at, inline_at, inline_first, inner_offset_at, keyword_at, memory_field_at, number_or_0_at, numbers_at, offset_at, offset_first, segment_at, segment_field_at, start_field_at, table_at, table_field_at, text_first, text_step};
 
 use crate::fault::{Failure, Wrong};
 use crate::keyword::Keyword;
 use crate::lexer::Token;
 use crate::parser::code::{Room, folded, sequence};
 use crate::parser::draft::Draft;
+use crate::parser::items::{Item, repeated};
 use crate::parser::names::Kind;
 use crate::parser::tokens::Parser;
 use crate::parser::types::ParameterNames;
@@ -33,22 +36,31 @@ const INNER_ROOM: Room = Room {
     parentheses: MAX_PARENTHESES - 3,
 };
 
-/// Whether a field begins here.
-#[tactic(auto, unfolding(crate::specs::inside::ReadingModule::field_first))]
-pub fn is_field(parser: &Parser<'_>) -> bool
-    ensures { field_first (toks parser.now) ≡ Some result }
-{
-    matches!(parser.rest, [Token::Open, Token::Key(_), ..])
-}
+/// A field.
+pub struct Field;
 
-/// One field is added to what was read before.
-#[tactic(auto, unfolding(crate::specs::inside::ReadingModule::field_step))]
-pub fn field(parser: &mut Parser<'_>, draft: &mut Draft) -> Result<(), Failure>
-    ensures { Advances parser.old parser.new result (DraftsAny draft.old draft.new field_step) }
-{
-    let keyword = parser.opened()?;
-    behind_keyword(parser, draft, keyword)?;
-    parser.close()
+impl Item for Field {
+    type Made = Draft;
+
+    ghost Seen = { AnyModule };
+
+    ghost seen = { drafted };
+
+    ghost first = { λ _. field_first };
+
+    ghost step = { λ _. field_step };
+
+    #[tactic(auto, unfolding(crate::specs::inside::ReadingModule::field_first))]
+    fn is_next(&self, parser: &Parser<'_>) -> bool {
+        matches!(parser.rest, [Token::Open, Token::Key(_), ..])
+    }
+
+    #[tactic(auto, unfolding(crate::specs::inside::ReadingModule::field_step))]
+    fn add(&self, parser: &mut Parser<'_>, draft: &mut Draft) -> Result<(), Failure> {
+        let keyword = parser.opened()?;
+        behind_keyword(parser, draft, keyword)?;
+        parser.close()
+    }
 }
 
 // What follows a field's keyword, up to its closing parenthesis.
@@ -204,6 +216,21 @@ fn inline_exports(
 ) -> Result<(), Failure>
     ensures { GoesOn parser.old parser.new result (Drafts draft.old draft.new inline_at) }
 {
+    if is_inline(parser) {
+        all_inline_exports(parser, draft, description)
+    } else {
+        Ok(())
+    }
+}
+
+// The same, of which one stands next.
+fn all_inline_exports(
+    parser: &mut Parser<'_>,
+    draft: &mut Draft,
+    description: Option<ExportDescription>,
+) -> Result<(), Failure>
+    ensures shrinks { NoMore parser.old parser.new result }
+{
     'each: while is_inline(parser) {
         inline_export(parser, draft, description)?;
     }
@@ -261,14 +288,14 @@ fn function(parser: &mut Parser<'_>, draft: &mut Draft) -> Result<(), Failure>
     Ok(())
 }
 
-#[tactic(auto, unfolding(crate::specs::inside::ReadingModule::function_at))]
+#[tactic(auto, unfolding(crate::specs::inside::ReadingModule::function_at, crate::specs::inside::Reading::groups_at))]
 fn function_item(parser: &mut Parser<'_>) -> Result<Function, Failure>
     ensures { GoesOn parser.old parser.new result (GivesAny function_at) }
 {
     parser.forget_locals();
     let type_number = parser.type_use(ParameterNames::Bound, ROOM.parentheses)?;
     let mut locals = Vec::new(parser.alloc);
-    all_locals(parser, type_number, &mut locals)?;
+    repeated(&LocalGroup { type_number }, parser, &mut locals)?;
     let body = sequence(parser, ROOM)?;
     Ok(Function {
         type_number,
@@ -277,42 +304,35 @@ fn function_item(parser: &mut Parser<'_>) -> Result<Function, Failure>
     })
 }
 
-// All groups of locals that stand next, in a function of this type, are added to these.
-#[tactic(auto, unfolding(crate::specs::inside::Reading::groups_at))]
-fn all_locals(
-    parser: &mut Parser<'_>,
+// A group of locals in a function of this type: several types, or a name and one type.
+#[derive(Drop)]
+struct LocalGroup {
     type_number: u32,
-    locals: &mut Vec<ValType>,
-) -> Result<(), Failure>
-    ensures { GoesOn parser.old parser.new result
-        (AddsAny locals.old locals.new (groups_at local_first)) }
-{
-    'each: while is_locals(parser) {
-        local_group(parser, type_number, locals)?;
+}
+
+impl Item for LocalGroup {
+    type Made = Vec<ValType>;
+
+    ghost Seen = { List AnyValType };
+
+    ghost seen = { λ locals. locals.items };
+
+    ghost first = { λ _. local_first };
+
+    ghost step = { λ _. group_step };
+
+    fn is_next(&self, parser: &Parser<'_>) -> bool {
+        matches!(parser.opening(), Some(Keyword::Local))
     }
-    Ok(())
-}
 
-fn is_locals(parser: &Parser<'_>) -> bool
-    ensures { local_first (toks parser.now) ≡ Some result }
-{
-    matches!(parser.opening(), Some(Keyword::Local))
-}
-
-// A group of locals, which stands next: several types, or a name and one type.
-#[tactic(auto, unfolding(crate::specs::inside::Reading::group_step, crate::specs::inside::Reading::nameless_at))]
-fn local_group(
-    parser: &mut Parser<'_>,
-    type_number: u32,
-    locals: &mut Vec<ValType>,
-) -> Result<(), Failure>
-    ensures { Advances parser.old parser.new result (AddsAny locals.old locals.new group_step) }
-{
-    parser.enter();
-    let left = parser.rest.len();
-    match parser.name() {
-        Some(name) => named_local(parser, type_number, name, left, locals),
-        None => parser.group(locals),
+    #[tactic(auto, unfolding(crate::specs::inside::Reading::group_step, crate::specs::inside::Reading::nameless_at))]
+    fn add(&self, parser: &mut Parser<'_>, locals: &mut Vec<ValType>) -> Result<(), Failure> {
+        parser.enter();
+        let left = parser.rest.len();
+        match parser.name() {
+            Some(name) => named_local(parser, self.type_number, name, left, locals),
+            None => parser.group(locals),
+        }
     }
 }
 
@@ -468,11 +488,33 @@ fn functions(parser: &mut Parser<'_>) -> Result<Vec<u32>, Failure>
     ensures { GoesOn parser.old parser.new result (ShowsAny (λ v. v.items) numbers_at) }
 {
     let mut functions = Vec::new(parser.alloc);
-    'each: while parser.is_index() {
-        let n = parser.index(Kind::Function)?;
-        functions.push(n)?;
-    }
+    repeated(&FunctionNumber, parser, &mut functions)?;
     Ok(functions)
+}
+
+// A function by its number or name.
+struct FunctionNumber;
+
+impl Item for FunctionNumber {
+    type Made = Vec<u32>;
+
+    ghost Seen = { List ℕ };
+
+    ghost seen = { λ numbers. numbers.items };
+
+    ghost first = { λ _. number_first };
+
+    ghost step = { λ _ _. item_step number_at };
+
+    fn is_next(&self, parser: &Parser<'_>) -> bool {
+        parser.is_index()
+    }
+
+    fn add(&self, parser: &mut Parser<'_>, numbers: &mut Vec<u32>) -> Result<(), Failure> {
+        let n = parser.index(Kind::Function)?;
+        numbers.push(n)?;
+        Ok(())
+    }
 }
 
 fn segment(parser: &mut Parser<'_>, draft: &mut Draft) -> Result<(), Failure>
@@ -504,16 +546,32 @@ fn bytes(parser: &mut Parser<'_>) -> Result<Vec<u8>, Failure>
     ensures { GoesOn parser.old parser.new result (ShowsAny (λ v. v.items) bytes_at) }
 {
     let mut bytes = Vec::new(parser.alloc);
-    'each: while is_text(parser) {
-        let more = parser.bytes()?;
-        bytes.extend_from_slice(more.as_slice())?;
-    }
+    repeated(&Text, parser, &mut bytes)?;
     Ok(bytes)
 }
 
-#[tactic(auto, unfolding(crate::specs::inside::ReadingModule::text_first))]
-fn is_text(parser: &Parser<'_>) -> bool
-    ensures { (b : Bool) → text_first (toks parser.now) ≡ Some b → result ≡ b }
-{
-    matches!(parser.rest, [Token::Text(_), ..])
+// A string, whose bytes are added to those before it.
+struct Text;
+
+impl Item for Text {
+    type Made = Vec<u8>;
+
+    ghost Seen = { List ℕ };
+
+    ghost seen = { λ bytes. bytes.items };
+
+    ghost first = { λ _. text_first };
+
+    ghost step = { λ _ _. text_step };
+
+    #[tactic(auto, unfolding(crate::specs::inside::ReadingModule::text_first))]
+    fn is_next(&self, parser: &Parser<'_>) -> bool {
+        matches!(parser.rest, [Token::Text(_), ..])
+    }
+
+    fn add(&self, parser: &mut Parser<'_>, bytes: &mut Vec<u8>) -> Result<(), Failure> {
+        let more = parser.bytes()?;
+        bytes.extend_from_slice(more.as_slice())?;
+        Ok(())
+    }
 }

@@ -4,15 +4,16 @@ ghost use Rattle.std.specs.Prelude.{◌≡◌, ℕ, true, Some, IfOk};
 ghost use Rattle.wasm_ast.specs.declared.module.Module.{Module as AnyModule};
 ghost use Rattle.wasm_ast.specs.Limits.{IsWithinLimits};
 ghost use Rattle.wat_asm.specs.inside.Follows.{Follows, IsRead};
-ghost use Rattle.wat_asm.specs.inside.Parsing.{Advances, Answers, DraftsAny, MakesAny, PassesAny, Passes, toks};
-ghost use Rattle.wat_asm.specs.inside.ReadingModule.{fields_at, is_empty, module_at, module_open_at, nameless, only_at, type_step, types_at, whole_at};
+ghost use Rattle.wat_asm.specs.inside.Parsing.{Answers, DraftsAny, Passes, toks};
+ghost use Rattle.wat_asm.specs.inside.ReadingModule.{goes_on_with_type, is_empty, module_at, module_open_at, nameless, only_at, type_step, whole_at};
 ghost use Rattle.wat_asm.specs.inside.Tokens.{toks_of};
 
 use crate::fault::{Failure, Wrong};
 use crate::keyword::Keyword;
 use crate::lexer::Token;
 use crate::parser::draft::Draft;
-use crate::parser::fields::{field, is_field};
+use crate::parser::fields::Field;
+use crate::parser::items::{Item, repeated};
 use crate::parser::names::{Names, declared};
 use crate::parser::tokens::Parser;
 use std::alloc::Global;
@@ -67,13 +68,13 @@ fn only(parser: &mut Parser<'_>, draft: &mut Draft) -> Result<(), Failure>
 }
 
 // A module's fields, between its parentheses.
-#[tactic(auto, unfolding(crate::specs::inside::ReadingModule::whole_at))]
+#[tactic(auto, unfolding(crate::specs::inside::ReadingModule::whole_at, crate::specs::inside::ReadingModule::types_at, crate::specs::inside::ReadingModule::fields_at))]
 fn whole(parser: &mut Parser<'_>, draft: &mut Draft) -> Result<(), Failure>
     ensures again { Answers parser.old parser.new result (DraftsAny draft.old draft.new whole_at) }
 {
     open_module(parser)?;
-    types(parser)?;
-    fields(parser, draft)?;
+    repeated(&EarlyType, parser, &mut ())?;
+    repeated(&Field, parser, draft)?;
     parser.close()
 }
 
@@ -97,34 +98,29 @@ fn open_module(parser: &mut Parser<'_>) -> Result<(), Failure>
     }
 }
 
-// The types that stand before all other fields.
-#[tactic(auto, unfolding(crate::specs::inside::ReadingModule::types_at))]
-fn types(parser: &mut Parser<'_>) -> Result<(), Failure>
-    ensures { Answers parser.old parser.new result (PassesAny types_at) }
-{
-    'each: while parser.is_type() {
-        one_type(parser)?;
-    }
-    Ok(())
-}
+// A type that stands before all other fields.
+struct EarlyType;
 
-#[tactic(auto, unfolding(crate::specs::inside::ReadingModule::type_step))]
-fn one_type(parser: &mut Parser<'_>) -> Result<(), Failure>
-    ensures { Advances parser.old parser.new result (MakesAny tt tt type_step) }
-{
-    parser.enter();
-    let t = parser.defined_type()?;
-    parser.types.push(t)?;
-    parser.close()
-}
+impl Item for EarlyType {
+    type Made = ();
 
-// All other fields.
-#[tactic(auto, unfolding(crate::specs::inside::ReadingModule::fields_at))]
-fn fields(parser: &mut Parser<'_>, draft: &mut Draft) -> Result<(), Failure>
-    ensures { Answers parser.old parser.new result (DraftsAny draft.old draft.new fields_at) }
-{
-    'each: while is_field(parser) {
-        field(parser, draft)?;
+    ghost Seen = { Unit {0} };
+
+    ghost seen = { λ made. made };
+
+    ghost first = { λ _. goes_on_with_type };
+
+    ghost step = { λ _. type_step };
+
+    fn is_next(&self, parser: &Parser<'_>) -> bool {
+        parser.is_type()
     }
-    Ok(())
+
+    #[tactic(auto, unfolding(crate::specs::inside::ReadingModule::type_step))]
+    fn add(&self, parser: &mut Parser<'_>, _made: &mut ()) -> Result<(), Failure> {
+        parser.enter();
+        let t = parser.defined_type()?;
+        parser.types.push(t)?;
+        parser.close()
+    }
 }

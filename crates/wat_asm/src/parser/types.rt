@@ -1,12 +1,14 @@
 //! Types and their uses (Core 1.0, 6.4 and 6.6.3).
 
-ghost use Rattle.std.specs.Prelude.{◌≡◌, ◌<◌, Some};
+ghost use Rattle.std.specs.Prelude.{◌≡◌, ◌<◌, List, Some};
+ghost use Rattle.wasm_ast.specs.declared.types.ValType.{ValType as AnyValType};
 ghost use Rattle.wat_asm.specs.inside.Parsing.{Advances, AddsAny, GivesAny, Fewer, GoesOn, NoMore, Passes, Gives, When, toks};
-ghost use Rattle.wat_asm.specs.inside.Reading.{block_type_at, defined_type_at, func_at, global_type_at, group_at, group_first, group_step, groups_at, limits_at, maximum_at, mut_first, mut_type_at, named_use_at, signature_at, signature_first, type_use_at, val_type_at, val_type_first, val_types_at};
+ghost use Rattle.wat_asm.specs.inside.Reading.{block_type_at, defined_type_at, func_at, global_type_at, group_at, group_first, group_step, item_step, limits_at, maximum_at, mut_first, mut_type_at, named_use_at, result_first, signature_at, signature_first, type_use_at, val_type_at, val_type_first};
 
 use crate::fault::{Failure, Wrong};
 use crate::keyword::Keyword;
 use crate::lexer::Token;
+use crate::parser::items::{Item, repeated};
 use crate::parser::names::Kind;
 use crate::parser::tokens::Parser;
 use wasm_ast::{BlockType, FuncType, GlobalType, Limits, Mutability, Sequence, ValType};
@@ -27,6 +29,62 @@ enum Group {
     Results,
 }
 
+// A group of this kind: several types, or a name and one type.
+impl Item for Group {
+    type Made = Vec<ValType>;
+
+    ghost Seen = { List AnyValType };
+
+    ghost seen = { λ types. types.items };
+
+    ghost first = { group_first };
+
+    ghost step = { λ _. group_step };
+
+    fn is_next(&self, parser: &Parser<'_>) -> bool {
+        match *self {
+            Group::Parameters(_) => matches!(parser.opening(), Some(Keyword::Param)),
+            Group::Results => parser.is_result(),
+        }
+    }
+
+    #[tactic(auto, unfolding(crate::specs::inside::Reading::group_step, crate::specs::inside::Reading::nameless_at))]
+    fn add(&self, parser: &mut Parser<'_>, types: &mut Vec<ValType>) -> Result<(), Failure> {
+        parser.enter();
+        let left = parser.rest.len();
+        match parser.name() {
+            Some(name) => parser.bind(*self, name, left, types),
+            None => parser.group(types),
+        }
+    }
+}
+
+// A value type.
+struct TypeWord;
+
+impl Item for TypeWord {
+    type Made = Vec<ValType>;
+
+    ghost Seen = { List AnyValType };
+
+    ghost seen = { λ types. types.items };
+
+    ghost first = { λ _. val_type_first };
+
+    ghost step = { λ _ _. item_step val_type_at };
+
+    #[tactic(auto, unfolding(crate::specs::inside::Reading::val_type_first))]
+    fn is_next(&self, parser: &Parser<'_>) -> bool {
+        matches!(parser.rest, [Token::Key(Keyword::Type(_)), ..])
+    }
+
+    fn add(&self, parser: &mut Parser<'_>, types: &mut Vec<ValType>) -> Result<(), Failure> {
+        let t = parser.val_type()?;
+        types.push(t)?;
+        Ok(())
+    }
+}
+
 impl<'a> Parser<'a> {
     /// A value type (Core 1.0, 6.4.1).
     #[tactic(auto, unfolding(crate::specs::inside::Reading::val_type_at))]
@@ -42,23 +100,11 @@ impl<'a> Parser<'a> {
         }
     }
 
-    #[tactic(auto, unfolding(crate::specs::inside::Reading::val_type_first))]
-    fn is_val_type(&self) -> bool
-        ensures { val_type_first (toks self.now) ≡ Some result }
+    // Whether results stand next.
+    fn is_result(&self) -> bool
+        ensures { result_first (toks self.now) ≡ Some result }
     {
-        matches!(self.rest, [Token::Key(Keyword::Type(_)), ..])
-    }
-
-    // All value types that stand next are added to these.
-    #[tactic(auto, unfolding(crate::specs::inside::Reading::val_types_at))]
-    fn val_types(&mut self, types: &mut Vec<ValType>) -> Result<(), Failure>
-        ensures { GoesOn self.old self.new result (AddsAny types.old types.new val_types_at) }
-    {
-        'each: while self.is_val_type() {
-            let t = self.val_type()?;
-            types.push(t)?;
-        }
-        Ok(())
+        matches!(self.opening(), Some(Keyword::Result))
     }
 
     /// The result of a block, if it has one, with room for so many more parentheses (Core 1.0, 6.5.2).
@@ -66,7 +112,7 @@ impl<'a> Parser<'a> {
     pub fn block_type(&mut self, parentheses: u32) -> Result<BlockType, Failure>
         ensures { GoesOn self.old self.new result (When (0 < parentheses) (Gives block_type_at)) }
     {
-        if !self.is_group(Group::Results) {
+        if !self.is_result() {
             return Ok(None);
         }
         if parentheses == 0 {
@@ -141,53 +187,18 @@ impl<'a> Parser<'a> {
     }
 
     /// Parameters and results (Core 1.0, 6.4.3). It takes what follows the keyword of a type.
-    #[tactic(auto, unfolding(crate::specs::inside::Reading::signature_at))]
+    #[tactic(auto, unfolding(crate::specs::inside::Reading::signature_at, crate::specs::inside::Reading::groups_at))]
     pub fn signature(&mut self, names: ParameterNames) -> Result<FuncType, Failure>
         ensures { GoesOn self.old self.new result (GivesAny signature_at) }
     {
         let mut parameters = Vec::new(self.alloc);
         let mut results = Vec::new(self.alloc);
-        self.groups(Group::Parameters(names), &mut parameters)?;
-        self.groups(Group::Results, &mut results)?;
+        repeated(&Group::Parameters(names), self, &mut parameters)?;
+        repeated(&Group::Results, self, &mut results)?;
         Ok(FuncType {
             parameters: Sequence::from(parameters),
             results: Sequence::from(results),
         })
-    }
-
-    // Whether a group of this kind stands next.
-    fn is_group(&self, group: Group) -> bool
-        ensures { group_first group (toks self.now) ≡ Some result }
-    {
-        match group {
-            Group::Parameters(_) => matches!(self.opening(), Some(Keyword::Param)),
-            Group::Results => matches!(self.opening(), Some(Keyword::Result)),
-        }
-    }
-
-    // All groups of this kind that stand next: what is in them is added to these types.
-    #[tactic(auto, unfolding(crate::specs::inside::Reading::groups_at))]
-    fn groups(&mut self, group: Group, types: &mut Vec<ValType>) -> Result<(), Failure>
-        ensures { GoesOn self.old self.new result
-            (AddsAny types.old types.new (groups_at (group_first group))) }
-    {
-        'each: while self.is_group(group) {
-            self.one_group(group, types)?;
-        }
-        Ok(())
-    }
-
-    // A group of this kind, which stands next: several types, or a name and one type.
-    #[tactic(auto, unfolding(crate::specs::inside::Reading::group_step, crate::specs::inside::Reading::nameless_at))]
-    fn one_group(&mut self, group: Group, types: &mut Vec<ValType>) -> Result<(), Failure>
-        ensures { Advances self.old self.new result (AddsAny types.old types.new group_step) }
-    {
-        self.enter();
-        let left = self.rest.len();
-        match self.name() {
-            Some(name) => self.bind(group, name, left, types),
-            None => self.group(types),
-        }
     }
 
     // A parameter with this name, if one may stand in such a group. `left` tokens are left where the name stands.
@@ -217,11 +228,11 @@ impl<'a> Parser<'a> {
     }
 
     /// Value types, which are added to these, and the parenthesis that closes their group.
-    #[tactic(auto, unfolding(crate::specs::inside::Reading::group_at))]
+    #[tactic(auto, unfolding(crate::specs::inside::Reading::group_at, crate::specs::inside::Reading::val_types_at))]
     pub fn group(&mut self, types: &mut Vec<ValType>) -> Result<(), Failure>
         ensures { Advances self.old self.new result (AddsAny types.old types.new group_at) }
     {
-        self.val_types(types)?;
+        repeated(&TypeWord, self, types)?;
         self.close()
     }
 

@@ -1,4 +1,4 @@
-use Rattle.std.proofs.Common.{get_or, arith}
+use Rattle.std.proofs.Common.{get_or, sym, ◌∙◌, arith}
 use Rattle.wat_asm.proofs.Cutting.{one_opening, one_quoted, one_word, IsOther}
 use Rattle.wat_asm.proofs.lexer.cutting.one.Goals as goal
 
@@ -13,10 +13,7 @@ returns-in-34-clause-again c = λ source all ends.
 pub returns-in_default-clause-again : goal.returns-in_default-clause-again
 returns-in_default-clause-again c = λ source all ends.
     let other : IsOther (get_or c.args.text.now 0 0) = record {
-      space = omega arith;
-      feed = omega arith;
-      tab = omega arith;
-      carriage = omega arith;
+      blank = sym c.is_blank.ensures ∙ c.if-is_blank.false;
       closing = omega arith;
       opening = omega arith;
       semicolon = omega arith;

@@ -19,8 +19,8 @@ decreases-operands l = 10 * length l.parser.now.rest.now + 2
 abbrev pub decreases-inner : goal.decreases-inner
 decreases-inner l = 10 * length l.parser.now.rest.now + 3
 
-abbrev pub decreases-typed_body : goal.decreases-typed_body
-decreases-typed_body l = 10 * length l.parser.now.rest.now + 4
+abbrev pub decreases-ended_body : goal.decreases-ended_body
+decreases-ended_body l = 10 * length l.parser.now.rest.now + 4
 
 abbrev pub decreases-arm : goal.decreases-arm
 decreases-arm l = 10 * length l.parser.now.rest.now + 5
@@ -30,9 +30,6 @@ decreases-else_arm l = 10 * length l.parser.now.rest.now + 3
 
 abbrev pub decreases-other_arm : goal.decreases-other_arm
 decreases-other_arm l = 10 * length l.parser.now.rest.now + 5
-
-abbrev pub decreases-block : goal.decreases-block
-decreases-block l = 10 * length l.parser.now.rest.now + 5
 
 abbrev pub decreases-choice : goal.decreases-choice
 decreases-choice l = 10 * length l.parser.now.rest.now + 6

@@ -1,0 +1,47 @@
+//! What stands any number of times, one after another.
+
+ghost use Rattle.std.specs.Prelude.{◌≡◌, ℕ, Bool, List, Option, Some};
+ghost use Rattle.wat_asm.specs.inside.Parsing.{Advances, GoesOn, MakesAny, toks};
+ghost use Rattle.wat_asm.specs.inside.Reading.{State, repeated};
+ghost use Rattle.wat_asm.specs.inside.Tokens.{Tok};
+
+use crate::fault::Failure;
+use crate::parser::tokens::Parser;
+
+/// What may stand any number of times.
+pub trait Item {
+    /// What each is added to.
+    type Made;
+
+    ghost Seen: { Type 0 };
+
+    ghost seen: { Self.Made → Seen };
+
+    ghost first: { Self → List Tok → Option Bool };
+
+    ghost step: { Self → ℕ → Seen × State → Option (Seen × State) };
+
+    /// Whether another one stands next.
+    fn is_next(&self, parser: &Parser<'_>) -> bool
+        ensures { (b : Bool) → first self.now (toks parser.now) ≡ Some b → result ≡ b };
+
+    /// Reads the one that stands next.
+    fn add(&self, parser: &mut Parser<'_>, made: &mut Self::Made) -> Result<(), Failure>
+        ensures { Advances parser.old parser.new result
+            (MakesAny (seen made.old) (seen made.new) (step self.now)) };
+}
+
+/// Reads all that stand next.
+pub fn repeated<I: Item>(
+    item: &I,
+    parser: &mut Parser<'_>,
+    made: &mut I::Made,
+) -> Result<(), Failure>
+    ensures { GoesOn parser.old parser.new result (MakesAny (I.seen made.old) (I.seen made.new)
+        (λ n. repeated (I.first item.now) (I.step item.now n) n)) }
+{
+    'each: while item.is_next(parser) {
+        item.add(parser, made)?;
+    }
+    Ok(())
+}

@@ -8,13 +8,15 @@ use Rattle.std.proofs.lemmas.List.Sorted.{All-permutation, IsPermutation-map, Is
 use Rattle.graph.specs.declared.collect.Collected.{Collected}
 use Rattle.graph.specs.declared.line.Line.{Line}
 use Rattle.graph.specs.declared.vertex.Edge.{Edge}
+use Rattle.graph.specs.declared.vertex.Vertex.{Vertex}
 use Rattle.graph.specs.inside.Collected.{Says, bare}
-use Rattle.graph.specs.Entry.{Entry, edges_from, entries_of, head_of, heads, ids}
+use Rattle.graph.specs.Entry.{Entry, edges_from, entries_of, entry_of, head_of, heads, ids, vertex_id}
 use Rattle.graph.specs.Graph.{IsSaid}
 use Rattle.graph.specs.Line.{is_good}
 use Rattle.graph.specs.inside.Placed.{AreEndsAmong, with_edges}
 use Rattle.graph.specs.Said.{all_declared, all_edges}
 use Rattle.graph.specs.Rising.{rising_same, sorted_same}
+use Rattle.graph.proofs.Vertices.{ids_entries}
 
 abbrev id_of_head : ℕ × ℤ → ℕ
 id_of_head head = head.0
@@ -102,6 +104,9 @@ is_said lines sorted graph good h rising ends placed =
       target_declared = rw same ends.target;
     }
 
-pub sorted_from : (lines : List Line) (collected : Collected) (sorted : List Entry) → Says lines collected
-    → IsPermutation (entries_of collected.vertices.items) sorted → IsNonDecreasing (ids sorted) → IsSorted lines sorted
-sorted_from lines collected sorted says same ordered = record { permutation = rw says.vertices at same; ordered = ordered }
+pub sorted_from : (lines : List Line) (collected : Collected) (sorted : List Vertex) → Says lines collected
+    → IsPermutation collected.vertices.items sorted → IsNonDecreasing (map vertex_id sorted) → IsSorted lines (entries_of sorted)
+sorted_from lines collected sorted says same ordered = record {
+  permutation = rw says.vertices at (IsPermutation-map entry_of _ _ same);
+  ordered = rw (ids_entries sorted) ordered;
+}

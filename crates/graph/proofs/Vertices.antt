@@ -2,7 +2,7 @@
 use Rattle.std.proofs.Common.{inl, inr, ◌≡◌, ℕ, ◌+◌, ◌-◌, ◌<◌, ◌≤◌, List, [], ◌∷◌, ◌++◌, length, get_or, map, set, Result, Ok, Err, refl, ap, sym, ◌∙◌, arith}
 use Rattle.std.specs.Prelude.{MatchOption, ℤ}
 use Rattle.std.specs.List.{Contains}
-use Rattle.std.specs.List.Sorted.{IsBinarySearchResult, IsNonDecreasing, IsNonDecreasingBy, IsStrictlyIncreasing}
+use Rattle.std.specs.List.Sorted.{IsBinarySearchResult, IsStrictlyIncreasing}
 use Rattle.std.specs.Ordering.{nat_cmp}
 use Rattle.std.specs.Result.{result_ok}
 use Rattle.std.proofs.lemmas.Bool.{cases_lt}
@@ -13,7 +13,6 @@ use Rattle.graph.specs.declared.vertex.Edge.{Edge}
 use Rattle.graph.specs.declared.vertex.Vertex.{Vertex}
 use Rattle.graph.specs.Entry.{Entry, end_of, entries_of, entry_of, ids, vertex_id}
 use Rattle.graph.specs.inside.Placed.{none, push_end, set_edge}
-use Rattle.graph.specs.Rising.{keys_sorted}
 
 pub ids_entries : (vertices : List Vertex) → ids (entries_of vertices) ≡ map vertex_id vertices
 ids_entries [] = refl
@@ -42,9 +41,6 @@ not_rising numbers i some below falls rise =
     let up = rise (i - 1) (rw last below) in
     let same : get_or numbers (i - 1 + 1) 0 ≡ get_or numbers i 0 = ap (λ n. get_or numbers n 0) last in
     omega arith
-
-pub ids_sorted : (vertices : List Vertex) → IsNonDecreasingBy vertex_id vertices → IsNonDecreasing (ids (entries_of vertices))
-ids_sorted vertices sorted = rw (ids_entries vertices) (keys_sorted vertex_id vertices sorted)
 
 pub found_place : (numbers : List ℕ) (number : ℕ) (r : Result ℕ ℕ) → IsStrictlyIncreasing numbers → IsBinarySearchResult (λ y. nat_cmp y number) numbers r
     → MatchOption (result_ok r) (Contains numbers number → ⊥) (λ place. (place < length numbers) × (get_or numbers place 0 ≡ number))

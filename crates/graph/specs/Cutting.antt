@@ -1,6 +1,6 @@
 -- A list cut into parts by the remainder of a key: its parts are together the list. For the proofs of this crate and of
 -- those above it.
-use Rattle.std.proofs.Common.{inl, inr, ◌≡◌, ℕ, zero, suc, ◌%◌, ◌<◌, List, [], ◌∷◌, ◌++◌, length, get_or, map, filter, set, cond, refl, ap, sym, subst, ◌∙◌, arith, eqb, append_assoc}
+use Rattle.std.proofs.Common.{inl, inr, ◌≡◌, ℕ, zero, suc, Bool, true, false, ◌%◌, ◌<◌, List, [], ◌∷◌, ◌++◌, length, get_or, map, filter, set, cond, refl, ap, sym, subst, ◌∙◌, arith, eqb, append_assoc}
 use Rattle.std.specs.List.{flat_map, range_with_len}
 use Rattle.std.specs.List.Sorted.{IsPermutation}
 use Rattle.std.proofs.lemmas.Bool.{ne_eqb}
@@ -22,7 +22,7 @@ parts_by key count xs = map (part_by key count xs) (range_with_len 0 count)
 abbrev pub joined : {X : Type 0} → List (List X) → List X
 joined {X} lists = flat_map (λ (list : List X). list) lists
 
-pub joined-push : {X : Type 0} (lists : List (List X)) (place : ℕ) (x : X) → place < length lists
+joined-push : {X : Type 0} (lists : List (List X)) (place : ℕ) (x : X) → place < length lists
     → IsPermutation (joined (set lists place (get_or lists place [] ++ x ∷ []))) (joined lists ++ x ∷ [])
 joined-push [] place x below = absurd (omega arith)
 joined-push (list ∷ lists) zero x below =
@@ -69,7 +69,7 @@ parts-push key count xs x small =
     (λ part d short. let below : part < count = rw long at short in
     pushed_at key count xs x part d small below ∙ sym (part_at key count (xs ++ x ∷ []) part d below))
 
-pub joined_none : {X : Type 0} (key : X → ℕ) (numbers : List ℕ) (count : ℕ) → joined (map (part_by key count []) numbers) ≡ []
+joined_none : {X : Type 0} (key : X → ℕ) (numbers : List ℕ) (count : ℕ) → joined (map (part_by key count []) numbers) ≡ []
 joined_none key [] count = refl
 joined_none key (n ∷ numbers) count = joined_none key numbers count
 
@@ -93,3 +93,24 @@ whole_from key count before (x ∷ after) some whole =
 pub parts_whole : {X : Type 0} (key : X → ℕ) (count : ℕ) (xs : List X) → 0 < count → IsPermutation (joined (parts_by key count xs)) xs
 parts_whole key count xs some =
     whole_from key count [] xs some (subst (λ ys. IsPermutation ys []) (sym (joined_none key (range_with_len 0 count) count)) (IsPermutation-refl []))
+
+either-map : {X Y : Type 0} (f : X → Y) (b : Bool) (x : X) (xs : List X) (ys : List Y) → map f xs ≡ ys → map f (cond b (x ∷ xs) xs) ≡ cond b (f x ∷ ys) ys
+either-map f true x xs ys same = ap (λ zs. f x ∷ zs) same
+either-map f false x xs ys same = same
+
+-- the parts of what elements stand for
+pub part_by-map : {X Y : Type 0} (f : X → Y) (key : Y → ℕ) (count part : ℕ) (xs : List X)
+    → map f (part_by (λ x. key (f x)) count xs part) ≡ part_by key count (map f xs) part
+part_by-map f key count part [] = refl
+part_by-map f key count part (x ∷ xs) = either-map f (eqb (key (f x) % count) part) x _ _ (part_by-map f key count part xs)
+
+parts_of-map : {X Y : Type 0} (f : X → Y) (key : Y → ℕ) (count : ℕ) (xs : List X) (numbers : List ℕ)
+    → map (map f) (map (part_by (λ x. key (f x)) count xs) numbers) ≡ map (part_by key count (map f xs)) numbers
+parts_of-map f key count xs [] = refl
+parts_of-map f key count xs (n ∷ numbers) =
+    ap (λ ys. ys ∷ map (map f) (map (part_by (λ x. key (f x)) count xs) numbers)) (part_by-map f key count n xs)
+    ∙ ap (λ yss. part_by key count (map f xs) n ∷ yss) (parts_of-map f key count xs numbers)
+
+pub parts_by-map : {X Y : Type 0} (f : X → Y) (key : Y → ℕ) (count : ℕ) (xs : List X)
+    → map (map f) (parts_by (λ x. key (f x)) count xs) ≡ parts_by key count (map f xs)
+parts_by-map f key count xs = parts_of-map f key count xs (range_with_len 0 count)

@@ -1,5 +1,5 @@
 -- The parts that a graph is cut into.
-use Rattle.std.specs.Prelude.{◌≡◌, ◌++◌, ◌∷◌, [], ℕ, List, map, slice_index_or, slice_set}
+use Rattle.std.specs.Prelude.{List}
 use Rattle.std.specs.List.{flat_map}
 use Rattle.std.specs.List.Sorted.{IsPermutation}
 use Rattle.graph.specs.declared.parts.Part.{Part}
@@ -16,8 +16,3 @@ all_entries parts = flat_map part_entries parts
 abbrev pub AreParts : List Part → Type 0
 AreParts parts =
     (graph : List Entry) × IsProper graph × FitsLimits graph × IsPermutation (all_entries parts) graph
-
--- the part in this place has one vertex more, at its end
-abbrev pub HasOneMoreAt : ℕ → (old new : List Part) → Entry → Type 0
-HasOneMoreAt place old new vertex =
-    map part_entries new ≡ slice_set (map part_entries old) place (slice_index_or (map part_entries old) place [] ++ vertex ∷ [])

@@ -7,7 +7,7 @@ use Rattle.std.proofs.lemmas.List.{get_or-map}
 use Rattle.std.proofs.lemmas.Bool.{ne_eqb}
 use Rattle.std.proofs.lemmas.Bool.Decides.{eqb_tells}
 use Rattle.std.proofs.lemmas.List.Kept.{AllPairs-from_increasing}
-use Rattle.std.proofs.lemmas.List.Sorted.{Contains-permutation, IsPermutation-map, IsPermutation-sym}
+use Rattle.std.proofs.lemmas.List.Sorted.{Contains-permutation, IsPermutation-map, IsPermutation-sym, IsPermutation-trans}
 use Rattle.std.proofs.lemmas.Map.Keys.{IsDistinct-IsPermutation, IsDistinct-from_apart, IsStrictlyIncreasing-from_distinct}
 
 -- the element stands in the list, by recursion
@@ -118,6 +118,12 @@ rises_too key xs ys sorted rise same =
 pub sorted_same : {X : Type 0} (key : X → ℕ) (xs ys : List X) → IsNonDecreasing (map key xs) → IsStrictlyIncreasing (map key ys)
     → IsPermutation xs ys → xs ≡ ys
 sorted_same key xs ys sorted rise same = rising_same key xs ys (rises_too key xs ys sorted rise same) rise same
+
+-- a list that was put in order has become that one of its orders in which the keys rise
+pub order_is : {X : Type 0} (key : X → ℕ) (old new rising : List X) → IsPermutation old new → IsNonDecreasing (map key new)
+    → IsPermutation old rising → IsStrictlyIncreasing (map key rising) → new ≡ rising
+order_is key old new rising moved sorted same rise =
+    sorted_same key new rising sorted rise (IsPermutation-trans _ _ _ (IsPermutation-sym old new moved) same)
 
 at_default : {X : Type 0} (key : X → ℕ) (xs : List X) → IsNonDecreasingBy key xs → (i j d : ℕ) → i ≤ j → j < length xs
     → get_or (map key xs) i d ≤ get_or (map key xs) j d

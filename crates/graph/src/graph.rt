@@ -8,10 +8,11 @@ ghost use Rattle.graph.specs.Graph.{IsGraphText, IsWithinLimits, MeansNoGraph};
 ghost use Rattle.graph.specs.Said.{lines_of};
 
 use crate::collect::{Collected, collect};
+use crate::cutting::sort_by_id;
 use crate::fault::GraphFault;
 use crate::fault_lines::{first_duplicate, first_fault};
 use crate::place::place_edges;
-use crate::rising::{are_rising, sort_by_id};
+use crate::rising::are_rising;
 use crate::vertex::Vertex;
 use std::alloc::{AllocError, Global};
 use std::marker::Model;

@@ -1,5 +1,7 @@
 //! What a graph is made of.
 
+use crate::cutting::Identified;
+
 /// How many vertices a graph may have.
 pub const MAX_VERTICES: usize = 1_000_000;
 
@@ -15,6 +17,14 @@ pub struct Vertex {
     pub value: i64,
     /// The edges from it, each with its target and its value, in the order of their lines.
     pub edges: Vec<(u64, i64)>,
+}
+
+impl Identified for Vertex {
+    ghost id = { λ vertex. vertex.id };
+
+    fn id(&self) -> u64 {
+        self.id
+    }
 }
 
 /// An edge as a line says it.

@@ -4,14 +4,14 @@ use Rattle.std.specs.List.Sorted.{IsStrictlyIncreasing}
 use Rattle.std.proofs.lemmas.List.Sorted.{IsPermutation-map}
 use Rattle.interp.specs.Call.{Outcome}
 use Rattle.interp.specs.Outcomes.{Given}
-use Rattle.graph.specs.Entry.{Entry, IsProper, ids}
+use Rattle.graph.specs.Entry.{Entry, ids}
 use Rattle.graph.specs.Cutting.{joined}
 use Rattle.superstep.specs.Job.{IsGraphOf, Work}
 use Rattle.host_calls.specs.Slots.{slot_starts}
 use Rattle.superstep.specs.State.{IsState, ShowsAt, Standing, bare, state_id}
 use Rattle.superstep.specs.PlainRun.{first_row, state_at}
 use Rattle.superstep.specs.inside.Rows.{IsInOrder, first_state, first_states}
-use Rattle.superstep.proofs.Graphs.{whole}
+use Rattle.superstep.proofs.Graphs.{few_states, whole}
 
 pub first_ids : (graph : List Entry) → map state_id (first_states graph) ≡ ids graph
 first_ids [] = refl
@@ -39,9 +39,10 @@ pub record IsFirst (graph : List Entry) (state : Standing) : Type 0 where
   pub aggregates : state.aggregates ≡ slot_starts
   pub vertices : state.vertices ≡ first_states graph
 
-pub first_is_state : (graph : List Entry) (state : Standing) → IsProper graph → IsFirst graph state → IsState state
-first_is_state graph state proper is = record {
-  rising = rw (is.vertices, first_ids graph) proper.rising;
+pub first_is_state : (work : Work) (graph : List Entry) (state : Standing) → IsGraphOf work graph → IsFirst graph state → IsState state
+first_is_state work graph state of is = record {
+  rising = rw (is.vertices, first_ids graph) of.proper.rising;
+  few = few_states graph state.vertices of.limits (ap (map state_id) is.vertices ∙ first_ids graph);
   told = rw (is.superstep, is.since, is.by_superstep) refl;
   least = rw (is.by_superstep, is.units) (omega arith);
   all = λ since. rw (is.by_superstep, is.units) refl;

@@ -1,12 +1,15 @@
 -- A job's graph, by its parts.
-use Rattle.std.proofs.Common.{◌≡◌, ◌<◌, ◌≤◌, List, None, rules}
+use Rattle.std.proofs.Common.{◌≡◌, ◌^◌, ◌<◌, ◌≤◌, List, None, ap, arith, length, map, rules}
 use Rattle.std.specs.List.Sorted.{IsPermutation}
+use Rattle.std.proofs.lemmas.List.{length-map}
 use Rattle.std.proofs.lemmas.List.Sorted.{IsPermutation-sym, IsPermutation-trans}
-use Rattle.graph.specs.Entry.{Entry, id_at}
+use Rattle.graph.specs.Entry.{Entry, FitsLimits, id_at, ids}
 use Rattle.graph.specs.Cutting.{joined, parts_whole}
 use Rattle.graph.specs.Rising.{rising_same}
 use Rattle.superstep.specs.Job.{IsGraphOf, Work}
 use Rattle.superstep.specs.Settings.{first_bad}
+use Rattle.superstep.specs.State.{state_id}
+use Rattle.superstep.specs.declared.state.VertexState.{VertexState}
 use Rattle.superstep.specs.declared.settings.Settings.{Settings}
 
 -- there is a part
@@ -26,3 +29,8 @@ one_graph work first second some a b =
 -- there are no more than 256 parts
 pub few_parts : (settings : Settings) → first_bad settings ≡ None → settings.parts ≤ 256
 few_parts settings good = search rules
+
+-- a number of 32 bits counts vertices that have the graph's ids
+pub few_states : (graph : List Entry) (vertices : List VertexState) → FitsLimits graph → map state_id vertices ≡ ids graph → length vertices < 2 ^ 32
+few_states graph vertices limits same =
+    omega (arith, limits.vertices, length-map vertices state_id, length-map graph id_at, ap length same)

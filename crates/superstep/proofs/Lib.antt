@@ -1,5 +1,4 @@
 pub mod Aggregating
-pub mod Cutting
 pub mod Firsts
 pub mod Gathering
 pub mod Graphs

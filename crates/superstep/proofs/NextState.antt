@@ -1,5 +1,5 @@
 -- The state after a superstep.
-use Rattle.std.proofs.Common.{◌≡◌, ℕ, ℤ, suc, ◌+◌, ◌-◌, ◌<◌, ◌≤◌, Bool, true, None, not, List, [], ◌∷◌, ◌++◌, length, map, vec_items, refl, ap, sym, ◌∙◌, subst, arith, length-append}
+use Rattle.std.proofs.Common.{◌≡◌, ℕ, ℤ, suc, ◌+◌, ◌-◌, ◌^◌, ◌<◌, ◌≤◌, Bool, true, None, not, List, [], ◌∷◌, ◌++◌, length, map, vec_items, refl, ap, sym, ◌∙◌, subst, arith, length-append}
 use Rattle.std.specs.List.{range_with_len, sum, sum_by, zip}
 use Rattle.std.specs.List.Sorted.{IsPermutation, IsStrictlyIncreasing}
 use Rattle.std.proofs.lemmas.List.{map-append}
@@ -21,11 +21,11 @@ use Rattle.superstep.specs.Job.{HasGraph, IsGraphOf, Meaning, Work}
 use Rattle.superstep.specs.Settings.{first_bad}
 use Rattle.superstep.specs.State.{HasIdsOf, IsState, ShowsAt, bare, state_id}
 use Rattle.superstep.specs.Tasks.{DoneStamp, IsRow, Left, emptied, outcomes_in}
-use Rattle.superstep.specs.Totals.{AreTotals, SumsAt}
-use Rattle.superstep.specs.inside.Closing.{Follows, IsGathered, IsSpread, filled, left_id, left_ids, standing_of, with_inbox}
+use Rattle.superstep.specs.Totals.{AreTotals, SumsAt, standing_of}
+use Rattle.superstep.specs.inside.Closing.{Follows, IsGathered, IsSpread, filled, left_id, left_ids, with_inbox}
 use Rattle.superstep.specs.inside.Rows.{IsInOrder}
 use Rattle.superstep.proofs.Aggregating.{contributions_permuted}
-use Rattle.superstep.proofs.Graphs.{one_graph, some_parts}
+use Rattle.superstep.proofs.Graphs.{few_states, one_graph, some_parts}
 use Rattle.superstep.proofs.Rejoining.{is_spread, joined_spread, leaving, ordered, ordered_left, part_left}
 use Rattle.superstep.proofs.Spreading.{ids_found}
 
@@ -92,8 +92,8 @@ totals_more old new took lost are later = record {
 }
 
 pub is_state : (totals : Totals) (aggregates : List ℤ) (vertices : List VertexState) → AreTotals totals → IsStrictlyIncreasing (map state_id vertices)
-    → IsState (standing_of totals aggregates vertices)
-is_state totals aggregates vertices are rising = record { rising = rising; told = are.told; least = are.least; all = are.all }
+    → length vertices < 2 ^ 32 → IsState (standing_of totals aggregates vertices)
+is_state totals aggregates vertices are rising few = record { rising = rising; few = few; told = are.told; least = are.least; all = are.all }
 
 capped_inside : (before took : ℕ) → capped (before + capped took) ≡ capped (before + took)
 capped_inside before took = omega arith
@@ -217,6 +217,7 @@ module _ (work now : Work) (honest : Bool) (totals : Totals) (dones : List DoneS
   next_is_state found lost vertices sorted later made =
       is_state later gathered.slots sorted (totals_more totals later gathered.units lost ready.sums made.follows)
       (subst (λ numbers. IsStrictlyIncreasing numbers) (sym (next_ids found lost vertices sorted later made)) ready.graph.1.proper.rising)
+      (few_states ready.graph.0 sorted ready.graph.1.limits (next_ids found lost vertices sorted later made))
 
   pub next_is_at : (found : List (List (List ℤ))) (lost : ℕ) (vertices sorted : List VertexState) (later : Totals) → IsMade found lost vertices sorted later
       → honest ≡ true → (meaning : Meaning work) → SumsAt work meaning totals

@@ -5,6 +5,7 @@ use Rattle.std.proofs.lemmas.List.{drop_all, get_or-map, length-map, take_all}
 use Rattle.std.proofs.lemmas.List.Elements.{All-filter}
 use Rattle.std.proofs.lemmas.List.FromFn.{length-map-range_with_len}
 use Rattle.std.proofs.lemmas.Option.{get_or_from_slice_get, slice_get_within}
+use Rattle.std.proofs.lemmas.Simd.{map-map}
 use Rattle.interp.specs.Call.{Outcome}
 use Rattle.interp.specs.Outcomes.{AreOutcomes, Given}
 use Rattle.graph.specs.declared.parts.Part.{Part}
@@ -12,15 +13,17 @@ use Rattle.graph.specs.Parts.{part_entries}
 use Rattle.graph.specs.declared.vertex.Vertex.{Vertex}
 use Rattle.graph.specs.Entry.{Entry, entries_of, id_at, ids, part_of_graph}
 use Rattle.graph.specs.Cutting.{part_at}
+use Rattle.inbox.specs.declared.letters.Letter.{Letter}
 use Rattle.superstep.specs.declared.left.Left.{Left}
 use Rattle.superstep.specs.declared.state.VertexState.{VertexState}
 use Rattle.superstep.specs.declared.task.Shared.{Shared}
 use Rattle.superstep.specs.Snapshot.{Row, Snapshot}
-use Rattle.superstep.specs.Superstep.{all_left, left_by, row_after}
+use Rattle.superstep.specs.Folds.{capped}
+use Rattle.superstep.specs.Superstep.{all_left, left_by, row_after, units_left}
 use Rattle.superstep.specs.PlainRun.{first_row, state_at}
 use Rattle.superstep.specs.Job.{HasGraph, IsCount, IsGraphOf, Meaning, Work}
 use Rattle.superstep.specs.State.{bare, state_id}
-use Rattle.superstep.specs.Tasks.{AreAggregatesAt, FitsPart, IsDone, IsLeftAt, IsPartAt, Left as OneLeft, emptied, part_rows}
+use Rattle.superstep.specs.Tasks.{AreAggregatesAt, AreUnitsAt, DoneStamp, FitsPart, IsDone, IsLeftAt, IsPartAt, Left as OneLeft, emptied, outcomes_in, part_rows}
 use Rattle.superstep.specs.inside.Leaving.{CallsPart, HasProperIds, Tells, left_id, left_in, row_of, rows_of}
 
 -- the rows have the ids and the edges of these entries
@@ -174,3 +177,13 @@ done_here work honest epoch part shared before after all fits calls at aggregate
   comes = calls.comes;
   at = λ is. left_here work part shared before calls.left (fits_below work part before fits) counted (aggregates is) (at is) told calls.is;
 }
+
+-- its units are those of the calls
+pub units_here : (work : Work) (honest : Bool) (stamp : DoneStamp) (vertices : List VertexState) (letters : List Letter) (slots : List ℤ)
+    → IsDone work honest stamp vertices letters slots → honest ≡ true → AreUnitsAt work stamp.superstep stamp.part stamp.units
+units_here work honest stamp vertices letters slots done sure = λ meaning.
+    let before = state_at meaning.outcomes meaning.graph stamp.superstep in
+    done.comes.units
+    ∙ ap (λ (left : List OneLeft). capped (units_left (outcomes_in left))) (done.at sure meaning)
+    ∙ ap (λ (outcomes : List Outcome). capped (units_left outcomes))
+    (map-map (λ (one : OneLeft). one.1) (λ (row : Row). (row.id, left_by meaning.outcomes stamp.superstep before row)) (part_rows work.settings.parts before stamp.part))

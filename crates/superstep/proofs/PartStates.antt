@@ -1,12 +1,11 @@
 -- The parts of a state's vertices are what slices have.
-use Rattle.std.proofs.Common.{◌≡◌, ℕ, ◌<◌, ◌%◌, Bool, true, false, List, [], map, filter, Some, ap, sym, ◌∙◌, eqb}
+use Rattle.std.proofs.Common.{◌≡◌, ℕ, ◌<◌, Bool, true, false, List, [], map, Some, ap, sym, ◌∙◌}
 use Rattle.std.specs.Prelude.{slice_get}
 use Rattle.std.specs.Option.{option_map}
 use Rattle.std.proofs.lemmas.List.FromFn.{length-map-range_with_len}
 use Rattle.std.proofs.lemmas.Option.{slice_get-get_or, slice_get-map}
-use Rattle.rayon.proofs.ToStd.{filter-map}
 use Rattle.graph.specs.Entry.{Entry, id_at, ids, part_of_graph, parts_of}
-use Rattle.graph.specs.Cutting.{part_at, part_by}
+use Rattle.graph.specs.Cutting.{part_at, part_by, part_by-map}
 use Rattle.superstep.specs.declared.state.VertexState.{VertexState}
 use Rattle.superstep.specs.PlainRun.{state_at}
 use Rattle.superstep.specs.Job.{IsGraphOf, Work}
@@ -17,16 +16,12 @@ pub either_way : (b : Bool) (P : Bool → Type 0) → P true → P false → P b
 either_way true P = λ one other. one
 either_way false P = λ one other. other
 
--- what passes a test by its image, and the images that pass
-pub map-filter : {X Y : Type 0} (f : X → Y) (p : Y → Bool) (xs : List X) → map f (filter (λ x. p (f x)) xs) ≡ filter p (map f xs)
-map-filter f p xs = sym (filter-map p f xs)
-
 part_ids : (count part : ℕ) (vertices : List VertexState) (graph : List Entry) → map state_id vertices ≡ ids graph
     → map state_id (part_by state_id count vertices part) ≡ ids (part_of_graph count graph part)
 part_ids count part vertices graph same =
-    map-filter state_id (λ n. eqb (n % count) part) vertices
-    ∙ ap (λ (numbers : List ℕ). filter (λ n. eqb (n % count) part) numbers) same
-    ∙ sym (map-filter id_at (λ n. eqb (n % count) part) graph)
+    part_by-map state_id (λ n. n) count part vertices
+    ∙ ap (λ (numbers : List ℕ). part_by (λ n. n) count numbers part) same
+    ∙ sym (part_by-map id_at (λ n. n) count part graph)
 
 -- the ids of a part of them are those of the graph's part
 pub part_fits : (work : Work) (graph : List Entry) (vertices : List VertexState) (part : ℕ) → IsGraphOf work graph
@@ -44,4 +39,4 @@ pub part_stands : (work : Work) (state : Standing) (part : ℕ) → IsStateAt wo
     → IsPartAt work state.superstep part (part_by state_id work.settings.parts state.vertices part)
 part_stands work state part at = λ meaning.
     ap (λ (vertices : List VertexState). part_by state_id work.settings.parts vertices part) (at meaning).vertices
-    ∙ sym (map-filter bare (λ (vertex : VertexState). eqb (vertex.id % work.settings.parts) part) (state_at meaning.outcomes meaning.graph state.superstep).rows)
+    ∙ sym (part_by-map bare state_id work.settings.parts part (state_at meaning.outcomes meaning.graph state.superstep).rows)

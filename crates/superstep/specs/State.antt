@@ -1,5 +1,5 @@
 -- States: what is kept of a job between two supersteps.
-use Rattle.std.specs.Prelude.{◌≡◌, ◌≤◌, ◌+◌, ◌-◌, ℕ, ℤ, List, length, map, Bool, not, nat_lt, ◌||◌}
+use Rattle.std.specs.Prelude.{◌≡◌, ◌<◌, ◌≤◌, ◌+◌, ◌-◌, ◌^◌, ℕ, ℤ, List, length, map, Bool, not, nat_lt, ◌||◌}
 use Rattle.std.specs.List.{list_any, range_with_len, sum}
 use Rattle.std.specs.List.Sorted.{IsStrictlyIncreasing}
 use Rattle.interp.specs.Call.{Outcome}
@@ -28,10 +28,11 @@ pub record Standing : Type 0 where
 abbrev pub state_id : VertexState → ℕ
 state_id vertex = vertex.id
 
--- What is so of every state: ids rise, the units of each superstep from `since` on are told, and the total has those in it,
--- and no others where they are all told.
+-- What is so of every state: ids rise, and a number of 32 bits counts them; the units of each superstep from `since` on are
+-- told, and the total has those in it, and no others where they are all told.
 pub record IsState (state : Standing) : Type 0 where
   pub rising : IsStrictlyIncreasing (map state_id state.vertices)
+  pub few : length state.vertices < 2 ^ 32
   pub told : state.since + length state.by_superstep ≡ state.superstep
   pub least : capped (sum state.by_superstep) ≤ state.units
   pub all : state.since ≡ 0 → state.units ≡ capped (sum state.by_superstep)

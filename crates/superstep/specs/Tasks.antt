@@ -95,6 +95,13 @@ IsLeftAt work s part left =
     → left ≡ map (λ (row : Row). (row.id, left_by meaning.outcomes s (state_at meaning.outcomes meaning.graph s) row))
     (part_rows work.settings.parts (state_at meaning.outcomes meaning.graph s) part)
 
+-- the calls of this part take so many units in this superstep
+abbrev pub AreUnitsAt : Work → ℕ → ℕ → ℕ → Type 0
+AreUnitsAt work s part units =
+    (meaning : Meaning work)
+    → units ≡ capped (units_left (map (left_by meaning.outcomes s (state_at meaning.outcomes meaning.graph s))
+    (part_rows work.settings.parts (state_at meaning.outcomes meaning.graph s) part)))
+
 -- what is kept of a part
 pub record IsDone (work : Work) (honest : Bool) (stamp : DoneStamp) (vertices : List VertexState) (letters : List Letter) (slots : List ℤ) : Type 0 where
   pub fits : FitsPart work stamp.part vertices

@@ -1,6 +1,7 @@
 -- What a job has summed up before a superstep.
-use Rattle.std.specs.Prelude.{◌≡◌, ◌≤◌, ◌+◌, ◌-◌, length, map}
+use Rattle.std.specs.Prelude.{◌≡◌, ◌≤◌, ◌+◌, ◌-◌, ℤ, List, length, map}
 use Rattle.std.specs.List.{range_with_len, sum}
+use Rattle.superstep.specs.declared.state.VertexState.{VertexState}
 use Rattle.superstep.specs.declared.totals.Totals.{Totals}
 use Rattle.superstep.specs.Folds.{capped}
 use Rattle.superstep.specs.PlainRun.{state_at, units_at}
@@ -14,6 +15,18 @@ pub record IsTotalsOf (state : Standing) (totals : Totals) : Type 0 where
   pub by_superstep : totals.by_superstep.items ≡ state.by_superstep
   pub units : totals.units ≡ state.units
   pub dropped : totals.dropped ≡ state.dropped
+
+-- what a state shows that has these sums, slots and vertices
+abbrev pub standing_of : Totals → List ℤ → List VertexState → Standing
+standing_of totals aggregates vertices = record {
+  superstep = totals.superstep;
+  since = totals.since;
+  by_superstep = totals.by_superstep.items;
+  units = totals.units;
+  dropped = totals.dropped;
+  aggregates = aggregates;
+  vertices = vertices;
+}
 
 -- the units of each superstep from `since` on are told, and the total has those in it, and no others where they are all told
 pub record AreTotals (totals : Totals) : Type 0 where

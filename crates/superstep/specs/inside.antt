@@ -1,6 +1,5 @@
 pub mod Closing
 pub mod Codes
-pub mod Cuts
 pub mod Leaving
 pub mod Opening
 pub mod Rows

@@ -11,11 +11,11 @@ ghost use Rattle.superstep.specs.inside.Uniting.{united};
 
 use crate::job::Job;
 use crate::left::combined;
-use crate::order::sort_by_id;
 use crate::slice::Origin;
 use crate::state::{State, VertexState};
 use crate::task::Done;
 use crate::totals::Totals;
+use graph::sort_by_id;
 use host_calls::slot_starts;
 use inbox::{
     Inbox, Letter, drops_add_up_over_sources, inboxes_are_concatenated_by_source, merge_parts,

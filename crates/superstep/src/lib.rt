@@ -5,7 +5,6 @@ mod closing;
 mod fault;
 mod job;
 mod left;
-mod order;
 mod run;
 mod settings;
 mod slice;

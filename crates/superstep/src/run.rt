@@ -45,14 +45,15 @@ pub struct Ended {
 }
 
 /// The run of a job on one machine (Pregel 2010, 2): superstep after superstep, until no vertex is active and no inbox
-/// holds anything, or to the limit. Inboxes are built by as many threads as there are processors. The only refusal is
-/// that there is no memory.
+/// holds anything, or to the limit. It tells the units of each superstep from the first on. Inboxes are built by as many
+/// threads as there are processors. The only refusal is that there is no memory.
 pub fn one_machine(
     rt: &(impl Threads + Sync),
     alloc: Global,
     job: &Job,
 ) -> Result<Ended, AllocError>
-    ensures { IfOk result (IsEndOf job.now) }
+    ensures end { IfOk result (IsEndOf job.now) }
+    ensures since { IfOk result (λ ended. ended.since ≡ 0) }
 {
     run_all::<Brand>(rt, alloc, job)
 }
@@ -65,7 +66,8 @@ fn run_all<J: Origin>(
 ) -> Result<Ended, AllocError>
     requires job { J.work ≡ job.now }
     requires honest { J.honest ≡ true }
-    ensures { IfOk result (IsEndOf job.now) }
+    ensures end { IfOk result (IsEndOf job.now) }
+    ensures since { IfOk result (λ ended. ended.since ≡ 0) }
 {
     let mut scratch = Scratch::new(alloc, job.verified())?;
     let mut state = State::first(alloc, job)?;
@@ -100,6 +102,7 @@ fn run_superstep<J: Origin>(
     ensures kept { scratch.new ≡ scratch.old }
     ensures next { IfOk result (IsStateAt job.now (suc state.superstep)) }
     ensures superstep { IfOk result (λ next. next.superstep ≡ suc state.superstep) }
+    ensures since { IfOk result (λ next. next.since ≡ state.since) }
     ensures ids { IfOk result (HasIdsOf job.now) }
 {
     let totals = Totals::of(alloc, &state)?;

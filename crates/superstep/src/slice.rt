@@ -1,14 +1,13 @@
 //! Slices: the parts of a state, which move to workers and back.
 
-ghost use Rattle.std.specs.Prelude.{◌≡◌, ◌<◌, ◌≤◌, true, [], map, length, IfOk, OnOk};
-ghost use Rattle.graph.specs.Cutting.{parts_by};
-ghost use Rattle.superstep.specs.State.{HasIdsOf, IsStateAt, state_id};
+ghost use Rattle.std.specs.Prelude.{◌≡◌, ◌≤◌, true, length, map, vec_items, IfOk};
+ghost use Rattle.superstep.specs.State.{HasIdsOf, IsStateAt};
 ghost use Rattle.superstep.specs.Tasks.{stamps_of};
-ghost use Rattle.superstep.specs.inside.Cuts.{AreSlices, HasOneMoreAt, states_in};
+ghost use Rattle.superstep.specs.inside.Rows.{AreSlices};
 
 use crate::job::Job;
 use crate::state::{State, VertexState};
-use graph::part_of;
+use graph::cut_by_id;
 use std::alloc::{AllocError, Global};
 use std::marker::{Brand, Model, PhantomData};
 
@@ -80,68 +79,27 @@ pub fn slices<J: Origin>(
         slices.items ≡ stamps_of state.superstep job.now.settings.parts) }
 {
     let superstep = state.superstep();
-    let cut = cut_up(alloc, state.into_vertices(), job.settings().parts)?;
+    let cut = cut_by_id(alloc, state.into_vertices(), job.settings().parts)?;
     label(alloc, superstep, cut)
-}
-
-// Some of a state's vertices.
-#[derive(Drop)]
-struct Cut {
-    vertices: Vec<VertexState>,
-}
-
-// The vertices of each part, in their order.
-fn cut_up(alloc: Global, vertices: Vec<VertexState>, parts: u32) -> Result<Vec<Cut>, AllocError>
-    requires { 0 < parts }
-    ensures { IfOk result (λ cut.
-        map states_in cut.items ≡ parts_by state_id parts vertices.items) }
-{
-    let mut cut = empty_cut(alloc, parts)?;
-    for vertex in vertices {
-        let part = part_of(vertex.id, parts) as usize;
-        push_vertex(&mut cut, part, vertex)?;
-    }
-    Ok(cut)
-}
-
-// So many parts with no vertices.
-fn empty_cut(alloc: Global, count: u32) -> Result<Vec<Cut>, AllocError>
-    ensures { IfOk result (λ cut. map states_in cut.items ≡ parts_by state_id count []) }
-{
-    let mut cut = Vec::new(alloc);
-    for part in 0..count {
-        let vertices = Vec::new(alloc);
-        cut.push(Cut { vertices })?;
-    }
-    Ok(cut)
-}
-
-fn push_vertex(cut: &mut Vec<Cut>, place: usize, vertex: VertexState) -> Result<(), AllocError>
-    requires { place < length cut.old.items }
-    ensures { OnOk result (HasOneMoreAt place cut.old.items cut.new.items vertex) }
-{
-    let part = &mut cut[place];
-    part.vertices.push(vertex)?;
-    Ok(())
 }
 
 // Each part with its number.
 fn label<J: Origin>(
     alloc: Global,
     superstep: u32,
-    cut: Vec<Cut>,
+    cut: Vec<Vec<VertexState>>,
 ) -> Result<Vec<Slice<J>>, AllocError>
     requires few { length cut.items ≤ 256 }
-    requires parts { AreSlices J.work J.honest superstep (map states_in cut.items) }
+    requires parts { AreSlices J.work J.honest superstep (map vec_items cut.items) }
     ensures { IfOk result (λ slices. slices.items ≡ stamps_of superstep (length cut.items)) }
 {
     let mut slices = Vec::with_capacity(alloc, cut.len())?;
     let mut part = 0;
-    for piece in cut {
+    for vertices in cut {
         slices.push(Slice {
             part,
             superstep,
-            vertices: piece.vertices,
+            vertices,
             origin: PhantomData,
         })?;
         part += 1;

@@ -4,14 +4,13 @@ ghost use Rattle.std.specs.Prelude.{◌≡◌, IfOk, OnOk, ◌++◌, map, not};
 ghost use Rattle.std.specs.List.{list_any};
 ghost use Rattle.graph.specs.Entry.{entry_of};
 ghost use Rattle.superstep.specs.State.{HasIdsOf, IsState, IsStateAt};
-ghost use Rattle.superstep.specs.inside.Closing.{standing_of};
 ghost use Rattle.superstep.specs.inside.Rows.{first_state, first_states};
 ghost use Rattle.superstep.specs.State.{is_due, is_settled};
+ghost use Rattle.superstep.specs.Totals.{standing_of};
 
 use crate::job::Job;
-use crate::order::sort_by_id;
 use crate::totals::Totals;
-use graph::{Part, Vertex};
+use graph::{Identified, Part, Vertex, sort_by_id};
 use host_calls::slot_starts;
 use inbox::Inbox;
 use std::alloc::{AllocError, Global};
@@ -27,6 +26,14 @@ pub struct VertexState {
     pub active: bool,
     /// What was sent to it in the superstep before.
     pub inbox: Inbox,
+}
+
+impl Identified for VertexState {
+    ghost id = { λ vertex. vertex.id };
+
+    fn id(&self) -> u64 {
+        self.id
+    }
 }
 
 /// What is kept of a job between two supersteps: what a checkpoint saves. Edges are not in it.
@@ -91,8 +98,8 @@ impl State {
         })
     }
 
-    // The state of these vertices, by rising id, with what was summed up before it.
-    pub(crate) fn of(totals: Totals, aggregates: [i64; 8], vertices: Vec<VertexState>) -> State
+    /// The state of these vertices, by rising id, with what was summed up before it and what its slots hold.
+    pub fn of(totals: Totals, aggregates: [i64; 8], vertices: Vec<VertexState>) -> State
         requires { IsState (standing_of totals aggregates vertices.items) }
         ensures { result ≡ standing_of totals aggregates vertices.items }
     {
@@ -166,7 +173,8 @@ impl State {
 
     /// The vertices, by rising id.
     pub fn vertices(&self) -> &[VertexState]
-        ensures { result.now ≡ self.now.vertices }
+        ensures same { result.now ≡ self.now.vertices }
+        ensures state { IsState self.now }
     {
         &self.vertices
     }
@@ -210,4 +218,31 @@ fn first_state(alloc: Global, vertex: &Vertex) -> VertexState
         active: true,
         inbox: Inbox::empty(alloc),
     }
+}
+
+// Copies of these vertices, in their order.
+pub(crate) fn copied(
+    alloc: Global,
+    vertices: &[VertexState],
+) -> Result<Vec<VertexState>, AllocError>
+    ensures { IfOk result (λ copies. copies.items ≡ vertices.now) }
+{
+    let mut copies = Vec::with_capacity(alloc, vertices.len())?;
+    for vertex in vertices {
+        let copy = copy_of(alloc, vertex)?;
+        copies.push(copy)?;
+    }
+    Ok(copies)
+}
+
+fn copy_of(alloc: Global, vertex: &VertexState) -> Result<VertexState, AllocError>
+    ensures { IfOk result (λ copy. copy ≡ vertex.now) }
+{
+    let messages = Vec::from_slice(alloc, vertex.inbox.as_slice())?;
+    Ok(VertexState {
+        id: vertex.id,
+        value: vertex.value,
+        active: vertex.active,
+        inbox: Inbox::from(messages),
+    })
 }

@@ -3,7 +3,7 @@
 ghost use Rattle.std.specs.Prelude.{◌≡◌, All, true, map, IfOk, IfErr, OnOk};
 ghost use Rattle.graph.specs.Entry.{entries_of, entry_of, ids};
 ghost use Rattle.superstep.specs.State.{state_id};
-ghost use Rattle.superstep.specs.Tasks.{AreAggregatesAt};
+ghost use Rattle.superstep.specs.Tasks.{AreAggregatesAt, AreUnitsAt};
 ghost use Rattle.superstep.specs.declared.fault.Place.TheVariants.{Call};
 ghost use Rattle.superstep.specs.inside.Leaving.{CallsPart, CallsVertex, HasProperIds};
 
@@ -11,7 +11,7 @@ use crate::fault::Place;
 use crate::job::Job;
 use crate::left::Left;
 use crate::slice::{Origin, Slice};
-use crate::state::VertexState;
+use crate::state::{VertexState, copied};
 use bounded_profile::Verified;
 use graph::Vertex;
 use host_calls::CallInput;
@@ -139,6 +139,24 @@ impl<J: Origin> Done<J> {
     {
         self.units
     }
+
+    /// The same once more, as a result that comes twice. The only refusal is that there is no memory.
+    pub fn copy(&self, alloc: Global) -> Result<Done<J>, AllocError>
+        ensures { IfOk result (λ copy. copy ≡ self.now) }
+    {
+        let vertices = copied(alloc, &self.vertices)?;
+        let letters = Vec::from_slice(alloc, &self.letters)?;
+        Ok(Done {
+            epoch: self.epoch,
+            superstep: self.superstep,
+            part: self.part,
+            units: self.units,
+            vertices,
+            letters,
+            slots: self.slots,
+            origin: PhantomData,
+        })
+    }
 }
 
 /// A task that has no result, and the work that met the refusal.
@@ -161,6 +179,8 @@ pub fn run_task<J: Origin>(
     ensures epoch { IfOk result (λ done. done.epoch ≡ task.epoch) }
     ensures superstep { IfOk result (λ done. done.superstep ≡ task.superstep) }
     ensures part { IfOk result (λ done. done.part ≡ task.part) }
+    ensures units { IfOk result (λ done. J.honest ≡ true
+        → AreUnitsAt J.work task.superstep task.part done.units) }
     ensures lost { IfErr result (λ lost. lost.place ≡ Call) }
 {
     calls_are_a_function();

@@ -11,20 +11,7 @@ use Rattle.superstep.specs.declared.totals.Totals.{Totals}
 use Rattle.superstep.specs.Folds.{aggregated, capped}
 use Rattle.superstep.specs.Superstep.{contributions_of, units_left}
 use Rattle.superstep.specs.Job.{Work}
-use Rattle.superstep.specs.State.{Standing}
 use Rattle.superstep.specs.Tasks.{DoneStamp, IsLeftAt, Left, emptied, letters_of, outcomes_in}
-
--- what a state shows
-abbrev pub standing_of : Totals → List ℤ → List VertexState → Standing
-standing_of totals aggregates vertices = record {
-  superstep = totals.superstep;
-  since = totals.since;
-  by_superstep = totals.by_superstep.items;
-  units = totals.units;
-  dropped = totals.dropped;
-  aggregates = aggregates;
-  vertices = vertices;
-}
 
 -- a superstep later, whose calls took so many units, and of whose messages so many went to no vertex
 pub record Follows (took lost : ℕ) (old new : Totals) : Type 0 where

@@ -1,14 +1,21 @@
-use Rattle.std.proofs.Common.{arith}
-use Rattle.graph.proofs.Splitting.{split_next, split_none, split_room}
+use Rattle.std.proofs.Common.{ap, sym, ◌∙◌, map, vec_items}
+use Rattle.std.proofs.lemmas.Iterator.Adapters.{YieldsList-from_vec}
+use Rattle.std.proofs.lemmas.Iterator.Consumers.{YieldsList-end}
+use Rattle.std.proofs.lemmas.List.{map-id}
+use Rattle.graph.specs.Entry.{entries_of, parts_of}
+use Rattle.graph.proofs.Splitting.{split_is, split_whole}
 use Rattle.graph.proofs.parts.split.Goals as goal
 
-pub loop-vertex-init : goal.loop-vertex-init
-loop-vertex-init c = split_none _ _ c.in_ok-split.ensures
+pub returns-clause-parts : goal.returns-clause-parts
+returns-clause-parts c =
+    let cut = c.in_ok-vertices-items.vertices-items in
+    let gives = c.into_iter-vertices-iterator.ensures.into_iter_gives in
+    let parts = YieldsList-from_vec cut.items gives.0 (gives.1 ∙ cut.ok.0) in
+    let all = YieldsList-end parts c.loop-vertices.yielded c.loop-vertices.vertices-iterator c.loop-vertices.yielded_by _ c.next.new.self c.in-None.is c.next.ensures.steps in
+    split_is c.args.parts c.loop-vertices.split.items cut.items c.into_vertices.result.items
+    (c.loop-vertices.invariant ∙ ap (λ yielded. map entries_of (map vec_items yielded)) (sym (map-id c.loop-vertices.yielded) ∙ all.0))
+    c.in_ok-vertices-items.ensures
+    ∙ ap (parts_of c.args.parts) c.into_vertices.ensures.same
 
-pub push_vertex-requires : goal.push_vertex-requires
-push_vertex-requires c = split_room c.args.parts c.loop-vertex.split.items c.loop-vertex.yielded c.part_of-part.result c.loop-vertex.invariant (omega (arith, c.part_of-part.ensures))
-
-pub loop-vertex-preserved : goal.loop-vertex-preserved
-loop-vertex-preserved c =
-    split_next c.args.parts c.part_of-part.result c.loop-vertex.split.items c.push_vertex.new.parts.items c.loop-vertex.yielded c.in-Some.vertex c.loop-vertex.invariant
-    c.part_of-part.ensures (omega (arith, c.part_of-part.ensures)) c.in_ok-push_vertex.ensures
+pub returns-clause-whole : goal.returns-clause-whole
+returns-clause-whole c = split_whole c.args.parts c.loop-vertices.split.items c.args.graph c.requires (returns-clause-parts c)

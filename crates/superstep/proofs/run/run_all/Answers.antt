@@ -15,6 +15,7 @@ loop-state-init g c =
         within = omega (arith, none);
         busy = λ meaning t before. absurd (omega (arith, none, before));
       };
+      since = c.in_ok-state.ensures.since;
       fits = c.in_ok-scratch.ensures ∙ c.verified.ensures;
       limit = ap (λ (settings : Settings). settings.limit) c.settings-limit.ensures.settings;
     }
@@ -31,13 +32,17 @@ loop-state-preserved g c =
     let told = c.in_ok-state-2.ensures in
     record {
       come = comes_on c.args.job.now c.loop-state.state c.in_ok-state-2.state kept.come (omega (arith, due.1, kept.limit)) due.0 told.next told.ids told.superstep;
+      since = told.since ∙ kept.since;
       fits = told.kept ∙ kept.fits;
       limit = kept.limit;
     }
 
-pub returns : goal.returns
-returns g c =
+pub returns-clause-end : goal.returns-clause-end
+returns-clause-end g c =
     IfOk-weaker c.tell_end.result _ _ (λ ended is.
     let kept = c.loop-state.invariant in
     has_ended c.args.job.now c.loop-state.state ended kept.come
     (λ due. over c.settings-limit.result.limit c.loop-state.state (sym c.is_over.ensures ∙ c.loop-state-test.false) (omega (arith, kept.limit, kept.come.within)) due ∙ kept.limit) is) c.tell_end.ensures
+
+pub returns-clause-since : goal.returns-clause-since
+returns-clause-since g c = IfOk-weaker c.tell_end.result _ _ (λ ended is. is.since ∙ c.loop-state.invariant.since) c.tell_end.ensures

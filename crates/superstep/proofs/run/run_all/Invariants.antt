@@ -5,6 +5,7 @@ use Rattle.superstep.proofs.run.run_all.Given as goal
 abbrev pub invariant-loop-state : goal.invariant-loop-state
 invariant-loop-state g l = record {
   come : HasCome l.job l.state;
+  since : l.state.since ≡ 0;
   fits : l.scratch ≡ l.job.«module»;
   limit : l.limit ≡ l.job.settings.limit;
 }

@@ -1,4 +1,4 @@
-use Rattle.std.proofs.Common.{suc, subst}
+use Rattle.std.proofs.Common.{suc, subst, ◌∙◌}
 use Rattle.std.proofs.lemmas.Result.{IfOk-weaker}
 use Rattle.superstep.specs.Job.{Work}
 use Rattle.superstep.specs.State.{IsStateAt}
@@ -23,3 +23,6 @@ returns-clause-next g c =
     IfOk-weaker c.barrier.result _ _ (λ next is.
     subst (λ (work : Work). IsStateAt work (suc c.args.state.superstep) next) c.requires.job
     (subst (λ n. IsStateAt g.J.Origin.work (suc n) next) c.in_ok-totals.ensures.of.superstep (is c.requires.honest))) c.barrier.ensures.next
+
+pub returns-clause-since : goal.returns-clause-since
+returns-clause-since g c = IfOk-weaker c.barrier.result _ _ (λ next is. is ∙ c.in_ok-totals.ensures.of.since) c.barrier.ensures.since

@@ -2,9 +2,9 @@ use Rattle.std.proofs.Common.{◌≡◌, ◌++◌, length}
 use Rattle.superstep.specs.Tasks.{stamps_of}
 use Rattle.superstep.proofs.slice.label.Given as goal
 
-abbrev pub invariant-loop-piece : goal.invariant-loop-piece
-invariant-loop-piece g l = record {
+abbrev pub invariant-loop-vertices : goal.invariant-loop-vertices
+invariant-loop-vertices g l = record {
   named : l.slices.items ≡ stamps_of l.superstep l.part;
   counted : l.part ≡ length l.yielded;
-  left : l.yielded ++ l.piece-iterator.rest.items ≡ l.fn.cut.items;
+  left : l.yielded ++ l.vertices-iterator.rest.items ≡ l.fn.cut.items;
 }

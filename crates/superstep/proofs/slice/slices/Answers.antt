@@ -1,10 +1,9 @@
-use Rattle.std.proofs.Common.{◌≡◌, ◌<◌, [], length, get_or, map, ap, sym, ◌∙◌, subst, arith, refl}
+use Rattle.std.proofs.Common.{◌≡◌, ◌<◌, [], length, get_or, map, vec_items, ap, sym, ◌∙◌, subst, arith, refl}
 use Rattle.std.proofs.lemmas.List.{length-map}
 use Rattle.std.proofs.lemmas.List.FromFn.{length-map-range_with_len}
 use Rattle.graph.specs.Cutting.{part_at, part_by}
 use Rattle.superstep.specs.Job.{IsGraphOf, Work}
 use Rattle.superstep.specs.State.{state_id}
-use Rattle.superstep.specs.inside.Cuts.{states_in}
 use Rattle.superstep.proofs.Graphs.{few_parts}
 use Rattle.superstep.proofs.PartStates.{part_fits, part_stands}
 use Rattle.superstep.proofs.slice.slices.Goals as goal
@@ -12,7 +11,7 @@ use Rattle.superstep.proofs.slice.slices.Goals as goal
 -- there are as many parts as the job has
 many : (g : _) (c : goal.In_ok-cut g) → length c.in_ok-cut.cut.items ≡ c.args.job.now.settings.parts
 many g c =
-    sym (length-map c.in_ok-cut.cut.items states_in) ∙ ap length c.in_ok-cut.ensures
+    sym (length-map c.in_ok-cut.cut.items vec_items) ∙ ap length c.in_ok-cut.ensures
     ∙ length-map-range_with_len (part_by state_id c.settings.result.parts c.into_vertices.result.items) 0 c.settings.result.parts
     ∙ ap (λ settings. settings.parts) c.settings.ensures.settings
 
@@ -28,8 +27,8 @@ label-requires-clause-parts g c = λ part below.
     let parts : c.settings.result.parts ≡ own.settings.parts =
     ap (λ settings. settings.parts) c.settings.ensures.settings ∙ ap (λ (work : Work). work.settings.parts) (sym c.requires.job) in
     let small : part < own.settings.parts =
-    omega (arith, below, length-map c.in_ok-cut.cut.items states_in, many g c, ap (λ (work : Work). work.settings.parts) c.requires.job) in
-    let here : get_or (map states_in c.in_ok-cut.cut.items) part [] ≡ part_by state_id own.settings.parts state.vertices part =
+    omega (arith, below, length-map c.in_ok-cut.cut.items vec_items, many g c, ap (λ (work : Work). work.settings.parts) c.requires.job) in
+    let here : get_or (map vec_items c.in_ok-cut.cut.items) part [] ≡ part_by state_id own.settings.parts state.vertices part =
     ap (λ xs. get_or xs part []) c.in_ok-cut.ensures
     ∙ part_at state_id c.settings.result.parts c.into_vertices.result.items part [] (rw parts small)
     ∙ rw (parts, c.into_vertices.ensures) refl in

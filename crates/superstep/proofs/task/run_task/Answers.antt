@@ -5,9 +5,9 @@ use Rattle.superstep.specs.declared.state.VertexState.{VertexState}
 use Rattle.superstep.specs.declared.task.Shared.{Shared}
 use Rattle.superstep.specs.Job.{HasGraph, IsCount, Work}
 use Rattle.superstep.specs.State.{state_id}
-use Rattle.superstep.specs.Tasks.{AreAggregatesAt, IsDone, SliceStamp}
+use Rattle.superstep.specs.Tasks.{AreAggregatesAt, AreUnitsAt, IsDone, SliceStamp, TaskStamp}
 use Rattle.superstep.specs.inside.Leaving.{CallsPart, HasProperIds, Tells}
-use Rattle.superstep.proofs.PartLeft.{done_here, entries_here, fits_below, fits_ids, proper_here, whole_slice}
+use Rattle.superstep.proofs.PartLeft.{done_here, entries_here, fits_below, fits_ids, proper_here, units_here, whole_slice}
 use Rattle.superstep.proofs.task.run_task.Goals as goal
 
 pub run_part-ran-requires-clause-same : goal.run_part-ran-requires-clause-same
@@ -63,3 +63,16 @@ invariant_of-result g c =
     let whole = whole_slice before after c.slice.inside.vertices.len (c.run_part-ran.auto.vertices ∙ ap length c.deref_mut.ensures.value) (omega (arith, c.slice.inside.vertices.ok.0)) in
     subst (λ (states : List VertexState). IsDone work g.J.Origin.honest (record { epoch = c.task.inside.epoch; superstep = shared.superstep; part = part; units = left.units }) states left.letters.items left.slots)
     (sym whole) done
+
+pub returns-clause-units : goal.returns-clause-units
+returns-clause-units g c = λ sure.
+    let work = g.J.Origin.work in
+    let units = c.in-Ok.left.units in
+    let superstep : c.slice.inside.superstep ≡ c.args.task.superstep =
+    ap (λ (stamp : SliceStamp). stamp.superstep) c.slice.view_is ∙ ap (λ (stamp : TaskStamp). stamp.superstep) c.task.view_is in
+    let part : c.slice.inside.part ≡ c.args.task.part =
+    ap (λ (stamp : SliceStamp). stamp.part) c.slice.view_is ∙ ap (λ (stamp : TaskStamp). stamp.part) c.task.view_is in
+    subst (λ (n : ℕ). AreUnitsAt work n c.args.task.part units) superstep
+    (subst (λ (n : ℕ). AreUnitsAt work c.slice.inside.superstep n units) part
+    (units_here work g.J.Origin.honest (record { epoch = c.task.inside.epoch; superstep = c.slice.inside.superstep; part = c.slice.inside.part; units = units })
+    _ _ _ (invariant_of-result g c) sure))

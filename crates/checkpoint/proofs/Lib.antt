@@ -1,0 +1,7 @@
+pub mod Tools
+pub mod Fields
+pub mod Rows
+pub mod Sound
+pub mod Found
+pub mod Again
+pub mod Lengths

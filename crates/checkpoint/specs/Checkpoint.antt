@@ -1,0 +1,78 @@
+-- How a state is spelled. A state has one spelling, of version 2; version 1, in which the units of single supersteps are not
+-- told, is still read.
+use Rattle.std.specs.Prelude.{◌≡◌, ◌<◌, ◌^◌, ◌⊎◌, ◌++◌, ◌∷◌, [], ℕ, Bool, FitsSigned, List, length, if◌then◌else◌}
+use Rattle.std.specs.Int.{w64}
+use Rattle.std.specs.List.{AllByRecursion, flat_map}
+use Rattle.sha2.specs.Sha256.{sha256}
+use Rattle.superstep.specs.declared.state.VertexState.{VertexState}
+use Rattle.superstep.specs.State.{IsState, Standing}
+use Rattle.checkpoint.specs.Numbers.{number, signed}
+
+-- the SHA-256 of these bytes
+unfoldable pub digest : List ℕ → List ℕ
+digest bytes = sha256 bytes
+
+-- PGCK
+unfoldable pub magic : List ℕ
+magic = 0x50 ∷ 0x47 ∷ 0x43 ∷ 0x4B ∷ []
+
+abbrev pub flag : Bool → ℕ
+flag active = if active then 1 else 0
+
+-- a vertex: its id, its value, whether it is active, and its messages with their count before them
+unfoldable pub vertex_bytes : VertexState → List ℕ
+vertex_bytes v = number 8 v.id ++ (signed v.value ++ (number 1 (flag v.active) ++ (number 8 (length v.inbox) ++ flat_map signed v.inbox)))
+
+-- what both versions begin with
+unfoldable pub head_bytes : ℕ → Standing → List ℕ
+head_bytes version state =
+    magic ++ (number 4 version ++ (number 4 state.superstep ++ (number 16 state.dropped ++ (number 16 state.units ++ flat_map signed state.aggregates))))
+
+-- the first superstep whose units are told, and the units of each from that one on
+unfoldable pub told_bytes : Standing → List ℕ
+told_bytes state = number 4 state.since ++ flat_map (number 16) state.by_superstep
+
+-- the vertices, by rising id, with their count before them
+unfoldable pub vertices_bytes : List VertexState → List ℕ
+vertices_bytes vs = number 4 (length vs) ++ flat_map vertex_bytes vs
+
+abbrev pub sealed : List ℕ → List ℕ
+sealed content = content ++ digest content
+
+-- version 2
+abbrev pub checkpoint_bytes : Standing → List ℕ
+checkpoint_bytes state = sealed (head_bytes 2 state ++ (told_bytes state ++ vertices_bytes state.vertices))
+
+-- version 1
+abbrev pub older_bytes : Standing → List ℕ
+older_bytes state = sealed (head_bytes 1 state ++ vertices_bytes state.vertices)
+
+-- ---- what has a spelling
+
+pub record VertexFits (v : VertexState) : Type 0 where
+  pub id : v.id < 2 ^ 64
+  pub value : FitsSigned w64 v.value
+  pub count : length v.inbox < 2 ^ 64
+  pub inbox : AllByRecursion (FitsSigned w64) v.inbox
+
+pub record HeadFits (state : Standing) : Type 0 where
+  pub superstep : state.superstep < 2 ^ 32
+  pub dropped : state.dropped < 2 ^ 128
+  pub units : state.units < 2 ^ 128
+  pub slots : length state.aggregates ≡ 8
+  pub aggregates : AllByRecursion (FitsSigned w64) state.aggregates
+
+-- each number is one of its width
+pub record Fits (state : Standing) : Type 0 where
+  pub head : HeadFits state
+  pub by_superstep : AllByRecursion (λ n. n < 2 ^ 128) state.by_superstep
+  pub vertices : AllByRecursion VertexFits state.vertices
+
+-- The bytes are those of the state: version 2, or version 1 where the units of no superstep are told.
+abbrev pub Spells : List ℕ → Standing → Type 0
+Spells bytes state = (bytes ≡ checkpoint_bytes state) ⊎ ((bytes ≡ older_bytes state) × (state.since ≡ state.superstep))
+
+pub record IsCheckpointOf (bytes : List ℕ) (state : Standing) : Type 0 where
+  pub is_state : IsState state
+  pub fits : Fits state
+  pub spelled : Spells bytes state

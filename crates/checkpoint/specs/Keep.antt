@@ -1,0 +1,21 @@
+-- What the calls of a Keep leave.
+use Rattle.std.specs.Prelude.{◌≡◌, ◌<◌, ◌≤◌, ◌⊎◌, ◌^◌, ℕ, suc, List, Option, Some, None, Result, IsErrOf}
+use Rattle.checkpoint.specs.declared.keep.KeepFault.{KeepFault}
+use Rattle.checkpoint.specs.declared.keep.KeepFault.TheVariants.{Device}
+
+-- a load answers these bytes and no others
+abbrev pub Only : List ℕ → (List ℕ → Type 0) → Type 0
+Only bytes may_load = (other : List ℕ) → may_load other → other ≡ bytes
+
+-- after a failed save the last good one is what it was, or none where it had the same superstep
+abbrev pub IsKeptOrNone : ℕ → Option ℕ → Option ℕ → Type 0
+IsKeptOrNone superstep before after = (after ≡ before) ⊎ ((before ≡ Some superstep) × (after ≡ None))
+
+-- the device failed once more, or its failures are too many to count
+abbrev pub HasFailed : ℕ → ℕ → Type 0
+HasFailed before after = (before < after) ⊎ (2 ^ 64 ≤ suc after)
+
+-- `Device` is answered only where the device failed
+pub record HasCause {T : Type 0} (before after : ℕ) (result : Result T KeepFault) : Type 0 where
+  pub later : before ≤ after
+  pub device : IsErrOf result Device → HasFailed before after

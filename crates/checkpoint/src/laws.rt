@@ -1,0 +1,33 @@
+//! What checkpoints keep, whoever reads and writes them.
+
+ghost use Rattle.std.specs.Prelude.{◌≡◌, ◌+◌, ◌*◌, ℕ, List, Ok, length};
+ghost use Rattle.std.specs.List.{sum_by};
+ghost use Rattle.checkpoint.specs.Checkpoint.{Fits, IsCheckpointOf, checkpoint_bytes, older_bytes};
+ghost use Rattle.checkpoint.specs.Reading.{state_of};
+ghost use Rattle.superstep.specs.State.{IsState, Standing};
+
+/// The checkpoint of a state is read as that state, of version 1 too where the units of no superstep
+/// are told.
+pub fn what_is_written_is_read()
+    ensures newer { (state : Standing) → IsState state → Fits state
+        → state_of (checkpoint_bytes state) ≡ Ok state }
+    ensures older { (state : Standing) → IsState state → Fits state
+        → state.since ≡ state.superstep → state_of (older_bytes state) ≡ Ok state }
+{}
+
+/// Bytes are the checkpoint of at most one state.
+pub fn a_checkpoint_is_of_one_state()
+    ensures { (bytes : List ℕ) (one other : Standing) → IsCheckpointOf bytes one
+        → IsCheckpointOf bytes other → one ≡ other }
+{}
+
+/// How many bytes a checkpoint has.
+pub fn a_checkpoint_is_so_long()
+    ensures newer { (state : Standing) → length state.aggregates ≡ 8
+        → length (checkpoint_bytes state)
+        ≡ 148 + 16 * length state.by_superstep
+        + sum_by (λ vertex. 25 + 8 * length vertex.inbox) state.vertices }
+    ensures older { (state : Standing) → length state.aggregates ≡ 8
+        → length (older_bytes state)
+        ≡ 144 + sum_by (λ vertex. 25 + 8 * length vertex.inbox) state.vertices }
+{}

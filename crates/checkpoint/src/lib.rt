@@ -1,0 +1,21 @@
+//! States as bytes, and where those bytes are kept.
+#![tactic(auto)]
+
+mod digest;
+mod fault;
+mod files;
+mod keep;
+mod laws;
+mod memory;
+mod numbers;
+mod reading;
+mod vertices;
+mod writing;
+
+pub use fault::CheckFault;
+pub use files::FileKeep;
+pub use keep::{Keep, KeepFault};
+pub use laws::{a_checkpoint_is_of_one_state, a_checkpoint_is_so_long, what_is_written_is_read};
+pub use memory::MemoryKeep;
+pub use reading::read;
+pub use writing::write;

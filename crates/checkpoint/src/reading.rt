@@ -1,0 +1,173 @@
+//! States from their bytes.
+
+ghost use Rattle.std.specs.Prelude.{◌≡◌, ◌+◌, ◌^◌, ◌<◌, ◌≤◌, length, IfOk, MatchResult};
+ghost use Rattle.checkpoint.specs.Checkpoint.{IsCheckpointOf};
+ghost use Rattle.checkpoint.specs.Reading.{Gives, adds_up, content_at, head_at, in_order, sealed_at, state_of, told_at};
+ghost use Rattle.std.specs.List.{sum};
+ghost use Rattle.superstep.specs.Folds.{capped};
+ghost use Rattle.superstep.specs.State.{Standing};
+ghost use Rattle.superstep.specs.Totals.{standing_of};
+
+use crate::digest::digest_of;
+use crate::fault::CheckFault;
+use crate::numbers::{Item, items, slots, u32_at};
+use crate::vertices::{are_rising, read_vertices};
+use std::alloc::Global;
+use superstep::{State, Totals, VertexState};
+
+// What a checkpoint begins with.
+const MAGIC: [u8; 4] = *b"PGCK";
+
+// What both versions have behind the version.
+#[derive(Clone, Copy)]
+struct Head {
+    superstep: u32,
+    dropped: u128,
+    units: u128,
+    aggregates: [i64; 8],
+}
+
+#[tactic(auto, unfolding(crate::specs::Reading::head_at))]
+fn read_head(bytes: &[u8]) -> Result<(Head, &[u8]), CheckFault>
+    ensures { Gives (λ x. (x.0, x.1.now)) result (head_at bytes.now) }
+{
+    let (superstep, rest) = u32_at(bytes)?;
+    let (dropped, rest) = u128::read(rest)?;
+    let (units, rest) = u128::read(rest)?;
+    let (aggregates, rest) = slots(rest)?;
+    let head = Head {
+        superstep,
+        dropped,
+        units,
+        aggregates,
+    };
+    Ok((head, rest))
+}
+
+// The first superstep whose units are told, and the units.
+#[tactic(auto, unfolding(crate::specs::Reading::told_at))]
+fn read_told(
+    alloc: Global,
+    version: u32,
+    superstep: u32,
+    bytes: &[u8],
+) -> Result<((u32, Vec<u128>), &[u8]), CheckFault>
+    ensures { Gives (λ x. ((x.0.0, x.0.1.items), x.1.now)) result
+        (told_at version superstep bytes.now) }
+{
+    if version == 1 {
+        return Ok(((superstep, Vec::new(alloc)), bytes));
+    }
+    let (since, rest) = u32_at(bytes)?;
+    if rest.len() < 4 {
+        return Err(CheckFault::Truncated);
+    }
+    if superstep < since {
+        return Err(CheckFault::Order);
+    }
+    let (told, rest) = items::<u128>(alloc, u64::from(superstep - since), rest)?;
+    Ok(((since, told), rest))
+}
+
+// The sum, which stops at the greatest number of 128 bits.
+fn capped_sum(units: &[u128]) -> u128
+    ensures { result ≡ capped (sum units.now) }
+{
+    let mut total = 0u128;
+    for own in units {
+        total = total.saturating_add(*own);
+    }
+    total
+}
+
+// Whether the total has the units that are told in it, and no others where they are all told.
+fn adds_up(totals: &Totals) -> bool
+    ensures { result ≡ adds_up totals.now.since totals.now.by_superstep.items totals.now.units }
+{
+    let sum = capped_sum(&totals.by_superstep);
+    sum <= totals.units && (totals.since != 0 || totals.units == sum)
+}
+
+// The state, where its bytes are in order and it is one.
+fn state_in(
+    ordered: bool,
+    totals: Totals,
+    aggregates: [i64; 8],
+    vertices: Vec<VertexState>,
+) -> Result<State, CheckFault>
+    requires told { totals.since + length totals.by_superstep.items ≡ totals.superstep }
+    requires few { length vertices.items < 2 ^ 32 }
+    ensures { Gives (λ state. state) result
+        (in_order ordered (standing_of totals aggregates vertices.items)) }
+{
+    if ordered && are_rising(&vertices) && adds_up(&totals) {
+        Ok(State::of(totals, aggregates, vertices))
+    } else {
+        Err(CheckFault::Order)
+    }
+}
+
+// The state that stands behind the version, in all of the bytes.
+#[tactic(auto, unfolding(crate::specs::Reading::content_at))]
+fn read_content(alloc: Global, version: u32, bytes: &[u8]) -> Result<State, CheckFault>
+    ensures { Gives (λ state. state) result (content_at version bytes.now) }
+{
+    let (head, rest) = read_head(bytes)?;
+    let ((since, by_superstep), rest) = read_told(alloc, version, head.superstep, rest)?;
+    let (count, rest) = u32_at(rest)?;
+    let ((vertices, told), rest) = read_vertices(alloc, count, rest)?;
+    let totals = Totals {
+        superstep: head.superstep,
+        since,
+        by_superstep,
+        units: head.units,
+        dropped: head.dropped,
+    };
+    state_in(told && rest.is_empty(), totals, head.aggregates, vertices)
+}
+
+// The state whose bytes these are, with the digest that stands behind them.
+#[tactic(auto, unfolding(crate::specs::Reading::sealed_at, crate::specs::Checkpoint::magic))]
+fn read_sealed(alloc: Global, body: &[u8], seal: &[u8]) -> Result<State, CheckFault>
+    requires { 8 ≤ length body.now }
+    ensures { Gives (λ state. state) result (sealed_at body.now seal.now) }
+{
+    if body[..4] != MAGIC[..] {
+        return Err(CheckFault::Header);
+    }
+    let (version, rest) = u32_at(&body[4..])?;
+    if version != 1 && version != 2 {
+        return Err(CheckFault::Version);
+    }
+    if seal != &digest_of(body)[..] {
+        return Err(CheckFault::Digest);
+    }
+    read_content(alloc, version, rest)
+}
+
+#[tactic(auto, unfolding(crate::specs::Reading::state_of))]
+fn read_state(alloc: Global, bytes: &[u8]) -> Result<State, CheckFault>
+    ensures { Gives (λ state. state) result (state_of bytes.now) }
+{
+    if bytes.len() < 40 {
+        return Err(CheckFault::Truncated);
+    }
+    let (body, seal) = bytes.split_at(bytes.len() - 32);
+    read_sealed(alloc, body, seal)
+}
+
+/// The state whose checkpoint the bytes are, of version 1 or 2.
+///
+/// A state of version 1 tells the units of no superstep. Of several faults the first in their
+/// order is told.
+pub fn read(alloc: Global, bytes: &[u8]) -> Result<State, CheckFault>
+    // What is read is a state, and the bytes are its checkpoint.
+    ensures found { IfOk result (IsCheckpointOf bytes.now) }
+    // A state whose checkpoint the bytes are is read, unless memory runs out.
+    ensures only { (state : Standing) → IsCheckpointOf bytes.now state
+        → MatchResult result (λ read. read ≡ state) (λ fault. fault ≡ CheckFault.OutOfMemory) }
+    // Which fault is told.
+    ensures fault { Gives (λ state. state) result (state_of bytes.now) }
+{
+    read_state(alloc, bytes)
+}

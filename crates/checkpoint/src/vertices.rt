@@ -1,0 +1,66 @@
+//! Vertices as they stand in a checkpoint.
+
+ghost use Rattle.std.specs.Prelude.{◌≡◌, map};
+ghost use Rattle.checkpoint.specs.Reading.{Gives, is_rising, vertex_at, vertices_at};
+ghost use Rattle.superstep.specs.State.{state_id};
+
+use crate::fault::CheckFault;
+use crate::numbers::{Item, items, u8_at, u64_at};
+use inbox::Inbox;
+use std::alloc::Global;
+use superstep::VertexState;
+
+// A vertex, and whether 0 or 1 says that it is active.
+#[tactic(auto, unfolding(crate::specs::Reading::vertex_at))]
+fn read_vertex(alloc: Global, bytes: &[u8]) -> Result<((VertexState, bool), &[u8]), CheckFault>
+    ensures { Gives (λ x. (x.0, x.1.now)) result (vertex_at bytes.now) }
+{
+    let (id, rest) = u64_at(bytes)?;
+    let (value, rest) = i64::read(rest)?;
+    let (active, rest) = u8_at(rest)?;
+    let (count, rest) = u64_at(rest)?;
+    let (messages, rest) = items::<i64>(alloc, count, rest)?;
+    let vertex = VertexState {
+        id,
+        value,
+        active: active == 1,
+        inbox: Inbox::from(messages),
+    };
+    Ok(((vertex, active <= 1), rest))
+}
+
+/// So many vertices, and whether 0 or 1 says of each that it is active.
+pub fn read_vertices(
+    alloc: Global,
+    count: u32,
+    bytes: &[u8],
+) -> Result<((Vec<VertexState>, bool), &[u8]), CheckFault>
+    ensures { Gives (λ x. ((x.0.0.items, x.0.1), x.1.now)) result (vertices_at count bytes.now) }
+{
+    // Each vertex has 25 bytes at least: no more room is made than there are vertices.
+    let room = (bytes.len() / 25).min(count as usize);
+    let mut all = Vec::with_capacity(alloc, room)?;
+    let mut told = true;
+    let mut rest = bytes;
+    for _ in 0..count {
+        let ((vertex, is_told), after) = read_vertex(alloc, rest)?;
+        all.push(vertex)?;
+        told &= is_told;
+        rest = after;
+    }
+    Ok(((all, told), rest))
+}
+
+/// Whether each id is below the next.
+pub fn are_rising(vertices: &[VertexState]) -> bool
+    ensures { result ≡ is_rising (map state_id vertices.now) }
+{
+    for index in 1..vertices.len() {
+        let last = vertices[index - 1].id;
+        let next = vertices[index].id;
+        if next <= last {
+            return false;
+        }
+    }
+    true
+}

@@ -14,50 +14,66 @@ use console::{Options, Source, call, command, options, refusal_line};
 use lent_files::{LentFiles, lent_files};
 use std::alloc::{AllocError, Global};
 use std::rt::Files;
+use std::thread::Threads;
 use std::{fs, iter, str};
 
-pub fn show(rt: &(impl Files + Print + AllocGlobal)) -> Result<()> {
+pub fn show(rt: &(impl Files + Print + AllocGlobal + Threads + Sync)) -> Result<()> {
     let mut files = lent_files(rt)?;
     show_cases(rt, &mut files)
 }
 
-fn show_cases(rt: &(impl Files + Print + AllocGlobal), files: &mut LentFiles) -> Result<()> {
+fn show_cases(
+    rt: &(impl Files + Print + AllocGlobal + Threads + Sync),
+    files: &mut LentFiles,
+) -> Result<()> {
     let text = fs::read_to_string(rt, "commands.txt")?;
     for case in text.as_str().lines().filter(|line| is_case(line)) {
-        let answer = answer(rt.alloc(), case, files)?;
+        let answer = answer(rt, rt.alloc(), case, files)?;
         println!(rt; "{case}: {answer}")?;
     }
     Ok(())
 }
 
-fn answer(alloc: Global, case: &str, files: &mut LentFiles) -> Result<String> {
+fn answer(
+    rt: &(impl Threads + Sync),
+    alloc: Global,
+    case: &str,
+    files: &mut LentFiles,
+) -> Result<String> {
     if let Some(body) = case.strip_prefix("body ") {
         let frame = str::from_utf8(files.bytes_of("frame.wat")?)?;
-        return bounds(alloc, frame, body);
+        return bounds(rt, alloc, frame, body);
     }
     if let Some(names) = case.strip_prefix("engine ") {
         return called(alloc, names, files);
     }
     let (line, room) = case.split_once(" into ").unwrap_or((case, ""));
-    carried_out(alloc, line, room, files)
+    carried_out(rt, alloc, line, room, files)
 }
 
-fn carried_out(alloc: Global, line: &str, room: &str, files: &mut LentFiles) -> Result<String> {
+fn carried_out(
+    rt: &(impl Threads + Sync),
+    alloc: Global,
+    line: &str,
+    room: &str,
+    files: &mut LentFiles,
+) -> Result<String> {
     let words: Vec<&str> = iter::once("pregel")
         .chain(line.split_ascii_whitespace())
         .collect(alloc)?;
-    read_and_carried_out(alloc, words.as_slice(), room, files)
+    read_and_carried_out(rt, alloc, words.as_slice(), room, files)
 }
 
 fn read_and_carried_out(
+    rt: &(impl Threads + Sync),
     alloc: Global,
     words: &[&str],
     room: &str,
     files: &mut LentFiles,
 ) -> Result<String> {
     match options(alloc, words) {
-        Ok(options) if room.is_empty() => told(alloc, options, files),
-        Ok(options) => told_in(alloc, options, files, room.parse::<usize>()?),
+        Ok(options) if room.is_empty() => told(rt, alloc, options, files),
+        Ok(options) => told_in(rt, alloc, options, files, room.parse::<usize>()?),
         Err(error) => Ok(String::from_str(alloc, refused(error.kind()))?),
     }
 }
@@ -68,14 +84,20 @@ fn refused(kind: ErrorKind) -> &'static str {
         ErrorKind::InvalidSubcommand => "unknown command",
         ErrorKind::MissingRequiredArgument => "missing argument",
         ErrorKind::UnknownArgument => "unknown argument",
+        ErrorKind::ValueValidation => "bad value",
         _ => "refused",
     }
 }
 
-fn told(alloc: Global, options: Options, files: &mut LentFiles) -> Result<String> {
+fn told(
+    rt: &(impl Threads + Sync),
+    alloc: Global,
+    options: Options,
+    files: &mut LentFiles,
+) -> Result<String> {
     files.forget_written();
     let mut out = Vec::new(alloc);
-    let status = command(alloc, options, files, &mut out)?;
+    let status = command(rt, alloc, options, files, &mut out)?;
     shown(alloc, status, out.as_slice(), files)
 }
 
@@ -86,9 +108,15 @@ fn shown(alloc: Global, status: u8, out: &[u8], files: &LentFiles) -> Result<Str
     Ok(shown)
 }
 
-fn told_in(alloc: Global, options: Options, files: &mut LentFiles, room: usize) -> Result<String> {
+fn told_in(
+    rt: &(impl Threads + Sync),
+    alloc: Global,
+    options: Options,
+    files: &mut LentFiles,
+    room: usize,
+) -> Result<String> {
     let mut room = vec![in alloc; 0u8; room]?;
-    match command(alloc, options, files, &mut room.as_mut_slice()) {
+    match command(rt, alloc, options, files, &mut room.as_mut_slice()) {
         Ok(status) => Ok(format!(in alloc; "{status}")?),
         Err(fault) => {
             let begun = str::from_utf8(room.as_slice())?;
@@ -97,12 +125,12 @@ fn told_in(alloc: Global, options: Options, files: &mut LentFiles, room: usize) 
     }
 }
 
-fn bounds(alloc: Global, frame: &str, body: &str) -> Result<String> {
+fn bounds(rt: &(impl Threads + Sync), alloc: Global, frame: &str, body: &str) -> Result<String> {
     let (before, after) = frame.split_once('□').unwrap_or((frame, ""));
     let module = format!(in alloc; "{before}{body}{after}")?;
     let mut files = LentFiles::new(alloc);
     files.lend("built.wat", module.into_bytes())?;
-    carried_out(alloc, "verify built.wat", "", &mut files)
+    carried_out(rt, alloc, "verify built.wat", "", &mut files)
 }
 
 fn called(alloc: Global, names: &str, files: &LentFiles) -> Result<String> {

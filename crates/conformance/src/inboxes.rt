@@ -1,6 +1,8 @@
 //! Inboxes: `NAME: IDS; FROM SEQ TO VALUE, FROM SEQ TO VALUE, ..` prints what stands in the inbox of each id, and how many
 //! letters are dropped.
 
+mod by_part;
+
 ghost use Rattle.std.specs.Prelude.{◌≡◌, IsTrue};
 ghost use Rattle.std.specs.List.{IsDistinct, list_any};
 ghost use Rattle.std.specs.List.Sorted.{IsStrictlyIncreasing};
@@ -12,9 +14,11 @@ use inbox::{Inbox, Letter, merge};
 use std::alloc::{AllocError, Global};
 use std::num::ParseIntError;
 use std::rt::Files;
+use std::thread::Threads;
 
-pub fn show(rt: &(impl Files + Print + AllocGlobal)) -> Result<()> {
-    show_cases(rt, "inboxes.txt", answer)
+pub fn show(rt: &(impl Files + Print + AllocGlobal + Threads + Sync)) -> Result<()> {
+    show_cases(rt, "inboxes.txt", answer)?;
+    by_part::show(rt)
 }
 
 fn answer(alloc: Global, case: &str) -> Result<String> {
@@ -95,11 +99,16 @@ fn is_among(letter: &Letter, others: &[Letter]) -> bool
 
 fn told(alloc: Global, inboxes: &[Inbox], dropped: u64) -> Result<String, AllocError> {
     let mut text = String::new(alloc);
-    for inbox in inboxes {
-        tell_messages(inbox, &mut text)?;
-    }
+    tell_inboxes(inboxes, &mut text)?;
     write!(text, "dropped {dropped}")?;
     Ok(text)
+}
+
+fn tell_inboxes(inboxes: &[Inbox], text: &mut String) -> Result<(), AllocError> {
+    for inbox in inboxes {
+        tell_messages(inbox, text)?;
+    }
+    Ok(())
 }
 
 fn tell_messages(inbox: &Inbox, text: &mut String) -> Result<(), AllocError> {

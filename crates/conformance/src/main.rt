@@ -5,6 +5,7 @@
 mod binary;
 mod calls;
 mod cases;
+mod checkpoints;
 mod commands;
 mod copies;
 mod costs;
@@ -58,7 +59,7 @@ fn judgements(rt: &(impl Files + Print + AllocGlobal)) -> Result<()> {
     costs::show(rt)
 }
 
-// Compute calls, graphs, inboxes, jobs, and the console.
+// Compute calls, graphs, inboxes, jobs, checkpoints, and the console.
 fn runs(rt: &(impl Files + Print + AllocGlobal + Threads + Sync)) -> Result<()> {
     host_functions::show(rt)?;
     calls::show(rt)?;
@@ -66,6 +67,7 @@ fn runs(rt: &(impl Files + Print + AllocGlobal + Threads + Sync)) -> Result<()> 
     graphs::show(rt)?;
     inboxes::show(rt)?;
     jobs::show(rt)?;
+    checkpoints::show(rt)?;
     inputs::show(rt)?;
     commands::show(rt)
 }

@@ -11,7 +11,8 @@ use Rattle.console.specs.Disk.{Disk, HoldsAt, Stays, Tries, Writes, unknown}
 use Rattle.console.specs.Modules.{IsModuleAt, MeansBy, is_text_path}
 use Rattle.console.specs.Engine.{RefusesModule, content, is_text}
 use Rattle.console.specs.inside.Answering.{HoldsSource}
-use Rattle.console.specs.Program.{IsBeforeWriting, IsNoFile, IsRefusedAt, IsUnread, IsUnspelled, IsUnwritable, RefusesSpelled, TellsSpelling, length_line}
+use Rattle.console.specs.Jobs.{RefusesGraph}
+use Rattle.console.specs.Program.{IsBeforeWriting, IsNoFile, IsNoGraphAt, IsRefusedAt, IsUnread, IsUnspelled, IsUnwritable, RefusesSpelled, TellsSpelling, length_line}
 
 -- nothing was done
 pub stays_same : (disk : Disk) → Stays disk disk
@@ -55,8 +56,17 @@ unread_before is_text before after path stays (command.Invalid fault) is = absur
 unread_before is_text before after path stays (command.Unbounded fault) is = absurd is
 unread_before is_text before after path stays (command.Input fault) is = absurd is
 unread_before is_text before after path stays command.Run is = absurd is
+unread_before is_text before after path stays (command.Graph fault) is = absurd is
+unread_before is_text before after path stays (command.Settings setting) is = absurd is
+unread_before is_text before after path stays command.Job is = absurd is
 unread_before is_text before after path stays (command.Encode fault) is = absurd is
 unread_before is_text before after path stays (command.Unwritable refused) is = absurd is
+
+-- where no graph is found after a read, none was found before
+pub no_graph_before : (before after : Disk) (path : List ℕ) → Stays before after → (fault : CommandFault)
+    → IsNoGraphAt after path fault → IsNoGraphAt before path fault
+no_graph_before before after path stays fault (inl unread) = inl (unread_before true before after path stays fault unread)
+no_graph_before before after path stays fault (inr held) = inr (holds_before before after path (λ text. RefusesGraph text fault) stays held)
 
 -- what cannot be written after a read could not be written before
 pub unspelled_before : (before after : Disk) (path : List ℕ) (m : Module) → Stays before after → (fault : CommandFault)
@@ -70,6 +80,9 @@ unspelled_before before after path m stays (command.Invalid fault) is = absurd i
 unspelled_before before after path m stays (command.Unbounded fault) is = absurd is
 unspelled_before before after path m stays (command.Input fault) is = absurd is
 unspelled_before before after path m stays command.Run is = absurd is
+unspelled_before before after path m stays (command.Graph fault) is = absurd is
+unspelled_before before after path m stays (command.Settings setting) is = absurd is
+unspelled_before before after path m stays command.Job is = absurd is
 unspelled_before before after path m stays (command.Unread missing) is = absurd is
 
 -- ---- modules

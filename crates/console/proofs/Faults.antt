@@ -1,5 +1,5 @@
 -- What a fault below says of a command.
-use Rattle.std.proofs.Common.{◌≡◌, ℕ, Bool, List, Result, Ok, Err, ap, subst, sym, refl}
+use Rattle.std.proofs.Common.{◌≡◌, ℕ, Bool, List, Result, Ok, Err, ap, subst, sym}
 use Rattle.std.specs.Prelude.{IfErr, IfOk, IsErrAnd, MatchResult, OnErr}
 use Rattle.wasm_ast.specs.declared.module.Module.{Module}
 use Rattle.wasm_ast.specs.Limits.{IsWithinLimits}
@@ -45,6 +45,9 @@ want_of_call (command.Text fault) is = absurd is
 want_of_call (command.Invalid fault) is = absurd is
 want_of_call (command.Unbounded fault) is = absurd is
 want_of_call (command.Input fault) is = absurd is
+want_of_call (command.Graph fault) is = absurd is
+want_of_call (command.Settings setting) is = absurd is
+want_of_call command.Job is = absurd is
 want_of_call (command.Encode fault) is = absurd is
 want_of_call (command.Unread path) is = absurd is
 want_of_call (command.Unwritable path) is = absurd is
@@ -58,6 +61,9 @@ text_refused m text (command.Text fault) is = absurd is
 text_refused m text (command.Invalid fault) is = absurd is
 text_refused m text (command.Unbounded fault) is = absurd is
 text_refused m text (command.Input fault) is = absurd is
+text_refused m text (command.Graph fault) is = absurd is
+text_refused m text (command.Settings setting) is = absurd is
+text_refused m text command.Job is = absurd is
 text_refused m text (command.Encode fault) is = absurd is
 text_refused m text (command.Unread path) is = absurd is
 text_refused m text (command.Unwritable path) is = absurd is
@@ -70,3 +76,8 @@ pub MatchResult-along : {A E : Type 0} {P P' : A → Type 0} {Q Q' : E → Type 
     → MatchResult r P Q → MatchResult r P' Q'
 MatchResult-along (Ok x) go other h = go x h
 MatchResult-along (Err e) go other h = other e h
+
+pub told_both : {A E : Type 0} {P P' : A → Type 0} {Q Q' : E → Type 0} (r : Result A E) → ((x : A) → P x → P' x) → ((e : E) → Q e → Q' e)
+    → IfOk r P → IfErr r Q → MatchResult r P' Q'
+told_both (Ok x) go other found refused = go x found
+told_both (Err e) go other found refused = other e refused

@@ -1,18 +1,18 @@
 -- The ids that an input's lines say are in their range.
-use Rattle.std.proofs.Common.{◌≡◌, ◌≤◌, ℕ, ℤ, Bool, true, false, List, [], ◌∷◌, ◌++◌, map, Option, Some, None, if◌then◌else◌, refl, sym, ap, ◌∙◌, subst, arith}
+use Rattle.std.proofs.Common.{◌≡◌, ◌≤◌, ℕ, ℤ, Bool, true, false, List, [], ◌∷◌, ◌++◌, map, Option, Some, None, if◌then◌else◌, refl, sym, ◌∙◌, subst, arith}
 use Rattle.std.specs.Prelude.{nat_le, unwrap_or, codes, ◌&&◌}
 use Rattle.std.specs.Option.{option_to_list}
 use Rattle.std.specs.List.{AllByRecursion, flat_map}
 use Rattle.std.specs.Str.{bytes_eq}
 use Rattle.host_calls.specs.declared.call.CallInput.{CallInput}
-use Rattle.graph.specs.Number.{id_of, number_of, numeral}
+use Rattle.graph.specs.Number.{id_of, number_of}
 use Rattle.interp.specs.Bounded.{HasIds, max_id}
 use Rattle.console.specs.declared.input.Input.{Input}
 use Rattle.console.specs.declared.input_line.Line.{Line}
 use Rattle.console.specs.declared.input_line.Line.TheVariants.{Skipped, Id, Superstep, Count, Value, Message, Edge, Aggregate, Bad}
 use Rattle.console.specs.Input.{Lends, Says}
 use Rattle.console.specs.InputLine.{line_of}
-use Rattle.console.specs.InputSays.{lines_of, id_by, edge_by, all_ids, all_edges}
+use Rattle.console.specs.InputSays.{lines_of, id_by, edge_by}
 use Rattle.console.specs.InputLine.{says_number, small_of, edge_line, aggregate_line, short_line, long_line, line_of_fields}
 use Rattle.graph.specs.Fields.{fields, is_filled}
 use Rattle.std.specs.Str.{all_ascii_digits}

@@ -4,3 +4,4 @@ pub mod Faults
 pub mod Ids
 pub mod Disks
 pub mod Telling
+pub mod JobLines

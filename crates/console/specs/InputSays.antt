@@ -1,5 +1,5 @@
 -- What lines say, one after another.
-use Rattle.std.specs.Prelude.{◌≡◌, ◌≤◌, ℕ, ℤ, pos, nat_lt, Bool, true, false, List, [], ◌∷◌, map, length, slice_set}
+use Rattle.std.specs.Prelude.{◌≡◌, ◌≤◌, ℕ, ℤ, nat_lt, Bool, true, false, List, [], ◌∷◌, map, length, slice_set}
 use Rattle.std.specs.List.{All, flat_map, fold}
 use Rattle.std.specs.Str.Lines.{lines}
 use Rattle.host_calls.specs.declared.call.TheConstants.{SLOTS}

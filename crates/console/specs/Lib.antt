@@ -10,8 +10,9 @@ pub mod Refusal
 -- files, and the modules in them
 pub mod Disk
 pub mod Modules
--- what a call answers, and what a command tells
+-- what a call answers, what a job tells, and what a command tells
 pub mod Engine
+pub mod Jobs
 pub mod Program
 -- what only mirrors the code, for its proofs
 pub mod inside

@@ -1,8 +1,10 @@
--- What is told, and how a call's outcome is printed.
-use Rattle.std.specs.Prelude.{◌≡◌, ℕ, ℤ, Bool, true, false, List, [], ◌∷◌, ◌++◌, codes, Result, String, string_bytes, IfOk}
+-- What is told, and how a call's outcome and a job's end are printed.
+use Rattle.std.specs.Prelude.{◌≡◌, ℕ, suc, ℤ, Bool, true, false, List, [], ◌∷◌, ◌++◌, codes, if◌then◌else◌, Result, String, string_bytes, IfOk}
 use Rattle.std.specs.List.{flat_map}
 use Rattle.std.specs.Fmt.{decimal, signed_decimal}
 use Rattle.host_calls.specs.declared.call.CallOutcome.{CallOutcome}
+use Rattle.graph.specs.Print.{value_lines}
+use Rattle.superstep.specs.PlainRun.{Answer}
 
 -- the bytes of the text that is answered have this property
 abbrev pub IfTold : {Z E : Type 0} → Result (String Z) E → (List ℕ → Type 0) → Type 0
@@ -39,3 +41,27 @@ outcome_lines outcome =
     state_lines outcome.value outcome.halted outcome.units
     ++ flat_map send_line outcome.sends.items
     ++ flat_map give_line outcome.contributions.items
+
+-- how a job ended
+abbrev pub end_word : Bool → List ℕ
+end_word true = codes "finished"
+end_word false = codes "limit"
+
+-- in which superstep, the units of all calls, and how many messages went to no vertex
+abbrev pub end_line : Answer → List ℕ
+end_line answer =
+    line (codes "end " ++ end_word answer.finished ++ codes " supersteps " ++ decimal answer.superstep
+    ++ codes " units " ++ decimal answer.units ++ codes " dropped " ++ decimal answer.dropped)
+
+abbrev pub units_line : (superstep units : ℕ) → List ℕ
+units_line superstep units = line (codes "units " ++ decimal superstep ++ codes " " ++ decimal units)
+
+-- the units of a superstep and of those behind it, each on its line
+abbrev pub units_lines : (superstep : ℕ) → List ℕ → List ℕ
+units_lines superstep [] = []
+units_lines superstep (units ∷ rest) = units_line superstep units ++ units_lines (suc superstep) rest
+
+-- the values, the end, and, if they are told, the units of each superstep from this one on
+abbrev pub job_lines : (tells_units : Bool) → Answer → (since : ℕ) → List ℕ → List ℕ
+job_lines tells_units answer since units =
+    value_lines answer.values ++ end_line answer ++ (if tells_units then units_lines since units else [])

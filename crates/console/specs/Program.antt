@@ -10,9 +10,12 @@ use Rattle.wasm_decode.specs.declared.encoder.fault.EncodeFault.TheVariants as e
 use Rattle.wat_asm.specs.Layout.{layout}
 use Rattle.bounded_profile.specs.Facts.{IsSizeAt, IsHeightAt, IsDepthAt}
 use Rattle.bounded_profile.specs.Profile.{HasCompute}
+use Rattle.graph.specs.Entry.{Entry}
 use Rattle.graph.specs.Output.{HasBegun}
+use Rattle.superstep.specs.Job.{Work}
 use Rattle.console.specs.declared.fault.CommandFault.{CommandFault}
 use Rattle.console.specs.declared.fault.CommandFault.TheVariants as command
+use Rattle.console.specs.declared.request.JobRequest.{JobRequest}
 use Rattle.console.specs.declared.request.Options.{Options}
 use Rattle.console.specs.declared.request.Options.TheVariants as options
 use Rattle.console.specs.Lines.{line}
@@ -20,6 +23,7 @@ use Rattle.console.specs.Disk.{Disk, HoldsAt, Stays, Tries, Writes}
 use Rattle.console.specs.Modules.{IsModuleAt, Loads, MeansBy, is_text_path}
 use Rattle.console.specs.Refusal.{fault_text, status_of}
 use Rattle.console.specs.Engine.{IsAnswer, RefusesLoad, RefusesModule, RefusesText}
+use Rattle.console.specs.Jobs.{AreJobLines, IsGraphIn, IsJobOf, IsWantOfJob, RefusesGraph, RefusesSettings}
 
 -- ---- answers
 
@@ -27,6 +31,26 @@ use Rattle.console.specs.Engine.{IsAnswer, RefusesLoad, RefusesModule, RefusesTe
 abbrev pub TellsOutcome : Disk → (module_path input_path told : List ℕ) → Type 0
 TellsOutcome disk module_path input_path told =
     HoldsAt disk module_path (λ content. HoldsAt disk input_path (λ text. IsAnswer (is_text_path module_path) content text told))
+
+-- the file's module is loaded
+abbrev pub IsLoadedAt : Disk → (path : List ℕ) → Module → Type 0
+IsLoadedAt disk path m = HoldsAt disk path (λ content. Loads (is_text_path path) content m)
+
+-- the file's text means this graph
+abbrev pub IsReadAt : Disk → (path : List ℕ) → List Entry → Type 0
+IsReadAt disk path graph = HoldsAt disk path (λ text. IsGraphIn text graph)
+
+-- it is the job of the module and the graph in two files
+pub record IsJobAt (disk : Disk) (asked : JobRequest) (job : Work) : Type 0 where
+  pub m : Module
+  pub loaded : IsLoadedAt disk asked.«module».now m
+  pub graph : List Entry
+  pub read : IsReadAt disk asked.graph.now graph
+  pub is_job : IsJobOf m graph asked.settings job
+
+-- the lines of what that job ends with are told
+abbrev pub TellsJob : Disk → JobRequest → (told : List ℕ) → Type 0
+TellsJob disk asked told = (job : Work) × IsJobAt disk asked job × AreJobLines job asked.tells_units told
 
 abbrev pub length_line : ℕ → List ℕ
 length_line count = line (codes "ok " ++ decimal count)
@@ -67,6 +91,7 @@ TellsBounds disk module_path told =
 
 abbrev pub Answered : (before after : Disk) → Options → List ℕ → Type 0
 Answered before after (options.Call module_path input_path) told = TellsOutcome before module_path.now input_path.now told
+Answered before after (options.Run asked) told = TellsJob before asked told
 Answered before after (options.Assemble module_path binary_path) told = TellsLength before after module_path.now binary_path.now told
 Answered before after (options.Print module_path) told = TellsLayout before module_path.now told
 Answered before after (options.Verify module_path) told = TellsBounds before module_path.now told
@@ -105,6 +130,26 @@ RefusesCalled disk input_path is_text content fault =
 abbrev pub IsUncalled : Disk → (module_path input_path : List ℕ) → CommandFault → Type 0
 IsUncalled disk module_path input_path fault = IsRefusedAt disk module_path (RefusesCalled disk input_path) fault
 
+-- the graph's file is not read, or what is in it means no graph
+abbrev pub IsNoGraphAt : Disk → (path : List ℕ) → CommandFault → Type 0
+IsNoGraphAt disk path fault = IsUnread true disk path fault ⊎ HoldsAt disk path (λ text. RefusesGraph text fault)
+
+-- why a module that is loaded has no job: there is no graph, or a setting is out of its range
+abbrev pub RefusesJob : Disk → JobRequest → CommandFault → Type 0
+RefusesJob disk asked fault =
+    IsNoGraphAt disk asked.graph.now fault
+    ⊎ ((graph : List Entry) × IsReadAt disk asked.graph.now graph × RefusesSettings asked.settings fault)
+
+-- why there is no job of the module and the graph in two files
+abbrev pub IsUnopened : Disk → JobRequest → CommandFault → Type 0
+IsUnopened disk asked fault =
+    IsRefusedAt disk asked.«module».now RefusesLoad fault
+    ⊎ ((m : Module) × IsLoadedAt disk asked.«module».now m × RefusesJob disk asked fault)
+
+-- why nothing is told of a job: there is none, or memory runs out
+abbrev pub IsUnrun : Disk → JobRequest → CommandFault → Type 0
+IsUnrun disk asked fault = IsUnopened disk asked fault ⊎ ((job : Work) × IsJobAt disk asked job × IsWantOfJob fault)
+
 -- writing to the file at the path came to this
 abbrev pub IsUnwritable : Disk → List ℕ → CommandFault → Type 0
 IsUnwritable disk path (command.Unwritable refused) = (refused.now ≡ path) × disk.refuses path
@@ -127,6 +172,7 @@ IsUnassembled disk module_path binary_path fault = IsRefusedAt disk module_path 
 
 abbrev pub IsCause : Disk → Options → CommandFault → Type 0
 IsCause disk (options.Call module_path input_path) fault = IsUncalled disk module_path.now input_path.now fault
+IsCause disk (options.Run asked) fault = IsUnrun disk asked fault
 IsCause disk (options.Assemble module_path binary_path) fault = IsUnassembled disk module_path.now binary_path.now fault
 IsCause disk (options.Print module_path) fault = IsRefusedAt disk module_path.now RefusesModule fault
 IsCause disk (options.Verify module_path) fault = IsRefusedAt disk module_path.now RefusesLoad fault

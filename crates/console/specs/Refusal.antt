@@ -9,13 +9,18 @@ use Rattle.wasm_decode.specs.declared.encoder.fault.EncodeFault.TheVariants as e
 use Rattle.wat_asm.specs.declared.fault.Position.{Position}
 use Rattle.wat_asm.specs.declared.fault.TextFault.{TextFault}
 use Rattle.wat_asm.specs.declared.fault.TextFault.TheVariants as text
+use Rattle.graph.specs.declared.fault.GraphFault.{GraphFault}
+use Rattle.graph.specs.declared.fault.GraphFault.TheVariants as graph
+use Rattle.superstep.specs.declared.settings.Setting.{Setting}
+use Rattle.superstep.specs.declared.settings.Setting.TheVariants as setting
 use Rattle.console.specs.declared.input.InputFault.{InputFault}
 use Rattle.console.specs.declared.input.InputFault.TheVariants as input
 use Rattle.console.specs.declared.fault.CommandFault.{CommandFault}
 use Rattle.console.specs.declared.fault.CommandFault.TheVariants as command
 
--- a file's fault is a mistake of another kind than a refusal
+-- a file's fault is a mistake of another kind than a refusal, and so is a job's end by a fault
 abbrev pub status_of : CommandFault → ℕ
+status_of command.Job = 3
 status_of (command.Unread path) = 4
 status_of (command.Unwritable path) = 4
 status_of _ = 1
@@ -42,6 +47,25 @@ abbrev pub input_text : InputFault → List ℕ
 input_text (input.Line number) = codes "no input " ++ decimal number
 input_text input.OutOfMemory = codes "no memory"
 
+-- a word, and the number of the line
+abbrev pub word_of_line : List ℕ → ℕ → List ℕ
+word_of_line word number = codes "no graph " ++ word ++ codes " " ++ decimal number
+
+abbrev pub graph_text : GraphFault → List ℕ
+graph_text (graph.Line number) = word_of_line (codes "Line") number
+graph_text (graph.DuplicateVertex number) = word_of_line (codes "DuplicateVertex") number
+graph_text (graph.UnknownEnd number) = word_of_line (codes "UnknownEnd") number
+graph_text (graph.Number number) = word_of_line (codes "Number") number
+graph_text (graph.OverLimit number) = word_of_line (codes "OverLimit") number
+graph_text graph.OutOfMemory = codes "no graph OutOfMemory -"
+
+abbrev pub setting_word : Setting → List ℕ
+setting_word setting.Parts = codes "parts"
+setting_word setting.Workers = codes "workers"
+setting_word setting.Every = codes "every"
+setting_word setting.Limit = codes "limit"
+setting_word setting.Lease = codes "lease"
+
 -- the module has no spelling that is short enough
 abbrev pub encode_text : EncodeFault → List ℕ
 encode_text encode.OverLimit = codes "no encode OverLimit"
@@ -57,6 +81,9 @@ fault_text (command.Invalid fault) = codes "no valid " ++ invalid_text fault
 fault_text (command.Unbounded fault) = codes "no profile " ++ unbounded_text fault
 fault_text (command.Input fault) = input_text fault
 fault_text command.Run = codes "no run OutOfMemory"
+fault_text (command.Graph fault) = graph_text fault
+fault_text (command.Settings which) = codes "no settings " ++ setting_word which
+fault_text command.Job = codes "end fault OutOfMemory"
 fault_text (command.Encode fault) = encode_text fault
 fault_text (command.Unread path) = file_text path.now
 fault_text (command.Unwritable path) = file_text path.now

@@ -1,10 +1,36 @@
 //! The command line.
 
-use crate::request::Options;
+use crate::request::{JobRequest, Options};
 use clap::error::ErrorKind;
-use clap::{Arg, ArgMatches, Command, Error};
+use clap::{Arg, ArgAction, ArgMatches, Command, Error, value_parser};
 use std::alloc::{AllocError, Global};
 use std::convert::AsStr;
+use superstep::Settings;
+
+// The settings of a job: the name of each, what it is where none is given, and what it means.
+const SETTINGS: [(&str, &str, &str); 5] = [
+    (
+        "parts",
+        "1",
+        "How many parts the graph is cut into, from 1 to 256",
+    ),
+    ("workers", "1", "How many workers there are, from 1 to 64"),
+    (
+        "every",
+        "10",
+        "A state is saved at each multiple of so many supersteps, from 1 to 1,000",
+    ),
+    (
+        "limit",
+        "1000",
+        "The superstep at which the job ends if it has not finished, from 1 to 1,000,000",
+    ),
+    (
+        "lease",
+        "1000",
+        "How many ticks a worker may take for a task, from 1 to 1,000,000",
+    ),
+];
 
 /// Reads the words of a command line, the program's name first. A refusal is clap's, with its text and status; help
 /// that is asked for comes as one too.
@@ -19,6 +45,10 @@ fn options_by<'a, S: AsStr>(
     words: &'a [S],
 ) -> Result<Options<'a>, Error> {
     let matches = command.try_get_matches_from_mut(words)?;
+    if has_plus(&matches) {
+        let error = command.error(ErrorKind::ValueValidation, "a number has no sign")?;
+        return Err(error);
+    }
     match chosen(&matches) {
         Some(options) => Ok(options),
         None => missing(command),
@@ -28,6 +58,22 @@ fn options_by<'a, S: AsStr>(
 fn missing<'a>(command: &mut Command<'a>) -> Result<Options<'a>, Error> {
     let error = command.error(ErrorKind::MissingSubcommand, "a command is missing")?;
     Err(error)
+}
+
+// Whether a setting has a `+`, which `clap` takes before a number.
+fn has_plus(matches: &ArgMatches) -> bool {
+    let Some((_, entries)) = matches.subcommand() else {
+        return false;
+    };
+    SETTINGS
+        .iter()
+        .any(|setting| begins_with_plus(entries, setting.0))
+}
+
+fn begins_with_plus(entries: &ArgMatches, name: &str) -> bool {
+    entries
+        .get_str(name)
+        .is_some_and(|text| text.starts_with('+'))
 }
 
 fn chosen<'a>(matches: &ArgMatches<'a>) -> Option<Options<'a>> {
@@ -43,6 +89,7 @@ fn asked<'a>(name: &str, module: &'a str, entries: &ArgMatches<'a>) -> Option<Op
             let input = entries.get_str("input")?;
             Some(Options::Call { module, input })
         }
+        "run" => job_asked(module, entries),
         "asm" => {
             let binary = entries.get_str("binary")?;
             Some(Options::Assemble { module, binary })
@@ -53,6 +100,28 @@ fn asked<'a>(name: &str, module: &'a str, entries: &ArgMatches<'a>) -> Option<Op
     }
 }
 
+fn job_asked<'a>(module: &'a str, entries: &ArgMatches<'a>) -> Option<Options<'a>> {
+    let graph = entries.get_str("graph")?;
+    let settings = settings_of(entries)?;
+    let tells_units = entries.get_flag("units");
+    Some(Options::Run(JobRequest {
+        module,
+        graph,
+        settings,
+        tells_units,
+    }))
+}
+
+fn settings_of(entries: &ArgMatches) -> Option<Settings> {
+    Some(Settings {
+        parts: entries.get_one("parts")?,
+        workers: entries.get_one("workers")?,
+        every: entries.get_one("every")?,
+        limit: entries.get_one("limit")?,
+        lease: entries.get_one("lease")?,
+    })
+}
+
 fn pregel<'a>(alloc: Global) -> Result<Command<'a>, AllocError> {
     let command = Command::new(alloc, "pregel")
         .bin_name("pregel")?
@@ -61,6 +130,7 @@ fn pregel<'a>(alloc: Global) -> Result<Command<'a>, AllocError> {
         .subcommand_required(true)
         .arg_required_else_help(true);
     let command = with(command, call(alloc))?;
+    let command = with(command, run(alloc))?;
     let command = with(command, asm(alloc))?;
     let command = with(command, print(alloc))?;
     with(command, verify(alloc))
@@ -80,6 +150,17 @@ fn call<'a>(alloc: Global) -> Result<Command<'a>, AllocError> {
         .about("Makes one compute call of one vertex, and prints its outcome")
         .arg(module(alloc, "MODULE"))?
         .arg(input(alloc))
+}
+
+fn run<'a>(alloc: Global) -> Result<Command<'a>, AllocError> {
+    let mut command = Command::new(alloc, "run")
+        .about("Runs a module's job over a graph, and prints the vertices' values")
+        .arg(module(alloc, "MODULE"))?
+        .arg(graph(alloc))?;
+    for (name, otherwise, help) in SETTINGS {
+        command = command.arg(setting(alloc, name, otherwise, help))?;
+    }
+    command.arg(units(alloc))
 }
 
 fn asm<'a>(alloc: Global) -> Result<Command<'a>, AllocError> {
@@ -115,6 +196,32 @@ fn input<'a>(alloc: Global) -> Arg<'a> {
         .value_name("INPUT")
         .help("The input, in lines such as `value 34`")
         .required(true)
+}
+
+// The graph of a job.
+fn graph<'a>(alloc: Global) -> Arg<'a> {
+    Arg::new(alloc, "graph")
+        .value_name("GRAPH")
+        .help("The graph, in lines such as `v 1 3` for a vertex and `e 1 2 5` for an edge")
+        .required(true)
+}
+
+// A setting of a job.
+fn setting<'a>(alloc: Global, name: &'a str, otherwise: &'a str, help: &'a str) -> Arg<'a> {
+    Arg::new(alloc, name)
+        .long(name)
+        .value_name("N")
+        .default_value(otherwise)
+        .value_parser(value_parser!(u32))
+        .help(help)
+}
+
+// Whether the units of each superstep are told.
+fn units<'a>(alloc: Global) -> Arg<'a> {
+    Arg::new(alloc, "units")
+        .long("units")
+        .action(ArgAction::SetTrue)
+        .help("Tells the units of each superstep too")
 }
 
 // The file that a command writes.

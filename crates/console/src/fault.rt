@@ -6,7 +6,9 @@ ghost use Rattle.console.specs.declared.fault.CommandFault.TheVariants as comman
 
 use crate::input::InputFault;
 use bounded_profile::ProfileFault;
+use graph::GraphFault;
 use std::alloc::AllocError;
+use superstep::Setting;
 use validate::ValidFault;
 use wasm_decode::{DecodeFault, EncodeFault};
 use wat_asm::TextFault;
@@ -27,6 +29,12 @@ pub enum CommandFault<'a> {
     Input(InputFault),
     /// Memory ran out in the call.
     Run,
+    /// The text means no graph.
+    Graph(GraphFault),
+    /// This setting is the first that is out of its range.
+    Settings(Setting),
+    /// Memory ran out in the job.
+    Job,
     /// The module is not spelled: its shortest spelling takes more than 1,048,576 bytes.
     Encode(EncodeFault),
     /// The file at this path cannot be read, or is not the text that it should be.
@@ -37,12 +45,13 @@ pub enum CommandFault<'a> {
     OutOfMemory,
 }
 
-/// The status of the process: 4 for a file's fault, and 1 for any other.
+/// The status of the process: 4 for a file's fault, 3 for a job's end by a fault, and 1 for any other.
 pub fn status_of(fault: &CommandFault) -> u8
     ensures { result ≡ status_of fault.now }
 {
     match fault {
         CommandFault::Unread(_) | CommandFault::Unwritable(_) => 4,
+        CommandFault::Job => 3,
         _ => 1,
     }
 }
@@ -84,6 +93,14 @@ impl From<InputFault> for CommandFault<'_> {
 
     fn from(cause: InputFault) -> Self {
         CommandFault::Input(cause)
+    }
+}
+
+impl From<GraphFault> for CommandFault<'_> {
+    ghost from_gives = { λ cause fault. fault ≡ command.Graph cause };
+
+    fn from(cause: GraphFault) -> Self {
+        CommandFault::Graph(cause)
     }
 }
 

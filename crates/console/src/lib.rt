@@ -1,5 +1,4 @@
-//! The console: modules in files, a compute call from a module and an input's text to printed lines, and the program
-//! round them.
+//! The console: modules and graphs in files, a compute call and a job to printed lines, and the program round them.
 #![tactic(auto)]
 
 mod command_line;
@@ -8,6 +7,7 @@ mod fault;
 mod files;
 mod input;
 mod input_line;
+mod jobs;
 mod laws;
 mod lines;
 mod modules;
@@ -26,5 +26,5 @@ pub use lines::outcome_text;
 pub use modules::module_of;
 pub use program::command;
 pub use refusal::refusal_line;
-pub use request::Options;
+pub use request::{JobRequest, Options};
 pub use sources::Source;

@@ -7,36 +7,42 @@ ghost use Rattle.console.specs.Disk.{Stays, Tries};
 ghost use Rattle.console.specs.Lines.{IfTold};
 ghost use Rattle.console.specs.Modules.{IsModuleAt};
 ghost use Rattle.console.specs.Engine.{RefusesLoad, RefusesModule};
-ghost use Rattle.console.specs.Program.{Answered, IsBoundsLine, IsCause, IsRefusedAt, IsTold, IsUnassembled, IsUncalled, IsUnspelled, MayTry, StaysBeforeWriting, TellsBounds, TellsLayout, TellsLength, TellsOutcome, TellsSpelling, Told, TriesSpelling, bounds_line, length_line, writes_file};
+ghost use Rattle.console.specs.Program.{Answered, IsBoundsLine, IsCause, IsJobAt, IsLoadedAt, IsNoGraphAt, IsReadAt, IsRefusedAt, IsTold, IsUnassembled, IsUncalled, IsUnopened, IsUnrun, IsUnspelled, MayTry, StaysBeforeWriting, TellsBounds, TellsJob, TellsLayout, TellsLength, TellsOutcome, TellsSpelling, Told, TriesSpelling, bounds_line, length_line, writes_file};
 ghost use Rattle.console.specs.inside.Answering.{IsFaultTold};
 
 use crate::engine::{call, load};
 use crate::fault::{CommandFault, status_of};
 use crate::files::Files;
+use crate::jobs::{open, run};
 use crate::modules::module_of;
 use crate::refusal::refusal_line;
-use crate::request::Options;
+use crate::request::{JobRequest, Options};
 use crate::sources::{read_source, read_text, write};
 use bounded_profile::Verified;
-use graph::{Output, Unwritten, put};
+use graph::{Graph, Output, Unwritten, put};
 use std::alloc::{AllocError, Global};
+use std::thread::Threads;
+use superstep::Job;
 use wasm_ast::Module;
 use wasm_decode::encode;
 use wat_asm::print;
 
 /// Does what the options ask for, and writes the answer or, as one line, its refusal.
 ///
-/// It answers the status for the process: 0 where there is an answer, 1 where the module, the input or the call was
-/// refused, and 4 where a file cannot be read or written, which `no file PATH` tells. A module's file whose path ends in
+/// It answers the status for the process: 0 where there is an answer, 1 where the module, the input, the call, the graph or
+/// a setting was refused, 3 where a job ended by a fault, and 4 where a file cannot be read or written, which
+/// `no file PATH` tells. A module's file whose path ends in
 /// `.wat` is text, any other is binary; text that is not in UTF-8 cannot be read. It fails only where the writer failed,
 /// and then a beginning of what was to be told was written.
 ///
 /// `call` answers with the outcome's lines; the module is looked at before it is told that the input's file cannot be
-/// read. `verify` answers `ok size S operands M frames F`. `asm` writes the module's canonical spelling to the other file,
+/// read. `run` answers with the values of a job's vertices and how it ended; the module is looked at first, then the graph,
+/// then the settings. `verify` answers `ok size S operands M frames F`. `asm` writes the module's canonical spelling to the other file,
 /// and answers `ok LENGTH`. `print` answers with the module's text. These two do not ask that the module is valid, and the
 /// others ask that it is and that it is in the bounded profile. A refusal is one of the module's and the input's own, or
 /// want of memory.
 pub fn command<F: Files, O: Output>(
+    rt: &(impl Threads + Sync),
     alloc: Global,
     options: Options<'_>,
     files: &mut F,
@@ -49,7 +55,7 @@ pub fn command<F: Files, O: Output>(
     // No command but `asm` writes a file.
     ensures kept { writes_file options.entry ≡ false → Stays (F.disk files.old) (F.disk files.new) }
 {
-    match carry_out(alloc, options, files) {
+    match carry_out(rt, alloc, options, files) {
         Ok(text) => tell(0, text.as_bytes(), out),
         Err(fault) => refuse(alloc, &fault, out),
     }
@@ -77,6 +83,7 @@ fn refuse<O: Output>(alloc: Global, fault: &CommandFault, out: &mut O) -> Result
 
 // What is told of a command.
 fn carry_out<'a, F: Files>(
+    rt: &(impl Threads + Sync),
     alloc: Global,
     options: Options<'a>,
     files: &mut F,
@@ -90,6 +97,7 @@ fn carry_out<'a, F: Files>(
 {
     match options {
         Options::Call { module, input } => call_files(alloc, module, input, files),
+        Options::Run(asked) => run_files(rt, alloc, asked, files),
         Options::Assemble { module, binary } => assemble_file(alloc, module, binary, files),
         Options::Print { module } => print_file(alloc, module, files),
         Options::Verify { module } => verify_file(alloc, module, files),
@@ -115,6 +123,65 @@ fn call_files<'a, F: Files>(
             Err(fault)
         }
     }
+}
+
+// Runs the job of the module in one file over the graph in another.
+fn run_files<'a, F: Files>(
+    rt: &(impl Threads + Sync),
+    alloc: Global,
+    asked: JobRequest<'a>,
+    files: &mut F,
+) -> Result<String, CommandFault<'a>>
+    ensures answered { IfTold result (TellsJob (F.disk files.old) asked.entry) }
+    ensures kept { Stays (F.disk files.old) (F.disk files.new) }
+    ensures refused { IfErr result (IsUnrun (F.disk files.old) asked.entry) }
+{
+    let job = job_of(alloc, asked, files)?;
+    run(rt, alloc, &job, asked.tells_units)
+}
+
+// The job of the module in one file over the graph in another.
+fn job_of<'a, F: Files>(
+    alloc: Global,
+    asked: JobRequest<'a>,
+    files: &mut F,
+) -> Result<Job, CommandFault<'a>>
+    ensures found { MatchResult result (IsJobAt (F.disk files.old) asked.entry)
+        (IsUnopened (F.disk files.old) asked.entry) }
+    ensures kept { Stays (F.disk files.old) (F.disk files.new) }
+{
+    let verified = load_file(alloc, asked.module, files)?;
+    let graph = read_graph(alloc, asked.graph, files)?;
+    open(alloc, verified, graph, asked.settings)
+}
+
+// The module in a file, verified.
+fn load_file<'a, F: Files>(
+    alloc: Global,
+    path: &'a str,
+    files: &mut F,
+) -> Result<Verified, CommandFault<'a>>
+    ensures found { MatchResult result (IsLoadedAt (F.disk files.old) path.now)
+        (IsRefusedAt (F.disk files.old) path.now RefusesLoad) }
+    ensures kept { Stays (F.disk files.old) (F.disk files.new) }
+{
+    let source = read_source(alloc, path, files)?;
+    load(alloc, &source)
+}
+
+// The graph in a file.
+fn read_graph<'a, F: Files>(
+    alloc: Global,
+    path: &'a str,
+    files: &mut F,
+) -> Result<Graph, CommandFault<'a>>
+    ensures found { MatchResult result (IsReadAt (F.disk files.old) path.now)
+        (IsNoGraphAt (F.disk files.old) path.now) }
+    ensures kept { Stays (F.disk files.old) (F.disk files.new) }
+{
+    let text = read_text(alloc, path, files)?;
+    let graph = Graph::read(alloc, text.as_str())?;
+    Ok(graph)
 }
 
 // Writes the module in one file to another, in the binary format.
@@ -203,8 +270,7 @@ fn verify_file<'a, F: Files>(
     ensures kept { Stays (F.disk files.old) (F.disk files.new) }
     ensures refused { IfErr result (IsRefusedAt (F.disk files.old) path.now RefusesLoad) }
 {
-    let source = read_source(alloc, path, files)?;
-    let verified = load(alloc, &source)?;
+    let verified = load_file(alloc, path, files)?;
     let text = bounds_of(alloc, &verified)?;
     Ok(text)
 }

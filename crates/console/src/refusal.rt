@@ -3,18 +3,21 @@
 ghost use Rattle.std.specs.Prelude.{◌≡◌, ◌++◌, IfOk, Some, codes, string_bytes};
 ghost use Rattle.std.specs.Fmt.{DisplaysOnOk};
 ghost use Rattle.console.specs.Lines.{line};
-ghost use Rattle.console.specs.Refusal.{encode_text, fault_text, file_text, input_text, text_fault_text, word_at_position};
+ghost use Rattle.console.specs.Refusal.{encode_text, fault_text, file_text, graph_text, input_text, setting_word, text_fault_text, word_at_position, word_of_line};
 
 use crate::fault::CommandFault;
 use crate::input::InputFault;
+use graph::GraphFault;
 use std::alloc::{AllocError, Global};
 use std::fmt;
+use superstep::Setting;
 use wasm_decode::EncodeFault;
 use wat_asm::{Position, TextFault};
 
 /// The line that tells of a fault, with its end: `no decode WORD PLACE`, `no text WORD LINE COLUMN`,
 /// `no valid WORD FUNC INSTR`, `no profile RULE FUNC INSTR`, `no profile P12` and the numbers of the cycle, `no input LINE`,
-/// `no run OutOfMemory`, `no encode WORD`, `no file PATH` or `no memory`. FUNC, INSTR and PLACE are `-` where there is none.
+/// `no run OutOfMemory`, `no graph WORD LINE`, `no settings WHICH`, `end fault OutOfMemory`, `no encode WORD`, `no file PATH` or
+/// `no memory`. FUNC, INSTR, PLACE and the LINE of a graph are `-` where there is none.
 pub fn refusal_line(alloc: Global, fault: &CommandFault) -> Result<String, AllocError>
     ensures { IfOk result (λ text. string_bytes text ≡ line (fault_text fault.now)) }
 {
@@ -34,6 +37,9 @@ impl fmt::Display for CommandFault<'_> {
             CommandFault::Unbounded(fault) => write!(f, "no profile {fault}"),
             CommandFault::Input(fault) => tell_input_fault(*fault, f),
             CommandFault::Run => f.write_str("no run OutOfMemory"),
+            CommandFault::Graph(fault) => tell_graph_fault(*fault, f),
+            CommandFault::Settings(setting) => tell_setting(*setting, f),
+            CommandFault::Job => f.write_str("end fault OutOfMemory"),
             CommandFault::Encode(fault) => f.write_str(encode_line(*fault)),
             CommandFault::Unread(path) => tell_file(path, f),
             CommandFault::Unwritable(path) => tell_file(path, f),
@@ -91,6 +97,49 @@ fn tell_input_fault<W: fmt::Write>(fault: InputFault, f: &mut fmt::Formatter<W>)
     match fault {
         InputFault::Line(line) => write!(f, "no input {line}"),
         InputFault::OutOfMemory => f.write_str("no memory"),
+    }
+}
+
+fn tell_graph_fault<W: fmt::Write>(fault: GraphFault, f: &mut fmt::Formatter<W>) -> fmt::Result
+    ensures { DisplaysOnOk W.write_str_gives f.old result (Some (graph_text fault)) f.new }
+{
+    match fault {
+        GraphFault::Line(line) => tell_word_of_line("Line", line, f),
+        GraphFault::DuplicateVertex(line) => tell_word_of_line("DuplicateVertex", line, f),
+        GraphFault::UnknownEnd(line) => tell_word_of_line("UnknownEnd", line, f),
+        GraphFault::Number(line) => tell_word_of_line("Number", line, f),
+        GraphFault::OverLimit(line) => tell_word_of_line("OverLimit", line, f),
+        GraphFault::OutOfMemory => f.write_str("no graph OutOfMemory -"),
+    }
+}
+
+fn tell_word_of_line<W: fmt::Write>(
+    word: &str,
+    line: usize,
+    f: &mut fmt::Formatter<W>,
+) -> fmt::Result
+    ensures { DisplaysOnOk W.write_str_gives f.old result
+        (Some (word_of_line word.now line)) f.new }
+{
+    write!(f, "no graph {word} {line}")
+}
+
+fn tell_setting<W: fmt::Write>(setting: Setting, f: &mut fmt::Formatter<W>) -> fmt::Result
+    ensures { DisplaysOnOk W.write_str_gives f.old result
+        (Some (codes "no settings " ++ setting_word setting)) f.new }
+{
+    write!(f, "no settings {}", setting_word(setting))
+}
+
+fn setting_word(setting: Setting) -> &'static str
+    ensures { result.now ≡ setting_word setting }
+{
+    match setting {
+        Setting::Parts => "parts",
+        Setting::Workers => "workers",
+        Setting::Every => "every",
+        Setting::Limit => "limit",
+        Setting::Lease => "lease",
     }
 }
 

@@ -1,14 +1,28 @@
 //! What the program is asked for.
 
+use superstep::Settings;
+
 /// What the command line asks for.
 #[derive(Clone, Copy)]
 pub enum Options<'a> {
     /// Call the module in one file with the input in the other.
     Call { module: &'a str, input: &'a str },
+    /// Run a job.
+    Run(JobRequest<'a>),
     /// Write the module in one file to another, in the binary format.
     Assemble { module: &'a str, binary: &'a str },
     /// Print the module in a file as text.
     Print { module: &'a str },
     /// Tell the bounds of the calls of the module in a file.
     Verify { module: &'a str },
+}
+
+/// The job of the module in one file over the graph in the other.
+#[derive(Clone, Copy)]
+pub struct JobRequest<'a> {
+    pub module: &'a str,
+    pub graph: &'a str,
+    pub settings: Settings,
+    /// Whether the units of each superstep are told too.
+    pub tells_units: bool,
 }

@@ -7,6 +7,8 @@ ghost use Rattle.std.specs.Process.{exit_status};
 use clap::error::ErrorKind;
 use console::{CommandFault, SystemFiles, command, options};
 use std::process::ExitCode;
+use std::rt::{Env, Files};
+use std::thread::Threads;
 use std::{env, io};
 
 fn main(rt: HostRuntime) -> ExitCode {
@@ -14,9 +16,9 @@ fn main(rt: HostRuntime) -> ExitCode {
     exit_code(&rt, outcome)
 }
 
-// The status: 0 for an answer, 1 for a refusal, 2 for a mistake in the command line, 4 for a file that cannot be read or
-// written.
-fn run(rt: &HostRuntime) -> io::Result<u8> {
+// The status: 0 for an answer, 1 for a refusal, 2 for a mistake in the command line, 3 for a job that ended by a fault, 4
+// for a file that cannot be read or written.
+fn run(rt: &(impl Env + Files + Print + Eprint + AllocGlobal + Threads + Sync)) -> io::Result<u8> {
     match env::args(rt) {
         Ok(arguments) => {
             let words: Vec<String> = arguments.collect(rt.alloc())?;
@@ -31,7 +33,10 @@ fn run(rt: &HostRuntime) -> io::Result<u8> {
 }
 
 // Does what the words ask for; the first is the program's name.
-fn carry_out(rt: &HostRuntime, words: &[String]) -> io::Result<u8> {
+fn carry_out(
+    rt: &(impl Files + Print + Eprint + AllocGlobal + Threads + Sync),
+    words: &[String],
+) -> io::Result<u8> {
     let alloc = rt.alloc();
     let options = match options(alloc, words) {
         Ok(options) => options,
@@ -43,12 +48,18 @@ fn carry_out(rt: &HostRuntime, words: &[String]) -> io::Result<u8> {
             return Ok(if error.use_stderr() { 2 } else { 0 });
         }
     };
-    let status = command(alloc, options, &mut SystemFiles(rt), &mut io::writer(rt));
+    let status = command(
+        rt,
+        alloc,
+        options,
+        &mut SystemFiles(rt),
+        &mut io::writer(rt),
+    );
     status.map_err(|_| io::Error::from(io::ErrorKind::Other))
 }
 
 // The process ends with the status; where there is none, with 1 for want of memory and 4 for a writer that failed.
-fn exit_code(rt: &HostRuntime, outcome: io::Result<u8>) -> ExitCode
+fn exit_code(rt: &impl Print, outcome: io::Result<u8>) -> ExitCode
     ensures ended { IfOk outcome (λ status. exit_status result ≡ status) }
     ensures failed { OnErr outcome ((exit_status result ≡ 1) ⊎ (exit_status result ≡ 4)) }
 {
@@ -59,7 +70,7 @@ fn exit_code(rt: &HostRuntime, outcome: io::Result<u8>) -> ExitCode
 }
 
 // Want of memory is told, and of a writer that failed nothing can be.
-fn failed(rt: &HostRuntime, error: &io::Error) -> ExitCode
+fn failed(rt: &impl Print, error: &io::Error) -> ExitCode
     ensures { (exit_status result ≡ 1) ⊎ (exit_status result ≡ 4) }
 {
     if error.kind() == io::ErrorKind::OutOfMemory

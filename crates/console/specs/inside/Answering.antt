@@ -3,6 +3,8 @@ use Rattle.std.specs.Prelude.{◌≡◌, ◌⊎◌, ℕ, List, Option, Result, S
 use Rattle.wasm_ast.specs.declared.module.Module.{Module}
 use Rattle.host_calls.specs.declared.call.CallInput.{CallInput}
 use Rattle.host_calls.specs.declared.call.CallOutcome.{CallOutcome}
+use Rattle.superstep.specs.declared.fault.JobFault.{JobFault}
+use Rattle.superstep.specs.declared.fault.JobFault.TheVariants as job_fault
 use Rattle.console.specs.declared.fault.CommandFault.{CommandFault}
 use Rattle.console.specs.declared.fault.CommandFault.TheVariants as command
 use Rattle.console.specs.declared.sources.Source.{Source}
@@ -28,3 +30,8 @@ abbrev pub IsFaultTold : {E : Type 0} → (old new : Option (List ℕ)) → Comm
 IsFaultTold old new fault answer =
     (told : CommandFault) × ((told ≡ fault) ⊎ (told ≡ command.OutOfMemory))
     × IsTold old new (status_of told) (line (fault_text told)) answer
+
+-- how it is told that a job was not opened
+abbrev pub opening_fault : JobFault → CommandFault
+opening_fault (job_fault.Settings setting) = command.Settings setting
+opening_fault fault = command.OutOfMemory

@@ -5,3 +5,6 @@ returns-in-Call-clause-refused g c = rw c.in-Call.is c.call_files.ensures.refuse
 
 pub returns-in-Assemble-clause-tried : goal.returns-in-Assemble-clause-tried
 returns-in-Assemble-clause-tried g c = rw c.in-Assemble.is c.assemble_file.ensures.tried
+
+pub returns-in-Run-clause-refused : goal.returns-in-Run-clause-refused
+returns-in-Run-clause-refused g c = rw c.in-Run.is c.run_files.ensures.refused

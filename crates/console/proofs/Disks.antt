@@ -12,7 +12,7 @@ use Rattle.console.specs.Modules.{IsModuleAt, MeansBy, is_text_path}
 use Rattle.console.specs.Engine.{RefusesModule, content, is_text}
 use Rattle.console.specs.inside.Answering.{HoldsSource}
 use Rattle.console.specs.Jobs.{RefusesGraph}
-use Rattle.console.specs.Program.{IsBeforeWriting, IsNoFile, IsNoGraphAt, IsRefusedAt, IsUnread, IsUnspelled, IsUnwritable, RefusesSpelled, TellsSpelling, length_line}
+use Rattle.console.specs.Program.{IsBeforeWriting, IsNoFile, IsNoGraphAt, IsRefusedAt, IsUnread, IsUnspelled, IsUnwritable, RefusesSpelled, TellsSpelling, TellsWritten}
 
 -- nothing was done
 pub stays_same : (disk : Disk) → Stays disk disk
@@ -59,6 +59,7 @@ unread_before is_text before after path stays command.Run is = absurd is
 unread_before is_text before after path stays (command.Graph fault) is = absurd is
 unread_before is_text before after path stays (command.Settings setting) is = absurd is
 unread_before is_text before after path stays command.Job is = absurd is
+unread_before is_text before after path stays (command.Checkpoint fault) is = absurd is
 unread_before is_text before after path stays (command.Encode fault) is = absurd is
 unread_before is_text before after path stays (command.Unwritable refused) is = absurd is
 
@@ -69,21 +70,16 @@ no_graph_before before after path stays fault (inl unread) = inl (unread_before 
 no_graph_before before after path stays fault (inr held) = inr (holds_before before after path (λ text. RefusesGraph text fault) stays held)
 
 -- what cannot be written after a read could not be written before
+pub unwritable_before : (before after : Disk) (path : List ℕ) → Stays before after → (fault : CommandFault)
+    → IsUnwritable after path fault → IsUnwritable before path fault
+unwritable_before before after path stays (command.Unwritable refused) (same, refuses) = (same, stays.refuses path refuses)
+unwritable_before before after path stays command.OutOfMemory is = tt
+unwritable_before before after path stays fault is = absurd is
+
 pub unspelled_before : (before after : Disk) (path : List ℕ) (m : Module) → Stays before after → (fault : CommandFault)
     → IsUnspelled after path m fault → IsUnspelled before path m fault
-unspelled_before before after path m stays (command.Unwritable refused) (same, refuses) = (same, stays.refuses path refuses)
 unspelled_before before after path m stays (command.Encode fault) is = is
-unspelled_before before after path m stays command.OutOfMemory is = tt
-unspelled_before before after path m stays (command.Decode fault) is = absurd is
-unspelled_before before after path m stays (command.Text fault) is = absurd is
-unspelled_before before after path m stays (command.Invalid fault) is = absurd is
-unspelled_before before after path m stays (command.Unbounded fault) is = absurd is
-unspelled_before before after path m stays (command.Input fault) is = absurd is
-unspelled_before before after path m stays command.Run is = absurd is
-unspelled_before before after path m stays (command.Graph fault) is = absurd is
-unspelled_before before after path m stays (command.Settings setting) is = absurd is
-unspelled_before before after path m stays command.Job is = absurd is
-unspelled_before before after path m stays (command.Unread missing) is = absurd is
+unspelled_before before after path m stays fault is = unwritable_before before after path stays fault is
 
 -- ---- modules
 
@@ -124,23 +120,23 @@ written_late disk path (command.Unwritable refused) P is before = absurd before
 written_late disk path command.OutOfMemory P is before = absurd before
 written_late disk path fault P is before = absurd is
 
+pub written_then : (before middle after : Disk) (bytes path told : List ℕ) → Stays before middle → TellsWritten middle after bytes path told
+    → TellsWritten before after bytes path told
+written_then before middle after bytes path told first is =
+    record { written = writes_then path bytes before middle after first is.written; line_of_length = is.line_of_length }
+
 -- its length is told
-pub spelling_told : (before after : Disk) (binary_path bytes seen told : List ℕ) (m : Module) (count : ℕ) → bytes ≡ canonical m
-    → length bytes ≤ max_module_bytes → seen ≡ bytes → count ≡ length bytes → told ≡ length_line count
-    → Writes binary_path seen before after → TellsSpelling before after m binary_path told
-spelling_told before after binary_path bytes seen told m count same small view counted line writes = record {
-  small = rw (sym same) small;
-  written = subst (λ bs. Writes binary_path bs before after) (view ∙ same) writes;
-  line_of_length = line ∙ ap length_line (counted ∙ ap length same);
+pub spelling_told : (before after : Disk) (binary_path bytes told : List ℕ) (m : Module) → bytes ≡ canonical m → length bytes ≤ max_module_bytes
+    → TellsWritten before after bytes binary_path told → TellsSpelling before after m binary_path told
+spelling_told before after binary_path bytes told m same small is = record {
+  small = subst (λ bs. length bs ≤ max_module_bytes) same small;
+  tells = subst (λ bs. TellsWritten before after bs binary_path told) same is;
 }
 
 pub spelling_then : (before middle after : Disk) (binary_path told : List ℕ) (m : Module) → Stays before middle
     → TellsSpelling middle after m binary_path told → TellsSpelling before after m binary_path told
-spelling_then before middle after binary_path told m first is = record {
-  small = is.small;
-  written = writes_then binary_path (canonical m) before middle after first is.written;
-  line_of_length = is.line_of_length;
-}
+spelling_then before middle after binary_path told m first is =
+    record { small = is.small; tells = written_then before middle after (canonical m) binary_path told first is.tells }
 
 -- of files of which nothing is known
 pub tries_unknown : {A E : Type 0} (result : Result A E) (path bytes : List ℕ) → OnErr result (Tries path bytes unknown unknown)

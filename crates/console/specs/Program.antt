@@ -13,6 +13,9 @@ use Rattle.bounded_profile.specs.Profile.{HasCompute}
 use Rattle.graph.specs.Entry.{Entry}
 use Rattle.graph.specs.Output.{HasBegun}
 use Rattle.superstep.specs.Job.{Work}
+use Rattle.superstep.specs.State.{Standing}
+use Rattle.checkpoint.specs.Checkpoint.{IsCheckpointOf, checkpoint_bytes}
+use Rattle.checkpoint.specs.Reading.{Fails, state_of}
 use Rattle.console.specs.declared.fault.CommandFault.{CommandFault}
 use Rattle.console.specs.declared.fault.CommandFault.TheVariants as command
 use Rattle.console.specs.declared.request.JobRequest.{JobRequest}
@@ -55,16 +58,29 @@ TellsJob disk asked told = (job : Work) × IsJobAt disk asked job × AreJobLines
 abbrev pub length_line : ℕ → List ℕ
 length_line count = line (codes "ok " ++ decimal count)
 
+-- these bytes were written to the file, and nothing else, and how many they are is told
+pub record TellsWritten (before after : Disk) (bytes path told : List ℕ) : Type 0 where
+  pub written : Writes path bytes before after
+  pub line_of_length : told ≡ length_line (length bytes)
+
 -- the canonical spelling of a module was written to the file, and nothing else, and its length is told
 pub record TellsSpelling (before after : Disk) (m : Module) (binary_path told : List ℕ) : Type 0 where
   pub small : length (canonical m) ≤ max_module_bytes
-  pub written : Writes binary_path (canonical m) before after
-  pub line_of_length : told ≡ length_line (length (canonical m))
+  pub tells : TellsWritten before after (canonical m) binary_path told
 
 -- the canonical spelling of a file's module was written to the other file, and its length is told
 abbrev pub TellsLength : (before after : Disk) → (module_path binary_path told : List ℕ) → Type 0
 TellsLength before after module_path binary_path told =
     (m : Module) × IsModuleAt before module_path m × TellsSpelling before after m binary_path told
+
+-- the file has the checkpoint of this state
+abbrev pub IsKeptAt : Disk → (path : List ℕ) → Standing → Type 0
+IsKeptAt disk path state = HoldsAt disk path (λ bytes. IsCheckpointOf bytes state)
+
+-- the checkpoint of a file's state was written to the other file, and its length is told
+abbrev pub TellsUpgraded : (before after : Disk) → (path newer_path told : List ℕ) → Type 0
+TellsUpgraded before after path newer_path told =
+    (state : Standing) × IsKeptAt before path state × TellsWritten before after (checkpoint_bytes state) newer_path told
 
 -- the text of a file's module is told
 abbrev pub TellsLayout : Disk → (module_path told : List ℕ) → Type 0
@@ -92,6 +108,7 @@ TellsBounds disk module_path told =
 abbrev pub Answered : (before after : Disk) → Options → List ℕ → Type 0
 Answered before after (options.Call module_path input_path) told = TellsOutcome before module_path.now input_path.now told
 Answered before after (options.Run asked) told = TellsJob before asked told
+Answered before after (options.Upgrade path newer_path) told = TellsUpgraded before after path.now newer_path.now told
 Answered before after (options.Assemble module_path binary_path) told = TellsLength before after module_path.now binary_path.now told
 Answered before after (options.Print module_path) told = TellsLayout before module_path.now told
 Answered before after (options.Verify module_path) told = TellsBounds before module_path.now told
@@ -156,6 +173,20 @@ IsUnwritable disk path (command.Unwritable refused) = (refused.now ≡ path) × 
 IsUnwritable disk path command.OutOfMemory = Unit {0}
 IsUnwritable disk path _ = ⊥
 
+-- what a fault says of bytes that are no checkpoint: it is the one that reading comes to; want of memory says nothing
+abbrev pub RefusesCheckpoint : List ℕ → CommandFault → Type 0
+RefusesCheckpoint bytes (command.Checkpoint fault) = Fails fault (state_of bytes)
+RefusesCheckpoint bytes _ = ⊥
+
+-- the file is not read, or has no checkpoint
+abbrev pub IsNoCheckpointAt : Disk → (path : List ℕ) → CommandFault → Type 0
+IsNoCheckpointAt disk path fault = IsUnread false disk path fault ⊎ HoldsAt disk path (λ bytes. RefusesCheckpoint bytes fault)
+
+-- why the checkpoint in one file is not written to the other
+abbrev pub IsNotUpgraded : Disk → (path newer_path : List ℕ) → CommandFault → Type 0
+IsNotUpgraded disk path newer_path fault =
+    IsNoCheckpointAt disk path fault ⊎ ((state : Standing) × IsKeptAt disk path state × IsUnwritable disk newer_path fault)
+
 -- why the module's spelling is not written
 abbrev pub IsUnspelled : Disk → List ℕ → Module → CommandFault → Type 0
 IsUnspelled disk path m (command.Encode fault) = fault ≡ encode.OverLimit → max_module_bytes < length (canonical m)
@@ -173,6 +204,7 @@ IsUnassembled disk module_path binary_path fault = IsRefusedAt disk module_path 
 abbrev pub IsCause : Disk → Options → CommandFault → Type 0
 IsCause disk (options.Call module_path input_path) fault = IsUncalled disk module_path.now input_path.now fault
 IsCause disk (options.Run asked) fault = IsUnrun disk asked fault
+IsCause disk (options.Upgrade path newer_path) fault = IsNotUpgraded disk path.now newer_path.now fault
 IsCause disk (options.Assemble module_path binary_path) fault = IsUnassembled disk module_path.now binary_path.now fault
 IsCause disk (options.Print module_path) fault = IsRefusedAt disk module_path.now RefusesModule fault
 IsCause disk (options.Verify module_path) fault = IsRefusedAt disk module_path.now RefusesLoad fault
@@ -182,6 +214,7 @@ IsCause disk (options.Verify module_path) fault = IsRefusedAt disk module_path.n
 -- whether the command may write a file
 abbrev pub writes_file : Options → Bool
 writes_file (options.Assemble module_path binary_path) = true
+writes_file (options.Upgrade path newer_path) = true
 writes_file asked = false
 
 -- the fault is told before any file is written
@@ -199,10 +232,17 @@ abbrev pub TriesSpelling : (before after : Disk) → (module_path binary_path : 
 TriesSpelling before after module_path binary_path =
     (m : Module) × IsModuleAt before module_path m × Tries binary_path (canonical m) before after
 
+-- a file's checkpoint was to be written to the other file, and no more was written than a beginning of it, there
+abbrev pub TriesUpgraded : (before after : Disk) → (path newer_path : List ℕ) → Type 0
+TriesUpgraded before after path newer_path =
+    (state : Standing) × IsKeptAt before path state × Tries newer_path (checkpoint_bytes state) before after
+
 -- what a command that is refused may leave: the files as they were, or one that was to be written
 abbrev pub MayTry : (before after : Disk) → Options → Type 0
 MayTry before after (options.Assemble module_path binary_path) =
     Stays before after ⊎ TriesSpelling before after module_path.now binary_path.now
+MayTry before after (options.Upgrade path newer_path) =
+    Stays before after ⊎ TriesUpgraded before after path.now newer_path.now
 MayTry before after asked = Stays before after
 
 -- ---- what is told with each status of the process

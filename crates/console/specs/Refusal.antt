@@ -13,6 +13,8 @@ use Rattle.graph.specs.declared.fault.GraphFault.{GraphFault}
 use Rattle.graph.specs.declared.fault.GraphFault.TheVariants as graph
 use Rattle.superstep.specs.declared.settings.Setting.{Setting}
 use Rattle.superstep.specs.declared.settings.Setting.TheVariants as setting
+use Rattle.checkpoint.specs.declared.fault.CheckFault.{CheckFault}
+use Rattle.checkpoint.specs.declared.fault.CheckFault.TheVariants as checkpoint
 use Rattle.console.specs.declared.input.InputFault.{InputFault}
 use Rattle.console.specs.declared.input.InputFault.TheVariants as input
 use Rattle.console.specs.declared.fault.CommandFault.{CommandFault}
@@ -66,6 +68,14 @@ setting_word setting.Every = codes "every"
 setting_word setting.Limit = codes "limit"
 setting_word setting.Lease = codes "lease"
 
+abbrev pub checkpoint_text : CheckFault → List ℕ
+checkpoint_text checkpoint.Header = codes "no checkpoint Header"
+checkpoint_text checkpoint.Version = codes "no checkpoint Version"
+checkpoint_text checkpoint.Truncated = codes "no checkpoint Truncated"
+checkpoint_text checkpoint.Digest = codes "no checkpoint Digest"
+checkpoint_text checkpoint.Order = codes "no checkpoint Order"
+checkpoint_text checkpoint.OutOfMemory = codes "no checkpoint OutOfMemory"
+
 -- the module has no spelling that is short enough
 abbrev pub encode_text : EncodeFault → List ℕ
 encode_text encode.OverLimit = codes "no encode OverLimit"
@@ -84,6 +94,7 @@ fault_text command.Run = codes "no run OutOfMemory"
 fault_text (command.Graph fault) = graph_text fault
 fault_text (command.Settings which) = codes "no settings " ++ setting_word which
 fault_text command.Job = codes "end fault OutOfMemory"
+fault_text (command.Checkpoint fault) = checkpoint_text fault
 fault_text (command.Encode fault) = encode_text fault
 fault_text (command.Unread path) = file_text path.now
 fault_text (command.Unwritable path) = file_text path.now

@@ -78,8 +78,17 @@ fn begins_with_plus(entries: &ArgMatches, name: &str) -> bool {
 
 fn chosen<'a>(matches: &ArgMatches<'a>) -> Option<Options<'a>> {
     let (name, entries) = matches.subcommand()?;
+    if name == "upgrade" {
+        return upgrade_asked(entries);
+    }
     let module = entries.get_str("module")?;
     asked(name, module, entries)
+}
+
+fn upgrade_asked<'a>(entries: &ArgMatches<'a>) -> Option<Options<'a>> {
+    let checkpoint = entries.get_str("checkpoint")?;
+    let newer = entries.get_str("binary")?;
+    Some(Options::Upgrade { checkpoint, newer })
 }
 
 // What a subcommand for this module asks for.
@@ -131,6 +140,7 @@ fn pregel<'a>(alloc: Global) -> Result<Command<'a>, AllocError> {
         .arg_required_else_help(true);
     let command = with(command, call(alloc))?;
     let command = with(command, run(alloc))?;
+    let command = with(command, upgrade(alloc))?;
     let command = with(command, asm(alloc))?;
     let command = with(command, print(alloc))?;
     with(command, verify(alloc))
@@ -161,6 +171,13 @@ fn run<'a>(alloc: Global) -> Result<Command<'a>, AllocError> {
         command = command.arg(setting(alloc, name, otherwise, help))?;
     }
     command.arg(units(alloc))
+}
+
+fn upgrade<'a>(alloc: Global) -> Result<Command<'a>, AllocError> {
+    Command::new(alloc, "upgrade")
+        .about("Writes a checkpoint of any version as one of the newest")
+        .arg(checkpoint(alloc))?
+        .arg(binary(alloc))
 }
 
 fn asm<'a>(alloc: Global) -> Result<Command<'a>, AllocError> {
@@ -203,6 +220,14 @@ fn graph<'a>(alloc: Global) -> Arg<'a> {
     Arg::new(alloc, "graph")
         .value_name("GRAPH")
         .help("The graph, in lines such as `v 1 3` for a vertex and `e 1 2 5` for an edge")
+        .required(true)
+}
+
+// The checkpoint that is read.
+fn checkpoint<'a>(alloc: Global) -> Arg<'a> {
+    Arg::new(alloc, "checkpoint")
+        .value_name("IN")
+        .help("The checkpoint, of version 1 or 2")
         .required(true)
 }
 

@@ -6,6 +6,7 @@ ghost use Rattle.console.specs.declared.fault.CommandFault.TheVariants as comman
 
 use crate::input::InputFault;
 use bounded_profile::ProfileFault;
+use checkpoint::CheckFault;
 use graph::GraphFault;
 use std::alloc::AllocError;
 use superstep::Setting;
@@ -35,6 +36,8 @@ pub enum CommandFault<'a> {
     Settings(Setting),
     /// Memory ran out in the job.
     Job,
+    /// The bytes are no checkpoint.
+    Checkpoint(CheckFault),
     /// The module is not spelled: its shortest spelling takes more than 1,048,576 bytes.
     Encode(EncodeFault),
     /// The file at this path cannot be read, or is not the text that it should be.
@@ -101,6 +104,14 @@ impl From<GraphFault> for CommandFault<'_> {
 
     fn from(cause: GraphFault) -> Self {
         CommandFault::Graph(cause)
+    }
+}
+
+impl From<CheckFault> for CommandFault<'_> {
+    ghost from_gives = { λ cause fault. fault ≡ command.Checkpoint cause };
+
+    fn from(cause: CheckFault) -> Self {
+        CommandFault::Checkpoint(cause)
     }
 }
 

@@ -3,9 +3,9 @@
 ghost use Rattle.std.specs.Prelude.{◌≡◌, IfOk, IfErr, MatchResult, OnOk, string_bytes};
 ghost use Rattle.graph.specs.Print.{value_lines};
 ghost use Rattle.superstep.specs.Ending.{answer_of};
-ghost use Rattle.console.specs.Lines.{Gains, IfTold, end_line, job_lines, units_line, units_lines};
+ghost use Rattle.console.specs.Lines.{Gains, IfTold, end_line, units_line, units_lines};
 ghost use Rattle.console.specs.Jobs.{AreJobLines, IsJobOf, IsWantOfJob, RefusesSettings};
-ghost use Rattle.console.specs.inside.Answering.{opening_fault};
+ghost use Rattle.console.specs.inside.Answering.{ended_lines, opening_fault};
 
 use crate::fault::CommandFault;
 use bounded_profile::Verified;
@@ -60,8 +60,7 @@ pub fn run<'a>(
 
 // The lines of what a job ended with.
 fn ended_text(alloc: Global, ended: &Ended, tells_units: bool) -> Result<String, AllocError>
-    ensures { IfOk result (λ text. string_bytes text
-        ≡ job_lines tells_units (answer_of ended.now) ended.now.since ended.now.by_superstep.items) }
+    ensures { IfOk result (λ text. string_bytes text ≡ ended_lines tells_units ended.now) }
 {
     let mut text = String::new(alloc);
     push_values(&mut text, &ended.values)?;

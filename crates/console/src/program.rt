@@ -3,11 +3,12 @@
 ghost use Rattle.std.specs.Prelude.{◌≡◌, ◌⊎◌, List, ℕ, false, IfOk, IfErr, MatchResult, OnErr, string_bytes};
 ghost use Rattle.wasm_ast.specs.Limits.{IsWithinLimits};
 ghost use Rattle.wasm_decode.specs.Canonical.{canonical};
+ghost use Rattle.checkpoint.specs.Checkpoint.{checkpoint_bytes};
 ghost use Rattle.console.specs.Disk.{Stays, Tries};
 ghost use Rattle.console.specs.Lines.{IfTold};
 ghost use Rattle.console.specs.Modules.{IsModuleAt};
 ghost use Rattle.console.specs.Engine.{RefusesLoad, RefusesModule};
-ghost use Rattle.console.specs.Program.{Answered, IsBoundsLine, IsCause, IsJobAt, IsLoadedAt, IsNoGraphAt, IsReadAt, IsRefusedAt, IsTold, IsUnassembled, IsUncalled, IsUnopened, IsUnrun, IsUnspelled, MayTry, StaysBeforeWriting, TellsBounds, TellsJob, TellsLayout, TellsLength, TellsOutcome, TellsSpelling, Told, TriesSpelling, bounds_line, length_line, writes_file};
+ghost use Rattle.console.specs.Program.{Answered, IsBoundsLine, IsCause, IsJobAt, IsKeptAt, IsLoadedAt, IsNoCheckpointAt, IsNoGraphAt, IsNotUpgraded, IsReadAt, IsRefusedAt, IsTold, IsUnassembled, IsUncalled, IsUnopened, IsUnrun, IsUnspelled, IsUnwritable, MayTry, StaysBeforeWriting, TellsBounds, TellsJob, TellsLayout, TellsLength, TellsOutcome, TellsSpelling, TellsUpgraded, TellsWritten, Told, TriesSpelling, TriesUpgraded, bounds_line, length_line, writes_file};
 ghost use Rattle.console.specs.inside.Answering.{IsFaultTold};
 
 use crate::engine::{call, load};
@@ -17,12 +18,12 @@ use crate::jobs::{open, run};
 use crate::modules::module_of;
 use crate::refusal::refusal_line;
 use crate::request::{JobRequest, Options};
-use crate::sources::{read_source, read_text, write};
+use crate::sources::{read_bytes, read_source, read_text, write};
 use bounded_profile::Verified;
 use graph::{Graph, Output, Unwritten, put};
 use std::alloc::{AllocError, Global};
 use std::thread::Threads;
-use superstep::Job;
+use superstep::{Job, State};
 use wasm_ast::Module;
 use wasm_decode::encode;
 use wat_asm::print;
@@ -37,7 +38,7 @@ use wat_asm::print;
 ///
 /// `call` answers with the outcome's lines; the module is looked at before it is told that the input's file cannot be
 /// read. `run` answers with the values of a job's vertices and how it ended; the module is looked at first, then the graph,
-/// then the settings. `verify` answers `ok size S operands M frames F`. `asm` writes the module's canonical spelling to the other file,
+/// then the settings. `verify` answers `ok size S operands M frames F`. `upgrade` reads a checkpoint of any version, writes it to the other file as one of version 2, and answers `ok LENGTH`. `asm` writes the module's canonical spelling to the other file,
 /// and answers `ok LENGTH`. `print` answers with the module's text. These two do not ask that the module is valid, and the
 /// others ask that it is and that it is in the bounded profile. A refusal is one of the module's and the input's own, or
 /// want of memory.
@@ -98,6 +99,7 @@ fn carry_out<'a, F: Files>(
     match options {
         Options::Call { module, input } => call_files(alloc, module, input, files),
         Options::Run(asked) => run_files(rt, alloc, asked, files),
+        Options::Upgrade { checkpoint, newer } => upgrade_file(alloc, checkpoint, newer, files),
         Options::Assemble { module, binary } => assemble_file(alloc, module, binary, files),
         Options::Print { module } => print_file(alloc, module, files),
         Options::Verify { module } => verify_file(alloc, module, files),
@@ -216,7 +218,7 @@ fn read_module<'a, F: Files>(
     module_of(alloc, &source)
 }
 
-// Writes a module to a file, in the binary format. What is told of it is made before.
+// Writes a module to a file, in the binary format.
 fn write_module<'a, F: Files>(
     alloc: Global,
     module: &Module,
@@ -232,8 +234,76 @@ fn write_module<'a, F: Files>(
         (Tries binary.now (canonical «module».now) (F.disk files.old) (F.disk files.new)) }
 {
     let bytes = encode(alloc, module)?;
+    write_told(alloc, bytes.as_slice(), binary, files)
+}
+
+// Writes the checkpoint in one file to another, of the newest version.
+fn upgrade_file<'a, F: Files>(
+    alloc: Global,
+    path: &'a str,
+    newer: &'a str,
+    files: &mut F,
+) -> Result<String, CommandFault<'a>>
+    ensures answered { IfTold result
+        (TellsUpgraded (F.disk files.old) (F.disk files.new) path.now newer.now) }
+    ensures refused { IfErr result (IsNotUpgraded (F.disk files.old) path.now newer.now) }
+    ensures before { IfErr result (StaysBeforeWriting (F.disk files.old) (F.disk files.new)) }
+    ensures tried { OnErr result (Stays (F.disk files.old) (F.disk files.new)
+        ⊎ TriesUpgraded (F.disk files.old) (F.disk files.new) path.now newer.now) }
+{
+    let state = read_checkpoint(alloc, path, files)?;
+    write_checkpoint(alloc, &state, newer, files)
+}
+
+// The state whose checkpoint is in a file.
+fn read_checkpoint<'a, F: Files>(
+    alloc: Global,
+    path: &'a str,
+    files: &mut F,
+) -> Result<State, CommandFault<'a>>
+    ensures found { MatchResult result (IsKeptAt (F.disk files.old) path.now)
+        (IsNoCheckpointAt (F.disk files.old) path.now) }
+    ensures kept { Stays (F.disk files.old) (F.disk files.new) }
+{
+    let bytes = read_bytes(alloc, path, files)?;
+    let state = checkpoint::read(alloc, bytes.as_slice())?;
+    Ok(state)
+}
+
+// Writes the checkpoint of a state to a file.
+fn write_checkpoint<'a, F: Files>(
+    alloc: Global,
+    state: &State,
+    newer: &'a str,
+    files: &mut F,
+) -> Result<String, CommandFault<'a>>
+    ensures answered { IfTold result
+        (TellsWritten (F.disk files.old) (F.disk files.new) (checkpoint_bytes state.now) newer.now) }
+    ensures refused { IfErr result (IsUnwritable (F.disk files.old) newer.now) }
+    ensures before { IfErr result (StaysBeforeWriting (F.disk files.old) (F.disk files.new)) }
+    ensures tried { OnErr result
+        (Tries newer.now (checkpoint_bytes state.now) (F.disk files.old) (F.disk files.new)) }
+{
+    let bytes = checkpoint::write(alloc, state)?;
+    write_told(alloc, bytes.as_slice(), newer, files)
+}
+
+// Writes bytes to a file, and tells how many. What is told is made before.
+fn write_told<'a, F: Files>(
+    alloc: Global,
+    bytes: &[u8],
+    path: &'a str,
+    files: &mut F,
+) -> Result<String, CommandFault<'a>>
+    ensures answered { IfTold result
+        (TellsWritten (F.disk files.old) (F.disk files.new) bytes.now path.now) }
+    ensures refused { IfErr result (IsUnwritable (F.disk files.old) path.now) }
+    ensures before { IfErr result (StaysBeforeWriting (F.disk files.old) (F.disk files.new)) }
+    ensures tried { OnErr result
+        (Tries path.now bytes.now (F.disk files.old) (F.disk files.new)) }
+{
     let told = length_text(alloc, bytes.len())?;
-    write(binary, bytes.as_slice(), files)?;
+    write(path, bytes, files)?;
     Ok(told)
 }
 

@@ -9,6 +9,8 @@ pub enum Options<'a> {
     Call { module: &'a str, input: &'a str },
     /// Run a job.
     Run(JobRequest<'a>),
+    /// Write the checkpoint in one file to another, of the newest version.
+    Upgrade { checkpoint: &'a str, newer: &'a str },
     /// Write the module in one file to another, in the binary format.
     Assemble { module: &'a str, binary: &'a str },
     /// Print the module in a file as text.

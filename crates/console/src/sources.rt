@@ -33,7 +33,7 @@ pub fn read_source<'a, F: Files>(
         let text = read_text(alloc, path, files)?;
         Ok(Source::Text(text))
     } else {
-        let bytes = read(alloc, path, files)?;
+        let bytes = read_bytes(alloc, path, files)?;
         Ok(Source::Binary(bytes))
     }
 }
@@ -56,15 +56,15 @@ pub fn read_text<'a, F: Files>(
         (IsUnread true (F.disk files.old) path.now) }
     ensures kept { Stays (F.disk files.old) (F.disk files.new) }
 {
-    let bytes = read(alloc, path, files)?;
+    let bytes = read_bytes(alloc, path, files)?;
     match String::from_utf8(bytes) {
         Ok(text) => Ok(text),
         Err(_) => Err(CommandFault::Unread(path)),
     }
 }
 
-// The bytes of a file.
-fn read<'a, F: Files>(
+/// The bytes of a file.
+pub fn read_bytes<'a, F: Files>(
     alloc: Global,
     path: &'a str,
     files: &mut F,

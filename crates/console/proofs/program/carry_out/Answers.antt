@@ -8,3 +8,6 @@ returns-in-Assemble-clause-tried g c = rw c.in-Assemble.is c.assemble_file.ensur
 
 pub returns-in-Run-clause-refused : goal.returns-in-Run-clause-refused
 returns-in-Run-clause-refused g c = rw c.in-Run.is c.run_files.ensures.refused
+
+pub returns-in-Upgrade-clause-tried : goal.returns-in-Upgrade-clause-tried
+returns-in-Upgrade-clause-tried g c = rw c.in-Upgrade.is c.upgrade_file.ensures.tried

@@ -1,0 +1,2 @@
+pub mod ByPlace
+pub mod Least

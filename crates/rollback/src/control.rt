@@ -1,0 +1,418 @@
+//! The control of a book: the control machine in code, a method for each of its words.
+
+ghost use Rattle.std.specs.Prelude.{◌≡◌, ◌<◌, ◌≤◌, ◌^◌, ◌||◌, not, nat_lt, true, length, IfOk, IfSome};
+ghost use Rattle.superstep.specs.declared.fault.JobFault.TheVariants.{OutOfMemory};
+ghost use Rattle.rollback.specs.Machine.{
+  aged,
+  all_set,
+  charged,
+  closed,
+  count_set,
+  counts,
+  ended_by,
+  expired,
+  finished,
+  freed,
+  hand,
+  handed,
+  has_answer,
+  is_alive,
+  is_busy,
+  is_out,
+  is_running,
+  is_saved_now,
+  is_waiting,
+  lost,
+  may_join,
+  opened,
+  restarted,
+  waits,
+  welcomed,
+  ending_at,
+};
+ghost use Rattle.rollback.specs.Events.{after_loss, after_save};
+ghost use Rattle.rollback.specs.inside.Control.{epochs_there, epochs_used};
+ghost use Rattle.rollback.specs.inside.Sound.{IsOpen};
+
+use crate::ending::{End, Told};
+use crate::flags::{are_all_set, clear, count_set, join};
+use crate::leases::{count_in_time, keep_in_time, least_part, make_older};
+use std::alloc::{AllocError, Global};
+use std::marker::Model;
+use superstep::{JobFault, Place, Settings};
+
+/// A task that a worker was handed.
+#[derive(Clone, Copy)]
+pub struct Out {
+    pub epoch: u64,
+    pub superstep: u32,
+    pub part: u32,
+}
+
+/// The control of a book. Contracts see it as the control machine.
+#[derive(Drop)]
+pub struct Control {
+    settings: Settings,
+    superstep: u32,
+    epoch: u64,
+    done: Vec<bool>,
+    alive: Vec<bool>,
+    waiting: Vec<bool>,
+    out: Vec<Option<Out>>,
+    age: Vec<u32>,
+    spent: Vec<u128>,
+    saved: Option<u32>,
+    missed: u64,
+    restarts: u64,
+    ending: End,
+}
+
+impl Model for Control {
+    ghost use Rattle.rollback.specs.Machine.{Machine};
+    ghost use Rattle.rollback.specs.inside.Control.{IsInRange, machine_of};
+
+    ghost Value = { Machine };
+
+    ghost view = { machine_of };
+
+    ghost invariant = { λ control. IsInRange (machine_of control) };
+}
+
+impl Control {
+    /// The control before superstep 0, which is quiet or not.
+    pub fn new(alloc: Global, settings: Settings, quiet: bool) -> Result<Control, AllocError>
+        requires parts { settings.parts ≤ 2 ^ 20 }
+        requires workers { settings.workers ≤ 2 ^ 20 }
+        requires every { 0 < settings.every }
+        ensures { IfOk result (λ control. control ≡ opened settings quiet) }
+    {
+        let workers = settings.workers as usize;
+        let done = vec![in alloc; false; settings.parts as usize]?;
+        let alive = vec![in alloc; true; workers]?;
+        let waiting = vec![in alloc; false; workers]?;
+        let out = vec![in alloc; None; workers]?;
+        let age = vec![in alloc; 0; workers]?;
+        let spent = vec![in alloc; 0; workers]?;
+        Ok(Control {
+            settings,
+            superstep: 0,
+            epoch: 0,
+            done,
+            alive,
+            waiting,
+            out,
+            age,
+            spent,
+            saved: None,
+            missed: 0,
+            restarts: 0,
+            ending: ending_at(quiet, 0, settings.limit),
+        })
+    }
+
+    pub fn superstep(&self) -> u32
+        ensures { result ≡ self.now.superstep }
+    {
+        self.superstep
+    }
+
+    pub fn epoch(&self) -> u64
+        ensures { result ≡ self.now.epoch }
+    {
+        self.epoch
+    }
+
+    pub fn missed(&self) -> u64
+        ensures { result ≡ self.now.missed }
+    {
+        self.missed
+    }
+
+    pub fn restarts(&self) -> u64
+        ensures { result ≡ self.now.restarts }
+    {
+        self.restarts
+    }
+
+    pub fn saved(&self) -> Option<u32>
+        ensures { result ≡ self.now.saved }
+    {
+        self.saved
+    }
+
+    pub fn ending(&self) -> End
+        ensures { result ≡ self.now.ending }
+    {
+        self.ending
+    }
+
+    pub fn is_running(&self) -> bool
+        ensures { result ≡ is_running self.now.ending }
+    {
+        matches!(self.ending, End::Running)
+    }
+
+    pub fn has_answer(&self) -> bool
+        ensures { result ≡ has_answer self.now.ending }
+    {
+        matches!(self.ending, End::Finished | End::Limit)
+    }
+
+    pub fn workers(&self) -> usize
+        ensures { result ≡ length self.now.alive }
+    {
+        self.alive.len()
+    }
+
+    /// The units of each worker.
+    pub fn into_spent(self) -> Vec<u128>
+        ensures { result.items ≡ self.spent }
+    {
+        self.spent
+    }
+
+    pub fn is_alive(&self, worker: usize) -> bool
+        requires { worker < length self.now.alive }
+        ensures { result ≡ is_alive self.now worker }
+    {
+        self.alive[worker]
+    }
+
+    /// Whether the worker is not alive and does not wait.
+    pub fn is_gone(&self, worker: usize) -> bool
+        requires { worker < length self.now.alive }
+        ensures { result ≡ not (is_alive self.now worker || is_waiting self.now worker) }
+    {
+        !self.alive[worker] && !self.waiting[worker]
+    }
+
+    /// The part that the worker is to be handed.
+    pub fn hand(&self, worker: usize) -> Option<u32>
+        requires { worker < length self.now.alive }
+        ensures hand { result ≡ hand self.now worker }
+        ensures in_range { IfSome result (IsOpen self.now.done) }
+    {
+        if self.is_running() && (self.alive[worker] && self.out[worker].is_none()) {
+            let count = count_set(&self.alive);
+            let place = count_set(&self.alive[..worker]);
+            let part = least_part(count, place, &self.done)?;
+            Some(part as u32)
+        } else {
+            None
+        }
+    }
+
+    /// The worker is handed this part.
+    pub fn hand_out(&mut self, worker: usize, part: u32)
+        requires { worker < length self.old.alive }
+        ensures { self.new ≡ handed self.old worker part }
+    {
+        let task = Out {
+            epoch: self.epoch,
+            superstep: self.superstep,
+            part,
+        };
+        self.out[worker] = Some(task);
+        self.age[worker] = 0;
+    }
+
+    /// Whether this is the task that the worker has not brought back.
+    pub fn is_out(&self, worker: usize, task: Out) -> bool
+        requires { worker < length self.now.alive }
+        ensures { result ≡ is_out self.now worker task }
+    {
+        match self.out[worker] {
+            Some(other) => {
+                other.epoch == task.epoch
+                    && (other.superstep == task.superstep && other.part == task.part)
+            }
+            None => false,
+        }
+    }
+
+    /// Whether what comes back of the task is taken.
+    pub fn counts(&self, worker: usize, task: Out) -> bool
+        requires { worker < length self.now.alive }
+        ensures { result ≡ counts self.now worker task }
+    {
+        self.alive[worker] && (self.is_out(worker, task) && task.epoch == self.epoch)
+    }
+
+    /// The worker has no task any more.
+    pub fn free(&mut self, worker: usize)
+        requires { worker < length self.old.alive }
+        ensures { self.new ≡ freed self.old worker }
+    {
+        self.out[worker] = None;
+    }
+
+    /// Adds to the worker's units.
+    pub fn charge(&mut self, worker: usize, units: u128)
+        requires { worker < length self.old.alive }
+        ensures { self.new ≡ charged self.old worker units }
+    {
+        self.spent[worker] = self.spent[worker].saturating_add(units);
+    }
+
+    /// The part is done. Answers whether all are.
+    pub fn finish(&mut self, part: u32) -> bool
+        requires { part < length self.old.done }
+        ensures after { self.new ≡ finished self.old part }
+        ensures all { result ≡ all_set self.new.done }
+    {
+        self.done[part as usize] = true;
+        are_all_set(&self.done)
+    }
+
+    /// The next superstep has come, which is quiet or not.
+    pub fn close(&mut self, quiet: bool)
+        requires { is_running self.old.ending ≡ true }
+        ensures { self.new ≡ closed quiet self.old }
+    {
+        self.superstep += 1;
+        clear(&mut self.done);
+        self.ending = ending_at(quiet, self.superstep, self.settings.limit);
+    }
+
+    /// Whether the state that has come is saved.
+    pub fn is_saved_now(&self) -> bool
+        ensures { result ≡ is_saved_now self.now }
+    {
+        matches!(self.ending, End::Running) && self.superstep % self.settings.every == 0
+    }
+
+    /// The state was saved, or was not.
+    pub fn note_save(&mut self, told: Told)
+        ensures { self.new ≡ after_save told self.old }
+    {
+        match told {
+            Told::Good => self.saved = Some(self.superstep),
+            Told::Failed => self.missed = self.missed.saturating_add(1),
+            Told::NoMemory => self.ending = End::Fault(JobFault::OutOfMemory(Place::Save)),
+        }
+    }
+
+    /// Where the job goes on, those that wait are alive in a new epoch.
+    pub fn welcome(&mut self)
+        ensures { self.new ≡ welcomed self.old }
+    {
+        if self.is_running() && 0 < count_set(&self.waiting) {
+            join(&mut self.alive, &self.waiting);
+            clear(&mut self.waiting);
+            self.epoch += 1;
+        }
+    }
+
+    // All parts are to be done again, by those that are left and those that wait. Answers whether there are such.
+    fn begin_anew(&mut self) -> bool
+        requires running { is_running self.old.ending ≡ true }
+        requires epochs { epochs_used self.old < epochs_there self.old }
+        ensures after { self.new ≡ after_loss self.old }
+        ensures left { result ≡ is_running self.new.ending }
+    {
+        join(&mut self.alive, &self.waiting);
+        clear(&mut self.waiting);
+        if 0 < count_set(&self.alive) {
+            self.epoch += 1;
+            clear(&mut self.done);
+            self.superstep = self.saved.unwrap_or(0);
+            true
+        } else {
+            self.ending = End::Fault(JobFault::NoWorkers);
+            false
+        }
+    }
+
+    /// The worker is lost. Answers whether the job goes on, with a new epoch.
+    pub fn lose(&mut self, worker: usize) -> bool
+        requires in_range { worker < length self.old.alive }
+        requires alive { is_alive self.old worker ≡ true }
+        requires running { is_running self.old.ending ≡ true }
+        ensures after { self.new ≡ after_loss (lost self.old worker) }
+        ensures left { result ≡ is_running self.new.ending }
+    {
+        self.alive[worker] = false;
+        self.begin_anew()
+    }
+
+    /// A tick passes.
+    pub fn grow_older(&mut self)
+        ensures { self.new ≡ aged self.old }
+    {
+        make_older(&self.alive, &self.out, &mut self.age);
+    }
+
+    /// Whether a worker has had its task for the whole lease.
+    pub fn is_some_overdue(&self) -> bool
+        ensures { result ≡ nat_lt (count_set (expired self.now).alive) (count_set self.now.alive) }
+    {
+        count_in_time(self.settings.lease, &self.out, &self.age, &self.alive)
+            < count_set(&self.alive)
+    }
+
+    /// All that are overdue are lost at once. Answers whether the job goes on, with a new epoch.
+    pub fn lose_overdue(&mut self) -> bool
+        requires running { is_running self.old.ending ≡ true }
+        requires some { count_set (expired self.old).alive < count_set self.old.alive }
+        ensures after { self.new ≡ after_loss (expired self.old) }
+        ensures left { result ≡ is_running self.new.ending }
+    {
+        keep_in_time(self.settings.lease, &self.out, &self.age, &mut self.alive);
+        self.begin_anew()
+    }
+
+    /// The state that was saved last could not be had: all begins with superstep 0.
+    pub fn restart(&mut self)
+        requires { is_running self.old.ending ≡ true }
+        ensures { self.new ≡ restarted self.old }
+    {
+        self.superstep = 0;
+        self.saved = None;
+        self.restarts = self.restarts.saturating_add(1);
+    }
+
+    /// There is no memory, for this work.
+    pub fn fail(&mut self, place: Place)
+        ensures { self.new ≡ ended_by (OutOfMemory place) self.old }
+    {
+        self.ending = End::Fault(JobFault::OutOfMemory(place));
+    }
+
+    /// Whether the worker is alive and has a task.
+    pub fn is_busy(&self, worker: usize) -> bool
+        requires { worker < length self.now.alive }
+        ensures { result ≡ is_busy self.now.alive self.now.out worker }
+    {
+        self.alive[worker] && self.out[worker].is_some()
+    }
+
+    pub fn may_join(&self, worker: usize) -> bool
+        requires { worker < length self.now.alive }
+        ensures { result ≡ may_join self.now worker }
+    {
+        !self.alive[worker] && (!self.waiting[worker] && self.epoch < 0x1_0000_0000)
+    }
+
+    /// The worker waits for a new epoch.
+    pub fn let_wait(&mut self, worker: usize)
+        requires in_range { worker < length self.old.alive }
+        requires may { may_join self.old worker ≡ true }
+        ensures { self.new ≡ waits self.old worker }
+    {
+        self.out[worker] = None;
+        self.waiting[worker] = true;
+    }
+}
+
+// How a job stands at a superstep, quiet or not.
+fn ending_at(quiet: bool, superstep: u32, limit: u32) -> End
+    ensures { result ≡ ending_at quiet superstep limit }
+{
+    if quiet {
+        End::Finished
+    } else if superstep < limit {
+        End::Running
+    } else {
+        End::Limit
+    }
+}

@@ -50,18 +50,7 @@ pub unread_before : (is_text : Bool) (before after : Disk) (path : List ℕ) →
     → IsUnread is_text after path fault → IsUnread is_text before path fault
 unread_before is_text before after path stays (command.Unread missing) (same, none) = (same, no_file_before is_text before after path stays none)
 unread_before is_text before after path stays command.OutOfMemory is = tt
-unread_before is_text before after path stays (command.Decode fault) is = absurd is
-unread_before is_text before after path stays (command.Text fault) is = absurd is
-unread_before is_text before after path stays (command.Invalid fault) is = absurd is
-unread_before is_text before after path stays (command.Unbounded fault) is = absurd is
-unread_before is_text before after path stays (command.Input fault) is = absurd is
-unread_before is_text before after path stays command.Run is = absurd is
-unread_before is_text before after path stays (command.Graph fault) is = absurd is
-unread_before is_text before after path stays (command.Settings setting) is = absurd is
-unread_before is_text before after path stays command.Job is = absurd is
-unread_before is_text before after path stays (command.Checkpoint fault) is = absurd is
-unread_before is_text before after path stays (command.Encode fault) is = absurd is
-unread_before is_text before after path stays (command.Unwritable refused) is = absurd is
+unread_before is_text before after path stays fault is = absurd is
 
 -- where no graph is found after a read, none was found before
 pub no_graph_before : (before after : Disk) (path : List ℕ) → Stays before after → (fault : CommandFault)

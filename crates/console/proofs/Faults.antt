@@ -40,35 +40,13 @@ loaded is_text content m verified same means (typed, within) bounded =
 pub want_of_call : (fault : CommandFault) → IsWantOfCall fault → IsWant fault
 want_of_call command.Run is = tt
 want_of_call command.OutOfMemory is = tt
-want_of_call (command.Decode fault) is = absurd is
-want_of_call (command.Text fault) is = absurd is
-want_of_call (command.Invalid fault) is = absurd is
-want_of_call (command.Unbounded fault) is = absurd is
-want_of_call (command.Input fault) is = absurd is
-want_of_call (command.Graph fault) is = absurd is
-want_of_call (command.Settings setting) is = absurd is
-want_of_call command.Job is = absurd is
-want_of_call (command.Checkpoint fault) is = absurd is
-want_of_call (command.Encode fault) is = absurd is
-want_of_call (command.Unread path) is = absurd is
-want_of_call (command.Unwritable path) is = absurd is
+want_of_call fault is = absurd is
 
 -- it says nothing of the text
 pub text_refused : (m : Module) (text : List ℕ) (fault : CommandFault) → IsWantOfCall fault → RefusesText m text fault
 text_refused m text command.Run is = tt
 text_refused m text command.OutOfMemory is = tt
-text_refused m text (command.Decode fault) is = absurd is
-text_refused m text (command.Text fault) is = absurd is
-text_refused m text (command.Invalid fault) is = absurd is
-text_refused m text (command.Unbounded fault) is = absurd is
-text_refused m text (command.Input fault) is = absurd is
-text_refused m text (command.Graph fault) is = absurd is
-text_refused m text (command.Settings setting) is = absurd is
-text_refused m text command.Job is = absurd is
-text_refused m text (command.Checkpoint fault) is = absurd is
-text_refused m text (command.Encode fault) is = absurd is
-text_refused m text (command.Unread path) is = absurd is
-text_refused m text (command.Unwritable path) is = absurd is
+text_refused m text fault is = absurd is
 
 pub OnErr-along : {A E P Q : Type 0} (r : Result A E) → (P → Q) → OnErr r P → OnErr r Q
 OnErr-along (Ok x) go h = h

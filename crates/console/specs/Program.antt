@@ -102,8 +102,7 @@ pub record IsBoundsLine (m : Module) (told : List ℕ) : Type 0 where
 
 -- the file's module is loaded, and its bounds are told
 abbrev pub TellsBounds : Disk → (module_path told : List ℕ) → Type 0
-TellsBounds disk module_path told =
-    HoldsAt disk module_path (λ content. (m : Module) × Loads (is_text_path module_path) content m × IsBoundsLine m told)
+TellsBounds disk module_path told = (m : Module) × IsLoadedAt disk module_path m × IsBoundsLine m told
 
 abbrev pub Answered : (before after : Disk) → Options → List ℕ → Type 0
 Answered before after (options.Call module_path input_path) told = TellsOutcome before module_path.now input_path.now told

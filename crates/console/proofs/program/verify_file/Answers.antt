@@ -9,6 +9,4 @@ pub returns-in_err-text-clause-refused : goal.returns-in_err-text-clause-refused
 returns-in_err-text-clause-refused g c = rw (is_fault _ _ c.from_residual-in_err-text.ensures.1) (inl tt)
 
 pub returns-clause-answered : goal.returns-clause-answered
-returns-clause-answered g c =
-    let (content, held, loads) = c.in_ok-verified.ensures.found in
-    (content, held, (c.in_ok-verified.verified, loads, c.in_ok-text.ensures))
+returns-clause-answered g c = (c.in_ok-verified.verified, c.in_ok-verified.ensures.found, c.in_ok-text.ensures)

@@ -1,4 +1,5 @@
-use Rattle.std.proofs.Common.{◌≡◌, ℕ, zero, suc, ◌+◌, ◌<◌, ◌%◌, List, [], ◌∷◌, length, drop, get_or, Bool, true, false, ◌&&◌, not, refl, ap, arith, rules, add-one, cond}
+-- The least part that is open, found one after another.
+use Rattle.std.proofs.Common.{◌≡◌, ℕ, ◌+◌, ◌<◌, ◌%◌, List, length, drop, get_or, Bool, false, ◌&&◌, not, refl, add-one}
 use Rattle.std.specs.Prelude.{◌==◌}
 use Rattle.std.proofs.Math.Seq.{drop-cons}
 use Rattle.rollback.specs.Machine.{least}

@@ -1,5 +1,5 @@
 -- What the control machine makes of events, and what it answers.
-use Rattle.std.specs.Prelude.{ℕ, List, length, Bool, true, ◌&&◌, not, nat_lt, if◌then◌else◌, Option, Some, None, Result, Ok, Err}
+use Rattle.std.specs.Prelude.{ℕ, length, Bool, true, ◌&&◌, not, nat_lt, if◌then◌else◌, Option, Some, None, Result, Ok, Err}
 use Rattle.superstep.specs.declared.fault.JobFault.{JobFault}
 use Rattle.superstep.specs.declared.fault.JobFault.TheVariants.{NoWorkers, OutOfMemory}
 use Rattle.superstep.specs.declared.fault.Place.{Place}

@@ -1,5 +1,5 @@
 -- The control machine: a book in numbers, without its data.
-use Rattle.std.specs.Prelude.{ℕ, suc, ◌+◌, ◌-◌, ◌*◌, ◌%◌, ◌^◌, min, ◌==◌, List, [], ◌∷◌, length, take, replicate, count_by, slice_index_or, slice_set, Bool, true, false, ◌&&◌, ◌||◌, not, nat_lt, if◌then◌else◌, Option, Some, None}
+use Rattle.std.specs.Prelude.{ℕ, suc, ◌+◌, ◌-◌, ◌%◌, ◌^◌, min, ◌==◌, List, [], ◌∷◌, length, take, replicate, count_by, slice_index_or, slice_set, Bool, true, false, ◌&&◌, ◌||◌, not, nat_lt, if◌then◌else◌, Option, Some, None}
 use Rattle.superstep.specs.declared.fault.JobFault.{JobFault}
 use Rattle.superstep.specs.declared.settings.Settings.{Settings}
 use Rattle.rollback.specs.declared.control.Out.{Out}

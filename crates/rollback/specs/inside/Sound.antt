@@ -1,5 +1,5 @@
 -- What is so of the tasks that are out.
-use Rattle.std.specs.Prelude.{◌≡◌, ◌<◌, ◌≤◌, ◌%◌, ℕ, List, length, take, slice_index_or, Bool, true, false, Option, Some, None}
+use Rattle.std.specs.Prelude.{◌≡◌, ◌<◌, ◌≤◌, ◌%◌, ℕ, List, length, take, slice_index_or, Bool, true, false, Some, None}
 use Rattle.rollback.specs.declared.control.Out.{Out}
 use Rattle.rollback.specs.Machine.{Machine, count_set, is_alive}
 

@@ -1,9 +1,8 @@
-use Rattle.std.proofs.Common.{◌≡◌, ◌∙◌, sym, ap, rules, arith, length, subst, refl, Option, Some, None, true, ℕ, Bool, List, ◌+◌, ◌*◌, ◌^◌, ◌<◌, ◌++◌, take, drop}
-use Rattle.std.proofs.lemmas.Grind.{common_steps}
+use Rattle.std.proofs.Common.{◌≡◌, ◌∙◌, sym, ap, rules, arith, length, subst, refl, Option, Some, None, ℕ, ◌+◌, ◌*◌, ◌^◌, ◌<◌, ◌++◌, take, drop}
 use Rattle.std.specs.Option.{unwrap_or}
 use Rattle.rollback.proofs.ByPlace.{either_fits, few_taken, overwritten}
 use Rattle.rollback.specs.inside.Control.{epochs_there, epochs_used}
-use Rattle.rollback.specs.Machine.{is_running, count_set, either, none_set, saved_or_first}
+use Rattle.rollback.specs.Machine.{count_set, either, none_set, saved_or_first}
 use Rattle.rollback.proofs.control.Control.begin_anew.Goals as goal
 
 unwrap_is : (o : Option ℕ) → unwrap_or o 0 ≡ saved_or_first o

@@ -1,8 +1,6 @@
-use Rattle.std.proofs.Common.{◌≡◌, ◌∙◌, sym, ap, rules, arith, length, subst, true, ℕ, Bool, List, ◌+◌, ◌*◌, ◌^◌, ◌<◌, ◌++◌, take, drop}
-use Rattle.std.proofs.lemmas.Grind.{common_steps}
+use Rattle.std.proofs.Common.{◌≡◌, ◌∙◌, sym, ap, rules, arith, length, subst, ℕ, Bool, List, ◌<◌, ◌++◌, take, drop}
 use Rattle.rollback.proofs.ByPlace.{either_fits, overwritten}
-use Rattle.rollback.specs.inside.Control.{epochs_there, epochs_used}
-use Rattle.rollback.specs.Machine.{is_running, count_set, either, none_set}
+use Rattle.rollback.specs.Machine.{count_set, either, none_set}
 use Rattle.rollback.proofs.control.Control.welcome.Goals as goal
 
 pub invariant_of-self : goal.invariant_of-self

@@ -1,11 +1,15 @@
 //! Jobs on one machine: `NAME: PARTS WORKERS EVERY LIMIT LEASE; MODULE; GRAPH` prints the values, how the job ended and in which
 //! superstep, its units, those of each superstep, and how many messages went to no vertex; or the setting that is out of its
-//! range. MODULE and GRAPH are files, or GRAPH is a text that stands there.
+//! range. MODULE and GRAPH are files, or GRAPH is a text that stands there. Where `copied` stands behind the settings, the state
+//! after the first superstep is printed, made of copies of what came back of the parts.
+
+mod by_hand;
 
 use crate::cases::{is_case, named, spelled};
 use crate::modules::valid_of;
 use anyhow::{Result, bail};
 use bounded_profile::{Verified, verify};
+use by_hand::first_superstep;
 use graph::Graph;
 use std::alloc::{AllocError, Global};
 use std::fs;
@@ -33,8 +37,21 @@ fn answer(rt: &(impl Files + AllocGlobal + Threads + Sync), case: &str) -> Resul
     let verified = verified_in(rt, module)?;
     let graph = graph_in(rt, graph)?;
     match Job::new(alloc, verified, graph, settings_of(settings)?) {
-        Ok(job) => Ok(told(alloc, &one_machine(rt, alloc, &job)?)?),
+        Ok(job) => Ok(ran(rt, alloc, &job, settings.ends_with(" copied"))?),
         Err(fault) => Ok(fault_told(alloc, fault)?),
+    }
+}
+
+fn ran(
+    rt: &(impl Threads + Sync),
+    alloc: Global,
+    job: &Job,
+    is_copied: bool,
+) -> Result<String, AllocError> {
+    if is_copied {
+        first_superstep(rt, alloc, job)
+    } else {
+        told(alloc, &one_machine(rt, alloc, job)?)
     }
 }
 

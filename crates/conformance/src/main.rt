@@ -14,6 +14,7 @@ mod host_functions;
 mod inboxes;
 mod inputs;
 mod jobs;
+mod keeps;
 mod leb_numbers;
 mod limits;
 mod modules;
@@ -59,7 +60,7 @@ fn judgements(rt: &(impl Files + Print + AllocGlobal)) -> Result<()> {
     costs::show(rt)
 }
 
-// Compute calls, graphs, inboxes, jobs, checkpoints, and the console.
+// Compute calls, graphs, inboxes, jobs, checkpoints, Keeps, and the console.
 fn runs(rt: &(impl Files + Print + AllocGlobal + Threads + Sync)) -> Result<()> {
     host_functions::show(rt)?;
     calls::show(rt)?;
@@ -68,6 +69,7 @@ fn runs(rt: &(impl Files + Print + AllocGlobal + Threads + Sync)) -> Result<()> 
     inboxes::show(rt)?;
     jobs::show(rt)?;
     checkpoints::show(rt)?;
+    keeps::show(rt)?;
     inputs::show(rt)?;
     commands::show(rt)
 }

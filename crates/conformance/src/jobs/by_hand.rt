@@ -1,0 +1,65 @@
+//! The first superstep of a job, by hand, with a copy in the place of what comes back of each part.
+
+ghost use Rattle.std.specs.Prelude.{◌≡◌, false, IfOk};
+ghost use Rattle.superstep.specs.Tasks.{IsRow, stamps_of};
+
+use crate::checkpoints::tell_state;
+use interp::Scratch;
+use std::alloc::{AllocError, Global};
+use std::marker::Brand;
+use std::thread::Threads;
+use superstep::{Done, Job, Origin, Slice, State, Task, Totals, barrier, run_task, slices};
+
+/// What stands after the superstep.
+pub fn first_superstep(
+    rt: &(impl Threads + Sync),
+    alloc: Global,
+    job: &Job,
+) -> Result<String, AllocError> {
+    let state = state_of_copies::<Brand>(rt, alloc, job)?;
+    let mut text = String::new(alloc);
+    tell_state(&state, &mut text)?;
+    Ok(text)
+}
+
+fn state_of_copies<J: Origin>(
+    rt: &(impl Threads + Sync),
+    alloc: Global,
+    job: &Job,
+) -> Result<State, AllocError>
+    requires job { J.work ≡ job.now }
+    requires honest { J.honest ≡ false }
+{
+    // Each of them is in its range: so superstep 0 comes before the limit.
+    let _settings = job.settings();
+    let state = State::first(alloc, job)?;
+    let totals = Totals::of(alloc, &state)?;
+    let aggregates = state.aggregates();
+    let slices = slices::<J>(alloc, job, state)?;
+    let copies = copies(alloc, job, slices, aggregates)?;
+    barrier(rt, alloc, job, totals, copies)
+}
+
+// A copy of what comes back of each slice.
+fn copies<J: Origin>(
+    alloc: Global,
+    job: &Job,
+    slices: Vec<Slice<J>>,
+    aggregates: [i64; 8],
+) -> Result<Vec<Done<J>>, AllocError>
+    requires job { J.work ≡ job.now }
+    requires honest { J.honest ≡ false }
+    requires all { slices.items ≡ stamps_of 0 job.now.settings.parts }
+    ensures { IfOk result (λ copies. IsRow job.now.settings.parts 0 copies.items) }
+{
+    let mut scratch = Scratch::new(alloc, job.verified())?;
+    let mut copies = Vec::with_capacity(alloc, slices.len())?;
+    for slice in slices {
+        let task = Task::new(0, slice, aggregates);
+        match run_task(alloc, job, task, &mut scratch) {
+            Ok(done) => copies.push(done.copy(alloc)?)?,
+            Err(_) => return Err(AllocError),
+        }
+    }
+    Ok(copies)
+}

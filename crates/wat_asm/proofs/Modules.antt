@@ -1,5 +1,5 @@
 -- All of a text's tokens, from what is read of its fields.
-use Rattle.std.proofs.Common.{◌≡◌, ℕ, List, [], Some, refl, subst}
+use Rattle.std.proofs.Common.{◌≡◌, ℕ, List, [], Some, refl, sym, subst}
 use Rattle.wasm_ast.specs.declared.module.Module.{Module}
 use Rattle.wasm_ast.specs.Modules.{empty_module}
 use Rattle.wat_asm.specs.declared.fault.Failure.{Failure}
@@ -18,9 +18,11 @@ module_failed n m s ts f e g h =
     first_failed (only_at n (empty_module, (ts, []))) (λ x. Some (with_types x.0 x.1.1)) f
     (begun m s ts e g (λ x. Failed f (only_at n x)) h)
 
-pub module_said : (n : ℕ) (m : Module) (s : State) (ts : List Tok) (made : Module) (after : State) → m ≡ empty_module → s ≡ (ts, []) → Said (made, after) (only_at n (m, s))
-    → Said (with_types made after.1) (module_at n ts)
+-- where the parser is left as it is then
+pub module_said : (n : ℕ) (m : Module) (s : State) (ts : List Tok) (made : Module) (after left : State) → m ≡ empty_module → s ≡ (ts, []) → left ≡ after → Said (made, after) (only_at n (m, s))
+    → Said (with_types made left.1) (module_at n ts)
 unfolding module_at
-module_said n m s ts made after e g h =
-    then_said (made, after) (only_at n (empty_module, (ts, []))) (λ x. Some (with_types x.0 x.1.1)) (with_types made after.1)
-    (begun m s ts e g (λ x. Said (made, after) (only_at n x)) h) refl
+module_said n m s ts made after left e g stays h =
+    subst (λ (l : State). Said (with_types made l.1) (module_at n ts)) (sym stays)
+    (then_said (made, after) (only_at n (empty_module, (ts, []))) (λ x. Some (with_types x.0 x.1.1)) (with_types made after.1)
+    (begun m s ts e g (λ x. Said (made, after) (only_at n x)) h) refl)

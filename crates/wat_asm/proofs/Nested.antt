@@ -1,5 +1,5 @@
 -- Instructions one after another, and those in a block, as loops and calls read them.
-use Rattle.std.proofs.Common.{◌≡◌, ℕ, zero, suc, ◌-◌, ◌≤◌, true, false, List, [], ◌∷◌, ◌++◌, Option, Some, None, refl, subst, arith}
+use Rattle.std.proofs.Common.{◌≡◌, ℕ, zero, suc, ◌-◌, ◌≤◌, true, false, List, [], ◌∷◌, ◌++◌, Option, Some, None, refl, sym, subst, arith}
 use Rattle.wasm_ast.specs.declared.types.FuncType.{FuncType}
 use Rattle.wasm_ast.specs.declared.body.Instr.{Instr}
 use Rattle.wasm_ast.specs.View.{code_of}
@@ -47,21 +47,23 @@ instr_said n inner front i s after h =
 pub instr_failed : (n : ℕ) (inner : Inner) (front : List Instr) (s : State) (f : Failure) → Failed f (instr_with n inner s) → Failed f (instr_step n inner (front, s))
 instr_failed n inner front s f h = first_failed (instr_with n inner s) (λ i. Some (front ++ i.0 ∷ [], i.1)) f h
 
--- inside of a block
-pub inner_said : (levels below n : ℕ) (before instrs : List Instr) (s after : State) → 1 ≤ levels → below ≡ levels - 1 → before ≡ [] → Said (instrs, after) (instrs_at below n (before, s))
-    → Said (code_of instrs, after) (inner_at levels n s)
+-- inside of a block, where the parser is as it is here and is left so
+pub inner_said : (levels below n : ℕ) (before instrs : List Instr) (s here after left : State) → 1 ≤ levels → below ≡ levels - 1 → before ≡ [] → here ≡ s → left ≡ after
+    → Said (instrs, after) (instrs_at below n (before, here)) → Said (code_of instrs, left) (inner_at levels n s)
 unfolding instrs_at inner_at
-inner_said zero below n before instrs s after some fewer none h = absurd (omega arith)
-inner_said (suc levels) below n before instrs s after some fewer none h =
+inner_said zero below n before instrs s here after left some fewer none at stays h = absurd (omega arith)
+inner_said (suc levels) below n before instrs s here after left some fewer none at stays h =
     let same : below ≡ levels = omega arith in
-    let read : Said (instrs, after) (instrs_at levels n ([], s)) = subst (λ (l : ℕ). Said (instrs, after) (instrs_at l n ([], s))) same (subst (λ (l : List Instr). Said (instrs, after) (instrs_at below n (l, s))) none h) in
-    then_said (instrs, after) (instrs_at levels n ([], s)) (λ y. Some (code_of y.0, y.1)) (code_of instrs, after) read refl
+    let read : Said (instrs, after) (instrs_at levels n ([], here)) = subst (λ (l : ℕ). Said (instrs, after) (instrs_at l n ([], here))) same (subst (λ (l : List Instr). Said (instrs, after) (instrs_at below n (l, here))) none h) in
+    let all : Said (code_of instrs, after) (inner_at (suc levels) n here) = then_said (instrs, after) (instrs_at levels n ([], here)) (λ y. Some (code_of y.0, y.1)) (code_of instrs, after) read refl in
+    subst (λ (l : State). Said (code_of instrs, l) (inner_at (suc levels) n s)) (sym stays) (subst (λ (l : State). Said (code_of instrs, after) (inner_at (suc levels) n l)) at all)
 
-pub inner_failed : (levels below n : ℕ) (before : List Instr) (s : State) (f : Failure) → 1 ≤ levels → below ≡ levels - 1 → before ≡ [] → Failed f (instrs_at below n (before, s))
-    → Failed f (inner_at levels n s)
+pub inner_failed : (levels below n : ℕ) (before : List Instr) (s here : State) (f : Failure) → 1 ≤ levels → below ≡ levels - 1 → before ≡ [] → here ≡ s
+    → Failed f (instrs_at below n (before, here)) → Failed f (inner_at levels n s)
 unfolding instrs_at inner_at
-inner_failed zero below n before s f some fewer none h = absurd (omega arith)
-inner_failed (suc levels) below n before s f some fewer none h =
+inner_failed zero below n before s here f some fewer none at h = absurd (omega arith)
+inner_failed (suc levels) below n before s here f some fewer none at h =
     let same : below ≡ levels = omega arith in
-    let read : Failed f (instrs_at levels n ([], s)) = subst (λ (l : ℕ). Failed f (instrs_at l n ([], s))) same (subst (λ (l : List Instr). Failed f (instrs_at below n (l, s))) none h) in
-    first_failed (instrs_at levels n ([], s)) (λ y. Some (code_of y.0, y.1)) f read
+    let read : Failed f (instrs_at levels n ([], here)) = subst (λ (l : ℕ). Failed f (instrs_at l n ([], here))) same (subst (λ (l : List Instr). Failed f (instrs_at below n (l, here))) none h) in
+    let all : Failed f (inner_at (suc levels) n here) = first_failed (instrs_at levels n ([], here)) (λ y. Some (code_of y.0, y.1)) f read in
+    subst (λ (l : State). Failed f (inner_at (suc levels) n l)) at all

@@ -8,42 +8,33 @@ use Rattle.wat_asm.specs.declared.fault.Failure.{Failure}
 use Rattle.wat_asm.specs.declared.lexer.token.Token.{Token}
 use Rattle.wat_asm.specs.declared.parser.code.Room.{Room}
 use Rattle.wat_asm.specs.declared.parser.draft.Draft.{Draft}
-use Rattle.wat_asm.specs.declared.parser.tokens.Parser.{Parser}
 use Rattle.wat_asm.specs.inside.Follows.{Follows}
-use Rattle.wat_asm.specs.inside.Tokens.{Tok, tok_of, toks_of}
-use Rattle.wat_asm.specs.inside.Reading.{State, Reads, state_of}
+use Rattle.wat_asm.specs.inside.Tokens.{tok_of}
+use Rattle.wat_asm.specs.inside.Reading.{State, Reads}
 use Rattle.wat_asm.specs.inside.ReadingCode.{constant_of}
 use Rattle.wat_asm.specs.inside.ReadingModule.{Making, drafted}
 
--- the tokens that are left
-abbrev pub toks : Parser → List Tok
-toks p = toks_of p.source.now p.rest.now
-
 -- fewer tokens are left than before, where it does not fail
-abbrev pub Fewer : {X : Type 0} → (old new : Parser) → Result X Failure → Type 0
-Fewer old new result = IfOk result (λ _. length new.rest.now < length old.rest.now)
+abbrev pub Fewer : {X : Type 0} → (old new : State) → Result X Failure → Type 0
+Fewer old new result = IfOk result (λ _. length new.0 < length old.0)
 
 -- and here as many or fewer
-abbrev pub NoMore : {X : Type 0} → (old new : Parser) → Result X Failure → Type 0
-NoMore old new result = IfOk result (λ _. length new.rest.now ≤ length old.rest.now)
+abbrev pub NoMore : {X : Type 0} → (old new : State) → Result X Failure → Type 0
+NoMore old new result = IfOk result (λ _. length new.0 ≤ length old.0)
 
 -- what a function answers in one state, with which it leaves another
 abbrev pub Answer : Type 0 → Type 1
 Answer X = (old new : State) → Result X Failure → Type 0
 
--- it answers so
-abbrev pub Answers : {X : Type 0} → (old new : Parser) → Result X Failure → Answer X → Type 0
-Answers old new result answer = answer (state_of old) (state_of new) result
-
 -- it answers so, and goes on in the tokens or stays where it is
-pub record GoesOn {X : Type 0} (old new : Parser) (result : Result X Failure) (answer : Answer X) : Type 0 where
-  pub again : answer (state_of old) (state_of new) result
-  pub shrinks : IfOk result (λ _. length new.rest.now ≤ length old.rest.now)
+pub record GoesOn {X : Type 0} (old new : State) (result : Result X Failure) (answer : Answer X) : Type 0 where
+  pub again : answer old new result
+  pub shrinks : NoMore old new result
 
 -- it answers so, and reads a token at least
-pub record Advances {X : Type 0} (old new : Parser) (result : Result X Failure) (answer : Answer X) : Type 0 where
-  pub again : answer (state_of old) (state_of new) result
-  pub shrinks : IfOk result (λ _. length new.rest.now < length old.rest.now)
+pub record Advances {X : Type 0} (old new : State) (result : Result X Failure) (answer : Answer X) : Type 0 where
+  pub again : answer old new result
+  pub shrinks : Fewer old new result
 
 -- ---- answers
 

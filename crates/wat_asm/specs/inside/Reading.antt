@@ -11,16 +11,12 @@ use Rattle.wat_asm.specs.declared.keyword.Keyword.{Keyword}
 use Rattle.wat_asm.specs.declared.keyword.Keyword.TheVariants as keyword
 use Rattle.wat_asm.specs.declared.parser.types.Group.{Group}
 use Rattle.wat_asm.specs.declared.parser.types.Group.TheVariants as group
-use Rattle.wat_asm.specs.declared.parser.tokens.Parser.{Parser}
 use Rattle.wat_asm.specs.inside.Follows.{◌>>=◌}
-use Rattle.wat_asm.specs.inside.Tokens.{Tok, opens, closes, key, number, text, other, toks_of}
+use Rattle.wat_asm.specs.inside.Tokens.{Tok, opens, closes, key, number, text, other}
 
 -- the tokens that are left, and the types so far
 abbrev pub State : Type 0
 State = List Tok × List FuncType
-
-abbrev pub state_of : Parser → State
-state_of p = (toks_of p.source.now p.rest.now, p.types.items)
 
 -- what reads something of a type
 abbrev pub Reads : Type 0 → Type 0

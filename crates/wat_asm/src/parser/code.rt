@@ -1,7 +1,7 @@
 //! Instructions one after another, linear and folded, and those that hold others (Core 1.0, 6.5).
 
 ghost use Rattle.std.specs.Prelude.{◌≡◌, ◌<◌};
-ghost use Rattle.wat_asm.specs.inside.Parsing.{Advances, AddsAny, GivesAny, Fewer, GoesOn, InRoom, NoMore, Passes, Shows, toks};
+ghost use Rattle.wat_asm.specs.inside.Parsing.{Advances, AddsAny, GivesAny, Fewer, GoesOn, InRoom, NoMore, Passes, Shows};
 ghost use Rattle.wat_asm.specs.inside.Reading.{unnamed_at};
 ghost use Rattle.wat_asm.specs.inside.ReadingCode.{code_at, else_in, end_at, ended_in, header_at, if_in, inner_at, instr_in, instrs_at, linear_in, other_in, stops};
 
@@ -47,7 +47,7 @@ impl Room {
 
 // Whether a token stands next that ends a sequence.
 fn is_stop(parser: &Parser<'_>) -> bool
-    ensures { result ≡ stops (toks parser.now) }
+    ensures { result ≡ stops parser.now.0 }
 {
     matches!(
         parser.rest,

@@ -3,7 +3,7 @@
 ghost use Rattle.std.specs.Prelude.{◌≡◌, ℕ, List, Some};
 ghost use Rattle.wasm_ast.specs.declared.types.ValType.{ValType as AnyValType};
 ghost use Rattle.wasm_ast.specs.declared.module.Module.{Module as AnyModule};
-ghost use Rattle.wat_asm.specs.inside.Parsing.{DraftsAny, ShowsAny, GivesAny, Drafts, Fewer, GoesOn, NoMore, Gives, toks};
+ghost use Rattle.wat_asm.specs.inside.Parsing.{DraftsAny, ShowsAny, GivesAny, Drafts, Fewer, GoesOn, NoMore, Gives};
 ghost use Rattle.wat_asm.specs.inside.Reading.{group_step, item_step, local_first, number_at, number_first};
 ghost use Rattle.wat_asm.specs.inside.ReadingModule.{bytes_at, drafted, element_at, element_field_at, export_at, export_description_at, export_field_at, exported_at, field_first, field_step, function_at, function_field_at, global_at, global_field_at, heading_at, import_at, import_description_at, import_field_at, imported_at, inline_at, inline_first, inner_offset_at, keyword_at, memory_field_at, number_or_0_at, numbers_at, offset_at, offset_first, segment_at, segment_field_at, start_field_at, table_at, table_field_at, text_first, text_step};
 
@@ -202,7 +202,7 @@ fn exported(parser: &mut Parser<'_>, keyword: Keyword) -> Result<ExportDescripti
 
 // Whether an export or an import stands next, inside of a field.
 fn is_inline(parser: &Parser<'_>) -> bool
-    ensures { result ≡ inline_first (toks parser.now) }
+    ensures { result ≡ inline_first parser.now.0 }
 {
     matches!(parser.opening(), Some(Keyword::Export | Keyword::Import))
 }
@@ -431,7 +431,7 @@ fn offset(parser: &mut Parser<'_>) -> Result<Body, Failure>
 }
 
 fn is_offset(parser: &Parser<'_>) -> bool
-    ensures { result ≡ offset_first (toks parser.now) }
+    ensures { result ≡ offset_first parser.now.0 }
 {
     matches!(parser.opening(), Some(Keyword::Offset))
 }

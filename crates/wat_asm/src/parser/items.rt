@@ -1,7 +1,7 @@
 //! What stands any number of times, one after another.
 
 ghost use Rattle.std.specs.Prelude.{◌≡◌, ℕ, Bool, List, Option, Some};
-ghost use Rattle.wat_asm.specs.inside.Parsing.{Advances, GoesOn, MakesAny, toks};
+ghost use Rattle.wat_asm.specs.inside.Parsing.{Advances, GoesOn, MakesAny};
 ghost use Rattle.wat_asm.specs.inside.Reading.{State, repeated};
 ghost use Rattle.wat_asm.specs.inside.Tokens.{Tok};
 
@@ -23,7 +23,7 @@ pub trait Item {
 
     /// Whether another one stands next.
     fn is_next(&self, parser: &Parser<'_>) -> bool
-        ensures { (b : Bool) → first self.now (toks parser.now) ≡ Some b → result ≡ b };
+        ensures { (b : Bool) → first self.now parser.now.0 ≡ Some b → result ≡ b };
 
     /// Reads the one that stands next.
     fn add(&self, parser: &mut Parser<'_>, made: &mut Self::Made) -> Result<(), Failure>

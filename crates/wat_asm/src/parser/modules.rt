@@ -4,7 +4,7 @@ ghost use Rattle.std.specs.Prelude.{◌≡◌, ℕ, true, Some, IfOk};
 ghost use Rattle.wasm_ast.specs.declared.module.Module.{Module as AnyModule};
 ghost use Rattle.wasm_ast.specs.Limits.{IsWithinLimits};
 ghost use Rattle.wat_asm.specs.inside.Follows.{Follows, IsRead};
-ghost use Rattle.wat_asm.specs.inside.Parsing.{Answers, DraftsAny, Passes, toks};
+ghost use Rattle.wat_asm.specs.inside.Parsing.{DraftsAny, Passes};
 ghost use Rattle.wat_asm.specs.inside.ReadingModule.{goes_on_with_type, is_empty, module_at, module_open_at, nameless, only_at, type_step, whole_at};
 ghost use Rattle.wat_asm.specs.inside.Tokens.{toks_of};
 
@@ -57,7 +57,7 @@ fn module(alloc: Global, source: &[u8], names: &Names, tokens: &[Token]) -> Resu
 // A module's fields, between its parentheses, and nothing behind them.
 #[tactic(auto, unfolding(crate::specs::inside::ReadingModule::only_at))]
 fn only(parser: &mut Parser<'_>, draft: &mut Draft) -> Result<(), Failure>
-    ensures again { Answers parser.old parser.new result (DraftsAny draft.old draft.new only_at) }
+    ensures again { DraftsAny draft.old draft.new only_at parser.old parser.new result }
 {
     whole(parser, draft)?;
     if is_at_end(parser) {
@@ -70,7 +70,7 @@ fn only(parser: &mut Parser<'_>, draft: &mut Draft) -> Result<(), Failure>
 // A module's fields, between its parentheses.
 #[tactic(auto, unfolding(crate::specs::inside::ReadingModule::whole_at, crate::specs::inside::ReadingModule::types_at, crate::specs::inside::ReadingModule::fields_at))]
 fn whole(parser: &mut Parser<'_>, draft: &mut Draft) -> Result<(), Failure>
-    ensures again { Answers parser.old parser.new result (DraftsAny draft.old draft.new whole_at) }
+    ensures again { DraftsAny draft.old draft.new whole_at parser.old parser.new result }
 {
     open_module(parser)?;
     repeated(&EarlyType, parser, &mut ())?;
@@ -79,14 +79,14 @@ fn whole(parser: &mut Parser<'_>, draft: &mut Draft) -> Result<(), Failure>
 }
 
 fn is_at_end(parser: &Parser<'_>) -> bool
-    ensures { result ≡ is_empty (toks parser.now) }
+    ensures { result ≡ is_empty parser.now.0 }
 {
     parser.rest.is_empty()
 }
 
 #[tactic(auto, unfolding(crate::specs::inside::ReadingModule::module_open_at))]
 fn open_module(parser: &mut Parser<'_>) -> Result<(), Failure>
-    ensures again { Answers parser.old parser.new result (Passes module_open_at) }
+    ensures again { Passes module_open_at parser.old parser.new result }
 {
     match parser.rest {
         [Token::Open, Token::Key(Keyword::Module), rest @ ..] => {

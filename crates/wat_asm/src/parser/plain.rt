@@ -5,7 +5,6 @@ ghost use Rattle.wasm_ast.specs.declared.types.ValType.TheVariants.{I32, I64};
 ghost use Rattle.wasm_ast.specs.declared.body.Instr.TheVariants as instr;
 ghost use Rattle.wasm_ast.specs.declared.plain.Plain.TheVariants as leaf;
 ghost use Rattle.wat_asm.specs.inside.Parsing.{Advances, GivesAny, GoesOn, IsConstant, Shows, Gives, When};
-ghost use Rattle.wat_asm.specs.inside.Reading.{state_of};
 ghost use Rattle.wat_asm.specs.inside.ReadingCode.{alignment_at, branch_table_at, constant_at, exponent, load_at, memory_argument_at, offset_at, plain_at, store_at, variable_at};
 
 use crate::fault::{Failure, Wrong};
@@ -108,8 +107,8 @@ impl<'a> Parser<'a> {
     // The offset, which is 0 where none stands.
     #[tactic(auto, unfolding(crate::specs::inside::ReadingCode::offset_at))]
     fn offset(&mut self) -> u32
-        ensures again { (result, state_of self.new) ≡ offset_at (state_of self.old) }
-        ensures shrinks { length self.new.rest.now ≤ length self.old.rest.now }
+        ensures again { (result, self.new) ≡ offset_at self.old }
+        ensures shrinks { length self.new.0 ≤ length self.old.0 }
     {
         match self.rest {
             [Token::Offset(n), rest @ ..] => {

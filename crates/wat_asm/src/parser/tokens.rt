@@ -1,8 +1,8 @@
 //! What is still to be read, and the readers of single tokens.
 
 ghost use Rattle.std.specs.Prelude.{◌≡◌, ◌≤◌, [], Bool, Some, None, length};
-ghost use Rattle.wat_asm.specs.inside.Parsing.{Advances, Passes, Shows, Gives, toks};
-ghost use Rattle.wat_asm.specs.inside.Reading.{State, closed_at, funcref_at, inside, name_at, number_at, number_first, open_first, opened_at, opening, state_of, text_at, type_first, unnamed_at};
+ghost use Rattle.wat_asm.specs.inside.Parsing.{Advances, Passes, Shows, Gives};
+ghost use Rattle.wat_asm.specs.inside.Reading.{State, closed_at, funcref_at, inside, name_at, number_at, number_first, open_first, opened_at, opening, text_at, type_first, unnamed_at};
 ghost use Rattle.wat_asm.specs.inside.Tokens.{toks_of};
 
 use crate::fault::{Failure, Wrong};
@@ -11,9 +11,11 @@ use crate::lexer::{Token, string};
 use crate::parser::equal_types::EqualTypes;
 use crate::parser::names::{Kind, Names, Space};
 use std::alloc::Global;
+use std::marker::Model;
 use wasm_ast::{FuncType, Name};
 
-/// The tokens of a module that are not read yet, with what was read that later tokens may refer to.
+/// The tokens of a module that are not read yet, with what was read that later tokens may refer to. Contracts see the
+/// tokens and the types.
 #[derive(Drop)]
 pub struct Parser<'a> {
     pub alloc: Global,
@@ -33,9 +35,18 @@ pub struct Parser<'a> {
     pub labels: Vec<Option<u32>>,
 }
 
+impl<'a> Model for Parser<'a> {
+    ghost use Rattle.wat_asm.specs.inside.Reading.{State};
+    ghost use Rattle.wat_asm.specs.inside.Tokens.{toks_of};
+
+    ghost Value = { State };
+
+    ghost view = { λ parser. (toks_of parser.source.now parser.rest.now, parser.types.items) };
+}
+
 impl<'a> Parser<'a> {
     pub fn new(alloc: Global, source: &'a [u8], names: &'a Names, tokens: &'a [Token]) -> Parser<'a>
-        ensures { state_of result ≡ (toks_of source.now tokens.now, []) }
+        ensures { result ≡ (toks_of source.now tokens.now, []) }
     {
         Parser {
             alloc,
@@ -94,7 +105,7 @@ impl<'a> Parser<'a> {
 
     /// The keyword behind the parenthesis that stands next, if one does.
     pub fn opening(&self) -> Option<Keyword>
-        ensures { result ≡ opening (toks self.now) }
+        ensures { result ≡ opening self.now.0 }
     {
         match self.rest {
             [Token::Open, Token::Key(keyword), ..] => Some(*keyword),
@@ -104,8 +115,8 @@ impl<'a> Parser<'a> {
 
     /// Passes the parenthesis and the keyword that stand next.
     pub fn enter(&mut self)
-        ensures again { state_of self.new ≡ inside (state_of self.old) }
-        ensures shrinks { length self.new.rest.now ≤ length self.old.rest.now }
+        ensures again { self.new ≡ inside self.old }
+        ensures shrinks { length self.new.0 ≤ length self.old.0 }
     {
         if let [_, _, rest @ ..] = self.rest {
             self.rest = rest;
@@ -128,22 +139,21 @@ impl<'a> Parser<'a> {
 
     /// Whether a type, or its use by its number, stands next.
     pub fn is_type(&self) -> bool
-        ensures { result ≡ type_first (toks self.now) }
+        ensures { result ≡ type_first self.now.0 }
     {
         matches!(self.opening(), Some(Keyword::FuncType))
     }
 
     /// No parameter and no local has a name from now on.
     pub fn forget_locals(&mut self)
-        ensures again { state_of self.new ≡ state_of self.old }
-        ensures shrinks { self.new.rest.now ≡ self.old.rest.now }
+        ensures { self.new ≡ self.old }
     {
         self.locals = Space::new(self.alloc);
     }
 
     /// Whether an opening parenthesis stands next.
     pub fn is_open(&self) -> bool
-        ensures { result ≡ open_first (toks self.now) }
+        ensures { result ≡ open_first self.now.0 }
     {
         matches!(self.rest, [Token::Open, ..])
     }
@@ -151,7 +161,7 @@ impl<'a> Parser<'a> {
     /// Whether a number or a name stands next.
     #[tactic(auto, unfolding(crate::specs::inside::Reading::number_first))]
     pub fn is_index(&self) -> bool
-        ensures { (b : Bool) → number_first (toks self.now) ≡ Some b → result ≡ b }
+        ensures { (b : Bool) → number_first self.now.0 ≡ Some b → result ≡ b }
     {
         matches!(
             self.rest,
@@ -162,9 +172,9 @@ impl<'a> Parser<'a> {
     /// A name, where one stands next.
     #[tactic(auto, unfolding(crate::specs::inside::Reading::unnamed_at))]
     pub fn name(&mut self) -> Option<u32>
-        ensures again { (s : State) → unnamed_at (state_of self.old) ≡ Some s
-            → (result ≡ None) × (state_of self.new ≡ s) }
-        ensures shrinks { length self.new.rest.now ≤ length self.old.rest.now }
+        ensures again { (s : State) → unnamed_at self.old ≡ Some s
+            → (result ≡ None) × (self.new ≡ s) }
+        ensures shrinks { length self.new.0 ≤ length self.old.0 }
     {
         match self.rest {
             [Token::Name(name), rest @ ..] => {

@@ -2,7 +2,7 @@
 
 ghost use Rattle.std.specs.Prelude.{◌≡◌, ◌<◌, List, Some};
 ghost use Rattle.wasm_ast.specs.declared.types.ValType.{ValType as AnyValType};
-ghost use Rattle.wat_asm.specs.inside.Parsing.{Advances, AddsAny, GivesAny, Fewer, GoesOn, NoMore, Passes, Gives, When, toks};
+ghost use Rattle.wat_asm.specs.inside.Parsing.{Advances, AddsAny, GivesAny, Fewer, GoesOn, NoMore, Passes, Gives, When};
 ghost use Rattle.wat_asm.specs.inside.Reading.{block_type_at, defined_type_at, func_at, global_type_at, group_at, group_first, group_step, item_step, limits_at, maximum_at, mut_first, mut_type_at, named_use_at, result_first, signature_at, signature_first, type_use_at, val_type_at, val_type_first};
 
 use crate::fault::{Failure, Wrong};
@@ -102,7 +102,7 @@ impl<'a> Parser<'a> {
 
     // Whether results stand next.
     fn is_result(&self) -> bool
-        ensures { result_first (toks self.now) ≡ Some result }
+        ensures { result_first self.now.0 ≡ Some result }
     {
         matches!(self.opening(), Some(Keyword::Result))
     }
@@ -146,7 +146,7 @@ impl<'a> Parser<'a> {
     }
 
     fn is_mut(&self) -> bool
-        ensures { result ≡ mut_first (toks self.now) }
+        ensures { result ≡ mut_first self.now.0 }
     {
         matches!(self.opening(), Some(Keyword::Mut))
     }
@@ -181,7 +181,7 @@ impl<'a> Parser<'a> {
 
     /// Whether parameters or results stand next.
     pub fn is_signature(&self) -> bool
-        ensures { result ≡ signature_first (toks self.now) }
+        ensures { result ≡ signature_first self.now.0 }
     {
         matches!(self.opening(), Some(Keyword::Param | Keyword::Result))
     }
@@ -281,7 +281,7 @@ impl<'a> Parser<'a> {
 
     // Whether the type with this number is this one.
     fn is_numbered(&mut self, number: u32, t: &FuncType) -> Result<bool, Failure>
-        ensures { self.new.rest.now ≡ self.old.rest.now }
+        ensures { self.new.0 ≡ self.old.0 }
     {
         self.read_all_types()?;
         match self.types.get(number as usize) {
@@ -292,7 +292,7 @@ impl<'a> Parser<'a> {
 
     // The number of the first type that is equal to this one, which is added where there is none.
     fn number_of_type(&mut self, t: FuncType) -> Result<u32, Failure>
-        ensures shrinks { self.new.rest.now ≡ self.old.rest.now }
+        ensures shrinks { self.new.0 ≡ self.old.0 }
     {
         let number = self.number_of_equal(&t)?;
         if number as usize == self.types.len() {
@@ -303,7 +303,7 @@ impl<'a> Parser<'a> {
 
     // The number of the first type that is equal to this one, and the next number where there is none.
     fn number_of_equal(&mut self, t: &FuncType) -> Result<u32, Failure>
-        ensures { self.new.rest.now ≡ self.old.rest.now }
+        ensures { self.new.0 ≡ self.old.0 }
     {
         self.read_all_types()?;
         let Ok(next) = u32::try_from(self.types.len()) else {
@@ -315,7 +315,7 @@ impl<'a> Parser<'a> {
 
     /// How many parameters the type with this number has, and none where it names no type.
     pub fn parameter_count(&mut self, number: u32) -> Result<usize, Failure>
-        ensures { self.new.rest.now ≡ self.old.rest.now }
+        ensures { self.new.0 ≡ self.old.0 }
     {
         self.read_all_types()?;
         match self.types.get(number as usize) {
@@ -353,7 +353,7 @@ impl<'a> Parser<'a> {
     // Reads the types that the module defines behind here, unless that was done before. Types that uses make are numbered
     // behind all of them.
     fn read_all_types(&mut self) -> Result<(), Failure>
-        ensures { self.new.rest.now ≡ self.old.rest.now }
+        ensures { self.new.0 ≡ self.old.0 }
     {
         if self.are_types_read {
             return Ok(());

@@ -8,7 +8,8 @@ use Rattle.wat_asm.specs.declared.fault.Failure.{Failure}
 use Rattle.wat_asm.specs.declared.lexer.token.Token.{Token}
 use Rattle.wat_asm.specs.declared.lexer.token.Token.TheVariants as token
 use Rattle.wat_asm.specs.inside.Follows.{◌>>=◌, Follows}
-use Rattle.wat_asm.specs.inside.Lexing.{EndsWith, is_blank, is_word, one_at, opening_at, quoted_at, read_of, word_at, word_of}
+use Rattle.wat_asm.specs.inside.Lexing.{EndsWith, is_blank, one_at, opening_at, quoted_at, read_of, word_at, word_of}
+use Rattle.wat_asm.specs.Words.{is_word}
 use Rattle.wat_asm.specs.inside.Strings.{plain, quote_at, string_of}
 use Rattle.wat_asm.specs.inside.Tokens.{Tok, tok_of, text, text_or_other}
 use Rattle.wat_asm.proofs.Quotes.{string_is}

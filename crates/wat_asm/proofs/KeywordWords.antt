@@ -22,7 +22,8 @@ use Rattle.wasm_ast.specs.declared.plain.Store.TheVariants as store
 use Rattle.wat_asm.specs.declared.keyword.Keyword.{Keyword}
 use Rattle.wat_asm.specs.declared.keyword.Keyword.TheVariants as keyword
 use Rattle.wat_asm.specs.Keywords.{keyword_text}
-use Rattle.wat_asm.specs.inside.Lexing.{is_word, plain_of, word_of}
+use Rattle.wat_asm.specs.inside.Lexing.{plain_of, word_of}
+use Rattle.wat_asm.specs.Words.{is_word}
 use Rattle.wat_asm.specs.inside.Tokens.{key}
 use Rattle.wat_asm.proofs.WordText.{all_word, IsWordText}
 use borrow.Author.Tests.{ltb-true}

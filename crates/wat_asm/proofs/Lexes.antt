@@ -6,7 +6,8 @@ use Rattle.std.proofs.lemmas.List.{append-nil, take-append-drop}
 use Rattle.wat_asm.specs.declared.fault.Failure.{Failure}
 use Rattle.wat_asm.specs.declared.lexer.token.Token.{Token}
 use Rattle.wat_asm.specs.inside.Follows.{◌>>=◌, Follows, IsMemory}
-use Rattle.wat_asm.specs.inside.Lexing.{EndsWith, begins_comment, is_blank, is_word, one_at, opening_at, quoted_at, read_of, word_at, word_of, listed, tokens_at}
+use Rattle.wat_asm.specs.inside.Lexing.{EndsWith, begins_comment, is_blank, one_at, opening_at, quoted_at, read_of, word_at, word_of, listed, tokens_at}
+use Rattle.wat_asm.specs.Words.{is_word}
 use Rattle.wat_asm.specs.Pieces.{Piece}
 use Rattle.wat_asm.specs.Quoted.{stands_as_itself}
 use Rattle.wat_asm.specs.inside.Strings.{Within, plain, escape, digit, hex_digit, onto, quote_at}

@@ -3,7 +3,7 @@ use Rattle.std.proofs.Common.{◌≡◌, ◌<◌, ℕ, suc, List, [], ◌∷◌,
 use Rattle.std.proofs.lemmas.Slice.Eq.{bytes_eq-Decides}
 use Rattle.wat_asm.specs.declared.lexer.numbering.Numbering.{Numbering}
 use Rattle.wat_asm.specs.declared.lexer.token.Token.{Token}
-use Rattle.wat_asm.specs.inside.Lexing.{first_word}
+use Rattle.wat_asm.specs.Words.{first_word}
 use Rattle.wat_asm.specs.Numbering.{AreApart, AreNumbered, Grows, IsNumbered, number_of_name}
 
 -- the name has this number from now on

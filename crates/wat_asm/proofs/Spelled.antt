@@ -11,7 +11,8 @@ use Rattle.std.proofs.lemmas.Fmt.{digits_decimal, decimal_nonempty}
 use Rattle.wat_asm.specs.declared.pieces.Gap.{Gap}
 use Rattle.wat_asm.specs.declared.pieces.Gap.TheVariants as gap
 use Rattle.wat_asm.specs.Keywords.{keyword_text}
-use Rattle.wat_asm.specs.inside.Lexing.{begins_with_digit, numeral_of, is_word, plain_of, word_of, word_at, one_at, listed, tokens_at}
+use Rattle.wat_asm.specs.inside.Lexing.{begins_with_digit, numeral_of, plain_of, word_of, word_at, one_at, listed, tokens_at}
+use Rattle.wat_asm.specs.Words.{is_word}
 use Rattle.wat_asm.specs.Pieces.{Piece, indent, gap_text, piece_text}
 use Rattle.wat_asm.specs.Pieces as piece
 use Rattle.wat_asm.specs.Quoted.{quoted}

@@ -1,7 +1,7 @@
 -- Texts that are one word, wherever they stand.
 use Rattle.std.proofs.Common.{◌≡◌, ◌<◌, ℕ, Bool, true, List, [], ◌∷◌, length}
 use Rattle.std.specs.Prelude.{◌&&◌}
-use Rattle.wat_asm.specs.inside.Lexing.{is_word}
+use Rattle.wat_asm.specs.Words.{is_word}
 
 abbrev pub all_word : List ℕ → Bool
 all_word [] = true

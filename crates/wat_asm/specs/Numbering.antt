@@ -7,7 +7,7 @@ use Rattle.std.specs.Ordering.{nat_cmp}
 use Rattle.wat_asm.specs.declared.lexer.numbering.Numbering.{Numbering}
 use Rattle.wat_asm.specs.declared.lexer.token.Token.{Token}
 use Rattle.wat_asm.specs.declared.lexer.token.Token.TheVariants as token
-use Rattle.wat_asm.specs.inside.Lexing.{first_word}
+use Rattle.wat_asm.specs.Words.{first_word}
 
 -- the number of a name, if it has one
 abbrev pub number_of_name : Numbering → List ℕ → Option ℕ

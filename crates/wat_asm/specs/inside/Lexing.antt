@@ -10,6 +10,7 @@ use Rattle.wat_asm.specs.declared.keyword.TheConstants.{KEYWORDS}
 use Rattle.wat_asm.specs.declared.lexer.token.Token.{Token}
 use Rattle.wat_asm.specs.inside.Follows.{◌>>=◌}
 use Rattle.wat_asm.specs.Keywords.{lookup}
+use Rattle.wat_asm.specs.Words.{first_word, is_word}
 use Rattle.wat_asm.specs.inside.Strings.{plain, quote_at}
 use Rattle.wat_asm.specs.inside.Tokens.{Tok, opens, closes, key, number, signed, offset_is, align_is, text, tok_of}
 
@@ -83,19 +84,9 @@ word_of (b ∷ bs) =
 
 -- ---- tokens
 
--- the bytes of names, keywords and numbers
-unfoldable pub is_word : ℕ → Bool
-is_word b =
-    nat_lt 32 b && nat_lt b 127 && not (b == 34) && not (b == 40) && not (b == 41) && not (b == 44) && not (b == 59)
-    && not (b == 91) && not (b == 93) && not (b == 123) && not (b == 125)
-
 abbrev pub begins_comment : List ℕ → Bool
 begins_comment [] = false
 begins_comment (b ∷ bs) = b == 59
-
--- the bytes up to the first that no word has
-abbrev pub first_word : List ℕ → List ℕ
-first_word bs = take (prefix_len is_word bs) bs
 
 unfoldable pub word_at : List ℕ → Option (Option Tok × List ℕ)
 word_at bs = word_of (first_word bs) >>= λ t. Some (Some t, drop (prefix_len is_word bs) bs)

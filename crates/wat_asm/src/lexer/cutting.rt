@@ -3,7 +3,8 @@
 ghost use Rattle.std.specs.Prelude.{◌≡◌, ◌+◌, ◌<◌, ◌≤◌, List, ℕ, Some, None, length, take, drop, IfOk, IfSome};
 ghost use Rattle.std.specs.List.{prefix_len};
 ghost use Rattle.wat_asm.specs.inside.Follows.{Follows};
-ghost use Rattle.wat_asm.specs.inside.Lexing.{EndsWith, IsLeft, first_word, is_blank, is_word, one_at, opening_at, quoted_at, read_of, word_at};
+ghost use Rattle.wat_asm.specs.inside.Lexing.{EndsWith, IsLeft, is_blank, one_at, opening_at, quoted_at, read_of, word_at};
+ghost use Rattle.wat_asm.specs.Words.{first_word, is_word};
 ghost use Rattle.wat_asm.specs.Numbering.{Grows, IsNumbered, number_in};
 
 use super::numbering::Numbering;
@@ -13,7 +14,7 @@ use super::words::token_of;
 use crate::fault::{Failure, Wrong};
 
 // A byte of a name, a keyword or a number (Core 1.0, 6.3.5).
-#[tactic(auto, unfolding(crate::specs::inside::Lexing::is_word))]
+#[tactic(auto, unfolding(crate::specs::Words::is_word))]
 fn is_word_byte(b: u8) -> bool
     ensures { result ≡ is_word b }
 {

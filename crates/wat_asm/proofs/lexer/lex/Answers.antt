@@ -3,7 +3,8 @@ use Rattle.std.specs.Prelude.{IfSome, option_map}
 use Rattle.std.proofs.lemmas.List.{append-nil}
 use Rattle.std.proofs.lemmas.Result.{err_from_is_err_and}
 use Rattle.wat_asm.specs.declared.lexer.token.Token.{Token}
-use Rattle.wat_asm.specs.inside.Lexing.{IsLeft, first_word, listed}
+use Rattle.wat_asm.specs.inside.Lexing.{IsLeft, listed}
+use Rattle.wat_asm.specs.Words.{first_word}
 use Rattle.wat_asm.specs.Numbering.{IsNumbered}
 use Rattle.wat_asm.specs.inside.Tokens.{Tok, sorted, tok_of, toks_of}
 use Rattle.wat_asm.proofs.Left.{left_after, left_all}

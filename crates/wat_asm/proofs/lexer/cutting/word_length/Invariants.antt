@@ -1,6 +1,6 @@
 use Rattle.std.proofs.Common.{◌≡◌, ◌+◌, ◌≤◌, ◌-◌, length, drop}
 use Rattle.std.specs.List.{prefix_len}
-use Rattle.wat_asm.specs.inside.Lexing.{is_word}
+use Rattle.wat_asm.specs.Words.{is_word}
 use Rattle.wat_asm.proofs.lexer.cutting.word_length.Given as goal
 
 abbrev pub invariant-each : goal.invariant-each

@@ -1,2 +1,10 @@
 pub mod ByPlace
+pub mod Keeps
+pub mod Kept
 pub mod Least
+pub mod Opening
+pub mod Seated
+pub mod Slices
+pub mod Sound
+pub mod Steps
+pub mod Taking

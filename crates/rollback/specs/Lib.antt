@@ -1,5 +1,11 @@
 -- What a reader has to believe, in this order: the control machine, and what it makes of events.
 pub mod Machine
 pub mod Events
+-- the parts of a running job
+pub mod Parts
+-- what is kept of a job elsewhere
+pub mod Keeping
+-- a book between two events
+pub mod Book
 -- what only mirrors the code, for its proofs
 pub mod inside

@@ -30,7 +30,7 @@ ghost use Rattle.rollback.specs.Machine.{
   welcomed,
   ending_at,
 };
-ghost use Rattle.rollback.specs.Events.{after_loss, after_save};
+ghost use Rattle.rollback.specs.Events.{after_loss, after_save, stale_done};
 ghost use Rattle.rollback.specs.inside.Control.{epochs_there, epochs_used};
 ghost use Rattle.rollback.specs.inside.Sound.{IsOpen};
 
@@ -244,6 +244,16 @@ impl Control {
         ensures { self.new ≡ freed self.old worker }
     {
         self.out[worker] = None;
+    }
+
+    /// What comes back of the task is not taken. Where it is the worker's task, the worker has none any more.
+    pub fn leave_out(&mut self, worker: usize, task: Out)
+        requires { worker < length self.old.alive }
+        ensures { self.new ≡ stale_done self.old worker task }
+    {
+        if self.is_out(worker, task) {
+            self.free(worker);
+        }
     }
 
     /// Adds to the worker's units.

@@ -1,11 +1,21 @@
 //! The book of a running job: tasks and what comes back of them, saved states and rollbacks.
 #![tactic(auto)]
 
+mod book;
 mod control;
 mod ending;
 mod event;
 mod flags;
+mod holding;
+mod keeping;
 mod leases;
+mod parts;
+mod replies;
+mod rolling;
+mod seats;
+mod status;
 
+pub use book::Book;
 pub use ending::End;
 pub use event::{Answer, Event};
+pub use status::Status;

@@ -1,0 +1,193 @@
+-- What a Keep has of a book, from event to event.
+use Rattle.std.proofs.Common.{◌≡◌, ℕ, suc, ◌+◌, ◌<◌, List, Bool, true, false, cond, Option, Some, None, refl, sym, ap, ◌∙◌, subst, arith, inl, inr}
+use Rattle.std.specs.Prelude.{◌⊎◌, ◌&&◌, not, nat_lt}
+use Rattle.checkpoint.specs.Keep.{HasFailed, IsKeptOrNone}
+use Rattle.superstep.specs.declared.fault.JobFault.TheVariants.{OutOfMemory}
+use Rattle.superstep.specs.declared.fault.Place.TheVariants.{Slice}
+use Rattle.superstep.specs.Job.{Work}
+use Rattle.superstep.specs.State.{HasIdsOf, IsStateAt, Standing}
+use Rattle.rollback.specs.declared.ending.Told.{Told}
+use Rattle.rollback.specs.declared.ending.Told.TheVariants.{Failed, Good, NoMemory}
+use Rattle.rollback.specs.Machine.{Machine, count_set, ended_by, is_running, is_saved_now, joined, saved_or_first, welcomed}
+use Rattle.rollback.specs.Events.{after_load, after_save, loading, saving, slicing}
+use Rattle.rollback.specs.Keeping.{IsLoadTold, IsSaveTold, IsSavedOrLeft, KeepsFor, MayLoadOther}
+
+pub keeps_same : (work : Work) (trusted honest : Bool) (kept : Option ℕ) (may_load : List ℕ → Type 0) (m m' : Machine) → m'.saved ≡ m.saved → KeepsFor work trusted honest kept may_load m → KeepsFor work trusted honest kept may_load m'
+keeps_same work trusted honest kept may_load m m' e k = record { trusts = k.trusts; saved = λ s is. k.saved s (sym e ∙ is); bytes = λ t s is. k.bytes t s (sym e ∙ is) }
+
+-- ---- what slices and joining leave
+
+slicing_saved_if : (m : Machine) (c : Bool) → (cond c (ended_by (OutOfMemory Slice) m) m).saved ≡ m.saved
+slicing_saved_if m true = refl
+slicing_saved_if m false = refl
+
+slicing_missed_if : (m : Machine) (c : Bool) → (cond c (ended_by (OutOfMemory Slice) m) m).missed ≡ m.missed
+slicing_missed_if m true = refl
+slicing_missed_if m false = refl
+
+slicing_restarts_if : (m : Machine) (c : Bool) → (cond c (ended_by (OutOfMemory Slice) m) m).restarts ≡ m.restarts
+slicing_restarts_if m true = refl
+slicing_restarts_if m false = refl
+
+pub slicing_superstep_if : (m : Machine) (c : Bool) → (cond c (ended_by (OutOfMemory Slice) m) m).superstep ≡ m.superstep
+slicing_superstep_if m true = refl
+slicing_superstep_if m false = refl
+
+-- the numbers of which a Keep knows
+pub record AreSame (m m' : Machine) : Type 0 where
+  pub saved : m'.saved ≡ m.saved
+  pub missed : m'.missed ≡ m.missed
+  pub restarts : m'.restarts ≡ m.restarts
+  pub superstep : m'.superstep ≡ m.superstep
+
+pub slicing_same : (m : Machine) (sliced : Bool) → AreSame m (slicing sliced m)
+slicing_same m sliced =
+    let c = is_running m.ending && not sliced in
+    record { saved = slicing_saved_if m c; missed = slicing_missed_if m c; restarts = slicing_restarts_if m c; superstep = slicing_superstep_if m c }
+
+welcomed_same_if : (m : Machine) (c : Bool) → AreSame m (cond c (record (joined m) { epoch = m.epoch + 1 }) m)
+welcomed_same_if m true = record { saved = refl; missed = refl; restarts = refl; superstep = refl }
+welcomed_same_if m false = record { saved = refl; missed = refl; restarts = refl; superstep = refl }
+
+pub welcomed_same : (m : Machine) → AreSame m (welcomed m)
+welcomed_same m = welcomed_same_if m (is_running m.ending && nat_lt 0 (count_set m.waiting))
+
+pub same_both : (a b c : Machine) → AreSame a b → AreSame b c → AreSame a c
+same_both a b c x y = record { saved = y.saved ∙ x.saved; missed = y.missed ∙ x.missed; restarts = y.restarts ∙ x.restarts; superstep = y.superstep ∙ x.superstep }
+
+-- ---- saves
+
+-- a save that was not good leaves what the book counts on
+keeps_left : (work : Work) (trusted : Bool) (m m' : Machine) (state : Standing) (h h' : Bool) (k k' : Option ℕ) (ml ml' : List ℕ → Type 0) (f f' : ℕ) (told : Told) → (told ≡ Good → ⊥) → saved_or_first m.saved < state.superstep → m'.saved ≡ m.saved → IsSaveTold state h h' k k' ml ml' f f' told → KeepsFor work trusted h k ml m → KeepsFor work trusted h' k' ml' m'
+keeps_left work trusted m m' state h h' k k' ml ml' f f' told bad past same s old = record {
+  trusts = λ t. s.honest_is ∙ old.trusts t;
+  saved = λ n e.
+      let e' = sym same ∙ e in
+      elim (s.left bad) [
+        | inl x ↦ x ∙ old.saved n e'
+        | inr x ↦ (let y : Some n ≡ Some state.superstep = sym (old.saved n e') ∙ x.0 in let z : n ≡ state.superstep = cc in let w : saved_or_first m.saved ≡ n = ap saved_or_first e' in absurd (omega (arith, past, z, w)))
+      ];
+  bytes = λ t n e b may. old.bytes t n (sym same ∙ e) b (s.left_bytes bad b may);
+}
+
+some_is : (a b : ℕ) → Some a ≡ Some b → a ≡ b
+some_is a b e = cc
+
+keeps_after : (work : Work) (trusted : Bool) (m : Machine) (state : Standing) (h h' : Bool) (k k' : Option ℕ) (ml ml' : List ℕ → Type 0) (f f' : ℕ) (told : Told) → (trusted ≡ true → IsStateAt work state.superstep state) → HasIdsOf work state → state.superstep ≡ m.superstep → saved_or_first m.saved < state.superstep → IsSaveTold state h h' k k' ml ml' f f' told → KeepsFor work trusted h k ml m → KeepsFor work trusted h' k' ml' (after_save told m)
+keeps_after work trusted m state h h' k k' ml ml' f f' Good at has same past s old = record {
+  trusts = λ t. s.honest_is ∙ old.trusts t;
+  saved = λ n e. s.saved_is refl ∙ ap Some same ∙ e;
+  bytes = λ t n e b may.
+      let z : state.superstep ≡ n = same ∙ some_is m.superstep n e in
+      record { state = state; written = (s.bytes_are refl (old.trusts t) b may).0; spelled = (s.bytes_are refl (old.trusts t) b may).1; fits = record { superstep = z; ids = has }; at = subst (λ i. IsStateAt work i state) z (at t) };
+}
+keeps_after work trusted m state h h' k k' ml ml' f f' Failed at has same past s old = keeps_left work trusted m (after_save Failed m) state h h' k k' ml ml' f f' Failed (λ e. cc) past refl s old
+keeps_after work trusted m state h h' k k' ml ml' f f' NoMemory at has same past s old = keeps_left work trusted m (after_save NoMemory m) state h h' k k' ml ml' f f' NoMemory (λ e. cc) past refl s old
+
+-- the last good save is of this superstep, or it was left
+abbrev IsSavedNow : Machine → Option ℕ → Option ℕ → Type 0
+IsSavedNow m kept kept' = ((m.saved ≡ Some m.superstep) × (kept' ≡ Some m.superstep)) ⊎ IsKeptOrNone m.superstep kept kept'
+
+-- what a closed superstep leaves, where m has come, and c says whether a save is due
+pub record Saves (work : Work) (trusted : Bool) (m m' : Machine) (h h' : Bool) (k k' : Option ℕ) (ml ml' : List ℕ → Type 0) (f f' : ℕ) : Type 0 where
+  pub keeps : KeepsFor work trusted h' k' ml' m'
+  pub missed : (m'.missed ≡ m.missed) ⊎ HasFailed f f'
+  pub restarts : m'.restarts ≡ m.restarts
+  pub superstep : m'.superstep ≡ m.superstep
+  pub left : IsSavedNow m' k k'
+
+saves_told : (work : Work) (trusted : Bool) (m : Machine) (state : Standing) (h h' : Bool) (k k' : Option ℕ) (ml ml' : List ℕ → Type 0) (f f' : ℕ) (told : Told) → (trusted ≡ true → IsStateAt work state.superstep state) → HasIdsOf work state → state.superstep ≡ m.superstep → saved_or_first m.saved < state.superstep → IsSaveTold state h h' k k' ml ml' f f' told → KeepsFor work trusted h k ml m → Saves work trusted m (after_save told m) h h' k k' ml ml' f f'
+saves_told work trusted m state h h' k k' ml ml' f f' Good at has same past s old = record {
+  keeps = keeps_after work trusted m state h h' k k' ml ml' f f' Good at has same past s old;
+  missed = inl refl;
+  restarts = refl;
+  superstep = refl;
+  left = inl (refl, s.saved_is refl ∙ ap Some same);
+}
+saves_told work trusted m state h h' k k' ml ml' f f' Failed at has same past s old = record {
+  keeps = keeps_after work trusted m state h h' k k' ml ml' f f' Failed at has same past s old;
+  missed = inr (s.cause refl);
+  restarts = refl;
+  superstep = refl;
+  left = inr (subst (λ n. IsKeptOrNone n k k') same (s.left (λ e. cc)));
+}
+saves_told work trusted m state h h' k k' ml ml' f f' NoMemory at has same past s old = record {
+  keeps = keeps_after work trusted m state h h' k k' ml ml' f f' NoMemory at has same past s old;
+  missed = inl refl;
+  restarts = refl;
+  superstep = refl;
+  left = inr (subst (λ n. IsKeptOrNone n k k') same (s.left (λ e. cc)));
+}
+
+saves_if : (work : Work) (trusted : Bool) (m : Machine) (state : Standing) (h h' : Bool) (k k' : Option ℕ) (ml ml' : List ℕ → Type 0) (f f' : ℕ) (told : Told) (c : Bool) → (trusted ≡ true → IsStateAt work state.superstep state) → HasIdsOf work state → state.superstep ≡ m.superstep → saved_or_first m.saved < state.superstep → (c ≡ true → IsSaveTold state h h' k k' ml ml' f f' told) → (c ≡ false → KeepsFor work trusted h' k' ml' m × (k' ≡ k)) → KeepsFor work trusted h k ml m → Saves work trusted m (cond c (after_save told m) m) h h' k k' ml ml' f f'
+saves_if work trusted m state h h' k k' ml ml' f f' told true at has same past s other old = saves_told work trusted m state h h' k k' ml ml' f f' told at has same past (s refl) old
+saves_if work trusted m state h h' k k' ml ml' f f' told false at has same past s other old = record { keeps = (other refl).0; missed = inl refl; restarts = refl; superstep = refl; left = inr (inl (other refl).1) }
+
+pub saves : (work : Work) (trusted : Bool) (m : Machine) (state : Standing) (h h' : Bool) (k k' : Option ℕ) (ml ml' : List ℕ → Type 0) (f f' : ℕ) (told : Told) → (trusted ≡ true → IsStateAt work state.superstep state) → HasIdsOf work state → state.superstep ≡ m.superstep → saved_or_first m.saved < state.superstep → (is_saved_now m ≡ true → IsSaveTold state h h' k k' ml ml' f f' told) → (is_saved_now m ≡ false → KeepsFor work trusted h' k' ml' m × (k' ≡ k)) → KeepsFor work trusted h k ml m → Saves work trusted m (saving told m) h h' k k' ml ml' f f'
+saves work trusted m state h h' k k' ml ml' f f' told at has same past s other old = saves_if work trusted m state h h' k k' ml ml' f f' told (is_saved_now m) at has same past s other old
+
+-- numbers that a Keep does not know
+pub saves_same : (work : Work) (trusted : Bool) (m m' m'' : Machine) (h h' : Bool) (k k' : Option ℕ) (ml ml' : List ℕ → Type 0) (f f' : ℕ) → Saves work trusted m m' h h' k k' ml ml' f f' → AreSame m' m'' → Saves work trusted m m'' h h' k k' ml ml' f f'
+saves_same work trusted m m' m'' h h' k k' ml ml' f f' s e = record {
+  keeps = keeps_same work trusted h' k' ml' m' m'' e.saved s.keeps;
+  missed = elim s.missed [ inl x ↦ inl (e.missed ∙ x) | inr x ↦ inr x ];
+  restarts = e.restarts ∙ s.restarts;
+  superstep = e.superstep ∙ s.superstep;
+  left = elim s.left [
+    | inl x ↦ inl (e.saved ∙ x.0 ∙ ap Some (sym e.superstep), x.1 ∙ ap Some (sym e.superstep))
+    | inr x ↦ inr (subst (λ n. IsKeptOrNone n k k') (sym e.superstep) x)
+  ];
+}
+
+-- so it is after the superstep before it
+pub saves_left : (work : Work) (trusted : Bool) (before m m' : Machine) (h h' : Bool) (k k' : Option ℕ) (ml ml' : List ℕ → Type 0) (f f' : ℕ) → m'.superstep ≡ suc before.superstep → Saves work trusted m m' h h' k k' ml ml' f f' → IsSavedOrLeft before m' k k'
+saves_left work trusted before m m' h h' k k' ml ml' f f' next s =
+    elim s.left [
+      | inl x ↦ inr (next, inl x)
+      | inr x ↦ elim x [ inl e ↦ inl e | inr y ↦ inr (next, inr y) ]
+    ]
+
+-- ---- loads
+
+loads_keeps : (work : Work) (trusted : Bool) (m m' : Machine) (h h' : Bool) (k k' : Option ℕ) (ml ml' : List ℕ → Type 0) (f f' : ℕ) (asked : Option ℕ) (told : Told) → m'.saved ≡ m.saved → IsLoadTold work h h' k k' ml ml' f f' asked told → KeepsFor work trusted h k ml m → KeepsFor work trusted h' k' ml' m'
+loads_keeps work trusted m m' h h' k k' ml ml' f f' asked told same l old = record {
+  trusts = λ t. l.honest_is ∙ old.trusts t;
+  saved = λ s e. l.saved_is ∙ old.saved s (sym same ∙ e);
+  bytes = λ t s e b may. old.bytes t s (sym same ∙ e) b (l.bytes_are b may);
+}
+
+-- what a loss leaves
+pub record Loads (work : Work) (trusted : Bool) (m m' : Machine) (h h' : Bool) (k k' : Option ℕ) (ml ml' : List ℕ → Type 0) (f f' : ℕ) : Type 0 where
+  pub keeps : KeepsFor work trusted h' k' ml' m'
+  pub missed : m'.missed ≡ m.missed
+  pub restarts : (m'.restarts ≡ m.restarts) ⊎ (HasFailed f f' ⊎ MayLoadOther work m.saved ml)
+  pub left : k' ≡ k
+
+loads_if : (work : Work) (trusted : Bool) (m : Machine) (h h' : Bool) (k k' : Option ℕ) (ml ml' : List ℕ → Type 0) (f f' : ℕ) (asked : Option ℕ) (told : Told) → asked ≡ m.saved → IsLoadTold work h h' k k' ml ml' f f' asked told → KeepsFor work trusted h k ml m → Loads work trusted m (loading asked told m) h h' k k' ml ml' f f'
+loads_if work trusted m h h' k k' ml ml' f f' None told e l old = record { keeps = loads_keeps work trusted m m h h' k k' ml ml' f f' None told refl l old; missed = refl; restarts = inl refl; left = l.saved_is }
+loads_if work trusted m h h' k k' ml ml' f f' (Some s) Good e l old = record { keeps = loads_keeps work trusted m m h h' k k' ml ml' f f' (Some s) Good refl l old; missed = refl; restarts = inl refl; left = l.saved_is }
+loads_if work trusted m h h' k k' ml ml' f f' (Some s) Failed e l old = record {
+  keeps = record { trusts = λ t. l.honest_is ∙ old.trusts t; saved = λ n x. cc; bytes = λ t n x. absurd (cc) };
+  missed = refl;
+  restarts = inr (subst (λ a. HasFailed f f' ⊎ MayLoadOther work a ml) e (l.cause refl));
+  left = l.saved_is;
+}
+loads_if work trusted m h h' k k' ml ml' f f' (Some s) NoMemory e l old = record { keeps = loads_keeps work trusted m (after_load NoMemory m) h h' k k' ml ml' f f' (Some s) NoMemory refl l old; missed = refl; restarts = inl refl; left = l.saved_is }
+
+pub loads : (work : Work) (trusted : Bool) (m m1 : Machine) (h h' : Bool) (k k' : Option ℕ) (ml ml' : List ℕ → Type 0) (f f' : ℕ) (told : Told) → m1.saved ≡ m.saved → m1.missed ≡ m.missed → m1.restarts ≡ m.restarts → IsLoadTold work h h' k k' ml ml' f f' m1.saved told → KeepsFor work trusted h k ml m → Loads work trusted m (loading m1.saved told m1) h h' k k' ml ml' f f'
+loads work trusted m m1 h h' k k' ml ml' f f' told saved missed restarts l old =
+    let x = loads_if work trusted m1 h h' k k' ml ml' f f' m1.saved told refl l (keeps_same work trusted h k ml m m1 saved old) in
+    record {
+      keeps = x.keeps;
+      missed = x.missed ∙ missed;
+      left = x.left;
+      restarts = elim x.restarts [ inl y ↦ inl (y ∙ restarts) | inr y ↦ inr (subst (λ a. HasFailed f f' ⊎ MayLoadOther work a ml) saved y) ];
+    }
+
+pub loads_same : (work : Work) (trusted : Bool) (m m' m'' : Machine) (h h' : Bool) (k k' : Option ℕ) (ml ml' : List ℕ → Type 0) (f f' : ℕ) → Loads work trusted m m' h h' k k' ml ml' f f' → AreSame m' m'' → Loads work trusted m m'' h h' k k' ml ml' f f'
+loads_same work trusted m m' m'' h h' k k' ml ml' f f' s e = record {
+  keeps = keeps_same work trusted h' k' ml' m' m'' e.saved s.keeps;
+  missed = e.missed ∙ s.missed;
+  restarts = elim s.restarts [ inl x ↦ inl (e.restarts ∙ x) | inr x ↦ inr x ];
+  left = s.left;
+}

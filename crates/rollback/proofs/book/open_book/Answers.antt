@@ -1,0 +1,50 @@
+use Rattle.std.proofs.Common.{◌≡◌, ◌<◌, sym, ap, ◌∙◌, subst, map}
+use Rattle.superstep.specs.Job.{Work}
+use Rattle.superstep.specs.State.{HasIdsOf, IsStateAt, state_id}
+use Rattle.rollback.specs.Book.{IsQuietAt}
+use Rattle.rollback.specs.inside.Book.{AreIdsOf}
+use Rattle.rollback.specs.inside.Rolling.{IsFirst}
+use Rattle.rollback.proofs.Kept
+use Rattle.rollback.proofs.Opening.{few_parts, few_workers, first_ids, some_every, some_limit}
+use Rattle.rollback.proofs.book.open_book.Goals as goal
+
+pub new-requires-clause-parts : goal.new-requires-clause-parts
+new-requires-clause-parts g c = few_parts c.settings.result (rw c.settings.ensures.settings c.settings.ensures.good)
+
+pub new-requires-clause-workers : goal.new-requires-clause-workers
+new-requires-clause-workers g c = few_workers c.settings.result (rw c.settings.ensures.settings c.settings.ensures.good)
+
+pub new-requires-clause-every : goal.new-requires-clause-every
+new-requires-clause-every g c = some_every c.settings.result (rw c.settings.ensures.settings c.settings.ensures.good)
+
+pub hold_opened-requires-clause-at : goal.hold_opened-requires-clause-at
+hold_opened-requires-clause-at g c = λ sure.
+    let state = c.in_ok-state.state in
+    subst (λ n. IsStateAt g.J.Origin.work n state) (sym c.in_ok-state.ensures.superstep) (subst (λ (w : Work). IsStateAt w 0 state) (sym c.requires.job) c.in_ok-state.ensures.first)
+
+pub invariant_of-result : goal.invariant_of-result
+invariant_of-result g c =
+    let work = g.J.Origin.work in
+    let job = c.args.job.now in
+    let state = c.in_ok-state.state in
+    let own : job ≡ work = sym c.requires.job in
+    let graph = c.settings.ensures.graph in
+    let ids = c.in_ok-ids.ensures ∙ ap (λ vs. map state_id vs) c.vertices.ensures.same in
+    rw c.in_ok-control.ensures (Kept.book_opened work g.J.Origin.honest job c.settings.result c.in_ok-ids.ids.items c.in_ok-holding.holding c.is_quiet-quiet.result state own
+    (c.settings.ensures.settings ∙ ap (λ (w : Work). w.settings) own)
+    (subst (λ (w : Work). 0 < w.settings.limit) own (some_limit job.settings c.settings.ensures.good))
+    (subst (λ (w : Work). AreIdsOf w c.in_ok-ids.ids.items) own (first_ids job state c.in_ok-ids.ids.items graph ids c.in_ok-state.ensures.ids))
+    (subst (λ (w : Work). HasIdsOf w state) own c.in_ok-state.ensures.ids)
+    c.in_ok-state.ensures.superstep
+    (λ sure. subst (λ (w : Work). IsStateAt w 0 state) own c.in_ok-state.ensures.first)
+    c.is_quiet-quiet.ensures
+    (subst (λ (w : Work). IsFirst w.settings.parts c.is_quiet-quiet.result state c.in_ok-holding.holding) own c.in_ok-holding.ensures))
+
+pub returns : goal.returns
+returns g c =
+    let work = g.J.Origin.work in
+    let state = c.in_ok-state.state in (
+      c.is_quiet-quiet.result,
+      subst (λ q. IsQuietAt work 0 q) (sym c.is_quiet-quiet.ensures) (Kept.settled_quiet work 0 state (subst (λ (w : Work). IsStateAt w 0 state) (sym c.requires.job) c.in_ok-state.ensures.first)),
+      rw (← c.settings.ensures.settings) c.in_ok-control.ensures,
+    )

@@ -1,0 +1,19 @@
+use Rattle.std.proofs.Common.{map, ap, ◌∙◌, refl}
+use Rattle.rollback.specs.declared.seats.Seat.TheVariants.{Here}
+use Rattle.rollback.proofs.Seated.{seated_home, spots_home}
+use Rattle.rollback.proofs.parts.Parts.of.Goals as goal
+
+pub invariant_of-result : goal.invariant_of-result
+invariant_of-result g c =
+    let of = c.in_ok-totals.ensures.of in
+    record {
+      telling = c.in_ok-totals.ensures.totals;
+      sums = λ sure. c.in_ok-totals.ensures.at g.J.Origin.work (c.requires.at sure);
+      slots = λ sure. rw (of.superstep, c.aggregates-aggregates.ensures) (λ meaning. (c.requires.at sure meaning).aggregates);
+      seated = rw of.superstep (seated_home c.in_ok-seats.seats.items c.args.state.superstep c.args.job.now.settings.parts (c.in_ok-seats.ensures ∙ ap (λ xs. map Here xs) c.in_ok-slices.ensures));
+    }
+
+pub returns : goal.returns
+returns g c =
+    let of = c.in_ok-totals.ensures.of in
+    rw (of.superstep, of.since, spots_home c.in_ok-seats.seats.items c.args.state.superstep c.args.job.now.settings.parts (c.in_ok-seats.ensures ∙ ap (λ xs. map Here xs) c.in_ok-slices.ensures)) refl

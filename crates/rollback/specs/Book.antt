@@ -1,0 +1,60 @@
+-- A book between two events, and what an event makes of it.
+use Rattle.std.specs.Prelude.{◌≡◌, ℕ, suc, Bool, true, false, Result}
+use Rattle.superstep.specs.declared.fault.JobFault.{JobFault}
+use Rattle.superstep.specs.Job.{Meaning, Work}
+use Rattle.superstep.specs.PlainRun.{state_at}
+use Rattle.superstep.specs.Snapshot.{is_quiet}
+use Rattle.superstep.specs.Tasks.{DoneStamp, TaskStamp}
+use Rattle.rollback.specs.declared.status.Status.{Status}
+use Rattle.rollback.specs.declared.control.Out.{Out}
+use Rattle.rollback.specs.declared.event.Answer.{Answer}
+use Rattle.rollback.specs.declared.ending.End.{End}
+use Rattle.rollback.specs.declared.ending.End.TheVariants.{Fault, Finished, Limit, Running}
+use Rattle.rollback.specs.declared.event.Event.{Event}
+use Rattle.rollback.specs.declared.event.Event.TheVariants as event
+use Rattle.rollback.specs.Machine.{Machine}
+use Rattle.rollback.specs.Events.{Heard, Stamp, reply_of}
+use Rattle.rollback.specs.Events.Stamp.{DoneBy, FailedBy, JoinedBy, LostBy, Ticked}
+
+-- ---- what is handed out and brought back, in numbers
+
+abbrev pub task_out : TaskStamp → Out
+task_out task = record { epoch = task.epoch; superstep = task.superstep; part = task.part }
+
+abbrev pub done_out : DoneStamp → Out
+done_out done = record { epoch = done.epoch; superstep = done.superstep; part = done.part }
+
+abbrev pub stamp_of : {J : _} → Event J → Stamp
+stamp_of (event.Done w done) = DoneBy w (done_out done) done.units
+stamp_of (event.Failed w place) = FailedBy w place
+stamp_of (event.Lost w) = LostBy w
+stamp_of (event.Joined w) = JoinedBy w
+stamp_of event.Tick = Ticked
+
+-- ---- an event
+
+-- whether something is to be called at this superstep of the plain run
+abbrev pub IsQuietAt : Work → ℕ → Bool → Type 0
+IsQuietAt work s quiet = (meaning : Meaning work) → is_quiet (state_at meaning.outcomes meaning.graph s) ≡ quiet
+
+-- One step of the control machine. Where it closes a superstep and the job's Keeps are honest, it is told how the plain run
+-- stands then.
+pub record IsStep (work : Work) (honest : Bool) (next : Heard → Machine × Answer) (before after : Machine) (reply : Result Answer JobFault) : Type 0 where
+  pub heard : Heard
+  pub quiet : honest ≡ true → after.superstep ≡ suc before.superstep → IsQuietAt work (suc before.superstep) heard.quiet
+  pub machine : (next heard).0 ≡ after
+  pub told : reply ≡ reply_of (next heard)
+
+-- how the control machine stands
+pub record IsStatus (m : Machine) (status : Status) : Type 0 where
+  pub superstep : status.superstep ≡ m.superstep
+  pub epoch : status.epoch ≡ m.epoch
+  pub missed : status.missed ≡ m.missed
+  pub restarts : status.restarts ≡ m.restarts
+  pub end : status.end ≡ m.ending
+
+abbrev pub has_finished : End → Bool
+has_finished Running = false
+has_finished Finished = true
+has_finished Limit = false
+has_finished (Fault fault) = false

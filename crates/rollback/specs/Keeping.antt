@@ -1,0 +1,73 @@
+-- What is kept of a job elsewhere, and what saves and loads leave.
+use Rattle.std.specs.Prelude.{◌≡◌, ◌⊎◌, ℕ, suc, List, Bool, true, Option, Some, None}
+use Rattle.checkpoint.specs.Checkpoint.{IsCheckpointOf, checkpoint_bytes}
+use Rattle.checkpoint.specs.Keep.{HasFailed, IsKeptOrNone}
+use Rattle.superstep.specs.Job.{Work}
+use Rattle.superstep.specs.State.{HasIdsOf, IsStateAt, Standing}
+use Rattle.rollback.specs.declared.ending.Told.{Told}
+use Rattle.rollback.specs.declared.ending.Told.TheVariants.{Failed, Good}
+use Rattle.rollback.specs.Machine.{Machine}
+
+-- a state of this superstep with the ids of the job's graph
+pub record FitsAt (work : Work) (s : ℕ) (state : Standing) : Type 0 where
+  pub superstep : state.superstep ≡ s
+  pub ids : HasIdsOf work state
+
+-- the checkpoint of the job's state before this superstep
+pub record IsSavedAt (work : Work) (s : ℕ) (bytes : List ℕ) : Type 0 where
+  pub state : Standing
+  pub written : bytes ≡ checkpoint_bytes state
+  pub spelled : IsCheckpointOf bytes state
+  pub fits : FitsAt work s state
+  pub at : IsStateAt work s state
+
+-- the checkpoint of no such state
+abbrev pub IsOther : Work → ℕ → List ℕ → Type 0
+IsOther work s bytes = (state : Standing) → IsCheckpointOf bytes state → FitsAt work s state → ⊥
+
+-- A Keep has what the book counts as saved, and where it is trusted, that state's bytes alone.
+pub record KeepsFor (work : Work) (trusted honest : Bool) (kept : Option ℕ) (may_load : List ℕ → Type 0) (m : Machine) : Type 0 where
+  pub trusts : trusted ≡ true → honest ≡ true
+  pub saved : (s : ℕ) → m.saved ≡ Some s → kept ≡ Some s
+  pub bytes : trusted ≡ true → (s : ℕ) → m.saved ≡ Some s → (bytes : List ℕ) → may_load bytes → IsSavedAt work s bytes
+
+-- ---- how a save went, and what the Keep has then
+
+pub record IsSaveTold (state : Standing) (honest honest' : Bool) (kept kept' : Option ℕ) (may_load may_load' : List ℕ → Type 0) (faults faults' : ℕ) (told : Told) : Type 0 where
+  pub honest_is : honest' ≡ honest
+  pub saved_is : told ≡ Good → kept' ≡ Some state.superstep
+  pub bytes_are : told ≡ Good → honest ≡ true → (bytes : List ℕ) → may_load' bytes → (bytes ≡ checkpoint_bytes state) × IsCheckpointOf bytes state
+  pub left : (told ≡ Good → ⊥) → IsKeptOrNone state.superstep kept kept'
+  pub left_bytes : (told ≡ Good → ⊥) → (bytes : List ℕ) → may_load' bytes → may_load bytes
+  pub cause : told ≡ Failed → HasFailed faults faults'
+
+-- ---- how a load went
+
+-- it may load bytes that are of no such state
+abbrev pub MayLoadOther : Work → Option ℕ → (List ℕ → Type 0) → Type 0
+MayLoadOther work None may_load = ⊥
+MayLoadOther work (Some s) may_load = (bytes : List ℕ) × may_load bytes × IsOther work s bytes
+
+pub record IsLoadTold (work : Work) (honest honest' : Bool) (kept kept' : Option ℕ) (may_load may_load' : List ℕ → Type 0) (faults faults' : ℕ) (asked : Option ℕ) (told : Told) : Type 0 where
+  pub honest_is : honest' ≡ honest
+  pub saved_is : kept' ≡ kept
+  pub bytes_are : (bytes : List ℕ) → may_load' bytes → may_load bytes
+  pub cause : told ≡ Failed → HasFailed faults faults' ⊎ MayLoadOther work asked may_load
+
+-- ---- what an event leaves of the counts and of the Keep
+
+-- the counts grow only where the device failed, and restarts also where the Keep may load other bytes
+pub record IsCaused (work : Work) (before after : Machine) (faults faults' : ℕ) (may_load : List ℕ → Type 0) : Type 0 where
+  pub missed : (after.missed ≡ before.missed) ⊎ HasFailed faults faults'
+  pub restarts : (after.restarts ≡ before.restarts) ⊎ (HasFailed faults faults' ⊎ MayLoadOther work before.saved may_load)
+
+-- after a good save the last one is of the new superstep, as the book counts it; after a failed one it is what it was, or
+-- none where it was of that superstep
+abbrev pub IsSavedOrNone : Machine → Option ℕ → Option ℕ → Type 0
+IsSavedOrNone after kept kept' =
+    ((after.saved ≡ Some after.superstep) × (kept' ≡ Some after.superstep)) ⊎ ((kept ≡ Some after.superstep) × (kept' ≡ None))
+
+-- the last good save is what it was, but where a superstep was closed
+abbrev pub IsSavedOrLeft : Machine → Machine → Option ℕ → Option ℕ → Type 0
+IsSavedOrLeft before after kept kept' =
+    (kept' ≡ kept) ⊎ ((after.superstep ≡ suc before.superstep) × IsSavedOrNone after kept kept')

@@ -1,0 +1,21 @@
+-- What an event makes of a book and of its Keep, all together.
+use Rattle.std.specs.Prelude.{◌≡◌, ℕ, Bool, List, Option, Result}
+use Rattle.superstep.specs.declared.fault.JobFault.{JobFault}
+use Rattle.superstep.specs.Job.{Work}
+use Rattle.rollback.specs.declared.event.Answer.{Answer}
+use Rattle.rollback.specs.Machine.{Machine}
+use Rattle.rollback.specs.Events.{Heard}
+use Rattle.rollback.specs.Keeping.{IsCaused, IsSavedOrLeft, KeepsFor}
+use Rattle.rollback.specs.Book.{IsStep}
+
+pub record IsHeeded (work : Work) (trusted : Bool) (next : Heard → Machine × Answer) (before after : Machine) (honest honest' : Bool) (kept kept' : Option ℕ) (may_load may_load' : List ℕ → Type 0) (faults faults' : ℕ) (reply : Result Answer JobFault) : Type 0 where
+  pub step : IsStep work trusted next before after reply
+  pub keeps : KeepsFor work trusted honest' kept' may_load' after
+  pub cause : IsCaused work before after faults faults' may_load
+  pub left : IsSavedOrLeft before after kept kept'
+
+-- the Keep has no part in it
+pub record IsSteady (before after : Machine) : Type 0 where
+  pub saved : after.saved ≡ before.saved
+  pub missed : after.missed ≡ before.missed
+  pub restarts : after.restarts ≡ before.restarts

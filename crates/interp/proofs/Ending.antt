@@ -1,8 +1,9 @@
 -- A walk's turn, and the end of a walk that comes to one.
-use Rattle.std.proofs.Common.{◌≡◌, ◌≢◌, ℕ, zero, suc, ◌+◌, ◌<◌, ◌≤◌, refl, sym, ap, ◌∙◌, subst, arith}
+use Rattle.std.proofs.Common.{true, ◌≡◌, ◌≢◌, ℕ, zero, suc, ◌+◌, ◌<◌, ◌≤◌, refl, sym, ap, ◌∙◌, subst, arith}
 use Rattle.wasm_ast.specs.declared.module.Module.{Module}
 use Rattle.interp.specs.Configuration.{State}
-use Rattle.interp.specs.Machine.{Machine, Done, Trapped, Stuck, IsOver, advance, run, next_units}
+use Rattle.interp.specs.Machine.{Machine, Running, Done, Trapped, Stuck, IsOver, advance, run, next_units}
+use Rattle.interp.specs.inside.Going.{is_going}
 use Rattle.interp.specs.inside.Place.{Place, running}
 use Rattle.interp.specs.inside.Walk.{Comes, Finishes, EndsWithin}
 use Rattle.interp.proofs.RunLaws.{run-add, run_on, stays, over_at, one_end, not_over_before}
@@ -18,9 +19,9 @@ module _ (m : Module) (from : Machine) (p : Place) (comes : Comes m from (runnin
   not_before : (n : ℕ) → n < suc comes.steps → (st : State) → run m n from ≢ Done st
   not_before n h st e = not_over_before m n comes.steps from (Done st) p.values p.code p.layers p.state comes.there (omega (arith, h)) e tt
 
-  pub finishes : (q : Place) → advance m (running p) ≡ Done q.state → Finishes m from q.state
-  finishes q e =
-      record { steps = suc comes.steps; done = run_on m comes.steps from (running p) (Done q.state) comes.there e; least = not_before }
+  pub finishes : (final : State) → advance m (running p) ≡ Done final → Finishes m from final
+  finishes final e =
+      record { steps = suc comes.steps; done = run_on m comes.steps from (running p) (Done final) comes.there e; least = not_before }
 
   module _ (most : ℕ) (ends : EndsWithin m from most) where
     -- what the next instruction counts is within what all of them count
@@ -36,8 +37,18 @@ module _ (m : Module) (from : Machine) (p : Place) (comes : Comes m from (runnin
     other_end : (x : Machine) → IsOver x → advance m (running p) ≡ x → Done ends.final ≡ x
     other_end x over e = one_end m ends.steps (suc comes.steps) from (Done ends.final) x ends.done (run_on m comes.steps from (running p) x comes.there e) tt over
 
-    pub no_trap : (count : ℕ) → advance m (running p) ≡ Trapped count → ⊥
+    no_trap : (count : ℕ) → advance m (running p) ≡ Trapped count → ⊥
     no_trap count e = let same : Done ends.final ≡ Trapped count = other_end (Trapped count) tt e in absurd cc
 
-    pub no_stick : (count : ℕ) → advance m (running p) ≡ Stuck count → ⊥
+    no_stick : (count : ℕ) → advance m (running p) ≡ Stuck count → ⊥
     no_stick count e = let same : Done ends.final ≡ Stuck count = other_end (Stuck count) tt e in absurd cc
+
+    goes_at : (x : Machine) → advance m (running p) ≡ x → is_going x ≡ true
+    goes_at (Running vs is ls st) e = refl
+    goes_at (Done st) e = refl
+    goes_at (Trapped count) e = absurd (no_trap count e)
+    goes_at (Stuck count) e = absurd (no_stick count e)
+
+    -- there is a next step
+    pub goes : is_going (advance m (running p)) ≡ true
+    goes = goes_at (advance m (running p)) refl

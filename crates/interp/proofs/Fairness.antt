@@ -1,5 +1,5 @@
 -- The code of a bounded module is fair: what its rules say, by one recursion on code.
-use Rattle.std.proofs.Common.{◌≡◌, ℕ, zero, suc, ◌≤◌, ◌<◌, ◌⊎◌, inl, inr, List, [], ◌∷◌, ◌++◌, Option, refl, sym, ap, subst, arith}
+use Rattle.std.proofs.Common.{◌≡◌, ℕ, zero, suc, ◌≤◌, ◌<◌, ◌⊎◌, inl, inr, List, [], ◌∷◌, ◌++◌, refl, sym, ap, subst, arith}
 use Rattle.std.specs.List.{AllByRecursion}
 use Rattle.wasm_ast.specs.declared.plain.Memory.TheVariants as memory
 use Rattle.wasm_ast.specs.declared.plain.Plain.{Plain}
@@ -8,7 +8,6 @@ use Rattle.wasm_ast.specs.declared.plain.Branch.TheVariants as branch
 use Rattle.wasm_ast.specs.declared.module.Module.{Module}
 use Rattle.wasm_ast.specs.Code.{Code}
 use Rattle.wasm_ast.specs.Code as code
-use Rattle.host_calls.specs.declared.imports.HostCall.{HostCall}
 use Rattle.cost.specs.Calls.{calls_of}
 use Rattle.cost.specs.Heights.{most}
 use Rattle.bounded_profile.specs.Hosts.{host_call_at}

@@ -3,7 +3,7 @@ pub mod Lists
 pub mod Parts
 pub mod Stacked
 pub mod Functions
-pub mod Taking
+pub mod Asking
 pub mod OneEnd
 pub mod RunLaws
 pub mod Counts

@@ -1,6 +1,6 @@
 -- The operands' two parts.
-use Rattle.std.proofs.Common.{◌≡◌, ℕ, ◌+◌, ◌-◌, ◌≤◌, List, [], ◌++◌, length, take, drop, reverse, sym, ap, ◌∙◌, subst, arith, length-drop}
-use Rattle.std.proofs.lemmas.List.{reverse-append, length-reverse, length-take-le, take-append-drop, drop_all, reverse-reverse}
+use Rattle.std.proofs.Common.{◌≡◌, ℕ, ◌+◌, ◌-◌, ◌≤◌, List, [], ◌∷◌, ◌++◌, length, take, drop, reverse, sym, ap, ◌∙◌, subst, arith, length-drop}
+use Rattle.std.proofs.lemmas.List.{reverse-append, length-reverse, length-take-le, drop-append-le, take-append-le, take-append-drop, drop_all, reverse-reverse}
 use Rattle.std.proofs.Math.Seq.{take-length}
 use Rattle.wasm_ast.specs.declared.types.Value.{Value}
 use Rattle.interp.specs.inside.Split.{Split}
@@ -56,6 +56,15 @@ pub here_long : (n : ℕ) (xs : List Value) (s : Split) → parts n xs ≡ s →
 here_long n xs s e =
     let P : Split → Type 0 = λ s. length s.here ≡ length xs - n in
     subst P e (omega (arith, length-reverse (drop n xs), length-drop n xs))
+
+-- the topmost is taken off
+pub popped_is : (n : ℕ) (xs ys : List Value) (v : Value) (s : Split) → parts n xs ≡ s → n ≤ length ys → xs ≡ ys ++ v ∷ [] → let t : Split = record { here = v ∷ reverse (drop n ys); below = reverse (take n ys) } in s ≡ t
+popped_is n xs ys v s e h g =
+    let p : (h b : List Value) → Split = λ (h b : List Value). record { here = h; below = b } in
+    sym e ∙ ap (λ (l : List Value). parts n l) g
+    ∙ ap (λ (l : List Value). p (reverse l) (reverse (take n (ys ++ v ∷ [])))) (drop-append-le n ys (v ∷ []) h)
+    ∙ ap (λ (l : List Value). p l (reverse (take n (ys ++ v ∷ [])))) (reverse-append (drop n ys) (v ∷ []))
+    ∙ ap (λ (l : List Value). p (v ∷ reverse (drop n ys)) (reverse l)) (take-append-le n ys (v ∷ []) h)
 
 -- the topmost k, the lowest first
 pub topmost_is : (n k : ℕ) (xs : List Value) (s : Split) → parts n xs ≡ s → n ≤ length xs → k ≤ length xs - n → drop (length xs - k) xs ≡ reverse (take k s.here)

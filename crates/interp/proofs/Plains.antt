@@ -48,7 +48,7 @@ context m locals outcome labels = record { «module» = m; asks = asks_all; loca
 
 -- ---- lengths of memories
 
-bytes_length : (i n x : ℕ) → length (bytes_low_first i n x) ≡ n
+pub bytes_length : (i n x : ℕ) → length (bytes_low_first i n x) ≡ n
 bytes_length i zero x = refl
 bytes_length i (suc n) x = ap suc (bytes_length (suc i) n x)
 

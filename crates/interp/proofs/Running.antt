@@ -1,7 +1,9 @@
 -- What a call of a module in the bounded profile begins with, and what it comes to.
 use Rattle.std.proofs.Common.{◌≡◌, ℕ, ◌+◌, ◌*◌, ◌≤◌, Result, Ok, Err, sym, ap, ◌∙◌, subst}
-use Rattle.std.specs.Prelude.{IfOk}
+use Rattle.std.specs.Prelude.{IfOk, Some, slice_get}
+use Rattle.wasm_ast.specs.declared.module.Function.{Function}
 use Rattle.wasm_ast.specs.declared.module.Module.{Module}
+use Rattle.wasm_ast.specs.Code.{Code}
 use Rattle.host_calls.specs.declared.call.CallInput.{CallInput}
 use Rattle.host_calls.specs.declared.call.CallOutcome.{CallOutcome}
 use Rattle.host_calls.specs.Host.{Leaves}
@@ -9,12 +11,13 @@ use Rattle.validate.specs.Modules.{IsTyped}
 use Rattle.bounded_profile.specs.Compute.{IsComputeNumber}
 use Rattle.bounded_profile.specs.Facts.{IsSizeOfCompute}
 use Rattle.bounded_profile.specs.Profile.{IsBounded}
-use Rattle.interp.specs.inside.Begun.{BeginsAt, EndsWith}
+use Rattle.interp.specs.inside.Begun.{BeginsAt, BeginsWith, IsDefinedAt, EndsWith}
 use Rattle.interp.specs.Bounded.{Ends, IsWithinBound, NeverFails, items_of}
 use Rattle.interp.specs.Call.{IsOutcome, outcome_of, shown}
 use Rattle.interp.specs.Configuration.{State}
-use Rattle.interp.specs.Machine.{Machine, run}
+use Rattle.interp.specs.Machine.{Machine, defined, functions_of, run}
 use Rattle.interp.specs.Start.{Starts}
+use Rattle.interp.specs.inside.Place.{Standing, at, running}
 use Rattle.interp.specs.inside.Walk.{EndsWithin}
 use Rattle.interp.proofs.Faults.{no_fault, never_fails}
 use Rattle.interp.proofs.Fixed.{depths_there, heights_there}
@@ -59,6 +62,24 @@ module _ (m : Module) (typed : IsTyped m) (bounded : IsBounded m) where
 
     pub within_bound : (outcome : CallOutcome) → IsOutcome m input outcome → IsWithinBound m input outcome
     within_bound outcome is size told = within size told outcome is
+
+-- ---- the function with the number
+
+begun_at : (m : Module) (n : ℕ) (b : BeginsAt m n) → slice_get (functions_of m) n ≡ Some (defined b.function)
+begun_at m n b = ap (λ (k : ℕ). slice_get (functions_of m) k) (sym b.here) ∙ b.begins.is_defined
+
+pub defined_at : (m : Module) (n : ℕ) → BeginsAt m n → IsDefinedAt m n
+defined_at m n b = (b.function, begun_at m n b)
+
+pub begins_with : (m : Module) (n : ℕ) (f : Function) → BeginsAt m n → slice_get (functions_of m) n ≡ Some (defined f) → BeginsWith m f
+begins_with m n f b e =
+    let there : Some (defined b.function) ≡ Some (defined f) = sym (begun_at m n b) ∙ e in
+    let same : b.function ≡ f = cc in
+    subst (λ (g : Function). BeginsWith m g) same (record { globals = b.globals; bytes = b.bytes; begins = b.begins })
+
+-- the same code at the start
+pub starts_at : (m : Module) (input : CallInput) (s : Standing) (k body : Code) → k ≡ body → Starts m input (running (at s body 0)) → Starts m input (running (at s k 0))
+starts_at m input s k body e h = subst (λ (j : Code). Starts m input (running (at s j 0))) (sym e) h
 
 left : (outcome : CallOutcome) (st : State) → Leaves outcome st.host st.count → shown outcome ≡ outcome_of st
 left outcome st l =

@@ -1,6 +1,7 @@
 -- The layers, as one is taken off or put on.
-use Rattle.std.proofs.Common.{◌≡◌, ℕ, suc, Option, Some, None, ◌-◌, ◌≤◌, List, [], ◌∷◌, ◌++◌, Bool, length, take, drop, refl, sym, ap, ◌∙◌, subst, arith, length-drop, length-append}
+use Rattle.std.proofs.Common.{◌≡◌, ℕ, suc, Option, Some, None, ◌-◌, ◌≤◌, List, [], ◌∷◌, ◌++◌, Bool, true, length, take, drop, refl, sym, ap, ◌∙◌, subst, arith, length-drop, length-append}
 use Rattle.std.proofs.lemmas.List.{length-take-le}
+use Rattle.std.proofs.lemmas.Bool.{false≢true}
 use Rattle.std.specs.Borrow.{Bor}
 use Rattle.wasm_ast.specs.declared.types.Value.{Value}
 use Rattle.wasm_ast.specs.declared.body.Instr.{Instr}
@@ -8,6 +9,7 @@ use Rattle.wasm_ast.specs.Code.{Code}
 use Rattle.wasm_ast.specs.View.{code_of}
 use Rattle.interp.specs.Configuration.{State}
 use Rattle.interp.specs.Machine as machine
+use Rattle.interp.specs.inside.Going.{has_labels}
 use Rattle.interp.specs.inside.Meaning.{layers_of, Ordered, floor_of}
 use Rattle.interp.specs.declared.layers.Layer.{Layer}
 use Rattle.interp.specs.declared.layers.Layer.TheVariants as layer
@@ -88,11 +90,15 @@ frame_on rs vs us ls ms f b keeps a e g =
 pub jump_label : (n k : ℕ) (top : Option Value) (st : State) (ls ms : List machine.Layer) (keeps : Bool) (vs : List Value) (t a : Code) → n ≡ suc k → ls ≡ machine.Label keeps vs t a ∷ ms → machine.jump n top ls st ≡ machine.jump k top ms st
 jump_label n k top st ls ms keeps vs t a e g = ap (λ (j : ℕ). machine.jump j top ls st) e ∙ ap (λ (l : List machine.Layer). machine.jump (suc k) top l st) g
 
-pub jump_frame : (n k : ℕ) (top : Option Value) (st : State) (ls ms : List machine.Layer) (keeps : Bool) (xs vs : List Value) (a : Code) → n ≡ suc k → ls ≡ machine.Frame keeps xs vs a ∷ ms → machine.jump n top ls st ≡ machine.Stuck st.count
-jump_frame n k top st ls ms keeps xs vs a e g = ap (λ (j : ℕ). machine.jump j top ls st) e ∙ ap (λ (l : List machine.Layer). machine.jump (suc k) top l st) g
+-- a branch that goes past a label goes past one fewer beyond it
+pub labels_label : (n k : ℕ) (ls ms : List machine.Layer) (keeps : Bool) (vs : List Value) (t a : Code) → n ≡ suc k → ls ≡ machine.Label keeps vs t a ∷ ms → has_labels n ls ≡ true → has_labels k ms ≡ true
+labels_label n k ls ms keeps vs t a e g h = sym (ap (λ (j : ℕ). has_labels j ls) e ∙ ap (λ (l : List machine.Layer). has_labels (suc k) l) g) ∙ h
 
-pub jump_none : (n k : ℕ) (top : Option Value) (st : State) (rs : List Layer) (vs ls : List Value) → n ≡ suc k → rs ≡ [] → machine.jump n top (layers_of rs vs ls) st ≡ machine.Stuck st.count
-jump_none n k top st rs vs ls e g = ap (λ (j : ℕ). machine.jump j top (layers_of rs vs ls) st) e ∙ ap (λ (r : List Layer). machine.jump (suc k) top (layers_of r vs ls) st) g
+pub no_frame : (n k : ℕ) (ls ms : List machine.Layer) (keeps : Bool) (xs vs : List Value) (a : Code) → n ≡ suc k → ls ≡ machine.Frame keeps xs vs a ∷ ms → has_labels n ls ≡ true → ⊥
+no_frame n k ls ms keeps xs vs a e g h = false≢true (sym (ap (λ (j : ℕ). has_labels j ls) e ∙ ap (λ (l : List machine.Layer). has_labels (suc k) l) g) ∙ h)
+
+pub no_end : (n k : ℕ) (rs : List Layer) (vs ls : List Value) → n ≡ suc k → rs ≡ [] → has_labels n (layers_of rs vs ls) ≡ true → ⊥
+no_end n k rs vs ls e g h = false≢true (sym (ap (λ (j : ℕ). has_labels j (layers_of rs vs ls)) e ∙ ap (λ (r : List Layer). has_labels (suc k) (layers_of r vs ls)) g) ∙ h)
 
 -- out of a frame past a label
 pub record LabelPast (rs' : List Layer) (vs vs' ls : List Value) (f : ℕ) (rs : List Layer) : Type 0 where

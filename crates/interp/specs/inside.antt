@@ -5,8 +5,9 @@ pub mod Split
 pub mod Place
 -- what the walk's lists mean
 pub mod Meaning
--- what its parts do
+-- what its parts do, and what they ask
 pub mod Acts
+pub mod Going
 pub mod Walk
 -- how a call begins and ends
 pub mod Begun

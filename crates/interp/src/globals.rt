@@ -1,8 +1,7 @@
 //! The globals of a call.
 
-ghost use Rattle.std.specs.Prelude.{◌≡◌, ◌∷◌, ◌++◌, [], length, nat_lt, ok_or, true, false, slice_get, slice_set, OnOk, OnErr, IfErr};
+ghost use Rattle.std.specs.Prelude.{◌≡◌, ◌∷◌, ◌++◌, ◌<◌, [], Some, length, slice_get, slice_set, IsSome, OnOk, OnErr};
 
-use crate::fault::WalkFault;
 use std::alloc::{AllocError, Global};
 use std::marker::Model;
 use wasm_ast::Value;
@@ -48,32 +47,28 @@ impl Globals {
         Ok(())
     }
 
-    /// The global's value; `Stuck` where there is no global with this number.
-    #[inline]
-    pub fn get(&self, number: u32) -> Result<Value, WalkFault>
-        ensures { result ≡ ok_or (slice_get self.now number) WalkFault.Stuck }
+    /// The value of the global with this number, if there is one.
+    pub fn find(&self, number: u32) -> Option<Value>
+        ensures { result ≡ slice_get self.now number }
     {
-        self.values
-            .as_slice()
-            .get(number as usize)
-            .copied()
-            .ok_or(WalkFault::Stuck)
+        self.values.as_slice().get(number as usize).copied()
     }
 
-    /// Sets the global; `Stuck` where there is no global with this number.
+    /// The value of a global.
     #[inline]
-    pub fn set(&mut self, number: u32, value: Value) -> Result<(), WalkFault>
-        ensures there { OnOk result ((nat_lt number (length self.old) ≡ true)
-            × (self.new ≡ slice_set self.old number value)) }
-        ensures missing { IfErr result (λ fault.
-            (fault ≡ WalkFault.Stuck) × (nat_lt number (length self.old) ≡ false)) }
+    pub fn get(&self, number: u32) -> Value
+        requires { IsSome (slice_get self.now number) }
+        ensures { slice_get self.now number ≡ Some result }
     {
-        match self.values.get_mut(number as usize) {
-            Some(global) => {
-                *global = value;
-                Ok(())
-            }
-            None => Err(WalkFault::Stuck),
-        }
+        self.find(number).unwrap()
+    }
+
+    /// Sets a global.
+    #[inline]
+    pub fn set(&mut self, number: u32, value: Value)
+        requires { number < length self.old }
+        ensures { self.new ≡ slice_set self.old number value }
+    {
+        self.values[number as usize] = value;
     }
 }

@@ -1,9 +1,8 @@
 //! The locals of all frames in one list, of which the last belong to the innermost.
 
-ghost use Rattle.std.specs.Prelude.{◌≡◌, ◌++◌, ◌≤◌, [], length, take, drop, map, nat_lt, ok_or, true, false, slice_get, slice_set, OnOk, OnErr, IfErr};
+ghost use Rattle.std.specs.Prelude.{◌≡◌, ◌++◌, ◌<◌, ◌≤◌, [], Some, length, take, drop, map, slice_get, slice_set, IsSome, OnOk, OnErr};
 ghost use Rattle.wasm_ast.specs.Values.{zero_of};
 
-use crate::fault::WalkFault;
 use std::alloc::{AllocError, Global};
 use std::marker::Model;
 use wasm_ast::{ValType, Value};
@@ -49,31 +48,37 @@ impl Locals {
         self.base = 0;
     }
 
-    /// The local's value; `Stuck` where the frame has no local with this number.
+    /// The value of a local of the frame.
     #[inline]
-    pub fn get(&self, number: u32) -> Result<Value, WalkFault>
-        ensures { result ≡ ok_or (slice_get self.now.here number) WalkFault.Stuck }
+    pub fn get(&self, number: u32) -> Value
+        requires { IsSome (slice_get self.now.here number) }
+        ensures { slice_get self.now.here number ≡ Some result }
     {
-        let here = &self.values[self.base..];
-        here.get(number as usize).copied().ok_or(WalkFault::Stuck)
+        self.find(number).unwrap()
     }
 
-    /// Sets the local; `Stuck` where the frame has no local with this number.
+    // The local's value, if the frame has one with this number.
     #[inline]
-    pub fn set(&mut self, number: u32, value: Value) -> Result<(), WalkFault>
-        ensures there { OnOk result (nat_lt number (length self.old.here) ≡ true) }
-        ensures here { OnOk result (self.new.here ≡ slice_set self.old.here number value) }
-        ensures missing { IfErr result (λ fault.
-            (fault ≡ WalkFault.Stuck) × (nat_lt number (length self.old.here) ≡ false)) }
+    fn find(&self, number: u32) -> Option<Value>
+        ensures { result ≡ slice_get self.now.here number }
+    {
+        let here = &self.values[self.base..];
+        here.get(number as usize).copied()
+    }
+
+    /// Sets a local of the frame.
+    #[inline]
+    pub fn set(&mut self, number: u32, value: Value)
+        requires { number < length self.old.here }
+        ensures here { self.new.here ≡ slice_set self.old.here number value }
         ensures below { self.new.below ≡ self.old.below }
     {
         let number = number as usize;
         if number < self.values.len() - self.base {
             let at = self.base + number;
             self.values[at] = value;
-            Ok(())
         } else {
-            Err(WalkFault::Stuck)
+            unreachable!()
         }
     }
 

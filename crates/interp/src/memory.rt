@@ -1,6 +1,6 @@
 //! The memory of a call (Core 1.0, 4.2.8).
 
-ghost use Rattle.std.specs.Prelude.{◌≡◌, ◌+◌, ◌*◌, ◌/◌, ◌<◌, ◌≤◌, ℕ, [], Some, length, nat_le, replicate, option_map, true, false, None, take, drop, OnOk, OnErr};
+ghost use Rattle.std.specs.Prelude.{◌≡◌, ◌+◌, ◌*◌, ◌/◌, ◌<◌, ◌≤◌, ℕ, [], Some, length, replicate, option_map, take, drop, OnOk, OnErr};
 ghost use Rattle.wasm_ast.specs.Widths.{load_type, load_width, store_width};
 ghost use Rattle.bounded_profile.specs.Memory.{page, max_minimum};
 ghost use Rattle.interp.specs.Effects.{value};
@@ -58,49 +58,44 @@ impl Memory {
         (self.bytes.len() / PAGE) as u32
     }
 
-    /// Writes these bytes from a place on and is true, where all of those are there; else it changes nothing.
+    /// Writes these bytes in the stead of those from a place on, which are all there.
     #[inline]
-    pub fn lay(&mut self, place: u64, others: &[u8]) -> bool
-        ensures there { result ≡ nat_le (place + length others.now) (length self.old) }
-        ensures written { result ≡ true → laid place others.now self.old ≡ Some self.new }
-        ensures kept { result ≡ false → self.new ≡ self.old }
+    pub fn lay(&mut self, place: u64, others: &[u8])
+        requires { place + length others.now ≤ length self.old }
+        ensures { laid place others.now self.old ≡ Some self.new }
     {
-        if !self.holds(place, others.len() as u64) {
-            return false;
-        }
         let start = place as usize;
         self.bytes[start..start + others.len()].copy_from_slice(others);
-        true
     }
 
-    /// What a load from a place gives, where all its bytes are there.
+    /// What a load gives from a place where all its bytes are there.
     #[inline]
-    pub fn load(&self, op: Load, place: u64) -> Option<Value>
-        ensures { result ≡ option_map (λ n. value (load_type op) (loaded op n))
-            (read place (load_width op) self.now) }
+    pub fn load(&self, op: Load, place: u64) -> Value
+        requires { place + load_width op ≤ length self.now }
+        ensures { option_map (λ n. value (load_type op) (loaded op n))
+            (read place (load_width op) self.now) ≡ Some result }
     {
         match op {
-            Load::I32 => Some(Value::I32(self.read_4(place)?)),
-            Load::I64 => Some(Value::I64(self.read_8(place)?)),
-            Load::I32From8S => Some(Value::I32(i32_sign_8(self.read_1(place)?))),
-            Load::I32From8U => Some(Value::I32(u32::from(self.read_1(place)?))),
-            Load::I32From16S => Some(Value::I32(i32_sign_16(self.read_2(place)?))),
-            Load::I32From16U => Some(Value::I32(u32::from(self.read_2(place)?))),
-            Load::I64From8S => Some(Value::I64(i64_sign_8(self.read_1(place)?))),
-            Load::I64From8U => Some(Value::I64(u64::from(self.read_1(place)?))),
-            Load::I64From16S => Some(Value::I64(i64_sign_16(self.read_2(place)?))),
-            Load::I64From16U => Some(Value::I64(u64::from(self.read_2(place)?))),
-            Load::I64From32S => Some(Value::I64(i64_extend_i32_s(self.read_4(place)?))),
-            Load::I64From32U => Some(Value::I64(u64::from(self.read_4(place)?))),
+            Load::I32 => Value::I32(self.read_4(place)),
+            Load::I64 => Value::I64(self.read_8(place)),
+            Load::I32From8S => Value::I32(i32_sign_8(self.read_1(place))),
+            Load::I32From8U => Value::I32(u32::from(self.read_1(place))),
+            Load::I32From16S => Value::I32(i32_sign_16(self.read_2(place))),
+            Load::I32From16U => Value::I32(u32::from(self.read_2(place))),
+            Load::I64From8S => Value::I64(i64_sign_8(self.read_1(place))),
+            Load::I64From8U => Value::I64(u64::from(self.read_1(place))),
+            Load::I64From16S => Value::I64(i64_sign_16(self.read_2(place))),
+            Load::I64From16U => Value::I64(u64::from(self.read_2(place))),
+            Load::I64From32S => Value::I64(i64_extend_i32_s(self.read_4(place))),
+            Load::I64From32U => Value::I64(u64::from(self.read_4(place))),
         }
     }
 
-    /// Writes the lowest bytes of a number at a place and is true, where all the bytes are there; else it changes nothing.
+    /// Writes the lowest bytes of a number at a place where as many as the store writes are there.
     #[inline]
-    pub fn store(&mut self, op: Store, place: u64, number: u64) -> bool
-        ensures written { result ≡ true
-            → write place (store_width op) number self.old ≡ Some self.new }
-        ensures missing { result ≡ false → write place (store_width op) number self.old ≡ None }
+    pub fn store(&mut self, op: Store, place: u64, number: u64)
+        requires { place + store_width op ≤ length self.old }
+        ensures { write place (store_width op) number self.old ≡ Some self.new }
     {
         let bytes = number.to_le_bytes();
         match op {
@@ -111,57 +106,36 @@ impl Memory {
         }
     }
 
-    // Whether so many bytes from a place on are all there.
     #[inline]
-    fn holds(&self, place: u64, width: u64) -> bool
-        ensures { result ≡ nat_le (place + width) (length self.now) }
+    fn read_1(&self, place: u64) -> u8
+        requires { place + 1 ≤ length self.now }
+        ensures { read place 1 self.now ≡ Some result }
     {
-        let length = self.bytes.len() as u64;
-        width <= length && place <= length - width
+        self.bytes[place as usize]
     }
 
     #[inline]
-    fn read_1(&self, place: u64) -> Option<u8>
-        ensures { result ≡ read place 1 self.now }
+    fn read_2(&self, place: u64) -> u16
+        requires { place + 2 ≤ length self.now }
+        ensures { read place 2 self.now ≡ Some result }
     {
-        if self.holds(place, 1) {
-            Some(self.bytes[place as usize])
-        } else {
-            None
-        }
+        number_2(self.bytes.as_slice(), place as usize)
     }
 
     #[inline]
-    fn read_2(&self, place: u64) -> Option<u16>
-        ensures { result ≡ read place 2 self.now }
+    fn read_4(&self, place: u64) -> u32
+        requires { place + 4 ≤ length self.now }
+        ensures { read place 4 self.now ≡ Some result }
     {
-        if self.holds(place, 2) {
-            Some(number_2(self.bytes.as_slice(), place as usize))
-        } else {
-            None
-        }
+        number_4(self.bytes.as_slice(), place as usize)
     }
 
     #[inline]
-    fn read_4(&self, place: u64) -> Option<u32>
-        ensures { result ≡ read place 4 self.now }
+    fn read_8(&self, place: u64) -> u64
+        requires { place + 8 ≤ length self.now }
+        ensures { read place 8 self.now ≡ Some result }
     {
-        if self.holds(place, 4) {
-            Some(number_4(self.bytes.as_slice(), place as usize))
-        } else {
-            None
-        }
-    }
-
-    #[inline]
-    fn read_8(&self, place: u64) -> Option<u64>
-        ensures { result ≡ read place 8 self.now }
-    {
-        if self.holds(place, 8) {
-            Some(number_8(self.bytes.as_slice(), place as usize))
-        } else {
-            None
-        }
+        number_8(self.bytes.as_slice(), place as usize)
     }
 }
 

@@ -1,21 +1,24 @@
 //! Numeric instructions (Core 1.0, 4.4.1) on the operands.
 
-ghost use Rattle.std.specs.Prelude.{◌≡◌};
+ghost use Rattle.std.specs.Prelude.{◌≡◌, ◌∷◌, [], true};
+ghost use Rattle.wasm_ast.specs.Numeric.{conversion_from};
 ghost use Rattle.interp.specs.Effects.{numeric_effect};
 ghost use Rattle.interp.specs.inside.Acts.{ActsAlone};
+ghost use Rattle.interp.specs.inside.Going.{divides, has_tops, numeric_asks};
 ghost use Rattle.wasm_ast.specs.declared.numeric.Numeric.TheVariants as numeric;
 ghost use Rattle.wasm_ast.specs.declared.types.ValType.TheVariants.{I32 as i32_type, I64 as i64_type};
 
-use crate::fault::WalkFault;
 use crate::operands::Operands;
+use std::alloc::AllocError;
 use wasm_ast::{
     Binary, Comparison, Conversion, Division, Numeric, Unary, ValType, Value, i32_eqz,
     i32_wrap_i64, i64_eqz, i64_extend_i32_s, i64_extend_i32_u,
 };
 
-/// Takes the operands of a numeric instruction and gives its result. Divisions trap where there is none.
+/// Takes the operands of a numeric instruction and gives its result, which there is.
 #[inline]
-pub fn act_numeric(op: Numeric, operands: &mut Operands) -> Result<(), WalkFault>
+pub fn act_numeric(op: Numeric, operands: &mut Operands) -> Result<(), AllocError>
+    requires { numeric_asks op operands.old.here ≡ true }
     ensures acts { ActsAlone result (numeric_effect op) operands.old operands.new }
     ensures below { operands.new.below ≡ operands.old.below }
 {
@@ -29,13 +32,14 @@ pub fn act_numeric(op: Numeric, operands: &mut Operands) -> Result<(), WalkFault
     }
 }
 
-fn act_eqz(of: ValType, operands: &mut Operands) -> Result<(), WalkFault>
+fn act_eqz(of: ValType, operands: &mut Operands) -> Result<(), AllocError>
+    requires { has_tops (of ∷ []) operands.old.here ≡ true }
     ensures acts { ActsAlone result (numeric_effect (numeric.Eqz of)) operands.old operands.new }
     ensures below { operands.new.below ≡ operands.old.below }
 {
     let answer = match of {
-        ValType::I32 => i32_eqz(operands.pop_i32()?),
-        ValType::I64 => i64_eqz(operands.pop_i64()?),
+        ValType::I32 => i32_eqz(operands.pop_i32()),
+        ValType::I64 => i64_eqz(operands.pop_i64()),
     };
     operands.push(Value::I32(answer))
 }
@@ -44,55 +48,60 @@ fn act_comparison(
     of: ValType,
     comparison: Comparison,
     operands: &mut Operands,
-) -> Result<(), WalkFault>
+) -> Result<(), AllocError>
+    requires { has_tops (of ∷ of ∷ []) operands.old.here ≡ true }
     ensures acts { ActsAlone result (numeric_effect (numeric.Comparison of comparison))
         operands.old operands.new }
     ensures below { operands.new.below ≡ operands.old.below }
 {
     let holds = match of {
         ValType::I32 => {
-            let second = operands.pop_i32()?;
-            comparison.holds_i32(operands.pop_i32()?, second)
+            let second = operands.pop_i32();
+            comparison.holds_i32(operands.pop_i32(), second)
         }
         ValType::I64 => {
-            let second = operands.pop_i64()?;
-            comparison.holds_i64(operands.pop_i64()?, second)
+            let second = operands.pop_i64();
+            comparison.holds_i64(operands.pop_i64(), second)
         }
     };
     operands.push(Value::I32(u32::from(holds)))
 }
 
-fn act_unary(of: ValType, unary: Unary, operands: &mut Operands) -> Result<(), WalkFault>
+fn act_unary(of: ValType, unary: Unary, operands: &mut Operands) -> Result<(), AllocError>
+    requires { has_tops (of ∷ []) operands.old.here ≡ true }
     ensures acts { ActsAlone result (numeric_effect (numeric.Unary of unary))
         operands.old operands.new }
     ensures below { operands.new.below ≡ operands.old.below }
 {
     let value = match of {
-        ValType::I32 => Value::I32(unary.apply_i32(operands.pop_i32()?)),
-        ValType::I64 => Value::I64(unary.apply_i64(operands.pop_i64()?)),
+        ValType::I32 => Value::I32(unary.apply_i32(operands.pop_i32())),
+        ValType::I64 => Value::I64(unary.apply_i64(operands.pop_i64())),
     };
     operands.push(value)
 }
 
-fn act_binary(of: ValType, binary: Binary, operands: &mut Operands) -> Result<(), WalkFault>
+fn act_binary(of: ValType, binary: Binary, operands: &mut Operands) -> Result<(), AllocError>
+    requires { has_tops (of ∷ of ∷ []) operands.old.here ≡ true }
     ensures acts { ActsAlone result (numeric_effect (numeric.Binary of binary))
         operands.old operands.new }
     ensures below { operands.new.below ≡ operands.old.below }
 {
     let value = match of {
         ValType::I32 => {
-            let second = operands.pop_i32()?;
-            Value::I32(binary.apply_i32(operands.pop_i32()?, second))
+            let second = operands.pop_i32();
+            Value::I32(binary.apply_i32(operands.pop_i32(), second))
         }
         ValType::I64 => {
-            let second = operands.pop_i64()?;
-            Value::I64(binary.apply_i64(operands.pop_i64()?, second))
+            let second = operands.pop_i64();
+            Value::I64(binary.apply_i64(operands.pop_i64(), second))
         }
     };
     operands.push(value)
 }
 
-fn act_division(of: ValType, division: Division, operands: &mut Operands) -> Result<(), WalkFault>
+fn act_division(of: ValType, division: Division, operands: &mut Operands) -> Result<(), AllocError>
+    requires tops { has_tops (of ∷ of ∷ []) operands.old.here ≡ true }
+    requires divisor { divides of division operands.old.here ≡ true }
     ensures acts { ActsAlone result (numeric_effect (numeric.Division of division))
         operands.old operands.new }
     ensures below { operands.new.below ≡ operands.old.below }
@@ -103,41 +112,40 @@ fn act_division(of: ValType, division: Division, operands: &mut Operands) -> Res
     }
 }
 
-fn divide_i32(division: Division, operands: &mut Operands) -> Result<(), WalkFault>
+fn divide_i32(division: Division, operands: &mut Operands) -> Result<(), AllocError>
+    requires tops { has_tops (i32_type ∷ i32_type ∷ []) operands.old.here ≡ true }
+    requires divisor { divides i32_type division operands.old.here ≡ true }
     ensures acts { ActsAlone result (numeric_effect (numeric.Division i32_type division))
         operands.old operands.new }
     ensures below { operands.new.below ≡ operands.old.below }
 {
-    let second = operands.pop_i32()?;
-    let first = operands.pop_i32()?;
-    if division.traps_i32(first, second) {
-        return Err(WalkFault::Trap);
-    }
+    let second = operands.pop_i32();
+    let first = operands.pop_i32();
     operands.push(Value::I32(division.apply_i32(first, second)))
 }
 
-fn divide_i64(division: Division, operands: &mut Operands) -> Result<(), WalkFault>
+fn divide_i64(division: Division, operands: &mut Operands) -> Result<(), AllocError>
+    requires tops { has_tops (i64_type ∷ i64_type ∷ []) operands.old.here ≡ true }
+    requires divisor { divides i64_type division operands.old.here ≡ true }
     ensures acts { ActsAlone result (numeric_effect (numeric.Division i64_type division))
         operands.old operands.new }
     ensures below { operands.new.below ≡ operands.old.below }
 {
-    let second = operands.pop_i64()?;
-    let first = operands.pop_i64()?;
-    if division.traps_i64(first, second) {
-        return Err(WalkFault::Trap);
-    }
+    let second = operands.pop_i64();
+    let first = operands.pop_i64();
     operands.push(Value::I64(division.apply_i64(first, second)))
 }
 
-fn act_conversion(conversion: Conversion, operands: &mut Operands) -> Result<(), WalkFault>
+fn act_conversion(conversion: Conversion, operands: &mut Operands) -> Result<(), AllocError>
+    requires { has_tops (conversion_from conversion ∷ []) operands.old.here ≡ true }
     ensures acts { ActsAlone result (numeric_effect (numeric.Conversion conversion))
         operands.old operands.new }
     ensures below { operands.new.below ≡ operands.old.below }
 {
     let value = match conversion {
-        Conversion::Wrap => Value::I32(i32_wrap_i64(operands.pop_i64()?)),
-        Conversion::ExtendS => Value::I64(i64_extend_i32_s(operands.pop_i32()?)),
-        Conversion::ExtendU => Value::I64(i64_extend_i32_u(operands.pop_i32()?)),
+        Conversion::Wrap => Value::I32(i32_wrap_i64(operands.pop_i64())),
+        Conversion::ExtendS => Value::I64(i64_extend_i32_s(operands.pop_i32())),
+        Conversion::ExtendU => Value::I64(i64_extend_i32_u(operands.pop_i32())),
     };
     operands.push(value)
 }

@@ -1,14 +1,14 @@
 //! Operands in one list, of which the topmost belong to the innermost layer.
 
-ghost use Rattle.std.specs.Prelude.{◌≡◌, ◌∷◌, ◌++◌, ◌-◌, ◌<◌, ◌≤◌, [], length, take, drop, reverse, IfErr, IfOk, MatchOption, MatchResult, if◌then◌else◌};
+ghost use Rattle.std.specs.Prelude.{◌≡◌, ◌∷◌, ◌++◌, ◌-◌, ◌≤◌, Some, [], length, take, drop, reverse, true, IsSome, OnOk};
 ghost use Rattle.wasm_ast.specs.declared.types.ValType.TheVariants.{I32 as i32_type, I64 as i64_type};
-ghost use Rattle.interp.specs.inside.Acts.{Pops};
+ghost use Rattle.interp.specs.Effects.{value};
+ghost use Rattle.interp.specs.inside.Going.{has_tops};
 ghost use Rattle.interp.specs.Machine.{first, carry};
 
-use crate::fault::WalkFault;
-use std::alloc::Global;
+use std::alloc::{AllocError, Global};
 use std::marker::Model;
-use wasm_ast::Value;
+use wasm_ast::{ValType, Value};
 
 /// Operands, which contracts see in two parts with the topmost first: those of the innermost layer, and those below.
 #[derive(Drop)]
@@ -53,51 +53,59 @@ impl Operands {
 
     /// Puts a value on top.
     #[inline]
-    pub fn push(&mut self, value: Value) -> Result<(), WalkFault>
-        ensures here { MatchResult result (λ _. self.new.here ≡ value ∷ self.old.here)
-            (λ fault. fault ≡ WalkFault.OutOfMemory) }
+    pub fn push(&mut self, value: Value) -> Result<(), AllocError>
+        ensures here { OnOk result (self.new.here ≡ value ∷ self.old.here) }
         ensures below { self.new.below ≡ self.old.below }
     {
-        match self.values.push(value) {
-            Ok(()) => Ok(()),
-            Err(_) => Err(WalkFault::OutOfMemory),
+        self.values.push(value)?;
+        Ok(())
+    }
+
+    /// The topmost value, which the layer has.
+    #[inline]
+    pub fn pop(&mut self) -> Value
+        requires { 1 ≤ length self.old.here }
+        ensures { self.old ≡ record { here = result ∷ self.new.here; below = self.new.below } }
+    {
+        self.values.pop().unwrap()
+    }
+
+    /// The topmost value, which is an i32.
+    #[inline]
+    pub fn pop_i32(&mut self) -> u32
+        requires { has_tops (i32_type ∷ []) self.old.here ≡ true }
+        ensures { self.old
+            ≡ record { here = Value.I32 result ∷ self.new.here; below = self.new.below } }
+    {
+        match self.pop() {
+            Value::I32(number) => number,
+            Value::I64(_) => unreachable!(),
         }
     }
 
-    /// The topmost value; `Stuck` where the layer has none.
+    /// The topmost value, which is an i64.
     #[inline]
-    pub fn pop(&mut self) -> Result<Value, WalkFault>
-        ensures { MatchResult result
-            (λ v. self.old ≡ record { here = v ∷ self.new.here; below = self.new.below })
-            (λ fault. (fault ≡ WalkFault.Stuck) × ((self.old.here ≡ []) × (self.new ≡ self.old))) }
+    pub fn pop_i64(&mut self) -> u64
+        requires { has_tops (i64_type ∷ []) self.old.here ≡ true }
+        ensures { self.old
+            ≡ record { here = Value.I64 result ∷ self.new.here; below = self.new.below } }
     {
-        if self.values.len() == self.floor {
-            return Err(WalkFault::Stuck);
-        }
-        self.values.pop().ok_or(WalkFault::Stuck)
-    }
-
-    /// The topmost value, an i32; `Stuck` where the layer has none or it is an i64, which is then off the operands.
-    #[inline]
-    pub fn pop_i32(&mut self) -> Result<u32, WalkFault>
-        ensures here { Pops i32_type result self.old.here self.new.here }
-        ensures below { self.new.below ≡ self.old.below }
-    {
-        match self.pop()? {
-            Value::I32(number) => Ok(number),
-            Value::I64(_) => Err(WalkFault::Stuck),
+        match self.pop() {
+            Value::I64(number) => number,
+            Value::I32(_) => unreachable!(),
         }
     }
 
-    /// The topmost value, an i64; `Stuck` where the layer has none or it is an i32, which is then off the operands.
+    /// The number of the topmost value, which is of this type.
     #[inline]
-    pub fn pop_i64(&mut self) -> Result<u64, WalkFault>
-        ensures here { Pops i64_type result self.old.here self.new.here }
-        ensures below { self.new.below ≡ self.old.below }
+    pub fn pop_number(&mut self, of: ValType) -> u64
+        requires { has_tops (of ∷ []) self.old.here ≡ true }
+        ensures { self.old
+            ≡ record { here = value of result ∷ self.new.here; below = self.new.below } }
     {
-        match self.pop()? {
-            Value::I64(number) => Ok(number),
-            Value::I32(_) => Err(WalkFault::Stuck),
+        match of {
+            ValType::I32 => u64::from(self.pop_i32()),
+            ValType::I64 => self.pop_i64(),
         }
     }
 
@@ -110,37 +118,32 @@ impl Operands {
         here.last().copied()
     }
 
-    /// Puts a value on top where one is wanted; whether there was one.
+    /// Puts a value on top where one is wanted, and there is one then.
     #[inline]
-    pub fn carry(&mut self, keeps: bool, top: Option<Value>) -> Result<bool, WalkFault>
-        ensures fault { IfErr result (λ fault. fault ≡ WalkFault.OutOfMemory) }
-        ensures here { IfOk result (λ there.
-            carry keeps top self.old.here ≡ (if there then Some self.new.here else None)) }
+    pub fn carry(&mut self, keeps: bool, top: Option<Value>) -> Result<(), AllocError>
+        requires { IsSome (carry keeps top self.old.here) }
+        ensures here { OnOk result (carry keeps top self.old.here ≡ Some self.new.here) }
         ensures below { self.new.below ≡ self.old.below }
     {
         if !keeps {
-            return Ok(true);
+            return Ok(());
         }
         match top {
-            None => Ok(false),
+            None => unreachable!(),
             Some(value) => {
                 self.push(value)?;
-                Ok(true)
+                Ok(())
             }
         }
     }
 
-    /// So many of the topmost values, the lowest first, where the layer has as many.
+    /// So many of the topmost values, the lowest first. The layer has as many.
     #[inline]
-    pub fn topmost(&self, count: usize) -> Option<&[Value]>
-        ensures { MatchOption result (length self.now.here < count)
-            (λ s. (count ≤ length self.now.here) × (s.now ≡ reverse (take count self.now.here))) }
+    pub fn topmost(&self, count: usize) -> &[Value]
+        requires { count ≤ length self.now.here }
+        ensures { result.now ≡ reverse (take count self.now.here) }
     {
-        if count <= self.values.len() - self.floor {
-            Some(&self.values[self.values.len() - count..])
-        } else {
-            None
-        }
+        &self.values[self.values.len() - count..]
     }
 
     /// Drops so many of the topmost values.

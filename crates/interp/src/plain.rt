@@ -1,24 +1,24 @@
 //! Instructions that neither branch nor call (Core 1.0, 4.4.1 to 4.4.4).
 
-ghost use Rattle.std.specs.Prelude.{◌≡◌, ℕ};
+ghost use Rattle.std.specs.Prelude.{◌≡◌, ℕ, ◌∷◌, [], true};
+ghost use Rattle.wasm_ast.specs.declared.types.ValType.TheVariants.{I32 as i32_type};
 ghost use Rattle.wasm_ast.specs.declared.plain.Memory.TheVariants as memory_variant;
 ghost use Rattle.wasm_ast.specs.declared.plain.Plain.TheVariants as plain;
+ghost use Rattle.wasm_ast.specs.Widths.{load_width, store_type, store_width};
 ghost use Rattle.host_calls.specs.Host.{Host as AnyHost};
 ghost use Rattle.interp.specs.inside.Acts.{Acts, ActsAlone, ActsOnBytes, ActsOnVariables, state};
+ghost use Rattle.interp.specs.inside.Going.{has_tops, memory_asks, of_next, of_top, plain_asks, reaches, select_asks, variable_asks};
 ghost use Rattle.interp.specs.Effects.{effect, variable_effect, memory_effect};
 
-use crate::fault::WalkFault;
 use crate::globals::Globals;
 use crate::locals::Locals;
 use crate::memory::Memory;
 use crate::numeric::act_numeric;
 use crate::operands::Operands;
-use wasm_ast::{
-    Load, Memory as MemoryAccess, MemoryArgument, Plain, Store, ValType, Value, Variable,
-};
+use std::alloc::AllocError;
+use wasm_ast::{Load, Memory as MemoryAccess, MemoryArgument, Plain, Store, Value, Variable};
 
-/// Acts on the operands, the locals, the globals and the memory. `Trap` where the instruction traps, and `Stuck` where an
-/// operand is missing or of the wrong type, where a number names nothing, and at memory.grow.
+/// Acts on the operands, the locals, the globals and the memory. The instruction does not trap, and there is a step for it.
 #[inline]
 pub fn act_plain(
     instruction: Plain,
@@ -26,7 +26,9 @@ pub fn act_plain(
     locals: &mut Locals,
     globals: &mut Globals,
     bytes: &mut Memory,
-) -> Result<(), WalkFault>
+) -> Result<(), AllocError>
+    requires { plain_asks instruction
+        operands.old.here locals.old.here globals.old bytes.old ≡ true }
     ensures acts { (host : AnyHost) (count : ℕ) → Acts result
         (effect instruction operands.old.here
         (state locals.old.here globals.old bytes.old host count))
@@ -37,7 +39,7 @@ pub fn act_plain(
     match instruction {
         Plain::Nop => Ok(()),
         Plain::Drop => {
-            operands.pop()?;
+            let _ = operands.pop();
             Ok(())
         }
         Plain::Select => act_select(operands),
@@ -50,16 +52,14 @@ pub fn act_plain(
 
 /// Gives the first of two operands of one type for a number other than 0, and the second for 0 (Core 1.0, 4.4.2).
 #[inline]
-fn act_select(operands: &mut Operands) -> Result<(), WalkFault>
+fn act_select(operands: &mut Operands) -> Result<(), AllocError>
+    requires { select_asks operands.old.here ≡ true }
     ensures acts { ActsAlone result (effect plain.Select) operands.old operands.new }
     ensures below { operands.new.below ≡ operands.old.below }
 {
-    let number = operands.pop_i32()?;
-    let second = operands.pop()?;
-    let first = operands.pop()?;
-    if first.val_type() != second.val_type() {
-        return Err(WalkFault::Stuck);
-    }
+    let number = operands.pop_i32();
+    let second = operands.pop();
+    let first = operands.pop();
     operands.push(if number == 0 { second } else { first })
 }
 
@@ -70,22 +70,30 @@ fn act_variable(
     operands: &mut Operands,
     locals: &mut Locals,
     globals: &mut Globals,
-) -> Result<(), WalkFault>
+) -> Result<(), AllocError>
+    requires { variable_asks instruction
+        operands.old.here locals.old.here globals.old ≡ true }
     ensures acts { ActsOnVariables result (variable_effect instruction)
         operands.old operands.new locals.old locals.new globals.old globals.new }
     ensures below { operands.new.below ≡ operands.old.below }
     ensures locals_below { locals.new.below ≡ locals.old.below }
 {
     match instruction {
-        Variable::LocalGet(number) => operands.push(locals.get(number)?),
-        Variable::LocalSet(number) => locals.set(number, operands.pop()?),
+        Variable::LocalGet(number) => operands.push(locals.get(number)),
+        Variable::LocalSet(number) => {
+            locals.set(number, operands.pop());
+            Ok(())
+        }
         Variable::LocalTee(number) => {
-            let value = operands.pop()?;
-            locals.set(number, value)?;
+            let value = operands.pop();
+            locals.set(number, value);
             operands.push(value)
         }
-        Variable::GlobalGet(number) => operands.push(globals.get(number)?),
-        Variable::GlobalSet(number) => globals.set(number, operands.pop()?),
+        Variable::GlobalGet(number) => operands.push(globals.get(number)),
+        Variable::GlobalSet(number) => {
+            globals.set(number, operands.pop());
+            Ok(())
+        }
     }
 }
 
@@ -95,7 +103,8 @@ fn act_memory(
     instruction: MemoryAccess,
     operands: &mut Operands,
     bytes: &mut Memory,
-) -> Result<(), WalkFault>
+) -> Result<(), AllocError>
+    requires { memory_asks instruction operands.old.here bytes.old ≡ true }
     ensures acts { ActsOnBytes result (memory_effect instruction)
         operands.old operands.new bytes.old bytes.new }
     ensures below { operands.new.below ≡ operands.old.below }
@@ -104,7 +113,7 @@ fn act_memory(
         MemoryAccess::Load(op, argument) => act_load(op, argument, operands, bytes),
         MemoryAccess::Store(op, argument) => act_store(op, argument, operands, bytes),
         MemoryAccess::Size => { operands.push(Value::I32(bytes.size())) }
-        MemoryAccess::Grow => Err(WalkFault::Stuck),
+        MemoryAccess::Grow => unreachable!(),
     }
 }
 
@@ -114,14 +123,16 @@ fn act_load(
     argument: MemoryArgument,
     operands: &mut Operands,
     bytes: &Memory,
-) -> Result<(), WalkFault>
+) -> Result<(), AllocError>
+    requires top { has_tops (i32_type ∷ []) operands.old.here ≡ true }
+    requires there { of_top (reaches argument.offset (load_width op) bytes.now)
+        operands.old.here ≡ true }
     ensures acts { ActsOnBytes result (memory_effect (memory_variant.Load op argument))
         operands.old operands.new bytes.now bytes.now }
     ensures below { operands.new.below ≡ operands.old.below }
 {
-    let place = u64::from(operands.pop_i32()?) + u64::from(argument.offset);
-    let value = bytes.load(op, place).ok_or(WalkFault::Trap)?;
-    operands.push(value)
+    let place = u64::from(operands.pop_i32()) + u64::from(argument.offset);
+    operands.push(bytes.load(op, place))
 }
 
 #[inline]
@@ -130,19 +141,16 @@ fn act_store(
     argument: MemoryArgument,
     operands: &mut Operands,
     bytes: &mut Memory,
-) -> Result<(), WalkFault>
+) -> Result<(), AllocError>
+    requires tops { has_tops (store_type op ∷ i32_type ∷ []) operands.old.here ≡ true }
+    requires there { of_next (reaches argument.offset (store_width op) bytes.old)
+        operands.old.here ≡ true }
     ensures acts { ActsOnBytes result (memory_effect (memory_variant.Store op argument))
         operands.old operands.new bytes.old bytes.new }
     ensures below { operands.new.below ≡ operands.old.below }
 {
-    let number = match op.val_type() {
-        ValType::I32 => u64::from(operands.pop_i32()?),
-        ValType::I64 => operands.pop_i64()?,
-    };
-    let place = u64::from(operands.pop_i32()?) + u64::from(argument.offset);
-    if bytes.store(op, place, number) {
-        Ok(())
-    } else {
-        Err(WalkFault::Trap)
-    }
+    let number = operands.pop_number(op.val_type());
+    let place = u64::from(operands.pop_i32()) + u64::from(argument.offset);
+    bytes.store(op, place, number);
+    Ok(())
 }

@@ -1,7 +1,7 @@
 //! The functions of a module by number.
 
 ghost use Rattle.std.specs.Prelude.{◌≡◌, Some, option_map, slice_get};
-ghost use Rattle.cost.specs.Weights.{call_units, units_of};
+ghost use Rattle.cost.specs.Weights.{call_units};
 ghost use Rattle.validate.specs.Modules.{IsTyped};
 ghost use Rattle.bounded_profile.specs.Profile.{IsBounded};
 ghost use Rattle.interp.specs.inside.Begun.{IsDefinedAt};
@@ -9,9 +9,9 @@ ghost use Rattle.interp.specs.Machine.{defined, functions_of};
 ghost use Rattle.interp.specs.inside.Meaning.{AreImports, callee_of};
 
 use bounded_profile::Verified;
-use cost::{branch_units, host_units, plain_units};
+use cost::host_units;
 use host_calls::HostCall;
-use wasm_ast::{Function, Instr, Module};
+use wasm_ast::{Function, Module};
 
 /// A module whose imports bring in these functions of the host, in order.
 #[derive(Clone, Copy)]
@@ -75,22 +75,9 @@ impl<'a> Program<'a> {
         }
     }
 
-    /// What the instruction counts.
+    /// What a call of the function with this number counts.
     #[inline]
-    pub fn units(self, instr: &Instr) -> u32
-        requires { AreImports self.calls.now self.«module».now }
-        ensures { result ≡ units_of self.entry.«module».now instr.now }
-    {
-        match instr {
-            Instr::Plain(plain) => plain_units(*plain),
-            Instr::Branch(branch) => branch_units(branch),
-            Instr::Call(number) => self.call_units(*number),
-            _ => 1,
-        }
-    }
-
-    #[inline]
-    fn call_units(self, number: u32) -> u32
+    pub fn call_units(self, number: u32) -> u32
         requires { AreImports self.calls.now self.«module».now }
         ensures { result ≡ call_units self.entry.«module».now number }
     {

@@ -1,6 +1,7 @@
 //! The lists of a call, which the next call takes over.
 
 use crate::globals::Globals;
+use crate::layers::Layer;
 use crate::locals::Locals;
 use crate::memory::Memory;
 use crate::operands::Operands;
@@ -8,17 +9,19 @@ use std::alloc::Global;
 
 /// The lists of a call. What they hold as it begins says nothing: it begins by clearing them.
 #[derive(Drop)]
-pub struct Rooms {
+pub struct Rooms<'a> {
+    pub layers: Vec<Layer<'a>>,
     pub operands: Operands,
     pub locals: Locals,
     pub globals: Globals,
     pub memory: Memory,
 }
 
-impl Rooms {
+impl<'a> Rooms<'a> {
     /// Lists that hold nothing and have no room; it takes no memory.
-    pub fn new(alloc: Global) -> Rooms {
+    pub fn new(alloc: Global) -> Rooms<'a> {
         Rooms {
+            layers: Vec::new(alloc),
             operands: Operands::new(alloc),
             locals: Locals::new(alloc),
             globals: Globals::new(alloc),

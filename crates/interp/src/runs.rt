@@ -1,21 +1,23 @@
 //! Compute calls.
 
 ghost use Rattle.std.specs.Prelude.{◌≡◌, ◌↔◌, ◌+◌, ◌*◌, IfOk, IsTrue};
+ghost use Rattle.wasm_ast.specs.View.{code_of};
 ghost use Rattle.interp.specs.inside.Begun.{EndsWith};
 ghost use Rattle.interp.specs.Bounded.{HasIds, IsWithinBound, NeverFails, items_of};
 ghost use Rattle.interp.specs.Call.{IsOutcome};
 ghost use Rattle.interp.specs.inside.Meaning.{AreImports};
-ghost use Rattle.interp.specs.inside.Place.{running};
+ghost use Rattle.interp.specs.inside.Place.{at, running};
 ghost use Rattle.interp.specs.inside.Walk.{EndsWithin};
 
 use crate::program::Program;
 use crate::rooms::Rooms;
 use crate::scratch::Scratch;
-use crate::start::begin;
+use crate::start::{begin, lay};
 use crate::walk::Walk;
 use bounded_profile::Verified;
 use host_calls::{CallInput, CallOutcome};
 use std::alloc::{AllocError, Global};
+use wasm_ast::Instr;
 
 /// The greatest id.
 const MAX_ID: u64 = 9_223_372_036_854_775_807;
@@ -37,11 +39,13 @@ pub fn run(
     ensures units { IfOk result (IsWithinBound verified.now input.now) }
     ensures fails_never { NeverFails verified.now input.now }
 {
-    let program = Program::of(verified);
+    let program = scratch.program_for(verified);
     let most = most_units(verified.size(), input);
-    let rooms = scratch.take_rooms(alloc);
-    let walk = begin(alloc, program, verified.compute(), input, rooms)?;
-    let (ended, rooms) = finish(walk, program, most);
+    let function = program.defined(verified.compute());
+    let mut rooms = scratch.take_rooms(alloc);
+    lay(alloc, program.module, function, &mut rooms)?;
+    let walk = begin(alloc, program.module, function, input, rooms);
+    let (ended, rooms) = finish(walk, program, function.body.as_slice(), most);
     scratch.keep_rooms(rooms);
     ended
 }
@@ -65,31 +69,32 @@ fn most_units(size: u32, input: &CallInput) -> u128
 fn finish<'a, 'b>(
     mut walk: Walk<'a, 'b>,
     program: Program<'a>,
+    code: &'a [Instr],
     most: u128,
-) -> (Result<CallOutcome, AllocError>, Rooms)
+) -> (Result<CallOutcome, AllocError>, Rooms<'a>)
     requires calls { AreImports program.calls.now program.«module».now }
-    requires ends { EndsWithin program.«module».now (running walk) most }
-    ensures { IfOk result.0 (EndsWith program.entry.«module».now (running walk.entry)) }
+    requires ends { EndsWithin program.«module».now (running (at walk (code_of code.now) 0)) most }
+    ensures { IfOk result.0 (EndsWith program.entry.«module».now
+        (running (at walk.entry (code_of code.now) 0))) }
 {
-    let ended = walk.finish(program, most);
+    let ended = walk.finish(program, code, most);
     let Walk {
-        code: _,
-        layers: _,
+        layers,
         operands,
         locals,
         globals,
         memory,
         host,
-        count,
     } = walk;
     let rooms = Rooms {
+        layers,
         operands,
         locals,
         globals,
         memory,
     };
     match ended {
-        Ok(()) => (Ok(host.into_outcome(count)), rooms),
+        Ok(count) => (Ok(host.into_outcome(count)), rooms),
         Err(AllocError) => (Err(AllocError), rooms),
     }
 }

@@ -1,20 +1,23 @@
 //! What the calls of a module have in common.
 
 ghost use Rattle.std.specs.Prelude.{◌≡◌, ◌↔◌, IfOk, IsTrue};
+ghost use Rattle.validate.specs.Modules.{IsTyped};
+ghost use Rattle.bounded_profile.specs.Profile.{IsBounded};
+ghost use Rattle.interp.specs.inside.Meaning.{AreImports};
 
+use crate::program::Program;
 use crate::rooms::Rooms;
 use bounded_profile::Verified;
 use std::alloc::{AllocError, Global};
 use std::marker::Model;
 use std::mem::replace;
-use wasm_ast::Module;
 
 /// What the calls of one module have in common: lists that they take over from one another. Contracts see it as the
 /// module.
 #[derive(Drop)]
 pub struct Scratch<'a> {
-    module: &'a Module,
-    rooms: Rooms,
+    verified: &'a Verified,
+    rooms: Rooms<'a>,
 }
 
 impl<'a> Model for Scratch<'a> {
@@ -25,7 +28,7 @@ impl<'a> Model for Scratch<'a> {
 
     ghost coded = { module_type.the_row.coded };
 
-    ghost view = { λ scratch. scratch.«module».now };
+    ghost view = { λ scratch. scratch.verified.now };
 }
 
 impl<'a> Scratch<'a> {
@@ -34,7 +37,7 @@ impl<'a> Scratch<'a> {
         ensures { IfOk result (λ scratch. scratch ≡ verified.now) }
     {
         Ok(Scratch {
-            module: verified.module(),
+            verified,
             rooms: Rooms::new(alloc),
         })
     }
@@ -43,18 +46,29 @@ impl<'a> Scratch<'a> {
     pub fn fits(&self, verified: &Verified) -> bool
         ensures { IsTrue result ↔ (self.now ≡ verified.now) }
     {
-        *self.module == *verified.module()
+        *self.verified.module() == *verified.module()
+    }
+
+    // The functions of the module that it was made for, which is that of `verified`.
+    pub(crate) fn program_for(&self, verified: &Verified) -> Program<'a>
+        requires { self.now ≡ verified.now }
+        ensures same { result.«module».now ≡ verified.now }
+        ensures typed { IsTyped verified.now }
+        ensures bounded { IsBounded verified.now }
+        ensures calls { AreImports result.calls.now result.«module».now }
+    {
+        Program::of(self.verified)
     }
 
     // Gives the lists of the last call out, and keeps lists without room.
-    pub(crate) fn take_rooms(&mut self, alloc: Global) -> Rooms
+    pub(crate) fn take_rooms(&mut self, alloc: Global) -> Rooms<'a>
         ensures { self.new ≡ self.old }
     {
         replace(&mut self.rooms, Rooms::new(alloc))
     }
 
     // Keeps the lists for the next call.
-    pub(crate) fn keep_rooms(&mut self, rooms: Rooms)
+    pub(crate) fn keep_rooms(&mut self, rooms: Rooms<'a>)
         ensures { self.new ≡ self.old }
     {
         self.rooms = rooms;

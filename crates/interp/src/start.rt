@@ -1,53 +1,63 @@
 //! The start of a compute call (Core 1.0, 4.5.4 and 4.5.5).
 
-ghost use Rattle.std.specs.Prelude.{IfOk};
+ghost use Rattle.std.specs.Prelude.{OnOk};
 ghost use Rattle.bounded_profile.specs.Memory.{MinimumsWithin};
-ghost use Rattle.interp.specs.inside.Begun.{BeginsAt, IsBeginning};
-ghost use Rattle.interp.specs.inside.Meaning.{AreImports};
+ghost use Rattle.interp.specs.inside.Begun.{AreLaid, BeginsWith, IsBeginning};
 
 mod initial;
 
-use crate::program::Program;
 use crate::rooms::Rooms;
 use crate::walk::Walk;
 use host_calls::{CallInput, CallState};
 use initial::{lay_globals, lay_memory};
 use std::alloc::{AllocError, Global};
+use wasm_ast::{Function, Module};
 
-/// Where a call begins whose function `compute` has this number.
+/// Lays into the lists what a call of the function begins with.
+pub fn lay(
+    alloc: Global,
+    module: &Module,
+    function: &Function,
+    rooms: &mut Rooms,
+) -> Result<(), AllocError>
+    requires begins { BeginsWith «module».now function.now }
+    requires minimums { MinimumsWithin «module».now }
+    ensures { OnOk result (AreLaid «module».now function.now rooms.new) }
+{
+    rooms.layers.clear();
+    rooms.operands.clear();
+    rooms.globals.clear();
+    lay_globals(alloc, module.globals.as_slice(), &mut rooms.globals)?;
+    lay_memory(module, &rooms.globals, &mut rooms.memory)?;
+    rooms.locals.clear();
+    rooms.locals.add(function.locals.as_slice())
+}
+
+/// Where a call of the function begins, of which the lists hold what it begins with.
 pub fn begin<'a, 'b>(
     alloc: Global,
-    program: Program<'a>,
-    compute: u32,
+    module: &Module,
+    function: &'a Function,
     input: &CallInput<'b>,
-    rooms: Rooms,
-) -> Result<Walk<'a, 'b>, AllocError>
-    requires calls { AreImports program.calls.now program.«module».now }
-    requires begins { BeginsAt program.«module».now compute }
-    requires minimums { MinimumsWithin program.«module».now }
-    ensures { IfOk result (IsBeginning program.entry.«module».now input.now) }
+    rooms: Rooms<'a>,
+) -> Walk<'a, 'b>
+    requires begins { BeginsWith «module».now function.now }
+    requires laid { AreLaid «module».now function.now rooms }
+    ensures { IsBeginning «module».now function.now input.now result }
 {
-    let function = program.defined(compute);
     let Rooms {
-        mut operands,
-        mut locals,
-        mut globals,
-        mut memory,
+        layers,
+        operands,
+        locals,
+        globals,
+        memory,
     } = rooms;
-    operands.clear();
-    globals.clear();
-    lay_globals(alloc, program.module.globals.as_slice(), &mut globals)?;
-    lay_memory(program.module, &globals, &mut memory)?;
-    locals.clear();
-    locals.add(function.locals.as_slice())?;
-    Ok(Walk {
-        code: function.body.as_slice(),
-        layers: Vec::new(alloc),
+    Walk {
+        layers,
         operands,
         locals,
         globals,
         memory,
         host: CallState::new(alloc, input),
-        count: 0,
-    })
+    }
 }

@@ -1,18 +1,19 @@
 //! The walk over nested code, which is the machine's run (Core 1.0, 4.4).
 
-ghost use Rattle.std.specs.Prelude.{◌≡◌, OnOk};
+ghost use Rattle.std.specs.Prelude.{◌≡◌, ◌+◌, ◌^◌, ◌<◌, true, IfOk};
 ghost use Rattle.wasm_ast.specs.View.{code_of, then_code};
+ghost use Rattle.cost.specs.Weights.{units_of};
 ghost use Rattle.interp.specs.Effects.{effect, call_effect};
 ghost use Rattle.interp.specs.Machine.{advance};
+ghost use Rattle.interp.specs.inside.Going.{goes_on, is_going};
 ghost use Rattle.interp.specs.inside.Meaning.{AreImports};
-ghost use Rattle.interp.specs.inside.Place.{running};
-ghost use Rattle.interp.specs.inside.Walk.{Turned, Turns, FinishesAt, EndsWithin, HasRoom, affected, taken};
+ghost use Rattle.interp.specs.inside.Place.{at, running, state_of};
+ghost use Rattle.interp.specs.inside.Walk.{Turned, Turns, EndsWithin, Finishes, HasRoom, affected, taken};
 
 mod branches;
 mod calls;
 mod labels;
 
-use crate::fault::WalkFault;
 use crate::globals::Globals;
 use crate::host::call_host;
 use crate::layers::Layer;
@@ -21,110 +22,140 @@ use crate::memory::Memory;
 use crate::operands::Operands;
 use crate::plain::act_plain;
 use crate::program::Program;
+use cost::{branch_units, plain_units};
 use host_calls::{CallState, HostCall};
 use std::alloc::AllocError;
 use std::marker::Model;
 use wasm_ast::{Instr, Plain};
 
-/// Whether the run goes on.
+/// Where the run goes on, or that it is done, with the units that were taken.
 #[derive(Clone, Copy)]
-pub enum Turn {
-    Next,
-    Finished,
+pub enum Turn<'a> {
+    Next { code: &'a [Instr], count: u128 },
+    Finished { count: u128 },
 }
 
-/// Where a run is.
+/// What a run has besides the code and the count, which are passed from step to step.
 #[derive(Drop)]
 pub struct Walk<'a, 'b> {
-    pub code: &'a [Instr],
     pub layers: Vec<Layer<'a>>,
     pub operands: Operands,
     pub locals: Locals,
     pub globals: Globals,
     pub memory: Memory,
     pub host: CallState<'b>,
-    pub count: u128,
 }
 
 impl<'a, 'b> Model for Walk<'a, 'b> {
-    ghost use Rattle.interp.specs.inside.Place.{Place, place_code};
-    ghost use Rattle.interp.specs.inside.Meaning.{place_of, IsOrdered};
+    ghost use Rattle.interp.specs.inside.Place.{Standing, standing_code};
+    ghost use Rattle.interp.specs.inside.Meaning.{standing_of, IsOrdered};
 
-    ghost Value = { Place };
+    ghost Value = { Standing };
 
-    ghost coded = { place_code };
+    ghost coded = { standing_code };
 
-    ghost view = { place_of };
+    ghost view = { standing_of };
 
     ghost invariant = { IsOrdered };
 }
 
 impl<'a, 'b> Walk<'a, 'b> {
-    /// Runs to its end, which comes within so many units. They are not looked at.
-    pub fn finish(&mut self, program: Program<'a>, most: u128) -> Result<(), AllocError>
+    /// Runs to its end, which comes within so many units, and answers how many it took. They are not looked at.
+    pub fn finish(
+        &mut self,
+        program: Program<'a>,
+        code: &'a [Instr],
+        most: u128,
+    ) -> Result<u128, AllocError>
         requires calls { AreImports program.calls.now program.«module».now }
-        requires ends { EndsWithin program.«module».now (running self.old) most }
-        ensures { OnOk result (FinishesAt program.entry.«module».now self.old self.new) }
+        requires ends { EndsWithin program.«module».now
+            (running (at self.old (code_of code.now) 0)) most }
+        ensures { IfOk result (λ count. Finishes program.entry.«module».now
+            (running (at self.old (code_of code.now) 0)) (state_of self.new count)) }
     {
+        let mut rest = code;
+        let mut count = 0;
         'turns: loop {
-            match self.turn(program) {
-                Ok(Turn::Next) => {}
-                Ok(Turn::Finished) => return Ok(()),
-                Err(WalkFault::OutOfMemory) => return Err(AllocError),
-                Err(WalkFault::Trap) => unreachable!(),
-                Err(WalkFault::Stuck) => unreachable!(),
+            match self.turn(program, rest, count)? {
+                Turn::Next {
+                    code: next,
+                    count: counted,
+                } => {
+                    rest = next;
+                    count = counted;
+                }
+                Turn::Finished { count: counted } => return Ok(counted),
             }
         }
     }
 
-    /// One step.
+    /// One step, which there is.
     #[inline]
-    fn turn(&mut self, program: Program<'a>) -> Result<Turn, WalkFault>
+    fn turn(
+        &mut self,
+        program: Program<'a>,
+        code: &'a [Instr],
+        count: u128,
+    ) -> Result<Turn<'a>, AllocError>
         requires calls { AreImports program.calls.now program.«module».now }
-        requires fits { HasRoom program.«module».now self.old }
-        ensures { Turned result (advance program.entry.«module».now (running self.old)) self.new }
+        requires fits { HasRoom program.«module».now (at self.old (code_of code.now) count) }
+        requires goes { is_going (advance program.«module».now
+            (running (at self.old (code_of code.now) count))) ≡ true }
+        ensures { Turned result (advance program.entry.«module».now
+            (running (at self.old (code_of code.now) count))) self.new }
     {
-        let code = self.code;
         match code.split_first() {
-            None => self.leave(),
-            Some((first, rest)) => {
-                self.count += u128::from(program.units(first));
-                self.code = rest;
-                self.take(program, code, first)
-            }
+            None => self.leave(count),
+            Some((first, rest)) => self.take(program, code, first, rest, count),
         }
     }
 
-    /// An instruction that is counted already; `whole` begins with it.
+    /// An instruction, which is counted where it is told from others; `whole` begins with it, before `rest`.
     #[inline]
     fn take(
         &mut self,
         program: Program<'a>,
         whole: &'a [Instr],
         first: &'a Instr,
-    ) -> Result<Turn, WalkFault>
+        rest: &'a [Instr],
+        count: u128,
+    ) -> Result<Turn<'a>, AllocError>
         requires calls { AreImports program.calls.now program.«module».now }
-        requires whole { code_of whole.now ≡ then_code first.now self.old.code }
+        requires whole { code_of whole.now ≡ then_code first.now (code_of rest.now) }
+        requires fits { count + units_of program.«module».now first.now < 2 ^ 128 }
+        requires goes { goes_on (taken program.«module».now (code_of whole.now))
+            (code_of rest.now) (count + units_of program.«module».now first.now)
+            self.old ≡ true }
         ensures { Turns result (taken program.entry.«module».now (code_of whole.now))
+            (code_of rest.now) (count + units_of program.entry.«module».now first.now)
             self.old self.new }
     {
         match first {
-            Instr::Plain(plain) => self.act(*plain),
-            Instr::Branch(branch) => self.branch(branch),
-            Instr::Call(number) => self.call(program, *number),
-            Instr::CallIndirect(_) => Err(WalkFault::Stuck),
-            Instr::Unreachable => Err(WalkFault::Trap),
-            Instr::Block(block_type, body) => self.open(block_type.is_some(), self.code, body),
-            Instr::Loop(_, body) => self.open(false, whole, body),
+            Instr::Plain(plain) => self.act(*plain, rest, count + u128::from(plain_units(*plain))),
+            Instr::Branch(branch) => {
+                self.branch(branch, rest, count + u128::from(branch_units(branch)))
+            }
+            Instr::Call(number) => {
+                let count = count + u128::from(program.call_units(*number));
+                self.call(program, *number, rest, count)
+            }
+            Instr::CallIndirect(_) => unreachable!(),
+            Instr::Unreachable => unreachable!(),
+            Instr::Block(block_type, body) => {
+                self.open(block_type.is_some(), rest, body, rest, count + 1)
+            }
+            Instr::Loop(_, body) => self.open(false, whole, body, rest, count + 1),
             Instr::If(block_type, then_body, else_body) => {
-                self.choose(block_type.is_some(), then_body, else_body)
+                self.choose(block_type.is_some(), then_body, else_body, rest, count + 1)
             }
         }
     }
 
     #[inline]
-    fn act(&mut self, plain: Plain) -> Result<Turn, WalkFault>
-        ensures { Turns result (affected (effect plain)) self.old self.new }
+    fn act(&mut self, plain: Plain, code: &'a [Instr], count: u128) -> Result<Turn<'a>, AllocError>
+        requires { goes_on (affected (effect plain)) (code_of code.now) count self.old ≡ true }
+        ensures { Turns result (affected (effect plain)) (code_of code.now) count
+            self.old self.new }
     {
         act_plain(
             plain,
@@ -133,13 +164,20 @@ impl<'a, 'b> Walk<'a, 'b> {
             &mut self.globals,
             &mut self.memory,
         )?;
-        Ok(Turn::Next)
+        Ok(Turn::Next { code, count })
     }
 
-    fn act_host(&mut self, call: HostCall) -> Result<Turn, WalkFault>
-        ensures { Turns result (affected (call_effect call)) self.old self.new }
+    fn act_host(
+        &mut self,
+        call: HostCall,
+        code: &'a [Instr],
+        count: u128,
+    ) -> Result<Turn<'a>, AllocError>
+        requires { goes_on (affected (call_effect call)) (code_of code.now) count self.old ≡ true }
+        ensures { Turns result (affected (call_effect call)) (code_of code.now) count
+            self.old self.new }
     {
         call_host(call, &mut self.operands, &mut self.host)?;
-        Ok(Turn::Next)
+        Ok(Turn::Next { code, count })
     }
 }

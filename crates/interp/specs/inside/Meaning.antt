@@ -5,7 +5,7 @@ use Rattle.wasm_ast.specs.declared.module.Module.{Module}
 use Rattle.wasm_ast.specs.View.{code_of}
 use Rattle.host_calls.specs.declared.imports.HostCall.{HostCall}
 use Rattle.interp.specs.Machine as machine
-use Rattle.interp.specs.inside.Place.{Place}
+use Rattle.interp.specs.inside.Place.{Standing}
 use Rattle.interp.specs.inside.Split.{Split}
 use Rattle.interp.specs.declared.layers.Layer.{Layer}
 use Rattle.interp.specs.declared.layers.Layer.TheVariants as layer
@@ -55,18 +55,14 @@ floor_of [] = None
 floor_of (layer.Label keeps floor target after ∷ rs) = Some floor
 floor_of (layer.Frame keeps floor base after ∷ rs) = None
 
-abbrev pub place_of : Inside → Place
-place_of a = record {
+abbrev pub standing_of : Inside → Standing
+standing_of a = record {
   values = a.operands.here;
-  code = code_of a.code.now;
   layers = layers_of (reverse a.layers.items) a.operands.below a.locals.below;
-  state = record {
-    locals = a.locals.here;
-    globals = a.globals;
-    memory = a.memory;
-    host = a.host;
-    count = a.count;
-  };
+  locals = a.locals.here;
+  globals = a.globals;
+  memory = a.memory;
+  host = a.host;
 }
 
 abbrev pub IsOrdered : Inside → Type 0

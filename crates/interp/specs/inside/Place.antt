@@ -1,4 +1,4 @@
--- Where a run is, and how it is stored: as the tuple of its parts.
+-- Where a run is, and how what it keeps in lists is stored: as the tuple of its parts.
 use Rattle.std.specs.Prelude.{◌≡◌, ℕ, ℤ, Bool, List, ◌⊎◌, refl}
 use Rattle.std.specs.Coded.{Coded, code_by, coded_list, coded_bool, coded_ℕ, coded_ℤ, coded×, coded⊎}
 use mathlib.Core.Logic.{inl, inr}
@@ -18,6 +18,22 @@ pub record Place : Type 0 where
 
 abbrev pub running : Place → Machine
 running p = Running p.values p.code p.layers p.state
+
+-- what a run has besides the code and the count
+pub record Standing : Type 0 where
+  pub values : List Value
+  pub layers : List Layer
+  pub locals : List Value
+  pub globals : List Value
+  pub memory : List ℕ
+  pub host : Host
+
+abbrev pub state_of : Standing → ℕ → State
+state_of s count =
+    record { locals = s.locals; globals = s.globals; memory = s.memory; host = s.host; count = count }
+
+abbrev pub at : Standing → Code → ℕ → Place
+at s code count = record { values = s.values; code = code; layers = s.layers; state = state_of s count }
 
 -- ---- the stored form
 
@@ -89,13 +105,9 @@ host_whole p = record {
 abbrev pub host_code : Coded Host
 host_code = code_by (GivenParts × LeftParts) (coded× given_code left_code) (λ h. (given_of h, left_of_host h)) host_whole (λ _. refl)
 
-abbrev pub StateParts : Type 0
-StateParts = List Value × (List Value × (List ℕ × (Host × ℕ)))
+abbrev pub StandingParts : Type 0
+StandingParts = List Value × (List Layer × (List Value × (List Value × (List ℕ × Host))))
 
-abbrev pub state_code : Coded State
-state_code =
-    code_by StateParts (coded× values_code (coded× values_code (coded× (coded_list coded_ℕ) (coded× host_code coded_ℕ)))) (λ s. (s.locals, (s.globals, (s.memory, (s.host, s.count))))) (λ p. record { locals = p.0; globals = p.1.0; memory = p.1.1.0; host = p.1.1.1.0; count = p.1.1.1.1 }) (λ _. refl)
-
-abbrev pub place_code : Coded Place
-place_code =
-    code_by (List Value × (Code × (List Layer × State))) (coded× values_code (coded× coded_code (coded× (coded_list layer_code) state_code))) (λ p. (p.values, (p.code, (p.layers, p.state)))) (λ p. record { values = p.0; code = p.1.0; layers = p.1.1.0; state = p.1.1.1 }) (λ _. refl)
+abbrev pub standing_code : Coded Standing
+standing_code =
+    code_by StandingParts (coded× values_code (coded× (coded_list layer_code) (coded× values_code (coded× values_code (coded× (coded_list coded_ℕ) host_code))))) (λ s. (s.values, (s.layers, (s.locals, (s.globals, (s.memory, s.host)))))) (λ p. record { values = p.0; layers = p.1.0; locals = p.1.1.0; globals = p.1.1.1.0; memory = p.1.1.1.1.0; host = p.1.1.1.1.1 }) (λ _. refl)

@@ -1,32 +1,29 @@
 -- What the answers of the walk say of the machine's run.
-use Rattle.std.specs.Prelude.{◌≡◌, ◌≢◌, ℕ, ◌+◌, ◌-◌, ◌*◌, ◌^◌, ◌<◌, ◌≤◌, List, [], ◌∷◌, length, slice_get, Bool, Option, Result, Ok, Err, if◌then◌else◌}
+use Rattle.std.specs.Prelude.{◌≡◌, ◌≢◌, ℕ, ◌+◌, ◌-◌, ◌*◌, ◌^◌, ◌<◌, ◌≤◌, List, [], ◌∷◌, length, slice_get, Bool, Option, Result, Ok, Err}
 use Rattle.wasm_ast.specs.declared.types.Value.{Value}
 use Rattle.wasm_ast.specs.declared.module.Function.{Function}
 use Rattle.wasm_ast.specs.declared.module.Module.{Module}
 use Rattle.wasm_ast.specs.Code.{Code}
-use Rattle.interp.specs.declared.fault.WalkFault.{WalkFault}
-use Rattle.interp.specs.declared.fault.WalkFault.TheVariants as fault
+use Rattle.wasm_ast.specs.View.{code_of}
 use Rattle.interp.specs.declared.walk.Turn.{Turn}
 use Rattle.interp.specs.declared.walk.Turn.TheVariants as turn
 use Rattle.interp.specs.Configuration.{State, Effect}
-use Rattle.interp.specs.Machine.{Machine, Running, Done, Trapped, Stuck, Layer, Label, after_effect, arm, arrive, back, enter, functions_of, jump, next_units, run, take_call, take_next, taking}
-use Rattle.interp.specs.inside.Place.{Place, running}
+use Rattle.interp.specs.Machine.{Machine, Running, Done, Layer, Label, after_effect, arm, arrive, back, enter, functions_of, jump, next_units, run, take_call, take_next, taking}
+use Rattle.interp.specs.inside.Place.{Place, Standing, at, running, state_of}
 
--- the machine is this, and where it runs it is at that place
-abbrev pub Turned : Result Turn WalkFault → Machine → Place → Type 0
-Turned (Ok turn.Next) x p = x ≡ running p
-Turned (Ok turn.Finished) x p = x ≡ Done p.state
-Turned (Err fault.Trap) x p = x ≡ Trapped p.state.count
-Turned (Err fault.Stuck) x p = x ≡ Stuck p.state.count
-Turned (Err fault.OutOfMemory) x p = Unit {0}
+-- the machine is this: it runs at the place that is answered, or is done, unless memory runs out
+abbrev pub Turned : {E : Type 0} → Result Turn E → Machine → Standing → Type 0
+Turned (Ok (turn.Next code count)) x s = x ≡ running (at s (code_of code.now) count)
+Turned (Ok (turn.Finished count)) x s = x ≡ Done (state_of s count)
+Turned (Err _) x s = Unit {0}
 
 -- ---- what the parts of a walk do, by the operands, the code, the layers and the state
 
 -- the walk was turned so from one place to another
-abbrev pub Turns : Result Turn WalkFault → (List Value → Code → List Layer → State → Machine) → (old new : Place) → Type 0
-Turns r step old new = Turned r (step old.values old.code old.layers old.state) new
+abbrev pub Turns : {E : Type 0} → Result Turn E → (List Value → Code → List Layer → State → Machine) → Code → (count : ℕ) → (old new : Standing) → Type 0
+Turns r step code count old new = Turned r (step old.values code old.layers (state_of old count)) new
 
--- a step of a whole sequence, of which the rest is the code
+-- an instruction taken off a whole sequence, of which the rest is the code
 abbrev pub taken : Module → (whole : Code) → List Value → Code → List Layer → State → Machine
 taken m whole vs is ls st = take_next m vs whole ls st
 
@@ -48,10 +45,9 @@ called m number vs is ls st = take_call m (slice_get (functions_of m) number) vs
 abbrev pub entered : Module → Function → List Value → Code → List Layer → State → Machine
 entered m f vs is ls st = enter f (slice_get m.types f.type_number) vs is ls st
 
--- layers without so many labels, if there are as many
-abbrev pub Unwinds : (labels : ℕ) (all : Bool) (old new : List Layer) → Type 0
-Unwinds labels all old new =
-    (top : Option Value) (st : State) → jump labels top old st ≡ (if all then arrive top new st else Stuck st.count)
+-- layers without so many labels
+abbrev pub Unwinds : (labels : ℕ) (old new : List Layer) → Type 0
+Unwinds labels old new = (top : Option Value) (st : State) → jump labels top old st ≡ arrive top new st
 
 -- layers without the labels of the innermost frame
 abbrev pub UnwindsFrame : (old new : List Layer) → Type 0
@@ -73,10 +69,6 @@ pub record Finishes (m : Module) (from : Machine) (final : State) : Type 0 where
 pub record Comes (m : Module) (from to : Machine) : Type 0 where
   pub steps : ℕ
   pub there : run m steps from ≡ to
-
--- the run from one place is done at another
-abbrev pub FinishesAt : Module → (old new : Place) → Type 0
-FinishesAt m old new = Finishes m (running old) new.state
 
 -- The run from here comes to its end within so many units.
 pub record EndsWithin (m : Module) (from : Machine) (most : ℕ) : Type 0 where

@@ -58,11 +58,7 @@ fn lay_segment(segment: &Data, globals: &Globals, memory: &mut Memory)
     ensures { segment_laid globals.now segment.now memory.old ≡ Some memory.new }
 {
     match constant_value(globals, &segment.offset) {
-        Some(Value::I32(place)) => {
-            if !memory.lay(u64::from(place), segment.bytes.as_slice()) {
-                unreachable!()
-            }
-        }
+        Some(Value::I32(place)) => memory.lay(u64::from(place), segment.bytes.as_slice()),
         Some(Value::I64(_)) => unreachable!(),
         None => unreachable!(),
     }
@@ -95,7 +91,7 @@ fn constant_plain(globals: &Globals, plain: Plain) -> Option<Value>
 {
     match plain {
         Plain::Const(value) => Some(value),
-        Plain::Variable(Variable::GlobalGet(number)) => globals.get(number).ok(),
+        Plain::Variable(Variable::GlobalGet(number)) => globals.find(number),
         _ => None,
     }
 }

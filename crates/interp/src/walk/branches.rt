@@ -1,68 +1,90 @@
 //! Branches (Core 1.0, 4.4.5).
 
-ghost use Rattle.std.specs.Prelude.{◌≡◌, reverse};
+ghost use Rattle.std.specs.Prelude.{◌≡◌, reverse, true};
 ghost use Rattle.wasm_ast.specs.declared.plain.Branch.TheVariants as branches;
+ghost use Rattle.wasm_ast.specs.Code.{end};
+ghost use Rattle.wasm_ast.specs.View.{code_of};
 ghost use Rattle.interp.specs.Machine.{label_of, take_branch};
+ghost use Rattle.interp.specs.inside.Going.{goes_on, has_labels};
 ghost use Rattle.interp.specs.inside.Meaning.{AreNested, floor_of, layers_round};
 ghost use Rattle.interp.specs.inside.Walk.{Turns, Unwinds, UnwindsFrame};
 
-use crate::fault::WalkFault;
 use crate::layers::{Layer, pop_layer};
 use crate::locals::Locals;
 use crate::operands::Operands;
 use crate::walk::{Turn, Walk};
-use wasm_ast::Branch;
+use std::alloc::AllocError;
+use wasm_ast::{Branch, Instr};
 
 impl<'a, 'b> Walk<'a, 'b> {
     /// An instruction that goes on elsewhere.
     #[inline]
-    pub fn branch(&mut self, branch: &Branch) -> Result<Turn, WalkFault>
-        ensures { Turns result (take_branch branch.now) self.old self.new }
+    pub fn branch(
+        &mut self,
+        branch: &Branch,
+        code: &'a [Instr],
+        count: u128,
+    ) -> Result<Turn<'a>, AllocError>
+        requires { goes_on (take_branch branch.now) (code_of code.now) count
+            self.old ≡ true }
+        ensures { Turns result (take_branch branch.now) (code_of code.now) count
+            self.old self.new }
     {
         match branch {
-            Branch::Br(label) => self.jump(*label),
-            Branch::BrIf(label) => self.branch_if(*label),
-            Branch::BrTable(labels, other) => self.branch_by(labels.as_slice(), *other),
-            Branch::Return => self.back(),
+            Branch::Br(label) => self.jump(*label, count),
+            Branch::BrIf(label) => self.branch_if(*label, code, count),
+            Branch::BrTable(labels, other) => self.branch_by(labels.as_slice(), *other, count),
+            Branch::Return => self.back(count),
         }
     }
 
     #[inline]
-    fn branch_if(&mut self, label: u32) -> Result<Turn, WalkFault>
-        ensures { Turns result (take_branch (branches.BrIf label)) self.old self.new }
+    fn branch_if(
+        &mut self,
+        label: u32,
+        code: &'a [Instr],
+        count: u128,
+    ) -> Result<Turn<'a>, AllocError>
+        requires { goes_on (take_branch (branches.BrIf label)) (code_of code.now) count
+            self.old ≡ true }
+        ensures { Turns result (take_branch (branches.BrIf label)) (code_of code.now) count
+            self.old self.new }
     {
-        if self.operands.pop_i32()? == 0 {
-            Ok(Turn::Next)
+        if self.operands.pop_i32() == 0 {
+            Ok(Turn::Next { code, count })
         } else {
-            self.jump(label)
+            self.jump(label, count)
         }
     }
 
-    fn branch_by(&mut self, labels: &[u32], other: u32) -> Result<Turn, WalkFault>
-        ensures { Turns result (take_branch (branches.BrTable labels.now other)) self.old self.new }
+    fn branch_by(&mut self, labels: &[u32], other: u32, count: u128) -> Result<Turn<'a>, AllocError>
+        requires { goes_on (take_branch (branches.BrTable labels.now other)) end count
+            self.old ≡ true }
+        ensures { Turns result (take_branch (branches.BrTable labels.now other)) end count
+            self.old self.new }
     {
-        let place = self.operands.pop_i32()?;
-        self.jump(label_at(labels, place, other))
+        let place = self.operands.pop_i32();
+        self.jump(label_at(labels, place, other), count)
     }
 
-    /// To a label.
-    fn jump(&mut self, label: u32) -> Result<Turn, WalkFault>
-        ensures { Turns result (take_branch (branches.Br label)) self.old self.new }
+    /// To a label, whatever code comes next.
+    fn jump(&mut self, label: u32, count: u128) -> Result<Turn<'a>, AllocError>
+        requires { goes_on (take_branch (branches.Br label)) end count self.old ≡ true }
+        ensures { Turns result (take_branch (branches.Br label)) end count self.old self.new }
     {
         let top = self.operands.top();
-        if !unwind(&mut self.layers, &mut self.operands, &self.locals, label) {
-            return Err(WalkFault::Stuck);
-        }
-        self.arrive(top)
+        unwind(&mut self.layers, &mut self.operands, &self.locals, label);
+        self.arrive(top, count)
     }
 
     /// Out of the innermost frame.
-    fn back(&mut self) -> Result<Turn, WalkFault>
-        ensures { Turns result (take_branch branches.Return) self.old self.new }
+    fn back(&mut self, count: u128) -> Result<Turn<'a>, AllocError>
+        requires { goes_on (take_branch branches.Return) end count self.old ≡ true }
+        ensures { Turns result (take_branch branches.Return) end count self.old self.new }
     {
         let top = self.operands.top();
         unwind_all(&mut self.layers, &mut self.operands, &self.locals);
-        self.arrive(top)
+        self.arrive(top, count)
     }
 }
 
@@ -76,27 +98,23 @@ fn label_at(labels: &[u32], place: u32, other: u32) -> u32
     }
 }
 
-/// Takes so many labels off; whether there were as many.
-fn unwind<'a>(
-    layers: &mut Vec<Layer<'a>>,
-    operands: &mut Operands,
-    locals: &Locals,
-    labels: u32,
-) -> bool
-    requires { AreNested layers.old.items operands.old locals.now }
+/// Takes so many labels off.
+fn unwind<'a>(layers: &mut Vec<Layer<'a>>, operands: &mut Operands, locals: &Locals, labels: u32)
+    requires ordered { AreNested layers.old.items operands.old locals.now }
+    requires there { has_labels labels
+        (layers_round layers.old.items operands.old locals.now) ≡ true }
     ensures ordered { AreNested layers.new.items operands.new locals.now }
-    ensures jump { Unwinds labels result
+    ensures jump { Unwinds labels
         (layers_round layers.old.items operands.old locals.now)
         (layers_round layers.new.items operands.new locals.now) }
 {
     for _ in 0..labels {
         match pop_layer(layers) {
             Some(Layer::Label { floor, .. }) => operands.fall(floor),
-            Some(Layer::Frame { .. }) => return false,
-            None => return false,
+            Some(Layer::Frame { .. }) => unreachable!(),
+            None => unreachable!(),
         }
     }
-    true
 }
 
 /// Where the operands beyond the innermost layer begin, if it is a label.

@@ -1,21 +1,26 @@
 //! Blocks (Core 1.0, 4.4.5), and what goes on after them.
 
+ghost use Rattle.std.specs.Prelude.{◌≡◌, true};
 ghost use Rattle.wasm_ast.specs.View.{code_of};
 ghost use Rattle.interp.specs.Machine.{arrive, leave};
+ghost use Rattle.interp.specs.inside.Going.{goes_on, is_going};
+ghost use Rattle.interp.specs.inside.Place.{state_of};
 ghost use Rattle.interp.specs.inside.Walk.{Turned, Turns, chosen, opened};
 
-use crate::fault::WalkFault;
 use crate::layers::{Layer, pop_layer, push_layer};
 use crate::walk::{Turn, Walk};
+use std::alloc::AllocError;
 use wasm_ast::{Body, Instr, Value};
 
 impl<'a, 'b> Walk<'a, 'b> {
     /// Goes on at the innermost label or frame, with an operand.
-    pub fn arrive(&mut self, top: Option<Value>) -> Result<Turn, WalkFault>
-        ensures { Turned result (arrive top self.old.layers self.old.state) self.new }
+    #[inline(always)]
+    pub fn arrive(&mut self, top: Option<Value>, count: u128) -> Result<Turn<'a>, AllocError>
+        requires { is_going (arrive top self.old.layers (state_of self.old count)) ≡ true }
+        ensures { Turned result (arrive top self.old.layers (state_of self.old count)) self.new }
     {
         match pop_layer(&mut self.layers) {
-            None => Ok(Turn::Finished),
+            None => Ok(Turn::Finished { count }),
             Some(
                 Layer::Label {
                     keeps,
@@ -25,12 +30,11 @@ impl<'a, 'b> Walk<'a, 'b> {
                 },
             ) => {
                 self.operands.fall(floor);
-                self.code = target;
-                if self.operands.carry(keeps, top)? {
-                    Ok(Turn::Next)
-                } else {
-                    Err(WalkFault::Stuck)
-                }
+                self.operands.carry(keeps, top)?;
+                Ok(Turn::Next {
+                    code: target,
+                    count,
+                })
             }
             Some(
                 Layer::Frame {
@@ -42,27 +46,23 @@ impl<'a, 'b> Walk<'a, 'b> {
             ) => {
                 self.operands.fall(floor);
                 self.locals.close(base);
-                self.code = after;
-                if self.operands.carry(keeps, top)? {
-                    Ok(Turn::Next)
-                } else {
-                    Err(WalkFault::Stuck)
-                }
+                self.operands.carry(keeps, top)?;
+                Ok(Turn::Next { code: after, count })
             }
         }
     }
 
     /// Goes on after the innermost label or frame.
     #[inline]
-    pub fn leave(&mut self) -> Result<Turn, WalkFault>
-        ensures { Turned result (leave self.old.values self.old.layers self.old.state) self.new }
+    pub fn leave(&mut self, count: u128) -> Result<Turn<'a>, AllocError>
+        ensures { Turned result (leave self.old.values self.old.layers (state_of self.old count))
+            self.new }
     {
         match pop_layer(&mut self.layers) {
-            None => Ok(Turn::Finished),
+            None => Ok(Turn::Finished { count }),
             Some(Layer::Label { floor, after, .. }) => {
                 self.operands.join(floor);
-                self.code = after;
-                Ok(Turn::Next)
+                Ok(Turn::Next { code: after, count })
             }
             Some(
                 Layer::Frame {
@@ -74,8 +74,7 @@ impl<'a, 'b> Walk<'a, 'b> {
             ) => {
                 self.operands.join(floor);
                 self.locals.close(base);
-                self.code = after;
-                Ok(Turn::Next)
+                Ok(Turn::Next { code: after, count })
             }
         }
     }
@@ -87,20 +86,25 @@ impl<'a, 'b> Walk<'a, 'b> {
         keeps: bool,
         target: &'a [Instr],
         body: &'a Body,
-    ) -> Result<Turn, WalkFault>
-        ensures { Turns result (opened keeps (code_of target.now) body.now) self.old self.new }
+        code: &'a [Instr],
+        count: u128,
+    ) -> Result<Turn<'a>, AllocError>
+        ensures { Turns result (opened keeps (code_of target.now) body.now)
+            (code_of code.now) count self.old self.new }
     {
         let floor = self.operands.floor();
         let label = Layer::Label {
             keeps,
             floor,
             target,
-            after: self.code,
+            after: code,
         };
         push_layer(&mut self.layers, label)?;
         self.operands.open();
-        self.code = body.as_slice();
-        Ok(Turn::Next)
+        Ok(Turn::Next {
+            code: body.as_slice(),
+            count,
+        })
     }
 
     /// Begins one of two sequences.
@@ -110,13 +114,18 @@ impl<'a, 'b> Walk<'a, 'b> {
         keeps: bool,
         then_body: &'a Body,
         else_body: &'a Body,
-    ) -> Result<Turn, WalkFault>
-        ensures { Turns result (chosen keeps then_body.now else_body.now) self.old self.new }
+        code: &'a [Instr],
+        count: u128,
+    ) -> Result<Turn<'a>, AllocError>
+        requires { goes_on (chosen keeps then_body.now else_body.now) (code_of code.now) count
+            self.old ≡ true }
+        ensures { Turns result (chosen keeps then_body.now else_body.now) (code_of code.now) count
+            self.old self.new }
     {
-        if self.operands.pop_i32()? == 0 {
-            self.open(keeps, self.code, else_body)
+        if self.operands.pop_i32() == 0 {
+            self.open(keeps, code, else_body, code, count)
         } else {
-            self.open(keeps, self.code, then_body)
+            self.open(keeps, code, then_body, code, count)
         }
     }
 }

@@ -1,44 +1,58 @@
 use Rattle.std.proofs.Common.{sym, subst}
 use Rattle.wasm_ast.specs.declared.module.Module.{Module}
+use Rattle.wasm_ast.specs.View.{code_of}
 use Rattle.bounded_profile.specs.Memory.{MinimumsWithin}
-use Rattle.interp.specs.inside.Begun.{BeginsAt}
+use Rattle.interp.specs.inside.Begun.{BeginsAt, IsDefinedAt}
 use Rattle.interp.specs.Start.{Starts}
-use Rattle.interp.specs.inside.Place.{running}
+use Rattle.interp.specs.inside.Place.{at, running}
 use Rattle.interp.specs.inside.Walk.{EndsWithin}
-use Rattle.interp.proofs.Running.{begins_at, ends_within, fails_never, outcome_told, bound_told}
+use Rattle.interp.proofs.Running.{begins_at, begins_with, defined_at, ends_within, fails_never, outcome_told, bound_told, starts_at}
 use Rattle.interp.proofs.runs.run.Goals as goal
 
-pub begin-requires-clause-begins : goal.begin-requires-clause-begins
-begin-requires-clause-begins c =
-    let told = c.of-program.ensures in
-    subst (λ (m : Module). BeginsAt m c.compute.result) (sym told.same) (begins_at c.args.verified.now told.typed told.bounded c.compute.result c.compute.ensures c.args.input.now)
+pub defined-function-requires-clause-defined : goal.defined-function-requires-clause-defined
+defined-function-requires-clause-defined c =
+    let told = c.program_for-program.ensures in
+    let b = begins_at c.args.verified.now told.typed told.bounded c.compute.result c.compute.ensures c.args.input.now in
+    subst (λ (m : Module). IsDefinedAt m c.compute.result) (sym told.same) (defined_at c.args.verified.now c.compute.result b)
 
-pub begin-requires-clause-minimums : goal.begin-requires-clause-minimums
-begin-requires-clause-minimums c =
-    let told = c.of-program.ensures in
+pub lay-requires-clause-begins : goal.lay-requires-clause-begins
+lay-requires-clause-begins c =
+    let told = c.program_for-program.ensures in
+    let b = begins_at c.args.verified.now told.typed told.bounded c.compute.result c.compute.ensures c.args.input.now in
+    begins_with c.program_for-program.result.module.now c.compute.result c.defined-function.result.now (subst (λ (m : Module). BeginsAt m c.compute.result) (sym told.same) b) c.defined-function.ensures
+
+pub lay-requires-clause-minimums : goal.lay-requires-clause-minimums
+lay-requires-clause-minimums c =
+    let told = c.program_for-program.ensures in
     subst (λ (m : Module). MinimumsWithin m) (sym told.same) told.bounded.addresses.minimums
+
+pub begin-walk-requires-clause-begins : goal.begin-walk-requires-clause-begins
+begin-walk-requires-clause-begins c =
+    let told = c.program_for-program.ensures in
+    let b = begins_at c.args.verified.now told.typed told.bounded c.compute.result c.compute.ensures c.args.input.now in
+    begins_with c.program_for-program.result.module.now c.compute.result c.defined-function.result.now (subst (λ (m : Module). BeginsAt m c.compute.result) (sym told.same) b) c.defined-function.ensures
 
 pub finish-ended-requires-clause-ends : goal.finish-ended-requires-clause-ends
 finish-ended-requires-clause-ends c =
-    let told = c.of-program.ensures in
-    let x = running c.in_ok-walk.walk in
-    let starts = subst (λ (m : Module). Starts m c.args.input.now x) told.same c.in_ok-walk.ensures in
+    let told = c.program_for-program.ensures in
+    let x = running (at c.begin-walk.result (code_of c.as_slice.result.now) 0) in
+    let starts = subst (λ (m : Module). Starts m c.args.input.now x) told.same (starts_at c.program_for-program.result.module.now c.args.input.now c.begin-walk.result (code_of c.as_slice.result.now) c.defined-function.result.now.body c.as_slice.ensures c.begin-walk.ensures) in
     let ends = ends_within c.args.verified.now told.typed told.bounded c.args.input.now c.size.result c.size.ensures x starts in
     subst (λ (m : Module). EndsWithin m x c.most_units-most.result) (sym told.same) (subst (λ n. EndsWithin c.args.verified.now x n) (sym c.most_units-most.ensures) ends)
 
 pub returns-clause-outcome : goal.returns-clause-outcome
 returns-clause-outcome c =
-    let told = c.of-program.ensures in
-    outcome_told c.finish-ended.result.0 c.of-program.result.module.now c.args.verified.now c.args.input.now (running c.in_ok-walk.walk) told.same c.in_ok-walk.ensures c.finish-ended.ensures
+    let told = c.program_for-program.ensures in
+    outcome_told c.finish-ended.result.0 c.program_for-program.result.module.now c.args.verified.now c.args.input.now (running (at c.begin-walk.result (code_of c.as_slice.result.now) 0)) told.same (starts_at c.program_for-program.result.module.now c.args.input.now c.begin-walk.result (code_of c.as_slice.result.now) c.defined-function.result.now.body c.as_slice.ensures c.begin-walk.ensures) c.finish-ended.ensures
 
 pub returns-clause-units : goal.returns-clause-units
 returns-clause-units c =
-    let told = c.of-program.ensures in
+    let told = c.program_for-program.ensures in
     bound_told c.finish-ended.result.0 c.args.verified.now told.typed told.bounded c.args.input.now
-    (outcome_told c.finish-ended.result.0 c.of-program.result.module.now c.args.verified.now c.args.input.now (running c.in_ok-walk.walk) told.same c.in_ok-walk.ensures c.finish-ended.ensures)
+    (outcome_told c.finish-ended.result.0 c.program_for-program.result.module.now c.args.verified.now c.args.input.now (running (at c.begin-walk.result (code_of c.as_slice.result.now) 0)) told.same (starts_at c.program_for-program.result.module.now c.args.input.now c.begin-walk.result (code_of c.as_slice.result.now) c.defined-function.result.now.body c.as_slice.ensures c.begin-walk.ensures) c.finish-ended.ensures)
 
 pub returns-clause-fails_never : goal.returns-clause-fails_never
-returns-clause-fails_never c = let told = c.of-program.ensures in fails_never c.args.verified.now told.typed told.bounded c.args.input.now
+returns-clause-fails_never c = let told = c.program_for-program.ensures in fails_never c.args.verified.now told.typed told.bounded c.args.input.now
 
-pub returns-in_err-walk-clause-fails_never : goal.returns-in_err-walk-clause-fails_never
-returns-in_err-walk-clause-fails_never c = let told = c.of-program.ensures in fails_never c.args.verified.now told.typed told.bounded c.args.input.now
+pub returns-in_err-lay-clause-fails_never : goal.returns-in_err-lay-clause-fails_never
+returns-in_err-lay-clause-fails_never c = let told = c.program_for-program.ensures in fails_never c.args.verified.now told.typed told.bounded c.args.input.now

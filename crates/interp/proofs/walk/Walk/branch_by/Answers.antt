@@ -1,11 +1,13 @@
-use Rattle.std.proofs.Common.{ap}
-use Rattle.std.proofs.lemmas.Result.{err_from_is_err_and}
-use Rattle.interp.specs.inside.Place.{Place}
-use Rattle.interp.proofs.Taking.{taking_fails}
+use Rattle.std.proofs.Common.{ap, ◌∙◌}
+use Rattle.wasm_ast.specs.declared.plain.Branch.TheVariants as branch
+use Rattle.wasm_ast.specs.Code.{end}
+use Rattle.interp.specs.Machine.{take_branch}
+use Rattle.interp.specs.inside.Going.{goes_on}
+use Rattle.interp.specs.inside.Meaning.{standing_of}
+use Rattle.interp.proofs.Asking.{taking_asks}
 use Rattle.interp.proofs.walk.Walk.branch_by.Goals as goal
 
-pub returns-in_err-place : goal.returns-in_err-place
-returns-in_err-place c =
-    let p = err_from_is_err_and c.from_residual.result c.from_residual.ensures.1 in
-    rw (p.1, p.2)
-    (taking_fails c.in_err-place.field-0.0 c.pop_i32.result c.self.inside.operands.here c.args.self.now.values c.pop_i32.new.self.here c.args.self.now.state.count _ _ c.in_err-place.was c.pop_i32.ensures.here (ap (λ (q : Place). q.values) c.self.view_is) (ap (λ (q : Place). q.state.count) c.self.view_is))
+pub pop_i32-place-requires : goal.pop_i32-place-requires
+pop_i32-place-requires c =
+    let s = standing_of c.self.inside in
+    taking_asks s.values c.args.count _ (ap (goes_on (take_branch (branch.BrTable c.args.labels.now c.args.other)) end c.args.count) c.self.view_is ∙ c.requires)

@@ -1,6 +1,6 @@
-use Rattle.std.proofs.Common.{◌≡◌, suc, refl, ◌∙◌, ◌+◌, ◌-◌, length, reverse, arith}
+use Rattle.std.proofs.Common.{◌≡◌, suc, refl, ◌∙◌, ◌+◌, ◌-◌, reverse, arith}
 use Rattle.interp.specs.inside.Meaning.{layers_of}
-use Rattle.interp.proofs.Stacked.{label_floor, label_off, frame_floors, frame_off, ordered_on, jump_label, jump_frame, jump_none}
+use Rattle.interp.proofs.Stacked.{label_floor, label_off, frame_off, jump_label, labels_label, no_frame, no_end}
 use Rattle.interp.proofs.walk.branches.unwind.Goals as goal
 
 pub fall-requires : goal.fall-requires
@@ -17,20 +17,12 @@ loop-preserved c =
     let n : c.args.labels - c.loop.counter ≡ suc (c.args.labels - (c.loop.counter + 1)) = omega arith in
     record {
       ordered = off.ordered;
+      there = labels_label (c.args.labels - c.loop.counter) (c.args.labels - (c.loop.counter + 1)) (layers_of rs vs ls) (layers_of rs' c.fall.new.self.below ls) _ _ _ _ n off.layers c.loop.invariant.there;
       jump = λ top st. c.loop.invariant.jump top st ∙ jump_label (c.args.labels - c.loop.counter) (c.args.labels - (c.loop.counter + 1)) top st (layers_of rs vs ls) (layers_of rs' c.fall.new.self.below ls) _ _ _ _ n off.layers;
     }
 
-pub returns-in-Some-Frame-clause-ordered : goal.returns-in-Some-Frame-clause-ordered
-returns-in-Some-Frame-clause-ordered c =
-    let vs = c.loop.operands.below in
-    let ls = c.args.locals.now.below in
-    let s = c.in-Some-Frame in
-    let o = frame_floors (reverse c.loop.layers.items) (reverse c.pop_layer.new.layers.items) vs ls s.field-0-1 s.field-0-2 s.field-0-0 s.field-0-3 (rw s.field-0-is at s.ensures) c.loop.invariant.ordered in
-    ordered_on (reverse c.pop_layer.new.layers.items) s.field-0-1 (length vs) s.field-0-2 (length ls) o.0 o.1 o.2
-
-pub returns-in-Some-Frame-clause-jump : goal.returns-in-Some-Frame-clause-jump
-returns-in-Some-Frame-clause-jump c =
-    λ top st.
+pub unreachable-requires : goal.unreachable-requires
+unreachable-requires c =
     let vs = c.loop.operands.below in
     let ls = c.args.locals.now.below in
     let s = c.in-Some-Frame in
@@ -38,10 +30,9 @@ returns-in-Some-Frame-clause-jump c =
     let rs' = reverse c.pop_layer.new.layers.items in
     let off = frame_off rs rs' vs _ ls _ s.field-0-1 s.field-0-2 s.field-0-0 s.field-0-3 (rw s.field-0-is at s.ensures) c.loop.invariant.ordered refl refl in
     let n : c.args.labels - c.loop.counter ≡ suc (c.args.labels - (c.loop.counter + 1)) = omega arith in
-    c.loop.invariant.jump top st ∙ jump_frame (c.args.labels - c.loop.counter) (c.args.labels - (c.loop.counter + 1)) top st (layers_of rs vs ls) _ _ _ _ _ n off.layers
+    no_frame (c.args.labels - c.loop.counter) (c.args.labels - (c.loop.counter + 1)) (layers_of rs vs ls) _ _ _ _ _ n off.layers c.loop.invariant.there
 
-pub returns-in-None-clause-jump : goal.returns-in-None-clause-jump
-returns-in-None-clause-jump c =
-    λ top st.
+pub unreachable-requires-in-None : goal.unreachable-requires-in-None
+unreachable-requires-in-None c =
     let n : c.args.labels - c.loop.counter ≡ suc (c.args.labels - (c.loop.counter + 1)) = omega arith in
-    c.loop.invariant.jump top st ∙ jump_none (c.args.labels - c.loop.counter) (c.args.labels - (c.loop.counter + 1)) top st (reverse c.loop.layers.items) c.loop.operands.below c.args.locals.now.below n c.in-None.ensures.0
+    no_end (c.args.labels - c.loop.counter) (c.args.labels - (c.loop.counter + 1)) (reverse c.loop.layers.items) c.loop.operands.below c.args.locals.now.below n c.in-None.ensures.0 c.loop.invariant.there

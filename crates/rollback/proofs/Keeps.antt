@@ -5,12 +5,12 @@ use Rattle.checkpoint.specs.Keep.{HasFailed, IsKeptOrNone}
 use Rattle.superstep.specs.declared.fault.JobFault.TheVariants.{OutOfMemory}
 use Rattle.superstep.specs.declared.fault.Place.TheVariants.{Slice}
 use Rattle.superstep.specs.Job.{Work}
-use Rattle.superstep.specs.State.{HasIdsOf, IsStateAt, Standing}
+use Rattle.superstep.specs.State.{HasIdsOf, Standing}
 use Rattle.rollback.specs.declared.ending.Told.{Told}
 use Rattle.rollback.specs.declared.ending.Told.TheVariants.{Failed, Good, NoMemory}
 use Rattle.rollback.specs.Machine.{Machine, count_set, ended_by, is_running, is_saved_now, joined, saved_or_first, welcomed}
 use Rattle.rollback.specs.Events.{after_load, after_save, loading, saving, slicing}
-use Rattle.rollback.specs.Keeping.{IsLoadTold, IsSaveTold, IsSavedOrLeft, KeepsFor, MayLoadOther}
+use Rattle.rollback.specs.Keeping.{IsFullStateAt, IsLoadTold, IsSaveTold, IsSavedOrLeft, KeepsFor, MayLoadOther}
 
 pub keeps_same : (work : Work) (trusted honest : Bool) (kept : Option ℕ) (may_load : List ℕ → Type 0) (m m' : Machine) → m'.saved ≡ m.saved → KeepsFor work trusted honest kept may_load m → KeepsFor work trusted honest kept may_load m'
 keeps_same work trusted honest kept may_load m m' e k = record { trusts = k.trusts; saved = λ s is. k.saved s (sym e ∙ is); bytes = λ t s is. k.bytes t s (sym e ∙ is) }
@@ -73,13 +73,13 @@ keeps_left work trusted m m' state h h' k k' ml ml' f f' told bad past same s ol
 some_is : (a b : ℕ) → Some a ≡ Some b → a ≡ b
 some_is a b e = cc
 
-keeps_after : (work : Work) (trusted : Bool) (m : Machine) (state : Standing) (h h' : Bool) (k k' : Option ℕ) (ml ml' : List ℕ → Type 0) (f f' : ℕ) (told : Told) → (trusted ≡ true → IsStateAt work state.superstep state) → HasIdsOf work state → state.superstep ≡ m.superstep → saved_or_first m.saved < state.superstep → IsSaveTold state h h' k k' ml ml' f f' told → KeepsFor work trusted h k ml m → KeepsFor work trusted h' k' ml' (after_save told m)
+keeps_after : (work : Work) (trusted : Bool) (m : Machine) (state : Standing) (h h' : Bool) (k k' : Option ℕ) (ml ml' : List ℕ → Type 0) (f f' : ℕ) (told : Told) → (trusted ≡ true → IsFullStateAt work state.superstep state) → HasIdsOf work state → state.superstep ≡ m.superstep → saved_or_first m.saved < state.superstep → IsSaveTold state h h' k k' ml ml' f f' told → KeepsFor work trusted h k ml m → KeepsFor work trusted h' k' ml' (after_save told m)
 keeps_after work trusted m state h h' k k' ml ml' f f' Good at has same past s old = record {
   trusts = λ t. s.honest_is ∙ old.trusts t;
   saved = λ n e. s.saved_is refl ∙ ap Some same ∙ e;
   bytes = λ t n e b may.
       let z : state.superstep ≡ n = same ∙ some_is m.superstep n e in
-      record { state = state; written = (s.bytes_are refl (old.trusts t) b may).0; spelled = (s.bytes_are refl (old.trusts t) b may).1; fits = record { superstep = z; ids = has }; at = subst (λ i. IsStateAt work i state) z (at t) };
+      record { state = state; written = (s.bytes_are refl (old.trusts t) b may).0; spelled = (s.bytes_are refl (old.trusts t) b may).1; fits = record { superstep = z; ids = has }; full = subst (λ i. IsFullStateAt work i state) z (at t) };
 }
 keeps_after work trusted m state h h' k k' ml ml' f f' Failed at has same past s old = keeps_left work trusted m (after_save Failed m) state h h' k k' ml ml' f f' Failed (λ e. cc) past refl s old
 keeps_after work trusted m state h h' k k' ml ml' f f' NoMemory at has same past s old = keeps_left work trusted m (after_save NoMemory m) state h h' k k' ml ml' f f' NoMemory (λ e. cc) past refl s old
@@ -96,7 +96,7 @@ pub record Saves (work : Work) (trusted : Bool) (m m' : Machine) (h h' : Bool) (
   pub superstep : m'.superstep ≡ m.superstep
   pub left : IsSavedNow m' k k'
 
-saves_told : (work : Work) (trusted : Bool) (m : Machine) (state : Standing) (h h' : Bool) (k k' : Option ℕ) (ml ml' : List ℕ → Type 0) (f f' : ℕ) (told : Told) → (trusted ≡ true → IsStateAt work state.superstep state) → HasIdsOf work state → state.superstep ≡ m.superstep → saved_or_first m.saved < state.superstep → IsSaveTold state h h' k k' ml ml' f f' told → KeepsFor work trusted h k ml m → Saves work trusted m (after_save told m) h h' k k' ml ml' f f'
+saves_told : (work : Work) (trusted : Bool) (m : Machine) (state : Standing) (h h' : Bool) (k k' : Option ℕ) (ml ml' : List ℕ → Type 0) (f f' : ℕ) (told : Told) → (trusted ≡ true → IsFullStateAt work state.superstep state) → HasIdsOf work state → state.superstep ≡ m.superstep → saved_or_first m.saved < state.superstep → IsSaveTold state h h' k k' ml ml' f f' told → KeepsFor work trusted h k ml m → Saves work trusted m (after_save told m) h h' k k' ml ml' f f'
 saves_told work trusted m state h h' k k' ml ml' f f' Good at has same past s old = record {
   keeps = keeps_after work trusted m state h h' k k' ml ml' f f' Good at has same past s old;
   missed = inl refl;
@@ -119,11 +119,11 @@ saves_told work trusted m state h h' k k' ml ml' f f' NoMemory at has same past 
   left = inr (subst (λ n. IsKeptOrNone n k k') same (s.left (λ e. cc)));
 }
 
-saves_if : (work : Work) (trusted : Bool) (m : Machine) (state : Standing) (h h' : Bool) (k k' : Option ℕ) (ml ml' : List ℕ → Type 0) (f f' : ℕ) (told : Told) (c : Bool) → (trusted ≡ true → IsStateAt work state.superstep state) → HasIdsOf work state → state.superstep ≡ m.superstep → saved_or_first m.saved < state.superstep → (c ≡ true → IsSaveTold state h h' k k' ml ml' f f' told) → (c ≡ false → KeepsFor work trusted h' k' ml' m × (k' ≡ k)) → KeepsFor work trusted h k ml m → Saves work trusted m (cond c (after_save told m) m) h h' k k' ml ml' f f'
+saves_if : (work : Work) (trusted : Bool) (m : Machine) (state : Standing) (h h' : Bool) (k k' : Option ℕ) (ml ml' : List ℕ → Type 0) (f f' : ℕ) (told : Told) (c : Bool) → (trusted ≡ true → IsFullStateAt work state.superstep state) → HasIdsOf work state → state.superstep ≡ m.superstep → saved_or_first m.saved < state.superstep → (c ≡ true → IsSaveTold state h h' k k' ml ml' f f' told) → (c ≡ false → KeepsFor work trusted h' k' ml' m × (k' ≡ k)) → KeepsFor work trusted h k ml m → Saves work trusted m (cond c (after_save told m) m) h h' k k' ml ml' f f'
 saves_if work trusted m state h h' k k' ml ml' f f' told true at has same past s other old = saves_told work trusted m state h h' k k' ml ml' f f' told at has same past (s refl) old
 saves_if work trusted m state h h' k k' ml ml' f f' told false at has same past s other old = record { keeps = (other refl).0; missed = inl refl; restarts = refl; superstep = refl; left = inr (inl (other refl).1) }
 
-pub saves : (work : Work) (trusted : Bool) (m : Machine) (state : Standing) (h h' : Bool) (k k' : Option ℕ) (ml ml' : List ℕ → Type 0) (f f' : ℕ) (told : Told) → (trusted ≡ true → IsStateAt work state.superstep state) → HasIdsOf work state → state.superstep ≡ m.superstep → saved_or_first m.saved < state.superstep → (is_saved_now m ≡ true → IsSaveTold state h h' k k' ml ml' f f' told) → (is_saved_now m ≡ false → KeepsFor work trusted h' k' ml' m × (k' ≡ k)) → KeepsFor work trusted h k ml m → Saves work trusted m (saving told m) h h' k k' ml ml' f f'
+pub saves : (work : Work) (trusted : Bool) (m : Machine) (state : Standing) (h h' : Bool) (k k' : Option ℕ) (ml ml' : List ℕ → Type 0) (f f' : ℕ) (told : Told) → (trusted ≡ true → IsFullStateAt work state.superstep state) → HasIdsOf work state → state.superstep ≡ m.superstep → saved_or_first m.saved < state.superstep → (is_saved_now m ≡ true → IsSaveTold state h h' k k' ml ml' f f' told) → (is_saved_now m ≡ false → KeepsFor work trusted h' k' ml' m × (k' ≡ k)) → KeepsFor work trusted h k ml m → Saves work trusted m (saving told m) h h' k k' ml ml' f f'
 saves work trusted m state h h' k k' ml ml' f f' told at has same past s other old = saves_if work trusted m state h h' k k' ml ml' f f' told (is_saved_now m) at has same past s other old
 
 -- numbers that a Keep does not know

@@ -13,8 +13,8 @@ use Rattle.superstep.specs.Snapshot.{Row, is_called, is_quiet}
 use Rattle.superstep.specs.declared.state.VertexState.{VertexState}
 use Rattle.superstep.specs.Tasks.{DoneStamp}
 use Rattle.std.specs.List.{list_any}
-use Rattle.superstep.specs.State.{HasIdsOf, IsStateAt, Standing, bare, is_due, is_settled}
-use Rattle.superstep.specs.inside.Running.{WasBusy}
+use Rattle.superstep.specs.State.{HasIdsOf, Standing, bare, is_due, is_settled}
+use Rattle.superstep.specs.Ending.{WasBusy}
 use Rattle.rollback.specs.declared.control.Out.{Out}
 use Rattle.rollback.specs.declared.ending.End.{End}
 use Rattle.rollback.specs.declared.ending.End.TheVariants.{Fault, Finished, Limit, Running}
@@ -26,6 +26,7 @@ use Rattle.rollback.specs.Machine.{Machine, all_set, begun_anew, closed, count_s
 use Rattle.rollback.specs.Events.{after_save, loading, saving, slicing}
 use Rattle.rollback.specs.Parts.{IsHome, Seating, Spot, all_home, is_returned, moved}
 use Rattle.rollback.specs.Parts.Spot.{Gone, Home, Returned}
+use Rattle.rollback.specs.Keeping.{IsFullStateAt}
 use Rattle.rollback.specs.Book.{IsQuietAt, done_out, has_finished}
 use Rattle.rollback.specs.inside.Book.{AreIdsOf, AreParts, IsBacked, IsBook, IsHeld, IsReached, StandsAt, WasBusyTo, is_fault}
 use Rattle.rollback.specs.inside.Holding.{HasHome, Runs, Takes}
@@ -342,7 +343,7 @@ welcomed_over_if m false b h = refl
 pub welcomed_over : (m : Machine) → is_running m.ending ≡ false → welcomed m ≡ m
 welcomed_over m h = welcomed_over_if m (is_running m.ending) (nat_lt 0 (count_set m.waiting)) h
 
-pub book_shut : (work : Work) (honest : Bool) (own : Work) (m m' : Machine) (ids : List ℕ) {J : _} (holding : Holding J) (quiet : Bool) (state : Standing) → own ≡ work → AreIdsOf work ids → IsFresh work honest m → IsFresh work honest m' → state.superstep ≡ m.superstep → HasIdsOf work state → (honest ≡ true → IsStateAt work state.superstep state) → (has_answer m.ending ≡ true → has_finished m.ending ≡ quiet) → quiet ≡ is_settled state → IsHeldOf work.settings.parts m m' state holding → IsBook work honest own (welcomed m') ids holding
+pub book_shut : (work : Work) (honest : Bool) (own : Work) (m m' : Machine) (ids : List ℕ) {J : _} (holding : Holding J) (quiet : Bool) (state : Standing) → own ≡ work → AreIdsOf work ids → IsFresh work honest m → IsFresh work honest m' → state.superstep ≡ m.superstep → HasIdsOf work state → (honest ≡ true → IsFullStateAt work state.superstep state) → (has_answer m.ending ≡ true → has_finished m.ending ≡ quiet) → quiet ≡ is_settled state → IsHeldOf work.settings.parts m m' state holding → IsBook work honest own (welcomed m') ids holding
 book_shut work honest own m m' ids {J = J} (Parts seating) quiet state job is_ids f f' at has at' ends settled h =
     subst (λ x. IsBook work honest own (welcomed x) ids {J = J} (Parts seating)) (sym h.1)
     (held_welcomed_if work honest own m ids {J = J} (Parts seating) state.superstep state.since seating (is_running m.ending && nat_lt 0 (count_set m.waiting)) job is_ids f h.0 at h.2 refl)
@@ -574,9 +575,9 @@ settled_rows [] = refl
 settled_rows (row ∷ rows) = ap (λ b. is_called row || b) (settled_rows rows)
 
 -- nothing is to be called in a state exactly where nothing is in what it shows
-pub settled_quiet : (work : Work) (s : ℕ) (state : Standing) → IsStateAt work s state → IsQuietAt work s (is_settled state)
+pub settled_quiet : (work : Work) (s : ℕ) (state : Standing) → IsFullStateAt work s state → IsQuietAt work s (is_settled state)
 settled_quiet work s state at = λ meaning.
-    sym (ap (λ (vertices : List VertexState). not (list_any is_due vertices)) (at meaning).vertices
+    sym (ap (λ (vertices : List VertexState). not (list_any is_due vertices)) (at.at meaning).vertices
     ∙ ap not (settled_rows (state_at meaning.outcomes meaning.graph s).rows))
 
 pub all_returned_is : (work : Work) (m : Machine) (seating : Seating) → AreParts work m seating → all_set m.done ≡ true → seating.spots ≡ replicate work.settings.parts Returned
@@ -620,7 +621,7 @@ book_handed_in work honest own m ids Nothing after w p lt open' e is b = absurd 
 pub running_sound : (work : Work) (honest : Bool) (m : Machine) {J : _} (holding : Holding J) → IsHeld work honest m holding → is_running m.ending ≡ true → IsSound m
 running_sound work honest m holding h run = (runs work honest m holding h run).2.sound
 
-pub book_opened : (work : Work) (honest : Bool) (own : Work) (settings : Settings) (ids : List ℕ) {J : _} (holding : Holding J) (quiet : Bool) (state : Standing) → own ≡ work → settings ≡ work.settings → 0 < work.settings.limit → AreIdsOf work ids → HasIdsOf work state → state.superstep ≡ 0 → (honest ≡ true → IsStateAt work 0 state) → quiet ≡ is_settled state → IsFirst work.settings.parts quiet state holding → IsBook work honest own (opened settings quiet) ids holding
+pub book_opened : (work : Work) (honest : Bool) (own : Work) (settings : Settings) (ids : List ℕ) {J : _} (holding : Holding J) (quiet : Bool) (state : Standing) → own ≡ work → settings ≡ work.settings → 0 < work.settings.limit → AreIdsOf work ids → HasIdsOf work state → state.superstep ≡ 0 → (honest ≡ true → IsFullStateAt work 0 state) → quiet ≡ is_settled state → IsFirst work.settings.parts quiet state holding → IsBook work honest own (opened settings quiet) ids holding
 book_opened work honest own settings ids (Parts seating) quiet state job same some knows has none at is h = record {
   job = job;
   settings = same;
@@ -639,7 +640,7 @@ book_opened work honest own settings ids {J = J} (Whole whole) quiet state job s
         answer = ap (λ b. has_answer (ending_at b 0 settings.limit)) h.0;
         superstep = none;
         ids = has;
-        at = λ t. subst (λ n. IsStateAt work n state) (sym none) (at t);
+        at = λ t. subst (λ n. IsFullStateAt work n state) (sym none) (at t);
         quiet = sym is ∙ sym (finished_at quiet 0 settings.limit);
       };
       reached = λ t. record { busy = λ meaning k lt. absurd (omega arith); saved = tt; stands = subst (λ (x : Settings). StandsAt work (ending_at quiet 0 x.limit) 0) (sym same) (ends_at work quiet 0 (subst (λ b. IsQuietAt work 0 b) (sym is) (settled_quiet work 0 state (at t))) (omega arith)) };

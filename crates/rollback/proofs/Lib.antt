@@ -3,7 +3,9 @@ pub mod Keeps
 pub mod Kept
 pub mod Least
 pub mod Opening
+pub mod Reports
 pub mod Seated
+pub mod Simulated
 pub mod Slices
 pub mod Sound
 pub mod Steps

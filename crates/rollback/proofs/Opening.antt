@@ -1,9 +1,10 @@
 -- The settings and the ids that a book begins with.
-use Rattle.std.proofs.Common.{◌≡◌, ◌<◌, ◌≤◌, ◌^◌, ℕ, List, map, None, sym, ◌∙◌, rules, arith}
+use Rattle.std.proofs.Common.{◌≡◌, ◌<◌, ◌≤◌, ◌^◌, ℕ, List, map, None, sym, subst, ◌∙◌, rules, arith}
 use Rattle.superstep.specs.declared.settings.Settings.{Settings}
 use Rattle.superstep.specs.Settings.{first_bad}
 use Rattle.superstep.specs.Job.{HasGraph, Work}
-use Rattle.superstep.specs.State.{HasIdsOf, Standing, state_id}
+use Rattle.superstep.specs.State.{HasIdsOf, IsStateAt, Standing, state_id}
+use Rattle.rollback.specs.Keeping.{IsFullStateAt}
 use Rattle.rollback.specs.inside.Book.{AreIdsOf}
 
 most_parts : (settings : Settings) → first_bad settings ≡ None → settings.parts ≤ 256
@@ -36,3 +37,7 @@ first_ids work state own graph is has = record {
   those = λ other same. λ any is_graph. same ∙ is ∙ has any is_graph;
   only = λ other has_other. has_other graph.0 graph.1 ∙ sym (has graph.0 graph.1) ∙ sym is;
 }
+
+-- the state before superstep 0 is the job's
+pub full_first : (work own : Work) (state : Standing) → own ≡ work → IsStateAt own 0 state → state.since ≡ 0 → IsFullStateAt work 0 state
+full_first work own state same first since = record { at = subst (λ (w : Work). IsStateAt w 0 state) same first; since = since }

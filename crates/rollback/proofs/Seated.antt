@@ -1,5 +1,6 @@
 -- The seats of parts.
 use Rattle.std.proofs.Common.{◌≡◌, ℕ, zero, suc, ◌+◌, ◌<◌, List, [], ◌∷◌, length, get_or, map, replicate, true, refl, sym, ap, ◌∙◌, subst, arith, inl, inr, get_or-set_same, get_or-set_other}
+use Rattle.std.specs.Prelude.{Result, Ok, Err, IfOk}
 use Rattle.std.specs.List.{range_with_len}
 use Rattle.std.proofs.Math.ListN.{length-set, set}
 use Rattle.std.proofs.lemmas.List.{get_or-map, get_or-replicate, length-map, length-replicate, same_lists}
@@ -102,3 +103,7 @@ row_back s n seats dones is all spots =
       supersteps = λ part any below. (seated_done s seats dones part any is all below).0;
       in_order = parts_in_order dones n long (λ part any below. (seated_done s seats dones part any is all below).1);
     }
+
+pub ok_both : {T E : Type 0} (r : Result T E) (P Q : T → Type 0) → IfOk r P → IfOk r Q → IfOk r (λ x. P x × Q x)
+ok_both (Ok x) P Q p q = (p, q)
+ok_both (Err e) P Q p q = tt

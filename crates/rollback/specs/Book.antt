@@ -1,18 +1,20 @@
 -- A book between two events, and what an event makes of it.
-use Rattle.std.specs.Prelude.{◌≡◌, ℕ, suc, Bool, true, false, Result}
+use Rattle.std.specs.Prelude.{◌≡◌, ℕ, suc, length, Bool, true, false, ◌&&◌, ◌||◌, not, nat_lt, Result}
 use Rattle.superstep.specs.declared.fault.JobFault.{JobFault}
 use Rattle.superstep.specs.Job.{Meaning, Work}
 use Rattle.superstep.specs.PlainRun.{state_at}
 use Rattle.superstep.specs.Snapshot.{is_quiet}
 use Rattle.superstep.specs.Tasks.{DoneStamp, TaskStamp}
-use Rattle.rollback.specs.declared.status.Status.{Status}
+use Rattle.superstep.specs.Ending.{IsEndOf, is_finished}
+use Rattle.rollback.specs.declared.report.Report.{Report}
+use Rattle.rollback.specs.declared.report.Status.{Status}
 use Rattle.rollback.specs.declared.control.Out.{Out}
 use Rattle.rollback.specs.declared.event.Answer.{Answer}
 use Rattle.rollback.specs.declared.ending.End.{End}
 use Rattle.rollback.specs.declared.ending.End.TheVariants.{Fault, Finished, Limit, Running}
 use Rattle.rollback.specs.declared.event.Event.{Event}
 use Rattle.rollback.specs.declared.event.Event.TheVariants as event
-use Rattle.rollback.specs.Machine.{Machine}
+use Rattle.rollback.specs.Machine.{Machine, is_alive, is_waiting}
 use Rattle.rollback.specs.Events.{Heard, Stamp, reply_of}
 use Rattle.rollback.specs.Events.Stamp.{DoneBy, FailedBy, JoinedBy, LostBy, Ticked}
 
@@ -45,6 +47,10 @@ pub record IsStep (work : Work) (honest : Bool) (next : Heard → Machine × Ans
   pub machine : (next heard).0 ≡ after
   pub told : reply ≡ reply_of (next heard)
 
+-- there is this worker, and it is not alive and does not wait
+abbrev pub is_gone : Machine → ℕ → Bool
+is_gone m w = nat_lt w (length m.alive) && not (is_alive m w || is_waiting m w)
+
 -- how the control machine stands
 pub record IsStatus (m : Machine) (status : Status) : Type 0 where
   pub superstep : status.superstep ≡ m.superstep
@@ -58,3 +64,15 @@ has_finished Running = false
 has_finished Finished = true
 has_finished Limit = false
 has_finished (Fault fault) = false
+
+-- The control machine's numbers and, where the job's Keeps are honest, the plain run's answer, with the units of each superstep
+-- from superstep 0 on.
+pub record IsReport (work : Work) (honest : Bool) (m : Machine) (report : Report) : Type 0 where
+  pub finished : is_finished report.ended.how ≡ has_finished m.ending
+  pub superstep : report.ended.superstep ≡ m.superstep
+  pub epoch : report.epoch ≡ m.epoch
+  pub missed : report.missed ≡ m.missed
+  pub restarts : report.restarts ≡ m.restarts
+  pub spent : report.spent.items ≡ m.spent
+  pub answer : honest ≡ true → IsEndOf work report.ended
+  pub since : honest ≡ true → report.ended.since ≡ 0

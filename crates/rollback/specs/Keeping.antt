@@ -8,6 +8,11 @@ use Rattle.rollback.specs.declared.ending.Told.{Told}
 use Rattle.rollback.specs.declared.ending.Told.TheVariants.{Failed, Good}
 use Rattle.rollback.specs.Machine.{Machine}
 
+-- It is the job's state before this superstep, and tells the units of each superstep before.
+pub record IsFullStateAt (work : Work) (s : ℕ) (state : Standing) : Type 0 where
+  pub at : IsStateAt work s state
+  pub since : state.since ≡ 0
+
 -- a state of this superstep with the ids of the job's graph
 pub record FitsAt (work : Work) (s : ℕ) (state : Standing) : Type 0 where
   pub superstep : state.superstep ≡ s
@@ -19,7 +24,7 @@ pub record IsSavedAt (work : Work) (s : ℕ) (bytes : List ℕ) : Type 0 where
   pub written : bytes ≡ checkpoint_bytes state
   pub spelled : IsCheckpointOf bytes state
   pub fits : FitsAt work s state
-  pub at : IsStateAt work s state
+  pub full : IsFullStateAt work s state
 
 -- the checkpoint of no such state
 abbrev pub IsOther : Work → ℕ → List ℕ → Type 0

@@ -7,5 +7,7 @@ pub mod Parts
 pub mod Keeping
 -- a book between two events
 pub mod Book
+-- a whole run over a list of steps
+pub mod Simulation
 -- what only mirrors the code, for its proofs
 pub mod inside

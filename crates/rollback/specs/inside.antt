@@ -3,6 +3,8 @@ pub mod Control
 pub mod Heeding
 pub mod Holding
 pub mod Loading
+pub mod Reporting
 pub mod Rolling
 pub mod Seats
+pub mod Simulating
 pub mod Sound

@@ -3,19 +3,21 @@
 ghost use Rattle.std.specs.Prelude.{◌≡◌, ◌<◌, true, false, length, map, Bool, None, IfOk, IfErr, IfSome};
 ghost use Rattle.superstep.specs.State.{state_id};
 ghost use Rattle.superstep.specs.declared.fault.JobFault.TheVariants.{OutOfMemory};
-ghost use Rattle.superstep.specs.declared.fault.Place.TheVariants.{Open};
+ghost use Rattle.superstep.specs.declared.fault.Place.TheVariants.{Open, Report as Reporting};
 ghost use Rattle.rollback.specs.Book.{
   IsQuietAt,
+  IsReport,
   IsStatus,
   IsStep,
   done_out,
+  is_gone,
   stamp_of,
   task_out,
 };
 ghost use Rattle.rollback.specs.Events.{accepted, done_step, heeded, shut};
 ghost use Rattle.rollback.specs.Events.Stamp.{DoneBy, FailedBy, JoinedBy, LostBy, Ticked};
 ghost use Rattle.rollback.specs.Keeping.{IsCaused, IsSavedOrLeft, KeepsFor};
-ghost use Rattle.rollback.specs.Machine.{all_set, hand, handed, is_running, opened, task_of};
+ghost use Rattle.rollback.specs.Machine.{all_set, hand, handed, has_answer, is_running, opened, task_of};
 ghost use Rattle.rollback.specs.inside.Heeding.{IsHeeded, IsSteady};
 
 use crate::control::{Control, Out};
@@ -23,8 +25,8 @@ use crate::event::{Answer, Event};
 use crate::holding::{Holding, bring_back, hand_out, parts_of};
 use crate::keeping::save_if_due;
 use crate::replies::{advanced_reply, ended_reply, rolled_reply};
+use crate::report::{Report, Status, report_of, state_of};
 use crate::rolling::{hold, hold_opened, put_back};
-use crate::status::Status;
 use checkpoint::Keep;
 use std::alloc::{AllocError, Global};
 use std::marker::Model;
@@ -123,6 +125,40 @@ impl<'a, J: Origin> Book<'a, J> {
         let task = hand_out(&mut self.holding, part, epoch);
         self.control.hand_out(index, part);
         Some(task)
+    }
+
+    /// What the job ended with. It asks that the job has ended as `Finished` or `Limit`. The only refusal is that there is no
+    /// memory, for the `Report`.
+    pub fn report(self) -> Result<Report, JobFault>
+        requires { has_answer self.ending ≡ true }
+        ensures report { IfOk result (IsReport J.work J.honest self.entry) }
+        ensures refused { IfErr result (λ fault. fault ≡ OutOfMemory Reporting) }
+    {
+        let Book {
+            alloc,
+            job: _,
+            ids: _,
+            control,
+            holding,
+        } = self;
+        let state = state_of(holding);
+        match report_of(alloc, &state, control) {
+            Ok(report) => Ok(report),
+            Err(_) => Err(JobFault::OutOfMemory(Place::Report)),
+        }
+    }
+
+    pub(crate) fn is_running(&self) -> bool
+        ensures { result ≡ is_running self.now.ending }
+    {
+        self.control.is_running()
+    }
+
+    // Whether there is this worker, and it is not alive and does not wait.
+    pub(crate) fn is_gone(&self, worker: u32) -> bool
+        ensures { result ≡ is_gone self.now worker }
+    {
+        (worker as usize) < self.control.workers() && self.control.is_gone(worker as usize)
     }
 
     /// How it stands. It takes no memory.

@@ -11,11 +11,13 @@ mod keeping;
 mod leases;
 mod parts;
 mod replies;
+mod report;
 mod rolling;
 mod seats;
-mod status;
+mod simulation;
 
 pub use book::Book;
 pub use ending::End;
 pub use event::{Answer, Event};
-pub use status::Status;
+pub use report::{Report, Status};
+pub use simulation::{Outcome, Step, StepAnswer, Trace, simulate};

@@ -1,7 +1,8 @@
 //! The parts of a running job between two barriers.
 
 ghost use Rattle.std.specs.Prelude.{◌≡◌, ◌<◌, true, suc, replicate, length, IfOk};
-ghost use Rattle.superstep.specs.State.{HasIdsOf, IsStateAt};
+ghost use Rattle.superstep.specs.State.{HasIdsOf};
+ghost use Rattle.rollback.specs.Keeping.{IsFullStateAt};
 ghost use Rattle.rollback.specs.Parts.{IsHome, all_home, moved};
 ghost use Rattle.rollback.specs.Parts.Spot.{Gone, Returned};
 
@@ -42,7 +43,7 @@ impl<J: Origin> Parts<J> {
     pub fn of(alloc: Global, job: &Job, state: State) -> Result<Parts<J>, AllocError>
         requires job { J.work ≡ job.now }
         requires fits { HasIdsOf job.now state }
-        requires at { J.honest ≡ true → IsStateAt J.work state.superstep state }
+        requires at { J.honest ≡ true → IsFullStateAt J.work state.superstep state }
         ensures { IfOk result (λ parts.
             parts ≡ all_home state.superstep state.since job.now.settings.parts) }
     {
@@ -90,7 +91,7 @@ impl<J: Origin> Parts<J> {
         requires all { self.spots ≡ replicate job.now.settings.parts Returned }
         requires early { self.superstep < job.now.settings.limit }
         ensures next { IfOk result (λ state. J.honest ≡ true
-            → IsStateAt J.work (suc self.superstep) state) }
+            → IsFullStateAt J.work (suc self.superstep) state) }
         ensures superstep { IfOk result (λ state. state.superstep ≡ suc self.superstep) }
         ensures since { IfOk result (λ state. state.since ≡ self.since) }
         ensures ids { IfOk result (HasIdsOf job.now) }

@@ -1,9 +1,9 @@
 //! States that a book goes on with.
 
 ghost use Rattle.std.specs.Prelude.{◌≡◌, true, IfOk};
-ghost use Rattle.superstep.specs.State.{HasIdsOf, IsStateAt};
+ghost use Rattle.superstep.specs.State.{HasIdsOf};
 ghost use Rattle.rollback.specs.Events.{loading, slicing};
-ghost use Rattle.rollback.specs.Keeping.{IsLoadTold, KeepsFor};
+ghost use Rattle.rollback.specs.Keeping.{IsFullStateAt, IsLoadTold, KeepsFor};
 ghost use Rattle.rollback.specs.Machine.{is_running, saved_or_first};
 ghost use Rattle.rollback.specs.declared.ending.Told.{Told};
 ghost use Rattle.rollback.specs.inside.Book.{AreIdsOf};
@@ -23,7 +23,7 @@ use superstep::{Job, Origin, Place, State};
 pub fn hold<J: Origin>(alloc: Global, job: &Job, control: &mut Control, state: State) -> Holding<J>
     requires job { J.work ≡ job.now }
     requires fits { HasIdsOf job.now state }
-    requires at { J.honest ≡ true → IsStateAt J.work state.superstep state }
+    requires at { J.honest ≡ true → IsFullStateAt J.work state.superstep state }
     ensures control { control.new ≡ slicing (has_room result) control.old }
     ensures held { IsHeldOf job.now.settings.parts control.old control.new state result }
 {
@@ -65,7 +65,7 @@ pub fn hold_opened<J: Origin>(
 ) -> Result<Holding<J>, AllocError>
     requires job { J.work ≡ job.now }
     requires fits { HasIdsOf job.now state }
-    requires at { J.honest ≡ true → IsStateAt J.work state.superstep state }
+    requires at { J.honest ≡ true → IsFullStateAt J.work state.superstep state }
     ensures { IfOk result (IsFirst job.now.settings.parts quiet state) }
 {
     if quiet {

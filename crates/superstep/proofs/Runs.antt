@@ -15,8 +15,8 @@ use Rattle.superstep.specs.State.{HasIdsOf, IsStateAt, ShowsAt, Standing, bare}
 use Rattle.superstep.specs.Tasks.{DoneStamp, IsRow, SliceStamp, stamps_of}
 use Rattle.superstep.specs.declared.totals.Totals.{Totals}
 use Rattle.superstep.specs.Totals.{IsTotalsOf, SumsAt}
-use Rattle.superstep.specs.Ending.{IsEndOf}
-use Rattle.superstep.specs.inside.Running.{HasCome, IsEnded, WasBusy, is_over, slice_of, states_values}
+use Rattle.superstep.specs.Ending.{HasCome, HasStopped, IsEndIn, IsEndOf, WasBusy, states_values}
+use Rattle.superstep.specs.inside.Running.{is_over, slice_of}
 use Rattle.superstep.specs.State.{is_due, is_settled}
 
 abbrev stamp_at : ℕ → ℕ → SliceStamp
@@ -103,9 +103,10 @@ pub over : (limit : ℕ) (state : Standing) → is_over limit state ≡ true →
 over limit state is within due = search rules
 
 -- where the run stops, it has what the job ends with
-pub has_ended : (work : Work) (state : Standing) (ended : Ended) → HasCome work state
-    → (is_settled state ≡ false → state.superstep ≡ work.settings.limit) → IsEnded state ended → IsEndOf work ended
-has_ended work state ended come last is = λ meaning.
+pub has_ended : (work : Work) (state : Standing) (ended : Ended) → IsEndIn state ended → HasStopped work state → IsEndOf work ended
+has_ended work state ended is stops = λ meaning.
+    let come = stops.come in
+    let last = stops.last in
     let at = come.at meaning in
     let s = state.superstep in
     let here = ap (λ n. state_at meaning.outcomes meaning.graph n) is.superstep in

@@ -15,7 +15,7 @@ mod totals;
 pub use closing::barrier;
 pub use fault::{JobFault, Place};
 pub use job::Job;
-pub use run::{Ended, How, one_machine};
+pub use run::{Ended, How, one_machine, tell_end};
 pub use settings::{Setting, Settings};
 pub use slice::{Origin, Slice, slices};
 pub use state::{State, VertexState};

@@ -1,10 +1,11 @@
 //! The run of a job on one machine.
 
 ghost use Rattle.std.specs.Prelude.{◌≡◌, ◌<◌, ℕ, true, suc, IfOk};
-ghost use Rattle.superstep.specs.Ending.{IsEndOf};
+ghost use Rattle.superstep.specs.Ending.{HasStopped, IsEndIn, IsEndOf, states_values};
+ghost use Rattle.superstep.specs.Job.{Work};
 ghost use Rattle.superstep.specs.State.{HasIdsOf, IsStateAt};
 ghost use Rattle.superstep.specs.Tasks.{AreAggregatesAt, IsRow, stamps_of};
-ghost use Rattle.superstep.specs.inside.Running.{IsEnded, is_over, states_values};
+ghost use Rattle.superstep.specs.inside.Running.{is_over};
 
 use crate::closing::barrier;
 use crate::job::Job;
@@ -139,9 +140,11 @@ fn run_slices<J: Origin>(
     Ok(dones)
 }
 
-// What a job ends with in this state.
-fn tell_end(alloc: Global, state: &State) -> Result<Ended, AllocError>
-    ensures { IfOk result (IsEnded state.now) }
+/// What a job ends with whose run stops in this state. The only refusal is that there is no memory.
+pub fn tell_end(alloc: Global, state: &State) -> Result<Ended, AllocError>
+    ensures state { IfOk result (IsEndIn state.now) }
+    ensures end { IfOk result (λ ended. (work : Work)
+        → HasStopped work state.now → IsEndOf work ended) }
 {
     let how = if state.is_quiet() {
         How::Finished

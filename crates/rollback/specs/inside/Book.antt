@@ -1,8 +1,8 @@
 -- What a book keeps.
 use Rattle.std.specs.Prelude.{◌≡◌, ◌<◌, ◌≤◌, ℕ, suc, Bool, true, false, List, length, map, slice_index_or, Option, Some, None}
 use Rattle.superstep.specs.Job.{Work}
-use Rattle.superstep.specs.State.{HasIdsOf, IsStateAt, Standing, is_settled, state_id}
-use Rattle.superstep.specs.inside.Running.{WasBusy}
+use Rattle.superstep.specs.State.{HasIdsOf, Standing, is_settled, state_id}
+use Rattle.superstep.specs.Ending.{WasBusy}
 use Rattle.rollback.specs.declared.control.Out.{Out}
 use Rattle.rollback.specs.declared.ending.End.{End}
 use Rattle.rollback.specs.declared.ending.End.TheVariants.{Fault, Finished, Limit, Running}
@@ -11,6 +11,7 @@ use Rattle.rollback.specs.declared.holding.Holding.TheVariants.{Nothing, Parts, 
 use Rattle.rollback.specs.Machine.{Machine, has_answer, is_running, saved_or_first}
 use Rattle.rollback.specs.Parts.{Seating, Spot, is_returned}
 use Rattle.rollback.specs.Parts.Spot.{Gone, Home}
+use Rattle.rollback.specs.Keeping.{IsFullStateAt}
 use Rattle.rollback.specs.Book.{IsQuietAt, has_finished}
 use Rattle.rollback.specs.inside.Sound.{IsSound}
 
@@ -58,7 +59,7 @@ pub record IsWhole (work : Work) (honest : Bool) (m : Machine) (state : Standing
   pub answer : has_answer m.ending ≡ true
   pub superstep : state.superstep ≡ m.superstep
   pub ids : HasIdsOf work state
-  pub at : honest ≡ true → IsStateAt work state.superstep state
+  pub at : honest ≡ true → IsFullStateAt work state.superstep state
   pub quiet : is_settled state ≡ has_finished m.ending
 
 abbrev pub is_fault : End → Bool
@@ -79,3 +80,9 @@ pub record IsBook (work : Work) (honest : Bool) (own : Work) (m : Machine) (ids 
   pub held : IsHeld work honest m holding
   pub past : saved_or_first m.saved ≤ m.superstep
   pub reached : honest ≡ true → IsReached work m
+
+-- it holds the state that a job ended with
+abbrev pub HasWhole : {J : _} → Holding J → Type 0
+HasWhole (Parts seating) = ⊥
+HasWhole (Whole state) = Unit {0}
+HasWhole Nothing = ⊥

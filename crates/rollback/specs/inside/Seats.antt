@@ -41,6 +41,7 @@ is_back (Back done) = true
 pub record IsKept (work : Work) (honest : Bool) (totals : Totals) (aggregates : List ℤ) {J : _} (seats : List (Seat J)) : Type 0 where
   pub telling : AreTotals totals
   pub sums : honest ≡ true → AreTotalsOf work totals
+  pub since : honest ≡ true → totals.since ≡ 0
   pub slots : honest ≡ true → AreAggregatesAt work totals.superstep aggregates
   pub seated : AreSeated totals.superstep seats
 

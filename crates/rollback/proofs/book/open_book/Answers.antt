@@ -1,11 +1,12 @@
 use Rattle.std.proofs.Common.{◌≡◌, ◌<◌, sym, ap, ◌∙◌, subst, map}
 use Rattle.superstep.specs.Job.{Work}
-use Rattle.superstep.specs.State.{HasIdsOf, IsStateAt, state_id}
+use Rattle.superstep.specs.State.{HasIdsOf, state_id}
 use Rattle.rollback.specs.Book.{IsQuietAt}
+use Rattle.rollback.specs.Keeping.{IsFullStateAt}
 use Rattle.rollback.specs.inside.Book.{AreIdsOf}
 use Rattle.rollback.specs.inside.Rolling.{IsFirst}
 use Rattle.rollback.proofs.Kept
-use Rattle.rollback.proofs.Opening.{few_parts, few_workers, first_ids, some_every, some_limit}
+use Rattle.rollback.proofs.Opening.{few_parts, few_workers, first_ids, full_first, some_every, some_limit}
 use Rattle.rollback.proofs.book.open_book.Goals as goal
 
 pub new-requires-clause-parts : goal.new-requires-clause-parts
@@ -20,7 +21,7 @@ new-requires-clause-every g c = some_every c.settings.result (rw c.settings.ensu
 pub hold_opened-requires-clause-at : goal.hold_opened-requires-clause-at
 hold_opened-requires-clause-at g c = λ sure.
     let state = c.in_ok-state.state in
-    subst (λ n. IsStateAt g.J.Origin.work n state) (sym c.in_ok-state.ensures.superstep) (subst (λ (w : Work). IsStateAt w 0 state) (sym c.requires.job) c.in_ok-state.ensures.first)
+    subst (λ n. IsFullStateAt g.J.Origin.work n state) (sym c.in_ok-state.ensures.superstep) (full_first g.J.Origin.work c.args.job.now state (sym c.requires.job) c.in_ok-state.ensures.first c.in_ok-state.ensures.since)
 
 pub invariant_of-result : goal.invariant_of-result
 invariant_of-result g c =
@@ -36,7 +37,7 @@ invariant_of-result g c =
     (subst (λ (w : Work). AreIdsOf w c.in_ok-ids.ids.items) own (first_ids job state c.in_ok-ids.ids.items graph ids c.in_ok-state.ensures.ids))
     (subst (λ (w : Work). HasIdsOf w state) own c.in_ok-state.ensures.ids)
     c.in_ok-state.ensures.superstep
-    (λ sure. subst (λ (w : Work). IsStateAt w 0 state) own c.in_ok-state.ensures.first)
+    (λ sure. full_first work job state own c.in_ok-state.ensures.first c.in_ok-state.ensures.since)
     c.is_quiet-quiet.ensures
     (subst (λ (w : Work). IsFirst w.settings.parts c.is_quiet-quiet.result state c.in_ok-holding.holding) own c.in_ok-holding.ensures))
 
@@ -45,6 +46,6 @@ returns g c =
     let work = g.J.Origin.work in
     let state = c.in_ok-state.state in (
       c.is_quiet-quiet.result,
-      subst (λ q. IsQuietAt work 0 q) (sym c.is_quiet-quiet.ensures) (Kept.settled_quiet work 0 state (subst (λ (w : Work). IsStateAt w 0 state) (sym c.requires.job) c.in_ok-state.ensures.first)),
+      subst (λ q. IsQuietAt work 0 q) (sym c.is_quiet-quiet.ensures) (Kept.settled_quiet work 0 state (full_first work c.args.job.now state (sym c.requires.job) c.in_ok-state.ensures.first c.in_ok-state.ensures.since)),
       rw (← c.settings.ensures.settings) c.in_ok-control.ensures,
     )

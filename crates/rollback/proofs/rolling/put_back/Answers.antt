@@ -2,11 +2,10 @@ use Rattle.std.proofs.Common.{◌≡◌, None, Some, sym, ap, ◌∙◌, subst}
 use Rattle.std.specs.Prelude.{◌⊎◌}
 use Rattle.checkpoint.specs.Keep.{HasFailed}
 use Rattle.superstep.specs.Job.{Work}
-use Rattle.superstep.specs.State.{IsStateAt}
 use Rattle.rollback.specs.declared.ending.Told.TheVariants.{Failed}
 use Rattle.rollback.specs.Machine.{Machine}
 use Rattle.rollback.specs.Events.{loading, slicing}
-use Rattle.rollback.specs.Keeping.{MayLoadOther}
+use Rattle.rollback.specs.Keeping.{IsFullStateAt, MayLoadOther}
 use Rattle.rollback.specs.inside.Book.{AreIdsOf}
 use Rattle.rollback.specs.inside.Rolling.{has_room}
 use Rattle.rollback.proofs.Slices.{failed_cause, found_none, found_some, ids_are}
@@ -31,7 +30,7 @@ hold-requires-clause-at g c = λ sure.
     let found = found_some x.field-0 x.state _ _ is x.ensures.found in
     let kept = c.requires.keep.bytes sure s (sym c.in-Some.ensures) found.0 found.1 in
     let same : kept.state ≡ x.state = c.a_checkpoint_is_of_one_state.ensures found.0 kept.state x.state kept.spelled found.2.spelled in
-    subst (λ n. IsStateAt g.J.Origin.work n x.state) (sym found.2.superstep) (subst (λ z. IsStateAt g.J.Origin.work s z) same kept.at)
+    subst (λ n. IsFullStateAt g.J.Origin.work n x.state) (sym found.2.superstep) (subst (λ z. IsFullStateAt g.J.Origin.work s z) same kept.full)
 
 pub returns-in-Ok-None-clause-told : goal.returns-in-Ok-None-clause-told
 returns-in-Ok-None-clause-told g c =

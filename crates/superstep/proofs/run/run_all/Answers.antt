@@ -2,7 +2,7 @@ use Rattle.std.proofs.Common.{sym, ap, ◌∙◌, arith, subst}
 use Rattle.std.proofs.lemmas.Result.{IfOk-weaker}
 use Rattle.superstep.specs.State.{IsStateAt}
 use Rattle.superstep.specs.declared.settings.Settings.{Settings}
-use Rattle.superstep.proofs.Runs.{comes_on, has_ended, not_over, over}
+use Rattle.superstep.proofs.Runs.{comes_on, not_over, over}
 use Rattle.superstep.proofs.run.run_all.Goals as goal
 
 pub loop-state-init : goal.loop-state-init
@@ -41,8 +41,10 @@ pub returns-clause-end : goal.returns-clause-end
 returns-clause-end g c =
     IfOk-weaker c.tell_end.result _ _ (λ ended is.
     let kept = c.loop-state.invariant in
-    has_ended c.args.job.now c.loop-state.state ended kept.come
-    (λ due. over c.settings-limit.result.limit c.loop-state.state (sym c.is_over.ensures ∙ c.loop-state-test.false) (omega (arith, kept.limit, kept.come.within)) due ∙ kept.limit) is) c.tell_end.ensures
+    is c.args.job.now (record {
+      come = kept.come;
+      last = λ due. over c.settings-limit.result.limit c.loop-state.state (sym c.is_over.ensures ∙ c.loop-state-test.false) (omega (arith, kept.limit, kept.come.within)) due ∙ kept.limit;
+    })) c.tell_end.ensures.end
 
 pub returns-clause-since : goal.returns-clause-since
-returns-clause-since g c = IfOk-weaker c.tell_end.result _ _ (λ ended is. is.since ∙ c.loop-state.invariant.since) c.tell_end.ensures
+returns-clause-since g c = IfOk-weaker c.tell_end.result _ _ (λ ended is. is.since ∙ c.loop-state.invariant.since) c.tell_end.ensures.state

@@ -1,5 +1,5 @@
 use Rattle.std.proofs.Common.{◌≡◌, ◌-◌}
-use Rattle.superstep.specs.inside.Running.{HasCome}
+use Rattle.superstep.specs.Ending.{HasCome}
 use Rattle.superstep.proofs.run.run_all.Given as goal
 
 abbrev pub invariant-loop-state : goal.invariant-loop-state

@@ -1,5 +1,5 @@
 use Rattle.std.proofs.Common.{◌≡◌, take}
-use Rattle.superstep.specs.inside.Running.{states_values}
+use Rattle.superstep.specs.Ending.{states_values}
 use Rattle.superstep.proofs.run.values_of.Given as goal
 
 abbrev pub invariant-loop-vertex : goal.invariant-loop-vertex

@@ -2,13 +2,13 @@ use Rattle.std.proofs.Common.{◌≡◌, ◌<◌, ◌≤◌, suc, replicate, tru
 use Rattle.superstep.specs.declared.fault.JobFault.TheVariants.{OutOfMemory}
 use Rattle.superstep.specs.declared.fault.Place.TheVariants.{Merge}
 use Rattle.superstep.specs.Job.{Work}
-use Rattle.superstep.specs.State.{HasIdsOf, IsStateAt}
+use Rattle.superstep.specs.State.{HasIdsOf}
 use Rattle.rollback.specs.declared.ending.Told.TheVariants.{Good}
 use Rattle.rollback.specs.Machine.{Machine, all_set, closed, ended_by, is_running, is_saved_now, saved_or_first, welcomed}
 use Rattle.rollback.specs.Events.{advanced, reply_of, saving, slicing}
 use Rattle.rollback.specs.Parts.Spot.{Returned}
 use Rattle.rollback.specs.Book.{IsQuietAt}
-use Rattle.rollback.specs.Keeping.{IsSaveTold, KeepsFor}
+use Rattle.rollback.specs.Keeping.{IsFullStateAt, IsSaveTold, KeepsFor}
 use Rattle.rollback.specs.inside.Book.{AreParts, IsHeld}
 use Rattle.rollback.specs.inside.Holding.{Runs}
 use Rattle.rollback.specs.inside.Rolling.{IsHeldOf, has_room}
@@ -57,7 +57,7 @@ returns-in_default g c =
     }
 
 pub hold-requires-clause-at : goal.hold-requires-clause-at
-hold-requires-clause-at g c = λ sure. subst (λ n. IsStateAt g.J.Origin.work n c.in-Ok.state) (sym c.in-Ok.ensures.superstep) (c.in-Ok.ensures.next sure)
+hold-requires-clause-at g c = λ sure. subst (λ n. IsFullStateAt g.J.Origin.work n c.in-Ok.state) (sym c.in-Ok.ensures.superstep) (c.in-Ok.ensures.next sure)
 
 pub invariant_of-self-2 : goal.invariant_of-self-2
 invariant_of-self-2 g c =
@@ -74,10 +74,10 @@ invariant_of-self-2 g c =
     let sliced = has_room c.hold.result in
     let m1 = saving told (closed quiet i.control) in
     let later : state.superstep ≡ suc i.control.superstep = c.in-Ok.ensures.superstep ∙ ap (λ n. suc n) x.superstep in
-    let at = λ (sure : honest ≡ true). subst (λ n. IsStateAt work n state) (sym c.in-Ok.ensures.superstep) (c.in-Ok.ensures.next sure) in
+    let at = λ (sure : honest ≡ true). subst (λ n. IsFullStateAt work n state) (sym c.in-Ok.ensures.superstep) (c.in-Ok.ensures.next sure) in
     let e1 : c.save_if_due.new.control ≡ m1 = c.save_if_due.ensures.told.1 ∙ ap (λ m. saving told m) c.close.ensures in
     let e2 : c.hold.new.control ≡ slicing sliced m1 = c.hold.ensures.control ∙ ap (λ m. slicing sliced m) e1 in
-    let truth = λ (sure : honest ≡ true). subst (λ q. IsQuietAt work (suc i.control.superstep) q) (sym c.is_quiet.ensures) (Kept.settled_quiet work (suc i.control.superstep) state (subst (λ n. IsStateAt work n state) later (at sure))) in
+    let truth = λ (sure : honest ≡ true). subst (λ q. IsQuietAt work (suc i.control.superstep) q) (sym c.is_quiet.ensures) (Kept.settled_quiet work (suc i.control.superstep) state (subst (λ n. IsFullStateAt work n state) later (at sure))) in
     let f = Kept.fresh_saving work honest (closed quiet i.control) told (Kept.fresh_closed work honest i.job.now i.control i.ids.items i.holding quiet b run done truth) in
     let held = subst (λ m. IsHeldOf work.settings.parts m1 m state c.hold.result) e2 (subst (λ m. IsHeldOf work.settings.parts m c.hold.new.control state c.hold.result) e1 (subst (λ (own : Work). IsHeldOf own.settings.parts c.save_if_due.new.control c.hold.new.control state c.hold.result) b.job c.hold.ensures.held)) in
     let has = subst (λ (own : Work). HasIdsOf own state) b.job c.in-Ok.ensures.ids in
@@ -101,7 +101,7 @@ returns g c =
     let m2 = slicing sliced m1 in
     let same_step : i.control.superstep ≡ m.superstep = ap (λ (y : Machine). y.superstep) c.self.view_is in
     let later : state.superstep ≡ suc m.superstep = c.in-Ok.ensures.superstep ∙ ap (λ n. suc n) (x.superstep ∙ same_step) in
-    let at = λ (sure : honest ≡ true). subst (λ n. IsStateAt work n state) (sym c.in-Ok.ensures.superstep) (c.in-Ok.ensures.next sure) in
+    let at = λ (sure : honest ≡ true). subst (λ n. IsFullStateAt work n state) (sym c.in-Ok.ensures.superstep) (c.in-Ok.ensures.next sure) in
     let close : c.close.new.self ≡ mc = c.close.ensures ∙ ap (λ y. closed quiet y) c.self.view_is in
     let e1 : c.save_if_due.new.control ≡ m1 = c.save_if_due.ensures.told.1 ∙ ap (λ y. saving told y) close in
     let e2 : c.hold.new.control ≡ m2 = c.hold.ensures.control ∙ ap (λ y. slicing sliced y) e1 in
@@ -120,7 +120,7 @@ returns g c =
     record {
       step = record {
         heard = record { quiet = quiet; merged = true; save = told; load = Good; sliced = sliced };
-        quiet = λ sure next. subst (λ q. IsQuietAt work (suc m.superstep) q) (sym c.is_quiet.ensures) (Kept.settled_quiet work (suc m.superstep) state (subst (λ n. IsStateAt work n state) later (at sure)));
+        quiet = λ sure next. subst (λ q. IsQuietAt work (suc m.superstep) q) (sym c.is_quiet.ensures) (Kept.settled_quiet work (suc m.superstep) state (subst (λ n. IsFullStateAt work n state) later (at sure)));
         machine = sym is;
         told = c.advanced_reply.ensures ∙ ap (λ y. reply_of (advanced y)) is;
       };

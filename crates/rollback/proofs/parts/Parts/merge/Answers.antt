@@ -1,6 +1,8 @@
-use Rattle.std.proofs.Common.{ap, ◌∙◌}
+use Rattle.std.proofs.Common.{◌≡◌, suc, ap, ◌∙◌, subst}
+use Rattle.std.proofs.lemmas.Result.{IfOk-weaker}
+use Rattle.superstep.specs.State.{IsStateAt}
 use Rattle.rollback.specs.Parts.{Seating}
-use Rattle.rollback.proofs.Seated.{all_returned, row_back}
+use Rattle.rollback.proofs.Seated.{all_returned, ok_both, row_back}
 use Rattle.rollback.proofs.parts.Parts.merge.Goals as goal
 
 pub dones_of-requires : goal.dones_of-requires
@@ -11,3 +13,13 @@ pub barrier-requires-clause-row : goal.barrier-requires-clause-row
 barrier-requires-clause-row g c κs within =
     let i = c.self.inside in
     row_back i.totals.superstep c.args.job.now.settings.parts i.seats.items c.in_ok-dones.dones.items c.in_ok-dones.ensures c.self.invariant.seated (ap (λ (x : Seating). x.spots) c.self.view_is ∙ c.requires.all)
+
+pub returns-clause-next : goal.returns-clause-next
+returns-clause-next g c =
+    let i = c.self.inside in
+    let here : i.totals.superstep ≡ c.args.self.superstep = ap (λ (x : Seating). x.superstep) c.self.view_is in
+    IfOk-weaker c.barrier.result _ _ (λ state told. λ sure.
+    record {
+      at = subst (λ n. IsStateAt g.J.Origin.work (suc n) state) here (told.0 sure);
+      since = told.1 ∙ c.self.invariant.since sure;
+    }) (ok_both c.barrier.result _ _ c.barrier.ensures.next c.barrier.ensures.since)

@@ -8,8 +8,9 @@ invariant_of-result g c =
     let of = c.in_ok-totals.ensures.of in
     record {
       telling = c.in_ok-totals.ensures.totals;
-      sums = λ sure. c.in_ok-totals.ensures.at g.J.Origin.work (c.requires.at sure);
-      slots = λ sure. rw (of.superstep, c.aggregates-aggregates.ensures) (λ meaning. (c.requires.at sure meaning).aggregates);
+      sums = λ sure. c.in_ok-totals.ensures.at g.J.Origin.work (c.requires.at sure).at;
+      since = λ sure. of.since ∙ (c.requires.at sure).since;
+      slots = λ sure. rw (of.superstep, c.aggregates-aggregates.ensures) (λ meaning. ((c.requires.at sure).at meaning).aggregates);
       seated = rw of.superstep (seated_home c.in_ok-seats.seats.items c.args.state.superstep c.args.job.now.settings.parts (c.in_ok-seats.ensures ∙ ap (λ xs. map Here xs) c.in_ok-slices.ensures));
     }
 

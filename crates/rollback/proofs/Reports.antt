@@ -1,0 +1,69 @@
+-- What a job that has an answer ended with.
+use Rattle.std.proofs.Common.{◌≡◌, ◌≤◌, ℕ, Bool, true, false, refl, sym, ◌∙◌, subst, arith}
+use Rattle.superstep.specs.Ending.{HasStopped}
+use Rattle.superstep.specs.Job.{Work}
+use Rattle.superstep.specs.State.{Standing}
+use Rattle.superstep.specs.Ending.{WasBusy}
+use Rattle.rollback.specs.declared.ending.End.{End}
+use Rattle.rollback.specs.declared.ending.End.TheVariants.{Fault, Finished, Limit, Running}
+use Rattle.rollback.specs.declared.holding.Holding.{Holding}
+use Rattle.rollback.specs.declared.holding.Holding.TheVariants.{Nothing, Parts, Whole}
+use Rattle.rollback.specs.declared.report.Report.{Report}
+use Rattle.rollback.specs.Machine.{Machine, has_answer, is_running}
+use Rattle.rollback.specs.Book.{IsReport, has_finished}
+use Rattle.rollback.specs.inside.Book.{HasWhole, IsHeld, IsReached, IsWhole, StandsAt, is_fault}
+use Rattle.rollback.specs.inside.Reporting.{IsReportIn}
+
+running_no_answer : (e : End) → is_running e ≡ true → has_answer e ≡ true → ⊥
+running_no_answer Running h a = cc
+running_no_answer Finished h a = cc
+running_no_answer Limit h a = cc
+running_no_answer (Fault fault) h a = cc
+
+fault_no_answer : (e : End) → is_fault e ≡ true → has_answer e ≡ true → ⊥
+fault_no_answer Running h a = cc
+fault_no_answer Finished h a = cc
+fault_no_answer Limit h a = cc
+fault_no_answer (Fault fault) h a = cc
+
+-- a job that has an answer has the state that it ended with
+pub has_whole : (work : Work) (honest : Bool) (m : Machine) {J : _} (holding : Holding J) → IsHeld work honest m holding → has_answer m.ending ≡ true → HasWhole holding
+has_whole work honest m (Parts seating) h a = absurd (running_no_answer m.ending h.running a)
+has_whole work honest m (Whole state) h a = tt
+has_whole work honest m Nothing h a = absurd (fault_no_answer m.ending h a)
+
+within : (work : Work) (e : End) (s : ℕ) → has_answer e ≡ true → StandsAt work e s → s ≤ work.settings.limit
+within work Running s h at = absurd (cc)
+within work Finished s h at = at.1
+within work Limit s h at = let e = at.1 in omega (arith, e)
+within work (Fault fault) s h at = absurd (cc)
+
+last : (work : Work) (e : End) (s : ℕ) → has_answer e ≡ true → StandsAt work e s → has_finished e ≡ false → s ≡ work.settings.limit
+last work Running s h at n = absurd (cc)
+last work Finished s h at n = absurd (cc)
+last work Limit s h at n = at.1
+last work (Fault fault) s h at n = absurd (cc)
+
+-- the plain run stops there
+pub has_stopped : (work : Work) (m : Machine) (state : Standing) → IsWhole work true m state → IsReached work m → HasStopped work state
+has_stopped work m state x r = record {
+  come = record {
+    at = (x.at refl).at;
+    has_ids = x.ids;
+    within = subst (λ n. n ≤ work.settings.limit) (sym x.superstep) (within work m.ending m.superstep x.answer r.stands);
+    busy = subst (λ n. WasBusy work n) (sym x.superstep) r.busy;
+  };
+  last = λ due. x.superstep ∙ last work m.ending m.superstep x.answer r.stands (sym x.quiet ∙ due);
+}
+
+pub reports : (work : Work) (honest : Bool) (m : Machine) (state : Standing) (report : Report) → IsWhole work honest m state → (honest ≡ true → IsReached work m) → IsReportIn state m report → IsReport work honest m report
+reports work honest m state report x reached is = record {
+  finished = is.state_is.how ∙ x.quiet;
+  superstep = is.state_is.superstep ∙ x.superstep;
+  epoch = is.epoch;
+  missed = is.missed;
+  restarts = is.restarts;
+  spent = is.spent;
+  since = λ sure. is.state_is.since ∙ (x.at sure).since;
+  answer = λ sure. is.end work (has_stopped work m state (subst (λ b. IsWhole work b m state) sure x) (reached sure));
+}

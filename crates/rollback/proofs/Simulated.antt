@@ -1,0 +1,256 @@
+-- A whole run, from step to step.
+use Rattle.std.proofs.Common.{◌≡◌, ℕ, suc, ◌+◌, ◌<◌, ◌≤◌, ◌++◌, List, [], ◌∷◌, length, get_or, take, drop, Bool, true, false, Option, Some, None, refl, sym, ap, ◌∙◌, subst, arith, add-one, replicate, inl, inr}
+use Rattle.std.specs.Prelude.{Result, Ok, Err, option_map, nat_lt}
+use Rattle.std.proofs.lemmas.List.{length-map, map-set, take_more_set}
+use Rattle.std.proofs.Math.Seq.{take-append_seam, take-suc}
+use Rattle.std.proofs.Math.ListN.{set, get_or-map}
+use Rattle.checkpoint.specs.Keep.{HasFailed}
+use Rattle.superstep.specs.declared.fault.JobFault.{JobFault}
+use Rattle.superstep.specs.declared.fault.JobFault.TheVariants.{OutOfMemory}
+use Rattle.superstep.specs.declared.fault.Place.TheVariants.{Report as Reporting}
+use Rattle.superstep.specs.Job.{Work as AnyWork}
+use Rattle.superstep.specs.Tasks.{AreUnitsAt, DoneStamp, TaskStamp}
+use Rattle.rollback.specs.declared.control.Out.{Out}
+use Rattle.rollback.specs.declared.event.Answer.{Answer}
+use Rattle.rollback.specs.declared.event.Answer.TheVariants.{Ended, Stale}
+use Rattle.rollback.specs.declared.ending.Told.TheVariants.{Good}
+use Rattle.rollback.specs.declared.simulation.Step.{Step}
+use Rattle.rollback.specs.declared.simulation.Step.TheVariants.{Join, Lose, Take, Tick, Work}
+use Rattle.rollback.specs.declared.simulation.StepAnswer.{StepAnswer}
+use Rattle.rollback.specs.declared.simulation.StepAnswer.TheVariants.{Handed, Idle, Said}
+use Rattle.rollback.specs.declared.ending.End.{End}
+use Rattle.rollback.specs.declared.ending.End.TheVariants.{Fault, Finished, Limit, Running}
+use Rattle.rollback.specs.declared.report.Report.{Report}
+use Rattle.rollback.specs.declared.simulation.Outcome.{Outcome}
+use Rattle.rollback.specs.declared.simulation.Outcome.TheVariants.{Ended as Over, Open}
+use Rattle.rollback.specs.declared.simulation.Trace.{Trace}
+use Rattle.rollback.specs.Keeping.{IsCaused, KeepsFor, MayLoadOther}
+use Rattle.rollback.specs.Machine.{Machine, hand, handed, has_answer, is_free, is_running, opened, task_of}
+use Rattle.rollback.specs.Events.{Heard, Stamp, accepted, reply_of}
+use Rattle.rollback.specs.Events.Stamp.{JoinedBy, LostBy, Ticked}
+use Rattle.rollback.specs.Book.{IsQuietAt, IsReport, IsStep, done_out, task_out}
+use Rattle.rollback.specs.inside.Simulating.{HasSameCounts}
+use Rattle.rollback.specs.Simulation.{IsCalm, IsEnded, IsOutcomeAt, IsSimStep, IsSimulated, IsTrace, Ran, Sim, Told, brought, does, dropped, emptied, held_or_new, holds, in_time, new_task, said, sim_opened, sim_step, stamps, taken, takes, work_on, worked}
+
+pub ran_snoc : (work : AnyWork) (honest : Bool) (xs : List Step) (s : Sim) (answers : List StepAnswer) (mid : Sim) (x : Step) (a : StepAnswer) (after : Sim) → Ran work honest xs s answers mid → IsSimStep work honest x mid after a → Ran work honest (xs ++ (x ∷ [])) s (answers ++ (a ∷ [])) after
+ran_snoc work honest [] s [] mid x a after r step = (after, subst (λ z. IsSimStep work honest x z after a) (sym r) step, refl)
+ran_snoc work honest [] s (b ∷ bs) mid x a after r step = absurd r
+ran_snoc work honest (y ∷ ys) s [] mid x a after r step = absurd r
+ran_snoc work honest (y ∷ ys) s (b ∷ bs) mid x a after r step = (r.0, r.1, ran_snoc work honest ys r.0 bs mid x a after r.2 step)
+
+-- one more step of the loop
+pub ran_more : (work : AnyWork) (honest : Bool) (steps : List Step) (answers : List StepAnswer) (s mid after : Sim) (i : ℕ) (d : Step) (a : StepAnswer) → i < length steps → length answers ≡ length steps → Ran work honest (take i steps) s (take i answers) mid → IsSimStep work honest (get_or steps i d) mid after a → Ran work honest (take (i + 1) steps) s (take (i + 1) (set answers i a)) after
+ran_more work honest steps answers s mid after i d a lt len r step =
+    let e : take (i + 1) steps ≡ take i steps ++ (get_or steps i d ∷ []) = rw add-one (take-suc steps i d lt) in
+    let f : take (i + 1) (set answers i a) ≡ take i answers ++ (a ∷ []) = take_more_set answers i a (subst (λ n. i < n) (sym len) lt) in
+    rw (e, f) (ran_snoc work honest (take i steps) s (take i answers) mid (get_or steps i d) a after r step)
+
+-- ---- the tasks that are held
+
+pub stamps_set : (held : List (Option TaskStamp)) (w : ℕ) (task : Option TaskStamp) → stamps (set held w task) ≡ set (stamps held) w (option_map task_out task)
+stamps_set held w task = map-set (option_map task_out) held w task
+
+pub stamps_at : (held : List (Option TaskStamp)) (w : ℕ) → get_or (stamps held) w None ≡ option_map task_out (get_or held w None)
+stamps_at held w = get_or-map (option_map task_out) held w None
+
+below_is : (w n : ℕ) → w < n → nat_lt w n ≡ true
+below_is w n h = grind arith
+
+above_is : (w n : ℕ) → n ≤ w → nat_lt w n ≡ false
+above_is w n h = grind arith
+
+pub near_held : (held : List (Option TaskStamp)) (w : ℕ) → w < length held → nat_lt w (length (stamps held)) ≡ true
+near_held held w lt = below_is w (length (stamps held)) (rw length-map lt)
+
+pub far_held : (held : List (Option TaskStamp)) (w : ℕ) → length held ≤ w → nat_lt w (length (stamps held)) ≡ false
+far_held held w le = above_is w (length (stamps held)) (rw length-map le)
+
+pub done_same : (done : DoneStamp) (task : TaskStamp) → done.epoch ≡ task.epoch → done.superstep ≡ task.superstep → done.part ≡ task.part → done_out done ≡ task_out task
+done_same done task e f g = rw (e, f, g) refl
+
+-- ---- single steps
+
+abbrev pub told_of : Heard → Bool → ℕ → Told
+told_of heard ran units = record { heard = heard; ran = ran; units = units }
+
+-- what is told where nothing is
+abbrev nothing : Told
+nothing = record { heard = record { quiet = false; merged = true; save = Good; load = Good; sliced = true }; ran = false; units = 0 }
+
+-- a step in which the machine takes no event
+pub plain_sim : (work : AnyWork) (honest : Bool) (step : Step) (before after : Sim) (answer : StepAnswer) → after.machine.superstep ≡ before.machine.superstep → sim_step nothing before step ≡ (after, answer) → IsSimStep work honest step before after answer
+plain_sim work honest step before after answer same next = record {
+  told = nothing;
+  quiet = λ h e. absurd (omega (arith, e, same));
+  costs = λ h ran task e. absurd (cc);
+  next = next;
+}
+
+takes_is : (heard : Heard) (s : Sim) (stamp : Stamp) (after : Machine) (reply : Result Answer JobFault) (answer : StepAnswer) → (accepted heard s.machine stamp).0 ≡ after → reply ≡ reply_of (accepted heard s.machine stamp) → answer ≡ said reply → takes heard s stamp ≡ (record s { machine = after }, answer)
+takes_is heard s stamp after reply answer e f g = rw (g, f) (ap (λ m. (record s { machine = m }, said (reply_of (accepted heard s.machine stamp)))) e)
+
+-- a step in which it takes one
+pub told_sim : (work : AnyWork) (honest : Bool) (step : Step) (before mid : Sim) (stamp : Stamp) (ran : Bool) (units : ℕ) (after : Machine) (reply : Result Answer JobFault) (answer : StepAnswer) → mid.machine.superstep ≡ before.machine.superstep → (honest ≡ true → ran ≡ true → (task : Out) → does before step ≡ Some task → AreUnitsAt work task.superstep task.part units) → ((heard : Heard) → sim_step (told_of heard ran units) before step ≡ takes heard mid stamp) → IsStep work honest (λ heard. accepted heard mid.machine stamp) mid.machine after reply → answer ≡ said reply → IsSimStep work honest step before (record mid { machine = after }) answer
+told_sim work honest step before mid stamp ran units after reply answer same costs is x e = record {
+  told = told_of x.heard ran units;
+  quiet = λ h next. subst (λ n. IsQuietAt work (suc n) x.heard.quiet) same (x.quiet h (next ∙ ap suc (sym same)));
+  costs = costs;
+  next = is x.heard ∙ takes_is x.heard mid stamp after reply answer x.machine x.told e;
+}
+
+in_time_is : (s : Sim) (w : ℕ) (next : Sim × StepAnswer) → is_running s.machine.ending ≡ true → nat_lt w (length s.held) ≡ true → in_time s w next ≡ next
+in_time_is s w next run near = rw (run, near) refl
+
+pub take_over : (work : AnyWork) (honest : Bool) (w : ℕ) (s : Sim) → is_running s.machine.ending ≡ false → IsSimStep work honest (Take w) s s (Said Ended)
+take_over work honest w s over = plain_sim work honest (Take w) s s (Said Ended) refl (rw over refl)
+
+pub take_far : (work : AnyWork) (honest : Bool) (w : ℕ) (s : Sim) → is_running s.machine.ending ≡ true → nat_lt w (length s.held) ≡ false → IsSimStep work honest (Take w) s s (Said Stale)
+take_far work honest w s run far = plain_sim work honest (Take w) s s (Said Stale) refl (rw (run, far) refl)
+
+pub take_holder : (work : AnyWork) (honest : Bool) (w : ℕ) (s : Sim) → is_running s.machine.ending ≡ true → nat_lt w (length s.held) ≡ true → is_free (holds s w) ≡ false → IsSimStep work honest (Take w) s s Idle
+take_holder work honest w s run near full = plain_sim work honest (Take w) s s Idle refl (rw (run, near, full) refl)
+
+pub take_none : (work : AnyWork) (honest : Bool) (w : ℕ) (s : Sim) → is_running s.machine.ending ≡ true → nat_lt w (length s.held) ≡ true → is_free (holds s w) ≡ true → hand s.machine w ≡ None → IsSimStep work honest (Take w) s s Idle
+take_none work honest w s run near free none = plain_sim work honest (Take w) s s Idle refl (in_time_is s w _ run near ∙ rw free (ap (taken s w) none))
+
+pub take_some : (work : AnyWork) (honest : Bool) (w p : ℕ) (s : Sim) (after : Machine) (held : List (Option Out)) → is_running s.machine.ending ≡ true → nat_lt w (length s.held) ≡ true → is_free (holds s w) ≡ true → hand s.machine w ≡ Some p → after ≡ handed s.machine w p → held ≡ set s.held w (Some (task_of s.machine p)) → IsSimStep work honest (Take w) s (record { machine = after; held = held }) (Handed p)
+take_some work honest w p s after held run near free some e f = plain_sim work honest (Take w) s (record { machine = after; held = held }) (Handed p) (ap (λ (m : Machine). m.superstep) e) (in_time_is s w _ run near ∙ rw free (ap (taken s w) some ∙ rw (e, f) refl))
+
+pub work_over : (work : AnyWork) (honest : Bool) (w : ℕ) (s : Sim) (held : List (Option Out)) → holds s w ≡ None → held ≡ set s.held w None → is_running s.machine.ending ≡ false → IsSimStep work honest (Work w) s (record s { held = held }) (Said Ended)
+work_over work honest w s held none e over = plain_sim work honest (Work w) s (record s { held = held }) (Said Ended) refl (ap (work_on nothing (dropped s w) w) none ∙ rw (over, e) refl)
+
+pub work_far : (work : AnyWork) (honest : Bool) (w : ℕ) (s : Sim) (held : List (Option Out)) → holds s w ≡ None → held ≡ set s.held w None → is_running s.machine.ending ≡ true → nat_lt w (length held) ≡ false → IsSimStep work honest (Work w) s (record s { held = held }) (Said Stale)
+work_far work honest w s held none e run far =
+    let far' : nat_lt w (length (set s.held w None)) ≡ false = subst (λ h. nat_lt w (length h) ≡ false) e far in
+    plain_sim work honest (Work w) s (record s { held = held }) (Said Stale) refl (ap (work_on nothing (dropped s w) w) none ∙ rw (run, far', e) refl)
+
+pub work_none : (work : AnyWork) (honest : Bool) (w : ℕ) (s : Sim) (held : List (Option Out)) → holds s w ≡ None → held ≡ set s.held w None → is_running s.machine.ending ≡ true → nat_lt w (length held) ≡ true → hand s.machine w ≡ None → IsSimStep work honest (Work w) s (record s { held = held }) Idle
+work_none work honest w s held none e run near nobody =
+    let near' : nat_lt w (length (set s.held w None)) ≡ true = subst (λ h. nat_lt w (length h) ≡ true) e near in
+    plain_sim work honest (Work w) s (record s { held = held }) Idle refl (ap (work_on nothing (dropped s w) w) none ∙ in_time_is (dropped s w) w _ run near' ∙ ap (worked nothing (dropped s w) w) nobody ∙ rw e refl)
+
+-- what one task costs, of the one that is done
+costs_of : (work : AnyWork) (honest ran : Bool) (units : ℕ) (task : Out) (one : Option Out) → one ≡ Some task → (honest ≡ true → ran ≡ true → AreUnitsAt work task.superstep task.part units) → honest ≡ true → ran ≡ true → (other : Out) → one ≡ Some other → AreUnitsAt work other.superstep other.part units
+costs_of work honest ran units task one is cost h r other e =
+    let z : Some task ≡ Some other = sym is ∙ e in
+    let same : task ≡ other = cc in
+    subst (λ (o : Out). AreUnitsAt work o.superstep o.part units) same (cost h r)
+
+-- the worker does the task that it held
+pub work_held : (work : AnyWork) (honest : Bool) (w : ℕ) (s : Sim) (after : Machine) (held : List (Option Out)) (task : Out) (stamp : Stamp) (ran : Bool) (units : ℕ) (reply : Result Answer JobFault) (answer : StepAnswer) → holds s w ≡ Some task → held ≡ set s.held w None → stamp ≡ brought ran units w task → (honest ≡ true → ran ≡ true → AreUnitsAt work task.superstep task.part units) → IsStep work honest (λ heard. accepted heard s.machine stamp) s.machine after reply → answer ≡ said reply → IsSimStep work honest (Work w) s (record { machine = after; held = held }) answer
+work_held work honest w s after held task stamp ran units reply answer some e st cost x a =
+    let is = λ (heard : Heard). ap (work_on (told_of heard ran units) (dropped s w) w) some ∙ ap (λ (z : Stamp). takes heard (dropped s w) z) (sym st) in
+    let costs = costs_of work honest ran units task (does s (Work w)) (ap (held_or_new s w) some) cost in
+    subst (λ h. IsSimStep work honest (Work w) s (record { machine = after; held = h }) answer) (sym e) (told_sim work honest (Work w) s (dropped s w) stamp ran units after reply answer refl costs is x a)
+
+-- the worker does a new one
+pub work_new : (work : AnyWork) (honest : Bool) (w p : ℕ) (s : Sim) (handed_out after : Machine) (held : List (Option Out)) (task : Out) (stamp : Stamp) (ran : Bool) (units : ℕ) (reply : Result Answer JobFault) (answer : StepAnswer) → holds s w ≡ None → held ≡ set s.held w None → is_running s.machine.ending ≡ true → nat_lt w (length held) ≡ true → hand s.machine w ≡ Some p → handed_out ≡ handed s.machine w p → task ≡ task_of s.machine p → stamp ≡ brought ran units w task → (honest ≡ true → ran ≡ true → AreUnitsAt work task.superstep task.part units) → IsStep work honest (λ heard. accepted heard handed_out stamp) handed_out after reply → answer ≡ said reply → IsSimStep work honest (Work w) s (record { machine = after; held = held }) answer
+work_new work honest w p s handed_out after held task stamp ran units reply answer none e run near some out' t st cost x a =
+    let near' : nat_lt w (length (set s.held w None)) ≡ true = subst (λ h. nat_lt w (length h) ≡ true) e near in
+    let mid = record (dropped s w) { machine = handed s.machine w p } in
+    let y : IsStep work honest (λ heard. accepted heard (handed s.machine w p) stamp) (handed s.machine w p) after reply = subst (λ m. IsStep work honest (λ heard. accepted heard m stamp) m after reply) out' x in
+    let st' : stamp ≡ brought ran units w (task_of s.machine p) = st ∙ ap (brought ran units w) t in
+    let is = λ (heard : Heard). ap (work_on (told_of heard ran units) (dropped s w) w) none ∙ in_time_is (dropped s w) w _ run near' ∙ ap (worked (told_of heard ran units) (dropped s w) w) some ∙ ap (λ (z : Stamp). takes heard mid z) (sym st') in
+    let does_it : does s (Work w) ≡ Some task = ap (held_or_new s w) none ∙ ap (new_task s.machine) some ∙ ap Some (sym t) in
+    let costs = costs_of work honest ran units task (does s (Work w)) does_it cost in
+    subst (λ h. IsSimStep work honest (Work w) s (record { machine = after; held = h }) answer) (sym e) (told_sim work honest (Work w) s mid stamp ran units after reply answer refl costs is y a)
+
+pub join_told : (work : AnyWork) (honest : Bool) (w : ℕ) (s : Sim) (after : Machine) (held : List (Option Out)) (reply : Result Answer JobFault) (answer : StepAnswer) → held ≡ emptied s.machine s.held w → IsStep work honest (λ heard. accepted heard s.machine (JoinedBy w)) s.machine after reply → answer ≡ said reply → IsSimStep work honest (Join w) s (record { machine = after; held = held }) answer
+join_told work honest w s after held reply answer e x a = subst (λ h. IsSimStep work honest (Join w) s (record { machine = after; held = h }) answer) (sym e) (told_sim work honest (Join w) s (record s { held = emptied s.machine s.held w }) (JoinedBy w) false 0 after reply answer refl (λ h r task is. absurd (cc)) (λ heard. refl) x a)
+
+pub lose_told : (work : AnyWork) (honest : Bool) (w : ℕ) (s : Sim) (after : Machine) (reply : Result Answer JobFault) (answer : StepAnswer) → IsStep work honest (λ heard. accepted heard s.machine (LostBy w)) s.machine after reply → answer ≡ said reply → IsSimStep work honest (Lose w) s (record s { machine = after }) answer
+lose_told work honest w s after reply answer x a = told_sim work honest (Lose w) s s (LostBy w) false 0 after reply answer refl (λ h r task is. absurd (cc)) (λ heard. refl) x a
+
+pub tick_told : (work : AnyWork) (honest : Bool) (s : Sim) (after : Machine) (reply : Result Answer JobFault) (answer : StepAnswer) → IsStep work honest (λ heard. accepted heard s.machine Ticked) s.machine after reply → answer ≡ said reply → IsSimStep work honest Tick s (record s { machine = after }) answer
+tick_told work honest s after reply answer x a = told_sim work honest Tick s s Ticked false 0 after reply answer refl (λ h r task is. absurd (cc)) (λ heard. refl) x a
+
+-- ---- what is counted
+
+pub counts_both : (a b c : Machine) → HasSameCounts a b → HasSameCounts b c → HasSameCounts a c
+counts_both a b c x y = record { missed = y.missed ∙ x.missed; restarts = y.restarts ∙ x.restarts }
+
+never_more : (f f' : ℕ) → f ≡ 0 → f' ≡ 0 → HasFailed f f' → ⊥
+never_more f f' e e' (inl x) = omega (arith, e, e', x)
+never_more f f' e e' (inr x) = omega (arith, e', x)
+
+-- a Keep that is trusted loads nothing else
+never_other : (work : AnyWork) (honest : Bool) (kept : Option ℕ) (may_load : List ℕ → Type 0) (m : Machine) (saved : Option ℕ) → KeepsFor work true honest kept may_load m → m.saved ≡ saved → MayLoadOther work saved may_load → ⊥
+never_other work honest kept may_load m None k e h = h
+never_other work honest kept may_load m (Some s) k e h =
+    let x = k.bytes refl s e h.0 h.1 in
+    h.2 x.state x.spelled x.fits
+
+pub counts_kept : (work : AnyWork) (trusted honest : Bool) (kept : Option ℕ) (may_load : List ℕ → Type 0) (m m' : Machine) (f f' : ℕ) → trusted ≡ true → f ≡ 0 → f' ≡ 0 → KeepsFor work trusted honest kept may_load m → IsCaused work m m' f f' may_load → HasSameCounts m m'
+counts_kept work trusted honest kept may_load m m' f f' sure e e' k c =
+    let k' = subst (λ t. KeepsFor work t honest kept may_load m) sure k in
+    record {
+      missed = elim c.missed [ inl x ↦ x | inr x ↦ absurd (never_more f f' e e' x) ];
+      restarts = elim c.restarts [
+        | inl x ↦ x
+        | inr x ↦ elim x [ inl y ↦ absurd (never_more f f' e e' y) | inr y ↦ absurd (never_other work honest kept may_load m m.saved k' refl y) ]
+      ];
+    }
+
+pub counts_same : (m m' : Machine) → m' ≡ m → HasSameCounts m m'
+counts_same m m' e = record { missed = ap (λ (x : Machine). x.missed) e; restarts = ap (λ (x : Machine). x.restarts) e }
+
+pub counts_handed : (m m' : Machine) (w p : ℕ) → m' ≡ handed m w p → HasSameCounts m m'
+counts_handed m m' w p e = record { missed = ap (λ (x : Machine). x.missed) e; restarts = ap (λ (x : Machine). x.restarts) e }
+
+pub saved_handed : (m m' : Machine) (w p : ℕ) → m' ≡ handed m w p → m'.saved ≡ m.saved
+saved_handed m m' w p e = ap (λ (x : Machine). x.saved) e
+
+-- ---- whole runs
+
+-- a list that was written over from its start
+pub overwritten : {A : Type 0} (n : ℕ) (ys xs : List A) → length ys ≡ n → take n (ys ++ drop (length ys) xs) ≡ ys
+overwritten n ys xs e = rw (← e) (take-append_seam ys (drop (length ys) xs))
+
+pub opened_is : (work : AnyWork) (m : Machine) (held : List (Option Out)) (quiet : Bool) → m ≡ opened work.settings quiet → held ≡ replicate work.settings.workers None → record { machine = m; held = held } ≡ sim_opened work quiet
+opened_is work m held quiet e f = rw (e, f) refl
+
+pub run_is : (work : AnyWork) (honest : Bool) (steps : List Step) (quiet : Bool) (s : Sim) (answers : List StepAnswer) (after : Sim) (result : Result Trace JobFault) → IsQuietAt work 0 quiet → s ≡ sim_opened work quiet → Ran work honest steps s answers after → IsTrace work honest after.machine answers result → IsSimulated work honest steps result
+run_is work honest steps quiet s answers after result first e ran trace = inr (inr (record {
+  quiet = quiet;
+  first = first;
+  after = after;
+  answers = answers;
+  ran = subst (λ x. Ran work honest steps x answers after) e ran;
+  trace = trace;
+}))
+
+-- ---- calm ends
+
+calm_ended : (work : AnyWork) (honest : Bool) (m : Machine) (outcome : Outcome) → m.missed ≡ 0 → m.restarts ≡ 0 → IsEnded work honest m (Ok outcome) → IsCalm outcome
+calm_ended work honest m (Open s) e f h = tt
+calm_ended work honest m (Over report) e f h = (h.missed ∙ e, h.restarts ∙ f)
+
+calm_at : (work : AnyWork) (honest : Bool) (m : Machine) (end : End) (outcome : Outcome) → m.missed ≡ 0 → m.restarts ≡ 0 → IsOutcomeAt work honest m end (Ok outcome) → IsCalm outcome
+calm_at work honest m Running (Open s) e f h = tt
+calm_at work honest m Running (Over report) e f h = absurd (cc)
+calm_at work honest m Finished outcome e f h = calm_ended work honest m outcome e f h
+calm_at work honest m Limit outcome e f h = calm_ended work honest m outcome e f h
+calm_at work honest m (Fault fault) outcome e f h = absurd (cc)
+
+pub calm_is : (work : AnyWork) (honest : Bool) (m : Machine) (outcome : Outcome) → m.missed ≡ 0 → m.restarts ≡ 0 → IsOutcomeAt work honest m m.ending (Ok outcome) → IsCalm outcome
+calm_is work honest m outcome e f h = calm_at work honest m m.ending outcome e f h
+
+-- ---- where the steps lead
+
+pub outcome_open : (work : AnyWork) (honest : Bool) (m : Machine) (s : ℕ) → Running ≡ m.ending → s ≡ m.superstep → IsOutcomeAt work honest m m.ending (Ok (Open s))
+outcome_open work honest m s e is = subst (λ x. IsOutcomeAt work honest m x (Ok (Open s))) e (ap (λ n. Ok (Open n)) is)
+
+pub outcome_fault : (work : AnyWork) (honest : Bool) (m : Machine) (fault : JobFault) → Fault fault ≡ m.ending → IsOutcomeAt work honest m m.ending (Err fault)
+outcome_fault work honest m fault e = subst (λ x. IsOutcomeAt work honest m x (Err fault)) e refl
+
+outcome_told : (work : AnyWork) (honest : Bool) (m : Machine) (end : End) (result : Result Outcome JobFault) → has_answer end ≡ true → IsEnded work honest m result → IsOutcomeAt work honest m end result
+outcome_told work honest m Running result h is = absurd (cc)
+outcome_told work honest m Finished result h is = is
+outcome_told work honest m Limit result h is = is
+outcome_told work honest m (Fault fault) result h is = absurd (cc)
+
+pub outcome_report : (work : AnyWork) (honest : Bool) (m : Machine) (report : Report) → has_answer m.ending ≡ true → IsReport work honest m report → IsOutcomeAt work honest m m.ending (Ok (Over report))
+outcome_report work honest m report h is = outcome_told work honest m m.ending (Ok (Over report)) h is
+
+pub outcome_unreported : (work : AnyWork) (honest : Bool) (m : Machine) (fault : JobFault) → has_answer m.ending ≡ true → fault ≡ OutOfMemory Reporting → IsOutcomeAt work honest m m.ending (Err fault)
+outcome_unreported work honest m fault h is = outcome_told work honest m m.ending (Err fault) h is

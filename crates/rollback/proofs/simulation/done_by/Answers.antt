@@ -1,0 +1,15 @@
+use Rattle.std.proofs.Common.{ap, false, true}
+use Rattle.rollback.specs.declared.control.Out.{Out}
+use Rattle.rollback.specs.Events.Stamp.{DoneBy, FailedBy}
+use Rattle.rollback.proofs.Simulated
+use Rattle.rollback.proofs.simulation.done_by.Goals as goal
+
+pub returns-in-Ok-clause-told : goal.returns-in-Ok-clause-told
+returns-in-Ok-clause-told g c =
+    let done = c.in-Ok.done in
+    let e = c.in-Ok.ensures in
+    (true, done.units, ap (λ (o : Out). DoneBy c.args.worker o done.units) (Simulated.done_same done c.args.task e.epoch e.superstep e.part), λ sure ran. e.units sure)
+
+pub returns-in-Err-clause-told : goal.returns-in-Err-clause-told
+returns-in-Err-clause-told g c =
+    (false, 0, ap (λ p. FailedBy c.args.worker p) c.in-Err.ensures.lost, λ sure ran. absurd (cc))

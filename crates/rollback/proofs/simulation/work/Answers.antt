@@ -1,0 +1,58 @@
+use Rattle.std.proofs.Common.{◌≡◌, sym, rules, refl, ◌∙◌, ap, Some, None, get_or}
+use Rattle.std.specs.Prelude.{option_map}
+use Rattle.rollback.specs.Book.{task_out}
+use Rattle.rollback.specs.Simulation.{sim_of, stamps}
+use Rattle.rollback.proofs.Simulated
+use Rattle.rollback.proofs.simulation.work.Goals as goal
+
+pub returns-in-Some-clause-step : goal.returns-in-Some-clause-step
+returns-in-Some-clause-step g c =
+    let j = g.J.Origin.work in
+    let h = g.J.Origin.honest in
+    let w = c.args.worker in
+    let s = sim_of c.args.book.now c.args.held.now in
+    let some : get_or s.held w None ≡ Some (task_out c.in-Some.task) = sym c.let_go.ensures.held ∙ ap (option_map task_out) c.in-Some.is in
+    let d = c.done_by-event.ensures.told in
+    let t = c.tell.ensures.step in
+    Simulated.work_held j h w s c.tell.new.book (stamps c.let_go.new.held) (task_out c.in-Some.task) _ d.0 d.1 t.0 c.tell.result some c.let_go.ensures.after d.2 d.3 t.2 t.1
+
+pub returns-then-not-is_running-clause-step : goal.returns-then-not-is_running-clause-step
+returns-then-not-is_running-clause-step g c =
+    let j = g.J.Origin.work in
+    let h = g.J.Origin.honest in
+    let w = c.args.worker in
+    let s = sim_of c.args.book.now c.args.held.now in
+    let none : get_or s.held w None ≡ None = (sym c.let_go.ensures.held ∙ ap (option_map task_out) c.in_default.is) in
+    Simulated.work_over j h w s (stamps c.let_go.new.held) none c.let_go.ensures.after (sym c.is_running.ensures ∙ c.if-not-is_running.true)
+
+pub returns-then-worker-held-clause-step : goal.returns-then-worker-held-clause-step
+returns-then-worker-held-clause-step g c =
+    let j = g.J.Origin.work in
+    let h = g.J.Origin.honest in
+    let w = c.args.worker in
+    let s = sim_of c.args.book.now c.args.held.now in
+    let none : get_or s.held w None ≡ None = (sym c.let_go.ensures.held ∙ ap (option_map task_out) c.in_default.is) in
+    Simulated.work_far j h w s (stamps c.let_go.new.held) none c.let_go.ensures.after (sym c.is_running.ensures ∙ c.if-not-is_running.false) (Simulated.far_held c.let_go.new.held w c.if-worker-held.true)
+
+pub returns-in_default-next_task-clause-step : goal.returns-in_default-next_task-clause-step
+returns-in_default-next_task-clause-step g c =
+    let j = g.J.Origin.work in
+    let h = g.J.Origin.honest in
+    let w = c.args.worker in
+    let s = sim_of c.args.book.now c.args.held.now in
+    let none : get_or s.held w None ≡ None = (sym c.let_go.ensures.held ∙ ap (option_map task_out) c.in_default.is) in
+    let e = c.in_default-next_task.ensures.none refl in
+    rw e.0 (Simulated.work_none j h w s (stamps c.let_go.new.held) none c.let_go.ensures.after (sym c.is_running.ensures ∙ c.if-not-is_running.false) (Simulated.near_held c.let_go.new.held w (search rules)) e.1)
+
+pub returns-clause-step : goal.returns-clause-step
+returns-clause-step g c =
+    let j = g.J.Origin.work in
+    let h = g.J.Origin.honest in
+    let w = c.args.worker in
+    let s = sim_of c.args.book.now c.args.held.now in
+    let none : get_or s.held w None ≡ None = (sym c.let_go.ensures.held ∙ ap (option_map task_out) c.in_default.is) in
+    let e = c.in-Some-next_task.ensures.some in
+    let d = c.done_by-event-2.ensures.told in
+    let t = c.tell-2.ensures.step in
+    let task = task_out c.in-Some-next_task.task in
+    Simulated.work_new j h w c.in-Some-next_task.task.part s c.next_task.new.self c.tell-2.new.book (stamps c.let_go.new.held) task _ d.0 d.1 t.0 c.tell-2.result none c.let_go.ensures.after (sym c.is_running.ensures ∙ c.if-not-is_running.false) (Simulated.near_held c.let_go.new.held w (search rules)) e.0 e.1 e.2 d.2 d.3 t.2 t.1

@@ -1,0 +1,195 @@
+-- A whole run over a list of steps.
+use Rattle.std.specs.Prelude.{◌≡◌, ◌⊎◌, ◌+◌, ◌*◌, ℕ, suc, List, [], ◌∷◌, length, map, option_map, replicate, slice_index_or, slice_set, Bool, true, Option, Some, None, Result, Ok, Err, nat_lt, if◌then◌else◌}
+use Rattle.wasm_ast.specs.declared.module.Module.{Module}
+use Rattle.host_calls.specs.declared.call.CallInput.{CallInput}
+use Rattle.bounded_profile.specs.declared.facts.Facts.{Facts}
+use Rattle.bounded_profile.specs.Facts.{AreFactsAt}
+use Rattle.bounded_profile.specs.Profile.{HasCompute}
+use Rattle.interp.specs.Bounded.{Ends, items_of}
+use Rattle.superstep.specs.declared.fault.JobFault.{JobFault}
+use Rattle.superstep.specs.declared.fault.JobFault.TheVariants.{OutOfMemory}
+use Rattle.superstep.specs.declared.fault.Place.TheVariants.{Call, Open, Report as Reporting}
+use Rattle.superstep.specs.Job.{Work}
+use Rattle.superstep.specs.Tasks.{AreUnitsAt, TaskStamp}
+use Rattle.rollback.specs.declared.control.Out.{Out}
+use Rattle.rollback.specs.declared.ending.End.{End}
+use Rattle.rollback.specs.declared.ending.End.TheVariants.{Fault, Finished, Limit, Running}
+use Rattle.rollback.specs.declared.event.Answer.{Answer}
+use Rattle.rollback.specs.declared.event.Answer.TheVariants.{Ended, Stale}
+use Rattle.rollback.specs.declared.simulation.Outcome.{Outcome}
+use Rattle.rollback.specs.declared.simulation.Outcome.TheVariants as outcome
+use Rattle.rollback.specs.declared.simulation.Step.{Step}
+use Rattle.rollback.specs.declared.simulation.Step.TheVariants.{Join, Lose, Take, Tick, Work as Works}
+use Rattle.rollback.specs.declared.simulation.StepAnswer.{StepAnswer}
+use Rattle.rollback.specs.declared.simulation.StepAnswer.TheVariants.{Handed, Idle, Said}
+use Rattle.rollback.specs.declared.simulation.Trace.{Trace}
+use Rattle.rollback.specs.Machine.{Machine, hand, handed, is_free, is_running, opened, task_of}
+use Rattle.rollback.specs.Events.{Heard, Stamp, accepted, reply_of}
+use Rattle.rollback.specs.Events.Stamp.{DoneBy, FailedBy, JoinedBy, LostBy, Ticked}
+use Rattle.rollback.specs.Book.{IsQuietAt, IsReport, is_gone, task_out}
+
+-- the machine, and the task that each worker holds
+pub record Sim : Type 0 where
+  pub machine : Machine
+  pub held : List (Option Out)
+
+-- what a step is told: of the machine's event, and of the one task that the step does
+pub record Told : Type 0 where
+  pub heard : Heard
+  -- there was memory for its calls
+  pub ran : Bool
+  pub units : ℕ
+
+abbrev pub holds : Sim → ℕ → Option Out
+holds s w = slice_index_or s.held w None
+
+abbrev pub dropped : Sim → ℕ → Sim
+dropped s w = record s { held = slice_set s.held w None }
+
+-- a fault is told by the ending alone
+abbrev pub said : Result Answer JobFault → StepAnswer
+said (Ok answer) = Said answer
+said (Err fault) = Said Ended
+
+-- the machine takes an event
+abbrev pub takes : Heard → Sim → Stamp → Sim × StepAnswer
+takes heard s stamp = (record s { machine = (accepted heard s.machine stamp).0 }, said (reply_of (accepted heard s.machine stamp)))
+
+-- the step of a worker that there is, while the job runs
+abbrev pub in_time : Sim → ℕ → Sim × StepAnswer → Sim × StepAnswer
+in_time s w next = if is_running s.machine.ending then (if nat_lt w (length s.held) then next else (s, Said Stale)) else (s, Said Ended)
+
+-- the worker holds the task of the part that it is handed
+abbrev pub taken : Sim → ℕ → Option ℕ → Sim × StepAnswer
+taken s w None = (s, Idle)
+taken s w (Some part) = (record { machine = handed s.machine w part; held = slice_set s.held w (Some (task_of s.machine part)) }, Handed part)
+
+abbrev pub take_step : Sim → ℕ → Sim × StepAnswer
+take_step s w = in_time s w (if is_free (holds s w) then taken s w (hand s.machine w) else (s, Idle))
+
+-- what a worker tells of a task: its units, or that there was no memory for its calls
+abbrev pub brought : (ran : Bool) → (units w : ℕ) → Out → Stamp
+brought ran units w task = if ran then DoneBy w task units else FailedBy w Call
+
+-- the worker does the task of the part that it is handed
+abbrev pub worked : Told → Sim → ℕ → Option ℕ → Sim × StepAnswer
+worked told s w None = (s, Idle)
+worked told s w (Some part) = takes told.heard (record s { machine = handed s.machine w part }) (brought told.ran told.units w (task_of s.machine part))
+
+-- the worker does the task that it held, or a new one
+abbrev pub work_on : Told → Sim → ℕ → Option Out → Sim × StepAnswer
+work_on told s w None = in_time s w (worked told s w (hand s.machine w))
+work_on told s w (Some task) = takes told.heard s (brought told.ran told.units w task)
+
+abbrev pub work_step : Told → Sim → ℕ → Sim × StepAnswer
+work_step told s w = work_on told (dropped s w) w (holds s w)
+
+-- a worker that is gone holds nothing
+abbrev pub emptied : Machine → List (Option Out) → ℕ → List (Option Out)
+emptied m held w = if is_gone m w then slice_set held w None else held
+
+abbrev pub join_step : Told → Sim → ℕ → Sim × StepAnswer
+join_step told s w = takes told.heard (record s { held = emptied s.machine s.held w }) (JoinedBy w)
+
+abbrev pub sim_step : Told → Sim → Step → Sim × StepAnswer
+sim_step told s (Take w) = take_step s w
+sim_step told s (Works w) = work_step told s w
+sim_step told s (Lose w) = takes told.heard s (LostBy w)
+sim_step told s Tick = takes told.heard s Ticked
+sim_step told s (Join w) = join_step told s w
+
+-- ---- which task a step does
+
+abbrev pub new_task : Machine → Option ℕ → Option Out
+new_task m None = None
+new_task m (Some part) = Some (task_of m part)
+
+abbrev pub held_or_new : Sim → ℕ → Option Out → Option Out
+held_or_new s w None = new_task s.machine (hand s.machine w)
+held_or_new s w (Some task) = Some task
+
+abbrev pub does : Sim → Step → Option Out
+does s (Take w) = None
+does s (Works w) = held_or_new s w (holds s w)
+does s (Lose w) = None
+does s Tick = None
+does s (Join w) = None
+
+-- ---- whole runs
+
+-- A step. Where the Keep is honest it is told how the plain run stands, and what its task takes there.
+pub record IsSimStep (work : Work) (honest : Bool) (step : Step) (before after : Sim) (answer : StepAnswer) : Type 0 where
+  pub told : Told
+  pub quiet : honest ≡ true → after.machine.superstep ≡ suc before.machine.superstep → IsQuietAt work (suc before.machine.superstep) told.heard.quiet
+  pub costs : honest ≡ true → told.ran ≡ true → (task : Out) → does before step ≡ Some task → AreUnitsAt work task.superstep task.part told.units
+  pub next : sim_step told before step ≡ (after, answer)
+
+-- these steps, one after the other, with these answers
+abbrev pub Ran : Work → Bool → List Step → Sim → List StepAnswer → Sim → Type 0
+Ran work honest [] s [] after = s ≡ after
+Ran work honest [] s (a ∷ answers) after = ⊥
+Ran work honest (x ∷ xs) s [] after = ⊥
+Ran work honest (x ∷ xs) s (a ∷ answers) after = (next : Sim) × IsSimStep work honest x s next a × Ran work honest xs next answers after
+
+-- the tasks that are held, in numbers
+abbrev pub stamps : List (Option TaskStamp) → List (Option Out)
+stamps held = map (option_map task_out) held
+
+abbrev pub sim_of : Machine → List (Option TaskStamp) → Sim
+sim_of m held = record { machine = m; held = stamps held }
+
+abbrev pub IsEnded : Work → Bool → Machine → Result Outcome JobFault → Type 0
+IsEnded work honest m (Ok (outcome.Open s)) = ⊥
+IsEnded work honest m (Ok (outcome.Ended report)) = IsReport work honest m report
+IsEnded work honest m (Err fault) = fault ≡ OutOfMemory Reporting
+
+-- how the machine has ended, or where it stands
+abbrev pub IsOutcomeAt : Work → Bool → Machine → End → Result Outcome JobFault → Type 0
+IsOutcomeAt work honest m Running r = r ≡ Ok (outcome.Open m.superstep)
+IsOutcomeAt work honest m Finished r = IsEnded work honest m r
+IsOutcomeAt work honest m Limit r = IsEnded work honest m r
+IsOutcomeAt work honest m (Fault fault) r = r ≡ Err fault
+
+abbrev pub IsTrace : Work → Bool → Machine → List StepAnswer → Result Trace JobFault → Type 0
+IsTrace work honest m answers (Ok trace) = (trace.answers.items ≡ answers) × IsOutcomeAt work honest m m.ending (Ok trace.outcome)
+IsTrace work honest m answers (Err fault) = IsOutcomeAt work honest m m.ending (Err fault)
+
+-- no worker holds a task
+abbrev pub sim_opened : Work → Bool → Sim
+sim_opened work quiet = record { machine = opened work.settings quiet; held = replicate work.settings.workers None }
+
+-- the answers and the outcome of the machine over these steps
+pub record IsRun (work : Work) (honest : Bool) (steps : List Step) (result : Result Trace JobFault) : Type 0 where
+  pub quiet : Bool
+  pub first : IsQuietAt work 0 quiet
+  pub after : Sim
+  pub answers : List StepAnswer
+  pub ran : Ran work honest steps (sim_opened work quiet) answers after
+  pub trace : IsTrace work honest after.machine answers result
+
+-- or there was no memory to begin with
+abbrev pub IsSimulated : Work → Bool → List Step → Result Trace JobFault → Type 0
+IsSimulated work honest steps result =
+    (result ≡ Err (OutOfMemory Open)) ⊎ ((result ≡ Err (OutOfMemory Call)) ⊎ IsRun work honest steps result)
+
+-- ---- calls
+
+-- Whatever a call of the module is given: it is never trapped, there is a step for each of its instructions, and it counts
+-- no more than the size of `compute` with its calls unfolded, times one more than it is given messages and edges.
+pub record CallsStayWithin (m : Module) : Type 0 where
+  pub compute : HasCompute m
+  pub facts : Facts
+  pub are : AreFactsAt m compute.number facts
+  pub ends : (input : CallInput)
+      → Ends m input (facts.size * (1 + items_of input)) facts.max_operands facts.max_frames
+
+-- ---- a Keep that never fails
+
+-- its device never does
+abbrev pub NeverFails : {K : Type 0} → (K → ℕ) → Type 0
+NeverFails {K} faults = (keep : K) → faults keep ≡ 0
+
+-- no state was missed, and all never began anew
+abbrev pub IsCalm : Outcome → Type 0
+IsCalm (outcome.Open s) = Unit {0}
+IsCalm (outcome.Ended report) = (report.missed ≡ 0) × (report.restarts ≡ 0)

@@ -1,0 +1,380 @@
+//! Whole runs over lists of steps.
+
+ghost use Rattle.std.specs.Prelude.{◌≡◌, ◌<◌, ℕ, length, replicate, slice_index_or, slice_set, Bool, true, None, Result, option_map, IfOk};
+ghost use Rattle.superstep.specs.Job.{Meaning};
+ghost use Rattle.superstep.specs.Tasks.{AreUnitsAt};
+ghost use Rattle.superstep.specs.declared.fault.JobFault.{JobFault};
+ghost use Rattle.rollback.specs.Book.{IsStep, stamp_of, task_out};
+ghost use Rattle.rollback.specs.Events.{accepted};
+ghost use Rattle.rollback.specs.Keeping.{KeepsFor};
+ghost use Rattle.rollback.specs.Machine.{is_free};
+ghost use Rattle.rollback.specs.Simulation.{CallsStayWithin, IsCalm, IsOutcomeAt, IsSimStep, IsSimulated, NeverFails, Ran, brought, emptied, said, sim_of, stamps};
+ghost use Rattle.rollback.specs.inside.Simulating.{HasSameCounts, IsRunnerOf};
+ghost use Rattle.rollback.specs.declared.event.Answer.{Answer};
+ghost use Rattle.rollback.specs.declared.simulation.Step.TheVariants.{Join, Take, Work};
+
+use crate::book::Book;
+use crate::ending::End;
+use crate::event::{Answer, Event};
+use crate::report::Report;
+use checkpoint::Keep;
+use interp::{Scratch, calls_are_a_function, calls_end};
+use std::alloc::{AllocError, Global};
+use std::marker::Brand;
+use std::mem;
+use std::rt::Files;
+use std::thread::Threads;
+use superstep::{Job, JobFault, Origin, Place, Task, run_task};
+
+/// What a job's workers do, one step after another. Workers are numbered from 0.
+#[derive(Clone, Copy)]
+pub enum Step {
+    /// The worker takes a task, and holds it.
+    Take(u32),
+    /// The worker does the task that it holds, or takes one before, and brings back what comes of it.
+    Work(u32),
+    /// The worker is lost. It still holds its task.
+    Lose(u32),
+    /// Time passes.
+    Tick,
+    /// The worker joins again. If it is not alive and does not wait, it drops its task first.
+    Join(u32),
+}
+
+/// What is answered to a step.
+#[derive(Clone, Copy)]
+pub enum StepAnswer {
+    /// The worker holds a task already, or there is none for it.
+    Idle,
+    /// It was handed the task of this part.
+    Handed(u32),
+    /// This became of the step's event.
+    Said(Answer),
+}
+
+/// Where the steps lead.
+#[derive(Drop)]
+pub enum Outcome {
+    /// The job goes on, at this superstep.
+    Open(u32),
+    /// It has an answer.
+    Ended(Report),
+}
+
+/// What became of each step, and where they lead.
+#[derive(Drop)]
+pub struct Trace {
+    pub answers: Vec<StepAnswer>,
+    pub outcome: Outcome,
+}
+
+// What the tasks of a job are done with.
+#[derive(Drop)]
+struct TaskRunner<'a> {
+    alloc: Global,
+    job: &'a Job,
+    scratch: Scratch<'a>,
+}
+
+// What the worker tells of a task once it was done.
+fn done_by<J: Origin>(runner: &mut TaskRunner, worker: u32, task: Task<J>) -> Event<J>
+    requires runner { IsRunnerOf J.work runner.old }
+    ensures runner { IsRunnerOf J.work runner.new }
+    ensures told { (ran : Bool) × (units : ℕ)
+        × (stamp_of result ≡ brought ran units worker (task_out task))
+        × (J.honest ≡ true → ran ≡ true → AreUnitsAt J.work task.superstep task.part units) }
+{
+    match run_task(runner.alloc, runner.job, task, &mut runner.scratch) {
+        Ok(done) => Event::Done(worker, done),
+        Err(lost) => Event::Failed(worker, lost.place),
+    }
+}
+
+// The book takes an event.
+fn tell<J: Origin, K: Keep, R: Threads + Sync + Files + AllocGlobal>(
+    rt: &R,
+    book: &mut Book<J>,
+    keep: &mut K,
+    event: Event<J>,
+) -> StepAnswer
+    requires keep { KeepsFor J.work J.honest (K.honest keep.old) (K.saved keep.old)
+        (K.may_load keep.old) book.old }
+    ensures step { (reply : Result Answer JobFault) × (result ≡ said reply)
+        × IsStep J.work J.honest (λ heard. accepted heard book.old (stamp_of event))
+        book.old book.new reply }
+    ensures keep { KeepsFor J.work J.honest (K.honest keep.new) (K.saved keep.new)
+        (K.may_load keep.new) book.new }
+    ensures counts { J.honest ≡ true → NeverFails K.faults → HasSameCounts book.old book.new }
+{
+    match book.accept(rt, event, keep) {
+        Ok(answer) => StepAnswer::Said(answer),
+        Err(_) => StepAnswer::Said(Answer::Ended),
+    }
+}
+
+fn holds_none<J: Origin>(held: &[Option<Task<J>>], worker: usize) -> bool
+    requires { worker < length held.now }
+    ensures { result ≡ is_free (slice_index_or (stamps held.now) worker None) }
+{
+    held[worker].is_none()
+}
+
+// The task that the worker held.
+fn let_go<J: Origin>(held: &mut [Option<Task<J>>], worker: usize) -> Option<Task<J>>
+    ensures held { option_map task_out result ≡ slice_index_or (stamps held.old) worker None }
+    ensures after { stamps held.new ≡ slice_set (stamps held.old) worker None }
+{
+    if worker < held.len() {
+        mem::replace(&mut held[worker], None)
+    } else {
+        None
+    }
+}
+
+// A worker that is not alive and does not wait drops its task.
+fn empty_if_gone<J: Origin>(book: &Book<J>, held: &mut [Option<Task<J>>], worker: u32)
+    ensures { stamps held.new ≡ emptied book.now (stamps held.old) worker }
+{
+    if !book.is_gone(worker) {
+        return;
+    }
+    let_go(held, worker as usize);
+}
+
+fn take<J: Origin>(book: &mut Book<J>, held: &mut [Option<Task<J>>], worker: u32) -> StepAnswer
+    ensures step { IsSimStep J.work J.honest (Take worker) (sim_of book.old held.old)
+        (sim_of book.new held.new) result }
+    ensures saved { book.new.saved ≡ book.old.saved }
+    ensures counts { HasSameCounts book.old book.new }
+{
+    if !book.is_running() {
+        return StepAnswer::Said(Answer::Ended);
+    }
+    let index = worker as usize;
+    if index >= held.len() {
+        return StepAnswer::Said(Answer::Stale);
+    }
+    if !holds_none(held, index) {
+        return StepAnswer::Idle;
+    }
+    let Some(task) = book.next_task(worker) else {
+        return StepAnswer::Idle;
+    };
+    let part = task.part();
+    held[index] = Some(task);
+    StepAnswer::Handed(part)
+}
+
+fn work<J: Origin, K: Keep, R: Threads + Sync + Files + AllocGlobal>(
+    rt: &R,
+    runner: &mut TaskRunner,
+    book: &mut Book<J>,
+    held: &mut [Option<Task<J>>],
+    keep: &mut K,
+    worker: u32,
+) -> StepAnswer
+    requires runner { IsRunnerOf J.work runner.old }
+    requires keep { KeepsFor J.work J.honest (K.honest keep.old) (K.saved keep.old)
+        (K.may_load keep.old) book.old }
+    ensures runner { IsRunnerOf J.work runner.new }
+    ensures step { IsSimStep J.work J.honest (Work worker) (sim_of book.old held.old)
+        (sim_of book.new held.new) result }
+    ensures keep { KeepsFor J.work J.honest (K.honest keep.new) (K.saved keep.new)
+        (K.may_load keep.new) book.new }
+    ensures counts { J.honest ≡ true → NeverFails K.faults → HasSameCounts book.old book.new }
+{
+    if let Some(task) = let_go(held, worker as usize) {
+        let event = done_by(runner, worker, task);
+        return tell(rt, book, keep, event);
+    }
+    if !book.is_running() {
+        return StepAnswer::Said(Answer::Ended);
+    }
+    if worker as usize >= held.len() {
+        return StepAnswer::Said(Answer::Stale);
+    }
+    let Some(task) = book.next_task(worker) else {
+        return StepAnswer::Idle;
+    };
+    let event = done_by(runner, worker, task);
+    tell(rt, book, keep, event)
+}
+
+fn join<J: Origin, K: Keep, R: Threads + Sync + Files + AllocGlobal>(
+    rt: &R,
+    book: &mut Book<J>,
+    held: &mut [Option<Task<J>>],
+    keep: &mut K,
+    worker: u32,
+) -> StepAnswer
+    requires keep { KeepsFor J.work J.honest (K.honest keep.old) (K.saved keep.old)
+        (K.may_load keep.old) book.old }
+    ensures step { IsSimStep J.work J.honest (Join worker) (sim_of book.old held.old)
+        (sim_of book.new held.new) result }
+    ensures keep { KeepsFor J.work J.honest (K.honest keep.new) (K.saved keep.new)
+        (K.may_load keep.new) book.new }
+    ensures counts { J.honest ≡ true → NeverFails K.faults → HasSameCounts book.old book.new }
+{
+    empty_if_gone(book, held, worker);
+    tell(rt, book, keep, Event::Joined(worker))
+}
+
+fn step_of<J: Origin, K: Keep, R: Threads + Sync + Files + AllocGlobal>(
+    rt: &R,
+    runner: &mut TaskRunner,
+    book: &mut Book<J>,
+    held: &mut [Option<Task<J>>],
+    keep: &mut K,
+    step: Step,
+) -> StepAnswer
+    requires runner { IsRunnerOf J.work runner.old }
+    requires keep { KeepsFor J.work J.honest (K.honest keep.old) (K.saved keep.old)
+        (K.may_load keep.old) book.old }
+    ensures runner { IsRunnerOf J.work runner.new }
+    ensures step { IsSimStep J.work J.honest step (sim_of book.old held.old)
+        (sim_of book.new held.new) result }
+    ensures keep { KeepsFor J.work J.honest (K.honest keep.new) (K.saved keep.new)
+        (K.may_load keep.new) book.new }
+    ensures counts { J.honest ≡ true → NeverFails K.faults → HasSameCounts book.old book.new }
+{
+    match step {
+        Step::Take(worker) => take(book, held, worker),
+        Step::Work(worker) => work(rt, runner, book, held, keep, worker),
+        Step::Lose(worker) => tell(rt, book, keep, Event::Lost(worker)),
+        Step::Tick => tell(rt, book, keep, Event::Tick),
+        Step::Join(worker) => join(rt, book, held, keep, worker),
+    }
+}
+
+// The steps, one after another, each with its answer.
+fn run<J: Origin, K: Keep, R: Threads + Sync + Files + AllocGlobal>(
+    rt: &R,
+    runner: &mut TaskRunner,
+    book: &mut Book<J>,
+    held: &mut [Option<Task<J>>],
+    keep: &mut K,
+    steps: &[Step],
+    answers: &mut [StepAnswer],
+)
+    requires same { length answers.old ≡ length steps.now }
+    requires runner { IsRunnerOf J.work runner.old }
+    requires keep { KeepsFor J.work J.honest (K.honest keep.old) (K.saved keep.old)
+        (K.may_load keep.old) book.old }
+    ensures ran { Ran J.work J.honest steps.now (sim_of book.old held.old) answers.new
+        (sim_of book.new held.new) }
+    ensures keep { KeepsFor J.work J.honest (K.honest keep.new) (K.saved keep.new)
+        (K.may_load keep.new) book.new }
+    ensures counts { J.honest ≡ true → NeverFails K.faults → HasSameCounts book.old book.new }
+{
+    for i in 0..steps.len() {
+        answers[i] = step_of(rt, runner, book, held, keep, steps[i]);
+    }
+}
+
+// How the book has ended, or where it stands.
+fn outcome_of<J: Origin>(book: Book<J>) -> Result<Outcome, JobFault>
+    ensures { IsOutcomeAt J.work J.honest book.entry book.entry.ending result }
+{
+    let status = book.status();
+    match status.end {
+        End::Running => Ok(Outcome::Open(status.superstep)),
+        End::Finished | End::Limit => {
+            let report = book.report()?;
+            Ok(Outcome::Ended(report))
+        }
+        End::Fault(fault) => Err(fault),
+    }
+}
+
+fn empty_hands<J: Origin>(alloc: Global, workers: u32) -> Result<Vec<Option<Task<J>>>, AllocError>
+    ensures { IfOk result (λ held. stamps held.items ≡ replicate workers None) }
+{
+    let mut held = Vec::with_capacity(alloc, workers as usize)?;
+    for worker in 0..workers {
+        let _nothing_yet = worker;
+        held.push(None)?;
+    }
+    Ok(held)
+}
+
+// The same for a job that a type names.
+fn simulate_as<J: Origin, K: Keep, R: Threads + Sync + Files + AllocGlobal>(
+    rt: &R,
+    alloc: Global,
+    job: &Job,
+    keep: &mut K,
+    steps: &[Step],
+) -> Result<Trace, JobFault>
+    requires job { J.work ≡ job.now }
+    requires honest { J.honest ≡ K.honest keep.old }
+    ensures simulated { IsSimulated J.work J.honest steps.now result }
+    ensures calm { J.honest ≡ true → NeverFails K.faults
+        → IfOk result (λ trace. IsCalm trace.outcome) }
+    ensures trust { J.honest ≡ true → K.honest keep.new ≡ true }
+{
+    let Ok(scratch) = Scratch::new(alloc, job.verified()) else {
+        return Err(JobFault::OutOfMemory(Place::Call));
+    };
+    let mut runner = TaskRunner {
+        alloc,
+        job,
+        scratch,
+    };
+    let mut book = Book::<J>::open(alloc, job)?;
+    let Ok(mut held) = empty_hands(alloc, job.settings().workers) else {
+        return Err(JobFault::OutOfMemory(Place::Open));
+    };
+    let Ok(mut answers) = vec![in alloc; StepAnswer::Idle; steps.len()] else {
+        return Err(JobFault::OutOfMemory(Place::Open));
+    };
+    run(
+        rt,
+        &mut runner,
+        &mut book,
+        &mut held,
+        keep,
+        steps,
+        &mut answers,
+    );
+    let outcome = outcome_of(book)?;
+    Ok(Trace { answers, outcome })
+}
+
+// What the calls of the job's module come to, whatever they are given.
+fn calls_stay_within(job: &Job)
+    ensures calls { CallsStayWithin job.now.«module» }
+    ensures meaning { Meaning job.now }
+{
+    calls_end();
+    calls_are_a_function();
+    job.settings();
+    let _module = job.verified().module();
+}
+
+/// Runs a job over these steps, in which workers take tasks, do them, are lost and join again, and time passes.
+///
+/// An `Err` is the fault that ended the job: `NoWorkers`, or want of memory for the work that it names. Want of memory to begin
+/// with is `Open` or `Call`, and for the report `Report`. The Keep is then as saves and loads left it.
+pub fn simulate<K: Keep, R: Threads + Sync + Files + AllocGlobal>(
+    rt: &R,
+    alloc: Global,
+    job: &Job,
+    keep: &mut K,
+    steps: &[Step],
+) -> Result<Trace, JobFault>
+    // No call meets a trap or a missing operand, and each stays within its bound.
+    ensures calls { CallsStayWithin job.now.«module» }
+    // So what they come to is one function, and there is the plain run of the job's graph.
+    ensures meaning { Meaning job.now }
+    // The answers and the outcome are the control machine's, and where the Keep is honest a job that has ended has the
+    // plain run's answer.
+    ensures simulated { IsSimulated job.now (K.honest keep.old) steps.now result }
+    // With an honest Keep whose device never fails nothing is missed, and all never begins anew.
+    ensures calm { K.honest keep.old ≡ true → NeverFails K.faults
+        → IfOk result (λ trace. IsCalm trace.outcome) }
+    // An honest Keep stays honest.
+    ensures trust { K.honest keep.old ≡ true → K.honest keep.new ≡ true }
+{
+    calls_stay_within(job);
+    simulate_as::<Brand, K, R>(rt, alloc, job, keep, steps)
+}

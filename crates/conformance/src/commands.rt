@@ -35,7 +35,7 @@ fn show_cases(
 }
 
 fn answer(
-    rt: &(impl Threads + Sync),
+    rt: &(impl Files + AllocGlobal + Threads + Sync),
     alloc: Global,
     case: &str,
     files: &mut LentFiles,
@@ -52,7 +52,7 @@ fn answer(
 }
 
 fn carried_out(
-    rt: &(impl Threads + Sync),
+    rt: &(impl Files + AllocGlobal + Threads + Sync),
     alloc: Global,
     line: &str,
     room: &str,
@@ -65,7 +65,7 @@ fn carried_out(
 }
 
 fn read_and_carried_out(
-    rt: &(impl Threads + Sync),
+    rt: &(impl Files + AllocGlobal + Threads + Sync),
     alloc: Global,
     words: &[&str],
     room: &str,
@@ -90,7 +90,7 @@ fn refused(kind: ErrorKind) -> &'static str {
 }
 
 fn told(
-    rt: &(impl Threads + Sync),
+    rt: &(impl Files + AllocGlobal + Threads + Sync),
     alloc: Global,
     options: Options,
     files: &mut LentFiles,
@@ -109,7 +109,7 @@ fn shown(alloc: Global, status: u8, out: &[u8], files: &LentFiles) -> Result<Str
 }
 
 fn told_in(
-    rt: &(impl Threads + Sync),
+    rt: &(impl Files + AllocGlobal + Threads + Sync),
     alloc: Global,
     options: Options,
     files: &mut LentFiles,
@@ -125,7 +125,12 @@ fn told_in(
     }
 }
 
-fn bounds(rt: &(impl Threads + Sync), alloc: Global, frame: &str, body: &str) -> Result<String> {
+fn bounds(
+    rt: &(impl Files + AllocGlobal + Threads + Sync),
+    alloc: Global,
+    frame: &str,
+    body: &str,
+) -> Result<String> {
     let (before, after) = frame.split_once('□').unwrap_or((frame, ""));
     let module = format!(in alloc; "{before}{body}{after}")?;
     let mut files = LentFiles::new(alloc);

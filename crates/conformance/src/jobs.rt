@@ -32,14 +32,21 @@ pub fn show(rt: &(impl Files + Print + AllocGlobal + Threads + Sync)) -> Result<
 
 fn answer(rt: &(impl Files + AllocGlobal + Threads + Sync), case: &str) -> Result<String> {
     let alloc = rt.alloc();
+    let is_copied = case.contains(" copied; ");
+    match job_in(rt, case)? {
+        Ok(job) => Ok(ran(rt, alloc, &job, is_copied)?),
+        Err(fault) => Ok(fault_told(alloc, fault)?),
+    }
+}
+
+/// The job of `PARTS WORKERS EVERY LIMIT LEASE; MODULE; GRAPH`.
+pub fn job_in(rt: &(impl Files + AllocGlobal), case: &str) -> Result<Result<Job, JobFault>> {
     let (settings, rest) = case.split_once("; ").unwrap_or((case, ""));
     let (module, graph) = rest.split_once("; ").unwrap_or((rest, ""));
     let verified = verified_in(rt, module)?;
     let graph = graph_in(rt, graph)?;
-    match Job::new(alloc, verified, graph, settings_of(settings)?) {
-        Ok(job) => Ok(ran(rt, alloc, &job, settings.ends_with(" copied"))?),
-        Err(fault) => Ok(fault_told(alloc, fault)?),
-    }
+    let settings = settings_of(settings)?;
+    Ok(Job::new(rt.alloc(), verified, graph, settings))
 }
 
 fn ran(
@@ -86,7 +93,8 @@ fn settings_of(text: &str) -> Result<Settings, ParseIntError> {
     })
 }
 
-fn fault_told(alloc: Global, fault: JobFault) -> Result<String, AllocError> {
+/// The words for a fault.
+pub fn fault_told(alloc: Global, fault: JobFault) -> Result<String, AllocError> {
     match fault {
         JobFault::Settings(setting) => format!(in alloc; "settings {setting:?}"),
         JobFault::OutOfMemory(place) => format!(in alloc; "{fault} {place:?}"),

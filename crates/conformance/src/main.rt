@@ -21,6 +21,7 @@ mod modules;
 mod numeric;
 mod profile;
 mod samples;
+mod simulations;
 mod slow_walk;
 mod texts;
 mod validation;
@@ -60,7 +61,7 @@ fn judgements(rt: &(impl Files + Print + AllocGlobal)) -> Result<()> {
     costs::show(rt)
 }
 
-// Compute calls, graphs, inboxes, jobs, checkpoints, Keeps, and the console.
+// Compute calls, graphs, inboxes, jobs, checkpoints, Keeps, simulations, and the console.
 fn runs(rt: &(impl Files + Print + AllocGlobal + Threads + Sync)) -> Result<()> {
     host_functions::show(rt)?;
     calls::show(rt)?;
@@ -70,6 +71,7 @@ fn runs(rt: &(impl Files + Print + AllocGlobal + Threads + Sync)) -> Result<()> 
     jobs::show(rt)?;
     checkpoints::show(rt)?;
     keeps::show(rt)?;
+    simulations::show(rt)?;
     inputs::show(rt)?;
     commands::show(rt)
 }

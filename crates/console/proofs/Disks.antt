@@ -12,7 +12,8 @@ use Rattle.console.specs.Modules.{IsModuleAt, MeansBy, is_text_path}
 use Rattle.console.specs.Engine.{RefusesModule, content, is_text}
 use Rattle.console.specs.inside.Answering.{HoldsSource}
 use Rattle.console.specs.Jobs.{RefusesGraph}
-use Rattle.console.specs.Program.{IsBeforeWriting, IsNoFile, IsNoGraphAt, IsRefusedAt, IsUnread, IsUnspelled, IsUnwritable, RefusesSpelled, TellsSpelling, TellsWritten}
+use Rattle.console.specs.Steps.{RefusesSteps}
+use Rattle.console.specs.Program.{IsBeforeWriting, IsNoFile, IsNoGraphAt, IsNoStepsAt, IsRefusedAt, IsUnread, IsUnspelled, IsUnwritable, RefusesSpelled, TellsSpelling, TellsWritten}
 
 -- nothing was done
 pub stays_same : (disk : Disk) → Stays disk disk
@@ -57,6 +58,12 @@ pub no_graph_before : (before after : Disk) (path : List ℕ) → Stays before a
     → IsNoGraphAt after path fault → IsNoGraphAt before path fault
 no_graph_before before after path stays fault (inl unread) = inl (unread_before true before after path stays fault unread)
 no_graph_before before after path stays fault (inr held) = inr (holds_before before after path (λ text. RefusesGraph text fault) stays held)
+
+-- where no steps are found after a read, none were found before
+pub no_steps_before : (before after : Disk) (path : List ℕ) → Stays before after → (fault : CommandFault)
+    → IsNoStepsAt after path fault → IsNoStepsAt before path fault
+no_steps_before before after path stays fault (inl unread) = inl (unread_before true before after path stays fault unread)
+no_steps_before before after path stays fault (inr held) = inr (holds_before before after path (λ text. RefusesSteps text fault) stays held)
 
 -- what cannot be written after a read could not be written before
 pub unwritable_before : (before after : Disk) (path : List ℕ) → Stays before after → (fault : CommandFault)

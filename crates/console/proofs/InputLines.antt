@@ -6,7 +6,6 @@ use Rattle.std.specs.Option.{option_to_list}
 use Rattle.std.specs.Str.Lines.{lines}
 use Rattle.std.proofs.lemmas.Bool.{both_ways}
 use Rattle.std.proofs.lemmas.List.{append-nil, take_more, take-append-drop, get_or-map, get_or_append_left, take_all, length-map}
-use Rattle.std.proofs.lemmas.List.FromFn.{length-enumerate_from, get_or-enumerate_from}
 use Rattle.std.proofs.lemmas.List.Elements.{All-push, All-contains, Contains-push}
 use Rattle.std.proofs.lemmas.Grind.{flat_map-append, fold-append}
 use Rattle.console.specs.declared.input.Input.{Input}
@@ -20,6 +19,7 @@ use Rattle.console.specs.InputSays.{AreInput, lines_of, is_good, set_slot, slots
 use Rattle.console.specs.Input.{Says}
 use Rattle.console.specs.inside.Adding.{Adds, fits}
 use Rattle.console.specs.InputFaults.{IsFirstBad, IsInputFault}
+use Rattle.console.proofs.TextLines.{Comes, none_left}
 
 -- ---- one line more
 
@@ -100,30 +100,6 @@ front_is_input front rest are = record {
   one_value = few_front value_by front rest are.one_value;
 }
 
--- the next line says this
-pub record Comes (lines : List Line) (read : ℕ) (said : Line) : Type 0 where
-  pub short : read < length lines
-  pub stands : get_or lines read said ≡ said
-
-pub line_comes : (text : List ℕ) (read index : ℕ) (line : List ℕ) (said : Line) → read < length (enumerate_from 0 (lines text))
-    → ◌≡◌ {A = ℕ × List ℕ} (index, line) (get_or (enumerate_from 0 (lines text)) read (index, line)) → said ≡ line_of line → Comes (lines_of text) read said
-line_comes text read index line said short item e =
-    let some : read < length (lines text) = omega (arith, length-enumerate_from 0 (lines text)) in
-    let both : ◌≡◌ {A = ℕ × List ℕ} (index, line) (0 + read, get_or (lines text) read line) = item ∙ get_or-enumerate_from 0 (lines text) read (index, line) some in
-    let here : line ≡ get_or (lines text) read line = ap (λ (p : ℕ × List ℕ). p.1) both in
-    record {
-      short = rw (length-map (lines text) line_of) some;
-      stands = get_or-map line_of (lines text) read line said some ∙ ap line_of (sym here) ∙ sym e;
-    }
-
-pub line_counted : (text : List ℕ) (read index : ℕ) (line : List ℕ) → read < length (enumerate_from 0 (lines text))
-    → ◌≡◌ {A = ℕ × List ℕ} (index, line) (get_or (enumerate_from 0 (lines text)) read (index, line)) → index ≡ read
-line_counted text read index line short item =
-    let some : read < length (lines text) = omega (arith, length-enumerate_from 0 (lines text)) in
-    let both : ◌≡◌ {A = ℕ × List ℕ} (index, line) (0 + read, get_or (lines text) read line) = item ∙ get_or-enumerate_from 0 (lines text) read (index, line) some in
-    let counted : index ≡ 0 + read = ap (λ (p : ℕ × List ℕ). p.0) both in
-    omega (arith, counted)
-
 taken : (lines : List Line) (read : ℕ) (said : Line) → Comes lines read said → take (read + 1) lines ≡ take read lines ++ said ∷ []
 taken lines read said comes = take_more lines read said comes.short ∙ ap (λ l. take read lines ++ l ∷ []) comes.stands
 
@@ -156,7 +132,7 @@ refused_next lines read index said old (fault.Line number) counted comes says re
 pub says_all : (text : List ℕ) (read : ℕ) (input : Input) → Says (take read (lines_of text)) input
     → read ≡ length (enumerate_from 0 (lines text)) → Says (lines_of text) input
 says_all text read input says all =
-    let past : length (lines_of text) ≤ read = omega (arith, length-enumerate_from 0 (lines text), length-map (lines text) line_of) in
+    let past : length (lines_of text) ≤ read = none_left line_of text read all in
     rw take_all at says
 
 -- lines of an input have no first bad one

@@ -11,33 +11,33 @@ use Rattle.superstep.specs.Job.{Meaning, Work}
 use Rattle.superstep.specs.PlainRun.{units_at}
 use Rattle.superstep.specs.Settings.{Refuses, first_bad}
 use Rattle.std.specs.Prelude.{Option, Some, None}
-use Rattle.console.specs.Lines.{job_lines, units_line, units_lines}
+use Rattle.console.specs.Lines.{job_lines, numbered_line, numbered_lines}
 use Rattle.console.specs.Jobs.{RefusesSettings}
 use Rattle.console.specs.inside.Answering.{opening_fault}
 
--- ---- units, one superstep more at a time
+-- ---- numbered lines, one more at a time
 
-units_pushed : (s : ℕ) (xs : List ℕ) (x : ℕ)
-    → units_lines s (xs ++ x ∷ []) ≡ units_lines s xs ++ units_line (s + length xs) x
-units_pushed s [] x =
-    let here : s ≡ s + length {A = ℕ} [] = omega arith in
-    append-nil (units_line s x) ∙ ap (λ n. units_line n x) here
-units_pushed s (y ∷ ys) x =
-    let here : suc s + length ys ≡ s + length (y ∷ ys) = omega arith in
-    let first = units_line s y in
-    ap (λ zs. first ++ zs) (units_pushed (suc s) ys x)
-    ∙ sym (append_assoc first (units_lines (suc s) ys) (units_line (suc s + length ys) x))
-    ∙ ap (λ n. (first ++ units_lines (suc s) ys) ++ units_line n x) here
+pushed : (word : List ℕ) (n : ℕ) (xs : List ℕ) (x : ℕ)
+    → numbered_lines word n (xs ++ x ∷ []) ≡ numbered_lines word n xs ++ numbered_line word (n + length xs) x
+pushed word n [] x =
+    let here : n ≡ n + length {A = ℕ} [] = omega arith in
+    append-nil (numbered_line word n x) ∙ ap (λ k. numbered_line word k x) here
+pushed word n (y ∷ ys) x =
+    let here : suc n + length ys ≡ n + length (y ∷ ys) = omega arith in
+    let first = numbered_line word n y in
+    ap (λ zs. first ++ zs) (pushed word (suc n) ys x)
+    ∙ sym (append_assoc first (numbered_lines word (suc n) ys) (numbered_line word (suc n + length ys) x))
+    ∙ ap (λ k. (first ++ numbered_lines word (suc n) ys) ++ numbered_line word k x) here
 
-pub units_more : (s : ℕ) (xs before : List ℕ) (i d : ℕ) → i < length xs
-    → (before ++ units_lines s (take i xs)) ++ units_line (s + i) (get_or xs i d)
-    ≡ before ++ units_lines s (take (i + 1) xs)
-units_more s xs before i d below =
-    let last = units_line (s + i) (get_or xs i d) in
-    append_assoc before (units_lines s (take i xs)) last
+pub numbered_more : (word : List ℕ) (n : ℕ) (xs before : List ℕ) (i d : ℕ) → i < length xs
+    → (before ++ numbered_lines word n (take i xs)) ++ numbered_line word (n + i) (get_or xs i d)
+    ≡ before ++ numbered_lines word n (take (i + 1) xs)
+numbered_more word n xs before i d below =
+    let last = numbered_line word (n + i) (get_or xs i d) in
+    append_assoc before (numbered_lines word n (take i xs)) last
     ∙ ap (λ zs. before ++ zs)
-    (sym (ap (units_lines s) (take_more xs i d below) ∙ units_pushed s (take i xs) (get_or xs i d)
-    ∙ ap (λ n. units_lines s (take i xs) ++ units_line (s + n) (get_or xs i d))
+    (sym (ap (numbered_lines word n) (take_more xs i d below) ∙ pushed word n (take i xs) (get_or xs i d)
+    ∙ ap (λ k. numbered_lines word n (take i xs) ++ numbered_line word (n + k) (get_or xs i d))
     (length-take-le i xs (omega arith))))
 
 -- ---- all of them

@@ -28,6 +28,7 @@ refused_in_text disk middle module_path input_path seen text read stays holds fo
 pub want_is_cause : (disk : Disk) (asked : Options) → IsCause disk asked command.OutOfMemory
 want_is_cause disk (options.Call module_path input_path) = inl tt
 want_is_cause disk (options.Run asked) = inl (inl (inl tt))
+want_is_cause disk (options.Replay asked steps_path) = inl (inl (inl tt))
 want_is_cause disk (options.Upgrade path newer_path) = inl (inl tt)
 want_is_cause disk (options.Assemble module_path binary_path) = inl tt
 want_is_cause disk (options.Print module_path) = inl tt

@@ -5,6 +5,7 @@ use Rattle.wasm_ast.specs.declared.module.Module.{Module}
 use Rattle.graph.specs.Entry.{Entry}
 use Rattle.graph.specs.Graph.{IsGraphText, IsWithinLimits}
 use Rattle.graph.specs.declared.fault.GraphFault.TheVariants as graph_fault
+use Rattle.superstep.specs.declared.fault.JobFault.TheVariants as job_fault
 use Rattle.superstep.specs.declared.settings.Settings.{Settings}
 use Rattle.superstep.specs.Settings.{first_bad}
 use Rattle.superstep.specs.Job.{IsGraphOf, Meaning, Work}
@@ -50,6 +51,6 @@ RefusesSettings settings _ = ⊥
 
 -- memory ran out in a job, or for the lines of what it ended with
 abbrev pub IsWantOfJob : CommandFault → Type 0
-IsWantOfJob command.Job = Unit {0}
+IsWantOfJob (command.Job (job_fault.OutOfMemory place)) = Unit {0}
 IsWantOfJob command.OutOfMemory = Unit {0}
 IsWantOfJob _ = ⊥

@@ -4,15 +4,19 @@ pub mod InputLine
 pub mod InputSays
 pub mod Input
 pub mod InputFaults
+-- the steps of a replay, and which of them a text means
+pub mod StepLine
+pub mod Steps
 -- what is told of an outcome and of a fault
 pub mod Lines
 pub mod Refusal
 -- files, and the modules in them
 pub mod Disk
 pub mod Modules
--- what a call answers, what a job tells, and what a command tells
+-- what a call answers, what a job and a replay tell, and what a command tells
 pub mod Engine
 pub mod Jobs
+pub mod Replays
 pub mod Program
 -- what only mirrors the code, for its proofs
 pub mod inside

@@ -5,6 +5,8 @@ use Rattle.std.specs.Fmt.{decimal, signed_decimal}
 use Rattle.host_calls.specs.declared.call.CallOutcome.{CallOutcome}
 use Rattle.graph.specs.Print.{value_lines}
 use Rattle.superstep.specs.PlainRun.{Answer}
+use Rattle.superstep.specs.Ending.{answer_of}
+use Rattle.superstep.specs.declared.run.Ended.{Ended}
 
 -- the bytes of the text that is answered have this property
 abbrev pub IfTold : {Z E : Type 0} → Result (String Z) E → (List ℕ → Type 0) → Type 0
@@ -53,15 +55,24 @@ end_line answer =
     line (codes "end " ++ end_word answer.finished ++ codes " supersteps " ++ decimal answer.superstep
     ++ codes " units " ++ decimal answer.units ++ codes " dropped " ++ decimal answer.dropped)
 
-abbrev pub units_line : (superstep units : ℕ) → List ℕ
-units_line superstep units = line (codes "units " ++ decimal superstep ++ codes " " ++ decimal units)
+-- a word, a number and its units
+abbrev pub numbered_line : (word : List ℕ) → (number units : ℕ) → List ℕ
+numbered_line word number units = line (word ++ codes " " ++ decimal number ++ codes " " ++ decimal units)
 
--- the units of a superstep and of those behind it, each on its line
+-- the units of a number and of those behind it, each on its line
+abbrev pub numbered_lines : (word : List ℕ) → (number : ℕ) → List ℕ → List ℕ
+numbered_lines word number [] = []
+numbered_lines word number (units ∷ rest) = numbered_line word number units ++ numbered_lines word (suc number) rest
+
+-- the units of a superstep and of those behind it
 abbrev pub units_lines : (superstep : ℕ) → List ℕ → List ℕ
-units_lines superstep [] = []
-units_lines superstep (units ∷ rest) = units_line superstep units ++ units_lines (suc superstep) rest
+units_lines superstep units = numbered_lines (codes "units") superstep units
 
 -- the values, the end, and, if they are told, the units of each superstep from this one on
 abbrev pub job_lines : (tells_units : Bool) → Answer → (since : ℕ) → List ℕ → List ℕ
 job_lines tells_units answer since units =
     value_lines answer.values ++ end_line answer ++ (if tells_units then units_lines since units else [])
+
+-- the lines of what a job ended with, as it tells it
+abbrev pub ended_lines : (tells_units : Bool) → Ended → List ℕ
+ended_lines tells_units ended = job_lines tells_units (answer_of ended) ended.since ended.by_superstep.items

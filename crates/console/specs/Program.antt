@@ -1,5 +1,5 @@
 -- What the program tells of a command over files.
-use Rattle.std.specs.Prelude.{◌≡◌, ℕ, ◌<◌, ◌≤◌, ◌⊎◌, Bool, true, false, List, ◌++◌, Option, None, Result, MatchResult, codes, length}
+use Rattle.std.specs.Prelude.{◌≡◌, ℕ, ◌<◌, ◌≤◌, ◌⊎◌, Bool, true, false, List, ◌++◌, Option, None, Result, Ok, MatchResult, codes, length}
 use Rattle.std.specs.Fmt.{decimal}
 use Rattle.std.specs.Io.KnownBytes.{Appends}
 use Rattle.std.specs.Str.{IsUtf8}
@@ -14,6 +14,7 @@ use Rattle.graph.specs.Entry.{Entry}
 use Rattle.graph.specs.Output.{HasBegun}
 use Rattle.superstep.specs.Job.{Work}
 use Rattle.superstep.specs.State.{Standing}
+use Rattle.rollback.specs.declared.simulation.Step.{Step}
 use Rattle.checkpoint.specs.Checkpoint.{IsCheckpointOf, checkpoint_bytes}
 use Rattle.checkpoint.specs.Reading.{Fails, state_of}
 use Rattle.console.specs.declared.fault.CommandFault.{CommandFault}
@@ -27,6 +28,8 @@ use Rattle.console.specs.Modules.{IsModuleAt, Loads, MeansBy, is_text_path}
 use Rattle.console.specs.Refusal.{fault_text, status_of}
 use Rattle.console.specs.Engine.{IsAnswer, RefusesLoad, RefusesModule, RefusesText}
 use Rattle.console.specs.Jobs.{AreJobLines, IsGraphIn, IsJobOf, IsWantOfJob, RefusesGraph, RefusesSettings}
+use Rattle.console.specs.Replays.{AreReplayLines, IsFaultOfReplay}
+use Rattle.console.specs.Steps.{RefusesSteps, steps_of}
 
 -- ---- answers
 
@@ -54,6 +57,16 @@ pub record IsJobAt (disk : Disk) (asked : JobRequest) (job : Work) : Type 0 wher
 -- the lines of what that job ends with are told
 abbrev pub TellsJob : Disk → JobRequest → (told : List ℕ) → Type 0
 TellsJob disk asked told = (job : Work) × IsJobAt disk asked job × AreJobLines job asked.tells_units told
+
+-- the file's text means these steps
+abbrev pub AreStepsAt : Disk → (path : List ℕ) → List Step → Type 0
+AreStepsAt disk path steps = HoldsAt disk path (λ text. steps_of text ≡ Ok steps)
+
+-- the lines of what that job comes to by the steps in a third file are told
+abbrev pub TellsReplay : Disk → JobRequest → (steps_path told : List ℕ) → Type 0
+TellsReplay disk asked steps_path told =
+    (job : Work) × IsJobAt disk asked job
+    × ((steps : List Step) × AreStepsAt disk steps_path steps × AreReplayLines job asked.tells_units steps told)
 
 abbrev pub length_line : ℕ → List ℕ
 length_line count = line (codes "ok " ++ decimal count)
@@ -107,6 +120,7 @@ TellsBounds disk module_path told = (m : Module) × IsLoadedAt disk module_path 
 abbrev pub Answered : (before after : Disk) → Options → List ℕ → Type 0
 Answered before after (options.Call module_path input_path) told = TellsOutcome before module_path.now input_path.now told
 Answered before after (options.Run asked) told = TellsJob before asked told
+Answered before after (options.Replay asked steps_path) told = TellsReplay before asked steps_path.now told
 Answered before after (options.Upgrade path newer_path) told = TellsUpgraded before after path.now newer_path.now told
 Answered before after (options.Assemble module_path binary_path) told = TellsLength before after module_path.now binary_path.now told
 Answered before after (options.Print module_path) told = TellsLayout before module_path.now told
@@ -166,6 +180,21 @@ IsUnopened disk asked fault =
 abbrev pub IsUnrun : Disk → JobRequest → CommandFault → Type 0
 IsUnrun disk asked fault = IsUnopened disk asked fault ⊎ ((job : Work) × IsJobAt disk asked job × IsWantOfJob fault)
 
+-- the file of steps is not read, or what is in it means none
+abbrev pub IsNoStepsAt : Disk → (path : List ℕ) → CommandFault → Type 0
+IsNoStepsAt disk path fault = IsUnread true disk path fault ⊎ HoldsAt disk path (λ text. RefusesSteps text fault)
+
+-- why no steps of a job are told: there are none, or they come to a fault
+abbrev pub RefusesReplay : Disk → (steps_path : List ℕ) → Work → CommandFault → Type 0
+RefusesReplay disk steps_path job fault =
+    IsNoStepsAt disk steps_path fault
+    ⊎ ((steps : List Step) × AreStepsAt disk steps_path steps × IsFaultOfReplay job steps fault)
+
+-- why nothing is told of a replay: there is no job, or its steps are not told
+abbrev pub IsUnreplayed : Disk → JobRequest → (steps_path : List ℕ) → CommandFault → Type 0
+IsUnreplayed disk asked steps_path fault =
+    IsUnopened disk asked fault ⊎ ((job : Work) × IsJobAt disk asked job × RefusesReplay disk steps_path job fault)
+
 -- writing to the file at the path came to this
 abbrev pub IsUnwritable : Disk → List ℕ → CommandFault → Type 0
 IsUnwritable disk path (command.Unwritable refused) = (refused.now ≡ path) × disk.refuses path
@@ -203,6 +232,7 @@ IsUnassembled disk module_path binary_path fault = IsRefusedAt disk module_path 
 abbrev pub IsCause : Disk → Options → CommandFault → Type 0
 IsCause disk (options.Call module_path input_path) fault = IsUncalled disk module_path.now input_path.now fault
 IsCause disk (options.Run asked) fault = IsUnrun disk asked fault
+IsCause disk (options.Replay asked steps_path) fault = IsUnreplayed disk asked steps_path.now fault
 IsCause disk (options.Upgrade path newer_path) fault = IsNotUpgraded disk path.now newer_path.now fault
 IsCause disk (options.Assemble module_path binary_path) fault = IsUnassembled disk module_path.now binary_path.now fault
 IsCause disk (options.Print module_path) fault = IsRefusedAt disk module_path.now RefusesModule fault

@@ -11,6 +11,8 @@ use Rattle.wat_asm.specs.declared.fault.TextFault.{TextFault}
 use Rattle.wat_asm.specs.declared.fault.TextFault.TheVariants as text
 use Rattle.graph.specs.declared.fault.GraphFault.{GraphFault}
 use Rattle.graph.specs.declared.fault.GraphFault.TheVariants as graph
+use Rattle.superstep.specs.declared.fault.JobFault.{JobFault}
+use Rattle.superstep.specs.declared.fault.JobFault.TheVariants as job
 use Rattle.superstep.specs.declared.settings.Setting.{Setting}
 use Rattle.superstep.specs.declared.settings.Setting.TheVariants as setting
 use Rattle.checkpoint.specs.declared.fault.CheckFault.{CheckFault}
@@ -22,7 +24,7 @@ use Rattle.console.specs.declared.fault.CommandFault.TheVariants as command
 
 -- a file's fault is a mistake of another kind than a refusal, and so is a job's end by a fault
 abbrev pub status_of : CommandFault → ℕ
-status_of command.Job = 3
+status_of (command.Job fault) = 3
 status_of (command.Unread path) = 4
 status_of (command.Unwritable path) = 4
 status_of _ = 1
@@ -68,6 +70,14 @@ setting_word setting.Every = codes "every"
 setting_word setting.Limit = codes "limit"
 setting_word setting.Lease = codes "lease"
 
+-- how a job without an answer ended
+abbrev pub job_text : JobFault → List ℕ
+job_text (job.OutOfMemory place) = codes "end fault OutOfMemory"
+job_text job.NoWorkers = codes "end fault NoWorkers"
+job_text (job.Settings which) = codes "end fault Settings"
+job_text job.ThreadRefused = codes "end fault ThreadRefused"
+job_text job.Closed = codes "end fault Closed"
+
 abbrev pub checkpoint_text : CheckFault → List ℕ
 checkpoint_text checkpoint.Header = codes "no checkpoint Header"
 checkpoint_text checkpoint.Version = codes "no checkpoint Version"
@@ -93,7 +103,7 @@ fault_text (command.Input fault) = input_text fault
 fault_text command.Run = codes "no run OutOfMemory"
 fault_text (command.Graph fault) = graph_text fault
 fault_text (command.Settings which) = codes "no settings " ++ setting_word which
-fault_text command.Job = codes "end fault OutOfMemory"
+fault_text (command.Job fault) = job_text fault
 fault_text (command.Checkpoint fault) = checkpoint_text fault
 fault_text (command.Encode fault) = encode_text fault
 fault_text (command.Unread path) = file_text path.now

@@ -98,7 +98,8 @@ fn asked<'a>(name: &str, module: &'a str, entries: &ArgMatches<'a>) -> Option<Op
             let input = entries.get_str("input")?;
             Some(Options::Call { module, input })
         }
-        "run" => job_asked(module, entries),
+        "run" => job_asked(module, entries).map(Options::Run),
+        "replay" => replay_asked(module, entries),
         "asm" => {
             let binary = entries.get_str("binary")?;
             Some(Options::Assemble { module, binary })
@@ -109,16 +110,22 @@ fn asked<'a>(name: &str, module: &'a str, entries: &ArgMatches<'a>) -> Option<Op
     }
 }
 
-fn job_asked<'a>(module: &'a str, entries: &ArgMatches<'a>) -> Option<Options<'a>> {
+fn replay_asked<'a>(module: &'a str, entries: &ArgMatches<'a>) -> Option<Options<'a>> {
+    let asked = job_asked(module, entries)?;
+    let steps = entries.get_str("steps")?;
+    Some(Options::Replay { asked, steps })
+}
+
+fn job_asked<'a>(module: &'a str, entries: &ArgMatches<'a>) -> Option<JobRequest<'a>> {
     let graph = entries.get_str("graph")?;
     let settings = settings_of(entries)?;
     let tells_units = entries.get_flag("units");
-    Some(Options::Run(JobRequest {
+    Some(JobRequest {
         module,
         graph,
         settings,
         tells_units,
-    }))
+    })
 }
 
 fn settings_of(entries: &ArgMatches) -> Option<Settings> {
@@ -140,6 +147,7 @@ fn pregel<'a>(alloc: Global) -> Result<Command<'a>, AllocError> {
         .arg_required_else_help(true);
     let command = with(command, call(alloc))?;
     let command = with(command, run(alloc))?;
+    let command = with(command, replay(alloc))?;
     let command = with(command, upgrade(alloc))?;
     let command = with(command, asm(alloc))?;
     let command = with(command, print(alloc))?;
@@ -163,10 +171,28 @@ fn call<'a>(alloc: Global) -> Result<Command<'a>, AllocError> {
 }
 
 fn run<'a>(alloc: Global) -> Result<Command<'a>, AllocError> {
-    let mut command = Command::new(alloc, "run")
-        .about("Runs a module's job over a graph, and prints the vertices' values")
+    let command = of_job(alloc, "run")?.about(
+        "Runs a module's job over a graph, and prints the vertices' values",
+    );
+    with_settings(alloc, command)
+}
+
+fn replay<'a>(alloc: Global) -> Result<Command<'a>, AllocError> {
+    let command = of_job(alloc, "replay")?
+        .about("Replays a job by steps of its workers, and prints what becomes of each step")
+        .arg(steps(alloc))?;
+    with_settings(alloc, command)
+}
+
+// A command over a module and a graph.
+fn of_job<'a>(alloc: Global, name: &'a str) -> Result<Command<'a>, AllocError> {
+    Command::new(alloc, name)
         .arg(module(alloc, "MODULE"))?
-        .arg(graph(alloc))?;
+        .arg(graph(alloc))
+}
+
+// The command with a job's settings.
+fn with_settings<'a>(alloc: Global, mut command: Command<'a>) -> Result<Command<'a>, AllocError> {
     for (name, otherwise, help) in SETTINGS {
         command = command.arg(setting(alloc, name, otherwise, help))?;
     }
@@ -220,6 +246,16 @@ fn graph<'a>(alloc: Global) -> Arg<'a> {
     Arg::new(alloc, "graph")
         .value_name("GRAPH")
         .help("The graph, in lines such as `v 1 3` for a vertex and `e 1 2 5` for an edge")
+        .required(true)
+}
+
+// The steps of a replay.
+fn steps<'a>(alloc: Global) -> Arg<'a> {
+    Arg::new(alloc, "steps")
+        .value_name("STEPS")
+        .help(
+            "The steps, in lines such as `work 0`; also `take`, `lose` and `join` with a worker, and `tick`",
+        )
         .required(true)
 }
 

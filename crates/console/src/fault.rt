@@ -9,7 +9,7 @@ use bounded_profile::ProfileFault;
 use checkpoint::CheckFault;
 use graph::GraphFault;
 use std::alloc::AllocError;
-use superstep::Setting;
+use superstep::{JobFault, Setting};
 use validate::ValidFault;
 use wasm_decode::{DecodeFault, EncodeFault};
 use wat_asm::TextFault;
@@ -34,8 +34,8 @@ pub enum CommandFault<'a> {
     Graph(GraphFault),
     /// This setting is the first that is out of its range.
     Settings(Setting),
-    /// Memory ran out in the job.
-    Job,
+    /// The job ended by this fault.
+    Job(JobFault),
     /// The bytes are no checkpoint.
     Checkpoint(CheckFault),
     /// The module is not spelled: its shortest spelling takes more than 1,048,576 bytes.
@@ -54,7 +54,7 @@ pub fn status_of(fault: &CommandFault) -> u8
 {
     match fault {
         CommandFault::Unread(_) | CommandFault::Unwritable(_) => 4,
-        CommandFault::Job => 3,
+        CommandFault::Job(_) => 3,
         _ => 1,
     }
 }

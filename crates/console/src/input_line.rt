@@ -89,8 +89,8 @@ fn long_line(name: &[u8], first: &[u8], second: &[u8]) -> Line
     Line::Bad
 }
 
-// The number that a field writes: decimal digits of a number of 32 bits.
-fn small_of(field: &[u8]) -> Option<u32>
+/// The number that a field writes: decimal digits of a number of 32 bits.
+pub fn small_of(field: &[u8]) -> Option<u32>
     ensures { result ≡ small_of field.now }
 {
     let number = id_of(field)?;

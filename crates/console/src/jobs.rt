@@ -3,16 +3,16 @@
 ghost use Rattle.std.specs.Prelude.{◌≡◌, IfOk, IfErr, MatchResult, OnOk, string_bytes};
 ghost use Rattle.graph.specs.Print.{value_lines};
 ghost use Rattle.superstep.specs.Ending.{answer_of};
-ghost use Rattle.console.specs.Lines.{Gains, IfTold, end_line, units_line, units_lines};
+ghost use Rattle.console.specs.Lines.{Gains, IfTold, end_line, ended_lines, numbered_line, numbered_lines};
 ghost use Rattle.console.specs.Jobs.{AreJobLines, IsJobOf, IsWantOfJob, RefusesSettings};
-ghost use Rattle.console.specs.inside.Answering.{ended_lines, opening_fault};
+ghost use Rattle.console.specs.inside.Answering.{opening_fault};
 
 use crate::fault::CommandFault;
 use bounded_profile::Verified;
 use graph::Graph;
 use std::alloc::{AllocError, Global};
 use std::thread::Threads;
-use superstep::{Ended, How, Job, JobFault, Settings, one_machine};
+use superstep::{Ended, How, Job, JobFault, Place, Settings, one_machine};
 
 /// The job of a module over a graph. `Settings` names the first setting that is out of its range.
 pub fn open<'a>(
@@ -52,7 +52,8 @@ pub fn run<'a>(
     ensures refused { IfErr result IsWantOfJob }
 {
     let Ok(ended) = one_machine(rt, alloc, job) else {
-        return Err(CommandFault::Job);
+        // It does not tell for which work there is no memory.
+        return Err(CommandFault::Job(JobFault::OutOfMemory(Place::Call)));
     };
     let text = ended_text(alloc, &ended, tells_units)?;
     Ok(text)
@@ -63,12 +64,20 @@ fn ended_text(alloc: Global, ended: &Ended, tells_units: bool) -> Result<String,
     ensures { IfOk result (λ text. string_bytes text ≡ ended_lines tells_units ended.now) }
 {
     let mut text = String::new(alloc);
-    push_values(&mut text, &ended.values)?;
-    push_end(&mut text, ended)?;
-    if tells_units {
-        push_units(&mut text, ended.since, &ended.by_superstep)?;
-    }
+    push_ended(&mut text, ended, tells_units)?;
     Ok(text)
+}
+
+/// Puts the lines of what a job ended with behind a text.
+pub fn push_ended(text: &mut String, ended: &Ended, tells_units: bool) -> Result<(), AllocError>
+    ensures { OnOk result (Gains text.old text.new (ended_lines tells_units ended.now)) }
+{
+    push_values(text, &ended.values)?;
+    push_end(text, ended)?;
+    if tells_units {
+        push_numbered(text, "units", ended.since, &ended.by_superstep)?;
+    }
+    Ok(())
 }
 
 fn push_values(text: &mut String, values: &[(u64, i64)]) -> Result<(), AllocError>
@@ -94,18 +103,23 @@ fn push_end(text: &mut String, ended: &Ended) -> Result<(), AllocError>
     )
 }
 
-// The units of each superstep from this one on.
-fn push_units(text: &mut String, since: u32, units: &[u128]) -> Result<(), AllocError>
-    ensures { OnOk result (Gains text.old text.new (units_lines since units.now)) }
+/// Puts a line `WORD N UNITS` behind a text for each of these units, N being this number at the first and one more at each.
+pub fn push_numbered(
+    text: &mut String,
+    word: &str,
+    first: u32,
+    units: &[u128],
+) -> Result<(), AllocError>
+    ensures { OnOk result (Gains text.old text.new (numbered_lines word.now first units.now)) }
 {
     for (index, units) in units.iter().enumerate() {
-        push_units_of(text, u64::from(since) + index as u64, *units)?;
+        push_number(text, word, u64::from(first) + index as u64, *units)?;
     }
     Ok(())
 }
 
-fn push_units_of(text: &mut String, superstep: u64, units: u128) -> Result<(), AllocError>
-    ensures { OnOk result (Gains text.old text.new (units_line superstep units)) }
+fn push_number(text: &mut String, word: &str, number: u64, units: u128) -> Result<(), AllocError>
+    ensures { OnOk result (Gains text.old text.new (numbered_line word.now number units)) }
 {
-    writeln!(text, "units {superstep} {units}")
+    writeln!(text, "{word} {number} {units}")
 }

@@ -1,4 +1,5 @@
-//! The console: modules and graphs in files, a compute call and a job to printed lines, and the program round them.
+//! The console: modules and graphs in files, a compute call, a job and
+//! its replay to printed lines, and the program round them.
 #![tactic(auto)]
 
 mod command_line;
@@ -13,8 +14,11 @@ mod lines;
 mod modules;
 mod program;
 mod refusal;
+mod replay;
 mod request;
 mod sources;
+mod step_line;
+mod steps;
 
 pub use command_line::options;
 pub use engine::{call, load};
@@ -26,5 +30,7 @@ pub use lines::outcome_text;
 pub use modules::module_of;
 pub use program::command;
 pub use refusal::refusal_line;
+pub use replay::trace_text;
 pub use request::{JobRequest, Options};
 pub use sources::Source;
+pub use steps::steps_of;

@@ -8,7 +8,7 @@ ghost use Rattle.console.specs.Disk.{Stays, Tries};
 ghost use Rattle.console.specs.Lines.{IfTold};
 ghost use Rattle.console.specs.Modules.{IsModuleAt};
 ghost use Rattle.console.specs.Engine.{RefusesLoad, RefusesModule};
-ghost use Rattle.console.specs.Program.{Answered, IsBoundsLine, IsCause, IsJobAt, IsKeptAt, IsLoadedAt, IsNoCheckpointAt, IsNoGraphAt, IsNotUpgraded, IsReadAt, IsRefusedAt, IsTold, IsUnassembled, IsUncalled, IsUnopened, IsUnrun, IsUnspelled, IsUnwritable, MayTry, StaysBeforeWriting, TellsBounds, TellsJob, TellsLayout, TellsLength, TellsOutcome, TellsSpelling, TellsUpgraded, TellsWritten, Told, TriesSpelling, TriesUpgraded, bounds_line, length_line, writes_file};
+ghost use Rattle.console.specs.Program.{Answered, AreStepsAt, IsBoundsLine, IsCause, IsJobAt, IsKeptAt, IsLoadedAt, IsNoCheckpointAt, IsNoGraphAt, IsNoStepsAt, IsNotUpgraded, IsReadAt, IsRefusedAt, IsTold, IsUnassembled, IsUncalled, IsUnopened, IsUnreplayed, IsUnrun, IsUnspelled, IsUnwritable, MayTry, StaysBeforeWriting, TellsBounds, TellsJob, TellsLayout, TellsLength, TellsOutcome, TellsReplay, TellsSpelling, TellsUpgraded, TellsWritten, Told, TriesSpelling, TriesUpgraded, bounds_line, length_line, writes_file};
 ghost use Rattle.console.specs.inside.Answering.{IsFaultTold};
 
 use crate::engine::{call, load};
@@ -17,10 +17,13 @@ use crate::files::Files;
 use crate::jobs::{open, run};
 use crate::modules::module_of;
 use crate::refusal::refusal_line;
+use crate::replay::replay;
 use crate::request::{JobRequest, Options};
 use crate::sources::{read_bytes, read_source, read_text, write};
+use crate::steps::steps_of;
 use bounded_profile::Verified;
 use graph::{Graph, Output, Unwritten, put};
+use rollback::Step;
 use std::alloc::{AllocError, Global};
 use std::thread::Threads;
 use superstep::{Job, State};
@@ -30,20 +33,21 @@ use wat_asm::print;
 
 /// Does what the options ask for, and writes the answer or, as one line, its refusal.
 ///
-/// It answers the status for the process: 0 where there is an answer, 1 where the module, the input, the call, the graph or
-/// a setting was refused, 3 where a job ended by a fault, and 4 where a file cannot be read or written, which
+/// It answers the status for the process: 0 where there is an answer, 1 where the module, the input, the call, the graph,
+/// a setting or the steps were refused, 3 where a job ended by a fault, and 4 where a file cannot be read or written, which
 /// `no file PATH` tells. A module's file whose path ends in
 /// `.wat` is text, any other is binary; text that is not in UTF-8 cannot be read. It fails only where the writer failed,
 /// and then a beginning of what was to be told was written.
 ///
 /// `call` answers with the outcome's lines; the module is looked at before it is told that the input's file cannot be
 /// read. `run` answers with the values of a job's vertices and how it ended; the module is looked at first, then the graph,
-/// then the settings. `verify` answers `ok size S operands M frames F`. `upgrade` reads a checkpoint of any version, writes it to the other file as one of version 2, and answers `ok LENGTH`. `asm` writes the module's canonical spelling to the other file,
+/// then the settings. `replay` answers with a line for each of the steps and where they lead, and looks at the steps after
+/// the settings. `verify` answers `ok size S operands M frames F`. `upgrade` reads a checkpoint of any version, writes it to the other file as one of version 2, and answers `ok LENGTH`. `asm` writes the module's canonical spelling to the other file,
 /// and answers `ok LENGTH`. `print` answers with the module's text. These two do not ask that the module is valid, and the
 /// others ask that it is and that it is in the bounded profile. A refusal is one of the module's and the input's own, or
 /// want of memory.
 pub fn command<F: Files, O: Output>(
-    rt: &(impl Threads + Sync),
+    rt: &(impl Threads + Sync + std::rt::Files + AllocGlobal),
     alloc: Global,
     options: Options<'_>,
     files: &mut F,
@@ -84,7 +88,7 @@ fn refuse<O: Output>(alloc: Global, fault: &CommandFault, out: &mut O) -> Result
 
 // What is told of a command.
 fn carry_out<'a, F: Files>(
-    rt: &(impl Threads + Sync),
+    rt: &(impl Threads + Sync + std::rt::Files + AllocGlobal),
     alloc: Global,
     options: Options<'a>,
     files: &mut F,
@@ -99,6 +103,7 @@ fn carry_out<'a, F: Files>(
     match options {
         Options::Call { module, input } => call_files(alloc, module, input, files),
         Options::Run(asked) => run_files(rt, alloc, asked, files),
+        Options::Replay { asked, steps } => replay_files(rt, alloc, asked, steps, files),
         Options::Upgrade { checkpoint, newer } => upgrade_file(alloc, checkpoint, newer, files),
         Options::Assemble { module, binary } => assemble_file(alloc, module, binary, files),
         Options::Print { module } => print_file(alloc, module, files),
@@ -140,6 +145,39 @@ fn run_files<'a, F: Files>(
 {
     let job = job_of(alloc, asked, files)?;
     run(rt, alloc, &job, asked.tells_units)
+}
+
+// Replays the job of the module in one file over the graph in another, by the steps in a third.
+fn replay_files<'a, F: Files>(
+    rt: &(impl Threads + Sync + std::rt::Files + AllocGlobal),
+    alloc: Global,
+    asked: JobRequest<'a>,
+    steps: &'a str,
+    files: &mut F,
+) -> Result<String, CommandFault<'a>>
+    ensures answered { IfTold result (TellsReplay (F.disk files.old) asked.entry steps.now) }
+    ensures kept { Stays (F.disk files.old) (F.disk files.new) }
+    ensures refused { IfErr result (IsUnreplayed (F.disk files.old) asked.entry steps.now) }
+{
+    let job = job_of(alloc, asked, files)?;
+    let steps = read_steps(alloc, steps, files)?;
+    replay(rt, alloc, &job, steps.as_slice(), asked.tells_units)
+}
+
+// The steps in a file.
+fn read_steps<'a, F: Files>(
+    alloc: Global,
+    path: &'a str,
+    files: &mut F,
+) -> Result<Vec<Step>, CommandFault<'a>>
+    ensures found { MatchResult result
+        (λ steps. AreStepsAt (F.disk files.old) path.now steps.items)
+        (IsNoStepsAt (F.disk files.old) path.now) }
+    ensures kept { Stays (F.disk files.old) (F.disk files.new) }
+{
+    let text = read_text(alloc, path, files)?;
+    let steps = steps_of(alloc, text.as_str())?;
+    Ok(steps)
 }
 
 // The job of the module in one file over the graph in another.

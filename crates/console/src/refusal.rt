@@ -3,7 +3,7 @@
 ghost use Rattle.std.specs.Prelude.{◌≡◌, ◌++◌, IfOk, Some, codes, string_bytes};
 ghost use Rattle.std.specs.Fmt.{DisplaysOnOk};
 ghost use Rattle.console.specs.Lines.{line};
-ghost use Rattle.console.specs.Refusal.{checkpoint_text, encode_text, fault_text, file_text, graph_text, input_text, setting_word, text_fault_text, word_at_position, word_of_line};
+ghost use Rattle.console.specs.Refusal.{checkpoint_text, encode_text, fault_text, file_text, graph_text, input_text, job_text, setting_word, text_fault_text, word_at_position, word_of_line};
 
 use crate::fault::CommandFault;
 use crate::input::InputFault;
@@ -11,13 +11,13 @@ use checkpoint::CheckFault;
 use graph::GraphFault;
 use std::alloc::{AllocError, Global};
 use std::fmt;
-use superstep::Setting;
+use superstep::{JobFault, Setting};
 use wasm_decode::EncodeFault;
 use wat_asm::{Position, TextFault};
 
 /// The line that tells of a fault, with its end: `no decode WORD PLACE`, `no text WORD LINE COLUMN`,
 /// `no valid WORD FUNC INSTR`, `no profile RULE FUNC INSTR`, `no profile P12` and the numbers of the cycle, `no input LINE`,
-/// `no run OutOfMemory`, `no graph WORD LINE`, `no settings WHICH`, `end fault OutOfMemory`, `no checkpoint WORD`, `no encode WORD`,
+/// `no run OutOfMemory`, `no graph WORD LINE`, `no settings WHICH`, `end fault WORD`, `no checkpoint WORD`, `no encode WORD`,
 /// `no file PATH` or `no memory`. FUNC, INSTR, PLACE and the LINE of a graph are `-` where there is none.
 pub fn refusal_line(alloc: Global, fault: &CommandFault) -> Result<String, AllocError>
     ensures { IfOk result (λ text. string_bytes text ≡ line (fault_text fault.now)) }
@@ -40,7 +40,7 @@ impl fmt::Display for CommandFault<'_> {
             CommandFault::Run => f.write_str("no run OutOfMemory"),
             CommandFault::Graph(fault) => tell_graph_fault(*fault, f),
             CommandFault::Settings(setting) => tell_setting(*setting, f),
-            CommandFault::Job => f.write_str("end fault OutOfMemory"),
+            CommandFault::Job(fault) => f.write_str(job_line(*fault)),
             CommandFault::Checkpoint(fault) => f.write_str(checkpoint_line(*fault)),
             CommandFault::Encode(fault) => f.write_str(encode_line(*fault)),
             CommandFault::Unread(path) => tell_file(path, f),
@@ -142,6 +142,18 @@ fn setting_word(setting: Setting) -> &'static str
         Setting::Every => "every",
         Setting::Limit => "limit",
         Setting::Lease => "lease",
+    }
+}
+
+fn job_line(fault: JobFault) -> &'static str
+    ensures { result.now ≡ job_text fault }
+{
+    match fault {
+        JobFault::OutOfMemory(_) => "end fault OutOfMemory",
+        JobFault::NoWorkers => "end fault NoWorkers",
+        JobFault::Settings(_) => "end fault Settings",
+        JobFault::ThreadRefused => "end fault ThreadRefused",
+        JobFault::Closed => "end fault Closed",
     }
 }
 

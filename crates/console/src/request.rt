@@ -6,17 +6,35 @@ use superstep::Settings;
 #[derive(Clone, Copy)]
 pub enum Options<'a> {
     /// Call the module in one file with the input in the other.
-    Call { module: &'a str, input: &'a str },
+    Call {
+        module: &'a str,
+        input: &'a str,
+    },
     /// Run a job.
     Run(JobRequest<'a>),
+    /// Replay a job by the steps in a file.
+    Replay {
+        asked: JobRequest<'a>,
+        steps: &'a str,
+    },
     /// Write the checkpoint in one file to another, of the newest version.
-    Upgrade { checkpoint: &'a str, newer: &'a str },
+    Upgrade {
+        checkpoint: &'a str,
+        newer: &'a str,
+    },
     /// Write the module in one file to another, in the binary format.
-    Assemble { module: &'a str, binary: &'a str },
+    Assemble {
+        module: &'a str,
+        binary: &'a str,
+    },
     /// Print the module in a file as text.
-    Print { module: &'a str },
+    Print {
+        module: &'a str,
+    },
     /// Tell the bounds of the calls of the module in a file.
-    Verify { module: &'a str },
+    Verify {
+        module: &'a str,
+    },
 }
 
 /// The job of the module in one file over the graph in the other.

@@ -3,15 +3,13 @@ use Rattle.std.specs.Prelude.{◌≡◌, ◌⊎◌, ℕ, Bool, List, Option, Res
 use Rattle.wasm_ast.specs.declared.module.Module.{Module}
 use Rattle.host_calls.specs.declared.call.CallInput.{CallInput}
 use Rattle.host_calls.specs.declared.call.CallOutcome.{CallOutcome}
-use Rattle.superstep.specs.Ending.{answer_of}
 use Rattle.superstep.specs.declared.fault.JobFault.{JobFault}
 use Rattle.superstep.specs.declared.fault.JobFault.TheVariants as job_fault
-use Rattle.superstep.specs.declared.run.Ended.{Ended}
 use Rattle.console.specs.declared.fault.CommandFault.{CommandFault}
 use Rattle.console.specs.declared.fault.CommandFault.TheVariants as command
 use Rattle.console.specs.declared.sources.Source.{Source}
 use Rattle.console.specs.Disk.{Disk}
-use Rattle.console.specs.Lines.{job_lines, line, outcome_lines}
+use Rattle.console.specs.Lines.{line, outcome_lines}
 use Rattle.console.specs.Modules.{is_text_path}
 use Rattle.interp.specs.Call.{IsOutcome}
 use Rattle.console.specs.Engine.{content, is_text}
@@ -37,7 +35,3 @@ IsFaultTold old new fault answer =
 abbrev pub opening_fault : JobFault → CommandFault
 opening_fault (job_fault.Settings setting) = command.Settings setting
 opening_fault fault = command.OutOfMemory
-
--- the lines of what a job ended with, as it tells it
-abbrev pub ended_lines : (tells_units : Bool) → Ended → List ℕ
-ended_lines tells_units ended = job_lines tells_units (answer_of ended) ended.since ended.by_superstep.items

@@ -11,3 +11,6 @@ returns-in-Run-clause-refused g c = rw c.in-Run.is c.run_files.ensures.refused
 
 pub returns-in-Upgrade-clause-tried : goal.returns-in-Upgrade-clause-tried
 returns-in-Upgrade-clause-tried g c = rw c.in-Upgrade.is c.upgrade_file.ensures.tried
+
+pub returns-in-Replay-clause-refused : goal.returns-in-Replay-clause-refused
+returns-in-Replay-clause-refused g c = rw c.in-Replay.is c.replay_files.ensures.refused

@@ -1,0 +1,11 @@
+-- How a line is added to the steps so far.
+use Rattle.std.specs.Prelude.{List, [], ◌∷◌, ◌++◌, Result, Ok, Err}
+use Rattle.rollback.specs.declared.simulation.Step.{Step}
+use Rattle.console.specs.declared.step_line.StepLine.{StepLine}
+use Rattle.console.specs.declared.step_line.StepLine.TheVariants.{Skipped, Says, Bad}
+
+-- the steps with what the line says; a bad line is not added
+abbrev pub with_step : List Step → StepLine → Result (List Step) StepLine
+with_step steps Skipped = Ok steps
+with_step steps (Says step) = Ok (steps ++ step ∷ [])
+with_step steps Bad = Err Bad

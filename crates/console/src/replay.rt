@@ -1,0 +1,99 @@
+//! A job over a list of steps, to printed lines.
+
+ghost use Rattle.std.specs.Prelude.{◌≡◌, IfOk, IfErr, OnOk, string_bytes};
+ghost use Rattle.std.specs.List.{flat_map};
+ghost use Rattle.console.specs.Lines.{Gains, IfTold};
+ghost use Rattle.console.specs.Replays.{AreReplayLines, IsFaultOfReplay, answer_line, outcome_lines, report_lines, said_line, trace_lines};
+
+use crate::fault::CommandFault;
+use crate::jobs::{push_ended, push_numbered};
+use checkpoint::MemoryKeep;
+use rollback::{Answer, Outcome, Report, Step, StepAnswer, Trace, simulate};
+use std::alloc::{AllocError, Global};
+use std::rt::Files;
+use std::thread::Threads;
+use superstep::Job;
+
+/// What a job over these steps prints, its states kept in memory: a line for each step, and then where they lead.
+///
+/// A step's line is `idle`, `handed PART`, `taken`, `advanced S`, `rolledback S`, `stale` or `ended`. Where the job has ended,
+/// the lines of `run` follow, then `epoch E missed M restarts R`, and `spent W U` for each worker; else `open S`. The job's
+/// fault is told alone.
+pub fn replay<'a, R: Threads + Sync + Files + AllocGlobal>(
+    rt: &R,
+    alloc: Global,
+    job: &Job,
+    steps: &[Step],
+    tells_units: bool,
+) -> Result<String, CommandFault<'a>>
+    ensures told { IfTold result (AreReplayLines job.now tells_units steps.now) }
+    ensures refused { IfErr result (IsFaultOfReplay job.now steps.now) }
+{
+    let mut keep = MemoryKeep::new(alloc);
+    match simulate(rt, alloc, job, &mut keep, steps) {
+        Ok(trace) => {
+            let text = trace_text(alloc, &trace, tells_units)?;
+            Ok(text)
+        }
+        Err(fault) => Err(CommandFault::Job(fault)),
+    }
+}
+
+/// The lines of a replay: one for each step, and where they lead.
+pub fn trace_text(alloc: Global, trace: &Trace, tells_units: bool) -> Result<String, AllocError>
+    ensures { IfOk result (λ text. string_bytes text ≡ trace_lines tells_units trace.now) }
+{
+    let mut text = String::new(alloc);
+    push_answers(&mut text, &trace.answers)?;
+    push_outcome(&mut text, &trace.outcome, tells_units)?;
+    Ok(text)
+}
+
+fn push_answers(text: &mut String, answers: &[StepAnswer]) -> Result<(), AllocError>
+    ensures { OnOk result (Gains text.old text.new (flat_map answer_line answers.now)) }
+{
+    for answer in answers {
+        push_answer(text, *answer)?;
+    }
+    Ok(())
+}
+
+fn push_answer(text: &mut String, answer: StepAnswer) -> Result<(), AllocError>
+    ensures { OnOk result (Gains text.old text.new (answer_line answer)) }
+{
+    match answer {
+        StepAnswer::Idle => writeln!(text, "idle"),
+        StepAnswer::Handed(part) => writeln!(text, "handed {part}"),
+        StepAnswer::Said(answer) => push_said(text, answer),
+    }
+}
+
+fn push_said(text: &mut String, answer: Answer) -> Result<(), AllocError>
+    ensures { OnOk result (Gains text.old text.new (said_line answer)) }
+{
+    match answer {
+        Answer::Taken => writeln!(text, "taken"),
+        Answer::Advanced(superstep) => writeln!(text, "advanced {superstep}"),
+        Answer::RolledBack(superstep) => writeln!(text, "rolledback {superstep}"),
+        Answer::Stale => writeln!(text, "stale"),
+        Answer::Ended => writeln!(text, "ended"),
+    }
+}
+
+fn push_outcome(text: &mut String, outcome: &Outcome, tells_units: bool) -> Result<(), AllocError>
+    ensures { OnOk result (Gains text.old text.new (outcome_lines tells_units outcome.now)) }
+{
+    match outcome {
+        Outcome::Open(superstep) => writeln!(text, "open {superstep}"),
+        Outcome::Ended(report) => push_report(text, report, tells_units),
+    }
+}
+
+fn push_report(text: &mut String, report: &Report, tells_units: bool) -> Result<(), AllocError>
+    ensures { OnOk result (Gains text.old text.new (report_lines tells_units report.now)) }
+{
+    push_ended(text, &report.ended, tells_units)?;
+    let (epoch, missed, restarts) = (report.epoch, report.missed, report.restarts);
+    writeln!(text, "epoch {epoch} missed {missed} restarts {restarts}")?;
+    push_numbered(text, "spent", 0, &report.spent)
+}

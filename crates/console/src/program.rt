@@ -316,7 +316,8 @@ fn write_checkpoint<'a, F: Files>(
     files: &mut F,
 ) -> Result<String, CommandFault<'a>>
     ensures answered { IfTold result
-        (TellsWritten (F.disk files.old) (F.disk files.new) (checkpoint_bytes state.now) newer.now) }
+        (TellsWritten (F.disk files.old) (F.disk files.new)
+        (checkpoint_bytes state.now) newer.now) }
     ensures refused { IfErr result (IsUnwritable (F.disk files.old) newer.now) }
     ensures before { IfErr result (StaysBeforeWriting (F.disk files.old) (F.disk files.new)) }
     ensures tried { OnErr result

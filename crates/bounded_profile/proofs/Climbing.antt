@@ -1,5 +1,6 @@
--- The height along code is the one that its definition says, where all are small.
-use Rattle.std.proofs.Common.{◌≡◌, ℕ, ◌+◌, ◌-◌, ◌≤◌, min, max, List, [], ◌∷◌, ◌++◌, Option, Some, None, subst, arith}
+-- The height along code is the one that its definition says, up to the greatest number, and just that where all are small.
+use Rattle.std.proofs.Common.{◌≡◌, ◌⊎◌, inl, inr, ℕ, ◌+◌, ◌-◌, ◌<◌, ◌≤◌, min, max, List, [], ◌∷◌, ◌++◌, true, false, leb, Option, Some, None, refl, subst, arith}
+use Rattle.std.proofs.lemmas.Bool.Decides.{leb_tells}
 use Rattle.std.specs.List.{AllByRecursion}
 use Rattle.wasm_ast.specs.declared.types.ValType.{ValType}
 use Rattle.wasm_ast.specs.declared.plain.Variable.{Variable}
@@ -16,11 +17,11 @@ use Rattle.wasm_ast.specs.Code as code
 use Rattle.cost.specs.Calls.{calls_of}
 use Rattle.cost.specs.LeastUnits.{plain_least, branch_least, call_least}
 use Rattle.cost.specs.Sizes.{code_size}
-use Rattle.bounded_profile.specs.declared.arity.Arity.{Arity}
 use Rattle.bounded_profile.specs.declared.climb.Climb.{Climb}
 use Rattle.bounded_profile.specs.Arities.{arity_table, plain_arity, variable_arity, memory_arity, branch_arity, call_arity, result_count, block_arity, test_arity}
 use Rattle.bounded_profile.specs.Heights.{after, peak}
-use Rattle.bounded_profile.specs.inside.Climbs.{greatest, ground_level, height_at, reaching, stepping, with_call, with_code}
+use Rattle.bounded_profile.specs.Cells.{no_heights}
+use Rattle.bounded_profile.specs.inside.Climbs.{greatest, ground_level, height_at, reaching, stepping, with_call, with_code, most_along}
 
 -- ---- instructions give one operand at most
 
@@ -66,24 +67,27 @@ pub weaker : (P Q : ℕ → Type 0) → ((f : ℕ) → P f → Q f) → (xs : Li
 weaker P Q g [] h = tt
 weaker P Q g (x ∷ xs) h = (g x h.0, weaker P Q g xs h.1)
 
--- ---- sums of heights
+-- ---- sums of heights, in counts that stop at the greatest number
 
-one : (here most next total : ℕ) → here ≤ most → total ≡ max most next → total ≡ max most (max here next)
-one here most next total low e = omega (arith, low, e)
+one : (here most next total : ℕ) → here ≤ most → most ≤ greatest → total ≡ max most (min next greatest) → total ≡ max most (min (max here next) greatest)
+one here most next total low small e = omega (arith, low, small, e)
 
-called : (here most left callee next total : ℕ) → here ≤ most → left + callee ≤ greatest → total ≡ max (max (min (left + callee) greatest) most) next → total ≡ max most (max here (max (left + callee) next))
-called here most left callee next total low small e = omega (arith, low, small, e)
+called : (here most left told callee next total : ℕ) → here ≤ most → most ≤ greatest → told ≡ callee → total ≡ max (max (min (left + told) greatest) most) (min next greatest) → total ≡ max most (min (max here (max (left + callee) next)) greatest)
+called here most left told callee next total low small d e = omega (arith, low, small, d, e)
 
-held : (here most inside next total : ℕ) → here + inside ≤ greatest → total ≡ max (max (min (here + inside) greatest) most) next → total ≡ max most (max (here + inside) next)
+stops : (here inside body : ℕ) → inside ≡ max 0 (min body greatest) → min (here + inside) greatest ≡ min (here + body) greatest
+stops here inside body e = omega (arith, e)
+
+held : (here most inside next total : ℕ) → most ≤ greatest → total ≡ max (max (min (here + inside) greatest) most) (min next greatest) → total ≡ max most (min (max (here + inside) next) greatest)
 held here most inside next total small e = omega (arith, small, e)
 
-chosen : (here most left body other next total : ℕ) → here ≤ most → left ≤ here → left + body ≤ greatest → left + other ≤ greatest → total ≡ max (max (min (left + other) greatest) (max (min (left + body) greatest) (max most left))) next → total ≡ max most (max here (max (left + max body other) next))
-chosen here most left body other next total low less small small_too e = omega (arith, low, less, small, small_too, e)
+chosen : (here most left body other next total : ℕ) → here ≤ most → most ≤ greatest → left ≤ here → total ≡ max (max (min (left + other) greatest) (max (min (left + body) greatest) (max most left))) (min next greatest) → total ≡ max most (min (max here (max (left + max body other) next)) greatest)
+chosen here most left body other next total low small less e =
+    let above : left + max body other ≡ max (left + body) (left + other) = omega arith in
+    let beyond : max most left ≡ most = omega (arith, low, less) in
+    omega (arith, low, small, above, beyond, e)
 
-module _ (m : Module) (heights sizes : ℕ → ℕ) (narrow : (f : ℕ) → (call_arity m f).gives ≤ 1) where
-  abbrev IsSmall : ℕ → Type 0
-  IsSmall f = heights f ≤ sizes f
-
+module _ (m : Module) (heights : ℕ → ℕ) where
   at_least : (c : Code) (here : ℕ) → here ≤ peak m heights c here
   at_least code.end here = omega arith
   at_least (code.plain p rest) here = omega arith
@@ -95,128 +99,157 @@ module _ (m : Module) (heights sizes : ℕ → ℕ) (narrow : (f : ℕ) → (cal
   at_least (code.loop t body rest) here = omega arith
   at_least (code.choice t body other rest) here = omega arith
 
-  -- code stands no higher than its size above its start
-  pub bounded : (c : Code) (here : ℕ) → AllByRecursion IsSmall (calls_of c) → peak m heights c here ≤ here + code_size m sizes c
-  bounded code.end here s = omega arith
-  bounded (code.plain p rest) here s =
-      let w = plain_least p in
-      let g = plain_gives p in
-      let h = bounded rest (after (plain_arity p) here) s in
-      omega (arith, g, w, h)
-  bounded (code.branch b rest) here s =
-      let w = branch_least b in
-      let g = branch_gives b in
-      let h = bounded rest (after (branch_arity b) here) s in
-      omega (arith, g, w, h)
-  bounded (code.call f rest) here s =
-      let w = call_least m f in
-      let g = narrow f in
-      let a = s.0 in
-      let h = bounded rest (after (call_arity m f) here) s.1 in
-      omega (arith, g, w, a, h)
-  bounded (code.call_indirect t rest) here s = let h = bounded rest here s in omega (arith, h)
-  bounded (code.unreachable rest) here s = let h = bounded rest here s in omega (arith, h)
-  bounded (code.block t body rest) here s =
-      let p = parts IsSmall (calls_of body) (calls_of rest) s in
-      let g = block_gives t in
-      let b = bounded body 0 p.0 in
-      let h = bounded rest (after (block_arity t) here) p.1 in
-      omega (arith, g, b, h)
-  bounded (code.loop t body rest) here s =
-      let p = parts IsSmall (calls_of body) (calls_of rest) s in
-      let g = block_gives t in
-      let b = bounded body 0 p.0 in
-      let h = bounded rest (after (block_arity t) here) p.1 in
-      omega (arith, g, b, h)
-  bounded (code.choice t body other rest) here s =
-      let p = parts IsSmall (calls_of body) (calls_of other ++ calls_of rest) s in
-      let q = parts IsSmall (calls_of other) (calls_of rest) p.1 in
-      let g = block_gives t in
-      let b = bounded body 0 p.0 in
-      let o = bounded other 0 q.0 in
-      let h = bounded rest (after (block_arity t) (after test_arity here)) q.1 in
-      omega (arith, g, b, o, h)
-
-  -- counts do not stop at a step
-  stepped : (rest : Code) (a : Arity) (here most total : ℕ) → after a here ≤ greatest → total ≡ max (max most (min (after a here) greatest)) (peak m heights rest (min (after a here) greatest)) → total ≡ max most (peak m heights rest (after a here))
-  stepped rest a here most total small e =
-      let same : min (after a here) greatest ≡ after a here = omega (arith, small) in
-      let f = subst (λ x. total ≡ max (max most x) (peak m heights rest x)) same e in
-      let l = at_least rest (after a here) in
-      omega (arith, f, l)
+  -- a count that has stopped has been told already
+  stepped : (rest : Code) (next most total : ℕ) → most ≤ greatest → total ≡ max (max most (min next greatest)) (min (peak m heights rest (min next greatest)) greatest) → total ≡ max most (min (peak m heights rest next) greatest)
+  stepped rest next most total small e = by_test (leb_tells next greatest)
+    where
+      by_test : ((leb next greatest ≡ true) × (next ≤ greatest)) ⊎ ((leb next greatest ≡ false) × (greatest < next)) → total ≡ max most (min (peak m heights rest next) greatest)
+      by_test (inl h) =
+          let fits = h.1 in
+          let same : min next greatest ≡ next = omega (arith, fits) in
+          let f = subst (λ x. total ≡ max (max most x) (min (peak m heights rest x) greatest)) same e in
+          let l = at_least rest next in
+          omega (arith, f, l, fits)
+      by_test (inr h) =
+          let past = h.1 in
+          let same : min next greatest ≡ greatest = omega (arith, past) in
+          let f = subst (λ x. total ≡ max (max most x) (min (peak m heights rest x) greatest)) same e in
+          let l = at_least rest next in
+          omega (arith, f, l, past, small)
 
   module _ (table : List ℕ) where
-    -- the height of a call is known
-    abbrev pub IsKnown : ℕ → Type 0
-    IsKnown f = (height_at table f ≡ heights f) × (heights f ≤ sizes f)
+    -- the height of a call is told
+    abbrev pub IsTold : ℕ → Type 0
+    IsTold f = height_at table f ≡ heights f
 
-    small_too : (xs : List ℕ) → AllByRecursion IsKnown xs → AllByRecursion IsSmall xs
-    small_too xs = weaker IsKnown IsSmall (λ f k. k.1) xs
-
-    pub climbs : (c : Code) (s : Climb) → AllByRecursion IsKnown (calls_of c) → s.here ≤ s.most → s.here + code_size m sizes c ≤ greatest → (with_code (arity_table m) table s c).most ≡ max s.most (peak m heights c s.here)
-    climbs code.end s k low small = omega (arith, low)
-    climbs (code.plain p rest) s k low small =
-        let w = plain_least p in
-        let g = plain_gives p in
-        let h = climbs rest (stepping (plain_arity p) s) k (omega arith) (omega (arith, g, w, small)) in
-        one s.here s.most _ _ low (stepped rest (plain_arity p) s.here s.most _ (omega (arith, g, w, small)) h)
-    climbs (code.branch b rest) s k low small =
-        let w = branch_least b in
-        let g = branch_gives b in
-        let h = climbs rest (stepping (branch_arity b) s) k (omega arith) (omega (arith, g, w, small)) in
-        one s.here s.most _ _ low (stepped rest (branch_arity b) s.here s.most _ (omega (arith, g, w, small)) h)
-    climbs (code.call f rest) s k low small =
-        let w = call_least m f in
-        let g = narrow f in
+    -- the greatest count is the greatest height, up to the greatest number
+    pub capped : (c : Code) (s : Climb) → AllByRecursion IsTold (calls_of c) → s.here ≤ s.most → s.most ≤ greatest → (with_code (arity_table m) table s c).most ≡ max s.most (min (peak m heights c s.here) greatest)
+    capped code.end s k low small = omega (arith, low, small)
+    capped (code.plain p rest) s k low small =
+        let h = capped rest (stepping (plain_arity p) s) k (omega arith) (omega (arith, small)) in
+        one s.here s.most _ _ low small (stepped rest (after (plain_arity p) s.here) s.most _ small h)
+    capped (code.branch b rest) s k low small =
+        let h = capped rest (stepping (branch_arity b) s) k (omega arith) (omega (arith, small)) in
+        one s.here s.most _ _ low small (stepped rest (after (branch_arity b) s.here) s.most _ small h)
+    capped (code.call f rest) s k low small =
         let a = call_arity m f in
-        let e = k.0.0 in
-        let u = k.0.1 in
-        let h = climbs rest (with_call (arity_table m) table f s) k.1 (omega arith) (omega (arith, g, w, small)) in
-        let n = stepped rest a s.here (max (min (s.here - a.takes + height_at table f) greatest) s.most) _ (omega (arith, g, w, small)) h in
-        called s.here s.most (s.here - a.takes) (heights f) _ _ low (omega (arith, u, w, small)) (subst (λ x. (with_code (arity_table m) table s (code.call f rest)).most ≡ max (max (min (s.here - a.takes + x) greatest) s.most) (peak m heights rest (after a s.here))) e n)
-    climbs (code.call_indirect t rest) s k low small =
-        one s.here s.most _ _ low (climbs rest s k low (omega (arith, small)))
-    climbs (code.unreachable rest) s k low small =
-        one s.here s.most _ _ low (climbs rest s k low (omega (arith, small)))
-    climbs (code.block t body rest) s k low small =
-        let p = parts IsKnown (calls_of body) (calls_of rest) k in
-        let g = block_gives t in
+        let most = max (min (s.here - a.takes + height_at table f) greatest) s.most in
+        let h = capped rest (with_call (arity_table m) table f s) k.1 (omega arith) (omega (arith, small)) in
+        let n = stepped rest (after a s.here) most _ (omega (arith, small)) h in
+        called s.here s.most (s.here - a.takes) (height_at table f) (heights f) _ _ low small k.0 n
+    capped (code.call_indirect t rest) s k low small = one s.here s.most _ _ low small (capped rest s k low small)
+    capped (code.unreachable rest) s k low small = one s.here s.most _ _ low small (capped rest s k low small)
+    capped (code.block t body rest) s k low small =
+        let p = parts IsTold (calls_of body) (calls_of rest) k in
         let inside = (with_code (arity_table m) table ground_level body).most in
-        let i = climbs body ground_level p.0 (omega arith) (omega (arith, small)) in
-        let b = bounded body 0 (small_too (calls_of body) p.0) in
-        let e : inside ≡ peak m heights body 0 = omega (arith, i) in
-        let h = climbs rest (stepping (block_arity t) (reaching inside s)) p.1 (omega arith) (omega (arith, g, small)) in
-        let n = stepped rest (block_arity t) s.here (max (min (s.here + inside) greatest) s.most) _ (omega (arith, g, small)) h in
-        held s.here s.most (peak m heights body 0) _ _ (omega (arith, b, small)) (subst (λ x. (with_code (arity_table m) table s (code.block t body rest)).most ≡ max (max (min (s.here + x) greatest) s.most) (peak m heights rest (after (block_arity t) s.here))) e n)
-    climbs (code.loop t body rest) s k low small =
-        let p = parts IsKnown (calls_of body) (calls_of rest) k in
-        let g = block_gives t in
+        let e = stops s.here inside (peak m heights body 0) (capped body ground_level p.0 (omega arith) (omega arith)) in
+        let h = capped rest (stepping (block_arity t) (reaching inside s)) p.1 (omega arith) (omega (arith, small)) in
+        let n = stepped rest (after (block_arity t) s.here) (max (min (s.here + inside) greatest) s.most) _ (omega (arith, small)) h in
+        held s.here s.most (peak m heights body 0) _ _ small (subst (λ x. (with_code (arity_table m) table s (code.block t body rest)).most ≡ max (max x s.most) (min (peak m heights rest (after (block_arity t) s.here)) greatest)) e n)
+    capped (code.loop t body rest) s k low small =
+        let p = parts IsTold (calls_of body) (calls_of rest) k in
         let inside = (with_code (arity_table m) table ground_level body).most in
-        let i = climbs body ground_level p.0 (omega arith) (omega (arith, small)) in
-        let b = bounded body 0 (small_too (calls_of body) p.0) in
-        let e : inside ≡ peak m heights body 0 = omega (arith, i) in
-        let h = climbs rest (stepping (block_arity t) (reaching inside s)) p.1 (omega arith) (omega (arith, g, small)) in
-        let n = stepped rest (block_arity t) s.here (max (min (s.here + inside) greatest) s.most) _ (omega (arith, g, small)) h in
-        held s.here s.most (peak m heights body 0) _ _ (omega (arith, b, small)) (subst (λ x. (with_code (arity_table m) table s (code.loop t body rest)).most ≡ max (max (min (s.here + x) greatest) s.most) (peak m heights rest (after (block_arity t) s.here))) e n)
-    climbs (code.choice t body other rest) s k low small =
-        let p = parts IsKnown (calls_of body) (calls_of other ++ calls_of rest) k in
-        let q = parts IsKnown (calls_of other) (calls_of rest) p.1 in
-        let g = block_gives t in
+        let e = stops s.here inside (peak m heights body 0) (capped body ground_level p.0 (omega arith) (omega arith)) in
+        let h = capped rest (stepping (block_arity t) (reaching inside s)) p.1 (omega arith) (omega (arith, small)) in
+        let n = stepped rest (after (block_arity t) s.here) (max (min (s.here + inside) greatest) s.most) _ (omega (arith, small)) h in
+        held s.here s.most (peak m heights body 0) _ _ small (subst (λ x. (with_code (arity_table m) table s (code.loop t body rest)).most ≡ max (max x s.most) (min (peak m heights rest (after (block_arity t) s.here)) greatest)) e n)
+    capped (code.choice t body other rest) s k low small =
+        let p = parts IsTold (calls_of body) (calls_of other ++ calls_of rest) k in
+        let q = parts IsTold (calls_of other) (calls_of rest) p.1 in
         let inside = (with_code (arity_table m) table ground_level body).most in
         let beside = (with_code (arity_table m) table ground_level other).most in
-        let i = climbs body ground_level p.0 (omega arith) (omega (arith, small)) in
-        let j = climbs other ground_level q.0 (omega arith) (omega (arith, small)) in
-        let b = bounded body 0 (small_too (calls_of body) p.0) in
-        let o = bounded other 0 (small_too (calls_of other) q.0) in
-        let d : inside ≡ peak m heights body 0 = omega (arith, i) in
-        let e : beside ≡ peak m heights other 0 = omega (arith, j) in
-        let tested = stepping test_arity s in
         let left = after test_arity s.here in
-        let same : min left greatest ≡ left = omega (arith, small) in
-        let h = climbs rest (stepping (block_arity t) (reaching beside (reaching inside tested))) q.1 (omega arith) (omega (arith, g, small)) in
-        let n = stepped rest (block_arity t) tested.here (reaching beside (reaching inside tested)).most _ (omega (arith, g, small)) h in
+        let d = stops left inside (peak m heights body 0) (capped body ground_level p.0 (omega arith) (omega arith)) in
+        let e = stops left beside (peak m heights other 0) (capped other ground_level q.0 (omega arith) (omega arith)) in
+        let tested = stepping test_arity s in
+        let armed = reaching beside (reaching inside tested) in
+        let same : min left greatest ≡ left = omega (arith, low, small) in
+        let h = capped rest (stepping (block_arity t) armed) q.1 (omega arith) (omega (arith, small)) in
+        let n = stepped rest (after (block_arity t) tested.here) armed.most _ (omega (arith, small)) h in
         let total = (with_code (arity_table m) table s (code.choice t body other rest)).most in
-        let r = subst (λ x. total ≡ max (max (min (x + beside) greatest) (max (min (x + inside) greatest) (max s.most x))) (peak m heights rest (after (block_arity t) x))) same n in
-        let u = subst (λ x. total ≡ max (max (min (left + x) greatest) (max (min (left + inside) greatest) (max s.most left))) (peak m heights rest (after (block_arity t) left))) e r in
-        let v = subst (λ x. total ≡ max (max (min (left + peak m heights other 0) greatest) (max (min (left + x) greatest) (max s.most left))) (peak m heights rest (after (block_arity t) left))) d u in
-        chosen s.here s.most left (peak m heights body 0) (peak m heights other 0) _ _ low (omega arith) (omega (arith, b, small)) (omega (arith, o, small)) v
+        let r = subst (λ x. total ≡ max (max (min (x + beside) greatest) (max (min (x + inside) greatest) (max s.most x))) (min (peak m heights rest (after (block_arity t) x)) greatest)) same n in
+        let u = subst (λ x. total ≡ max (max x (max (min (left + inside) greatest) (max s.most left))) (min (peak m heights rest (after (block_arity t) left)) greatest)) e r in
+        let v = subst (λ x. total ≡ max (max (min (left + peak m heights other 0) greatest) (max x (max s.most left))) (min (peak m heights rest (after (block_arity t) left)) greatest)) d u in
+        chosen s.here s.most left (peak m heights body 0) (peak m heights other 0) _ _ low small (omega arith) v
+
+  module _ (sizes : ℕ → ℕ) (narrow : (f : ℕ) → (call_arity m f).gives ≤ 1) where
+    abbrev IsSmall : ℕ → Type 0
+    IsSmall f = heights f ≤ sizes f
+
+    -- code stands no higher than its size above its start
+    pub bounded : (c : Code) (here : ℕ) → AllByRecursion IsSmall (calls_of c) → peak m heights c here ≤ here + code_size m sizes c
+    bounded code.end here s = omega arith
+    bounded (code.plain p rest) here s =
+        let w = plain_least p in
+        let g = plain_gives p in
+        let h = bounded rest (after (plain_arity p) here) s in
+        omega (arith, g, w, h)
+    bounded (code.branch b rest) here s =
+        let w = branch_least b in
+        let g = branch_gives b in
+        let h = bounded rest (after (branch_arity b) here) s in
+        omega (arith, g, w, h)
+    bounded (code.call f rest) here s =
+        let w = call_least m f in
+        let g = narrow f in
+        let a = s.0 in
+        let h = bounded rest (after (call_arity m f) here) s.1 in
+        omega (arith, g, w, a, h)
+    bounded (code.call_indirect t rest) here s = let h = bounded rest here s in omega (arith, h)
+    bounded (code.unreachable rest) here s = let h = bounded rest here s in omega (arith, h)
+    bounded (code.block t body rest) here s =
+        let p = parts IsSmall (calls_of body) (calls_of rest) s in
+        let g = block_gives t in
+        let b = bounded body 0 p.0 in
+        let h = bounded rest (after (block_arity t) here) p.1 in
+        omega (arith, g, b, h)
+    bounded (code.loop t body rest) here s =
+        let p = parts IsSmall (calls_of body) (calls_of rest) s in
+        let g = block_gives t in
+        let b = bounded body 0 p.0 in
+        let h = bounded rest (after (block_arity t) here) p.1 in
+        omega (arith, g, b, h)
+    bounded (code.choice t body other rest) here s =
+        let p = parts IsSmall (calls_of body) (calls_of other ++ calls_of rest) s in
+        let q = parts IsSmall (calls_of other) (calls_of rest) p.1 in
+        let g = block_gives t in
+        let b = bounded body 0 p.0 in
+        let o = bounded other 0 q.0 in
+        let h = bounded rest (after (block_arity t) (after test_arity here)) q.1 in
+        omega (arith, g, b, o, h)
+
+    module _ (table : List ℕ) where
+      -- the height of a call is known
+      abbrev pub IsKnown : ℕ → Type 0
+      IsKnown f = (height_at table f ≡ heights f) × (heights f ≤ sizes f)
+
+      -- no count stops in code that is small
+      pub climbs : (c : Code) → AllByRecursion IsKnown (calls_of c) → code_size m sizes c ≤ greatest → most_along (arity_table m) table c ≡ peak m heights c 0
+      climbs c k small =
+          let told = weaker IsKnown (IsTold table) (λ f h. h.0) (calls_of c) k in
+          let e = capped table c ground_level told (omega arith) (omega arith) in
+          let b = bounded c 0 (weaker IsKnown IsSmall (λ f h. h.1) (calls_of c) k) in
+          omega (arith, e, b, small)
+
+-- ---- a function's own operands
+
+module _ (m : Module) where
+  none_told : (fs : List ℕ) → AllByRecursion (IsTold m no_heights []) fs
+  none_told [] = tt
+  none_told (f ∷ fs) = (refl, none_told fs)
+
+  -- where no height is told of any function
+  pub own_along : (c : Code) → most_along (arity_table m) [] c ≡ min (peak m no_heights c 0) greatest
+  own_along c =
+      let e = capped m no_heights [] c ground_level (none_told (calls_of c)) (omega arith) (omega arith) in
+      omega (arith, e)
+
+  none_tall : (sizes : ℕ → ℕ) (fs : List ℕ) → AllByRecursion (λ f. no_heights f ≤ sizes f) fs
+  none_tall sizes [] = tt
+  none_tall sizes (f ∷ fs) = (omega arith, none_tall sizes fs)
+
+  -- they stand no higher than the function's size
+  pub own_small : (sizes : ℕ → ℕ) → ((f : ℕ) → (call_arity m f).gives ≤ 1) → (c : Code) → peak m no_heights c 0 ≤ code_size m sizes c
+  own_small sizes narrow c =
+      let b = bounded m no_heights sizes narrow c 0 (none_tall sizes (calls_of c)) in
+      omega (arith, b)

@@ -91,7 +91,7 @@ unfolded m (suc n) f = peak_in m (unfolded m n) (body_of m f)
 
 -- ---- each call is no larger than the code that makes it
 
-calls_small : (m : Module) (sizes : ℕ → ℕ) (n : ℕ) (c : Code) → code_size m sizes c ≤ n → AllByRecursion (λ f. sizes f ≤ n) (calls_of c)
+pub calls_small : (m : Module) (sizes : ℕ → ℕ) (n : ℕ) (c : Code) → code_size m sizes c ≤ n → AllByRecursion (λ f. sizes f ≤ n) (calls_of c)
 calls_small m sizes n code.end h = tt
 calls_small m sizes n (code.plain p rest) h = calls_small m sizes n rest (omega arith)
 calls_small m sizes n (code.branch b rest) h = calls_small m sizes n rest (omega arith)
@@ -146,7 +146,7 @@ module _ (m : Module) (rank : ℕ → ℕ) (falls : (f g : ℕ) → Calls (calle
         let lower = subst (λ b. AllByRecursion (λ g. rank g < rank f) (calls_in b)) is (below f) in
         let less = calls_small m sizes max_size c (omega (arith, e, h)) in
         let known = weaker (λ g. (rank g < rank f) × (sizes g ≤ max_size)) (IsKnown m heights sizes narrow told) (λ g b. (t g b.0 b.1, small g)) (calls_of c) (both (λ g. rank g < rank f) (λ g. sizes g ≤ max_size) (calls_of c) lower less) in
-        let i = climbs m heights sizes narrow told c ground_level known (omega arith) (omega (arith, e, h)) in
+        let i = climbs m heights sizes narrow told c known (omega (arith, e, h)) in
         omega (arith, d, i)
 
 -- ---- functions by number
@@ -172,7 +172,7 @@ defined_some m k g h e =
     ∙ ap (λ n. option_map (λ (g : Function). g.body) (slice_get m.functions n)) n
     ∙ ap (option_map (λ (g : Function). g.body)) (slice_get_read m.functions (length m.functions) k g refl h e)
 
-least_or_past : (a b : ℕ) → (a < b) ⊎ (b ≤ a)
+pub least_or_past : (a b : ℕ) → (a < b) ⊎ (b ≤ a)
 least_or_past a b = by_test (leb_tells (suc a) b)
   where
     by_test : ((leb (suc a) b ≡ true) × (suc a ≤ b)) ⊎ ((leb (suc a) b ≡ false) × (b < suc a)) → (a < b) ⊎ (b ≤ a)

@@ -6,6 +6,9 @@ pub mod KnownFewer
 pub mod KnownVerdict
 pub mod Climbing
 pub mod Leveling
+pub mod Framing
+pub mod Marking
+pub mod Spanning
 pub mod Walking
 pub mod Refusals
 pub mod Computing

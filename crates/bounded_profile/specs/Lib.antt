@@ -14,5 +14,9 @@ pub mod Compute
 pub mod Arities
 pub mod Heights
 pub mod Facts
+-- how many cells a frame of each function needs
+pub mod Cells
+-- and which bytes of the memory are reached
+pub mod Reached
 -- what only mirrors the code, for its proofs
 pub mod inside

@@ -1,8 +1,9 @@
 -- What mirrors the code, for its proofs alone: the pass for known constants and what it says, the last two instructions of
--- a loop, heights that stop at the greatest number, how far they are told, and what is known between the rules.
+-- a loop, heights that stop at the greatest number, how far they are told, marks and spans of reached bytes, and what is known between the rules.
 pub mod ConstantsFaults
 pub mod Tracking
 pub mod Closing
 pub mod Climbs
 pub mod Levels
+pub mod Marks
 pub mod Stages

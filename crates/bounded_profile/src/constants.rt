@@ -18,6 +18,7 @@ use self::bodies::check_bodies;
 use self::setting::ModuleSetting;
 pub use asks::Asks;
 pub use fault::ConstantsFault;
+pub use operands::{Operand, Operands};
 use std::alloc::Global;
 use validate::Valid;
 use wasm_ast::Module;

@@ -3,6 +3,7 @@
 
 mod arity;
 mod calls;
+mod cells;
 mod climb;
 mod constants;
 mod facts;
@@ -11,13 +12,16 @@ mod height_table;
 mod heights;
 mod hosts;
 mod loops;
+mod marks;
 mod memory_rules;
 mod module_rules;
 mod rules;
 mod shapes;
+mod spans;
 mod verified;
 mod wants;
 
+pub use cells::Cells;
 pub use fault::{ProfileFault, ProfileRule};
 pub use verified::{Verified, verify};
 pub use wants::{Premise, Want};

@@ -1,17 +1,22 @@
 //! Modules in the bounded profile.
 
-ghost use Rattle.std.specs.Prelude.{◌≡◌, IfOk, IfErr, OnOk, IsOkUnless};
+ghost use Rattle.std.specs.Prelude.{◌≡◌, min, IfOk, IfErr, OnOk, IsOkUnless};
 ghost use Rattle.validate.specs.Modules.{IsTyped};
+ghost use Rattle.bounded_profile.specs.Cells.{IsDefined, MayRun, locals_at, own_height, most_told};
 ghost use Rattle.bounded_profile.specs.Compute.{IsComputeNumber};
 ghost use Rattle.bounded_profile.specs.Facts.{IsSizeOfCompute, IsHeightAt, IsDepthAt};
 ghost use Rattle.bounded_profile.specs.Faults.{Refuses};
 ghost use Rattle.bounded_profile.specs.Hosts.{AreHostCalls};
 ghost use Rattle.bounded_profile.specs.Profile.{IsBounded, HasCompute};
+ghost use Rattle.bounded_profile.specs.Reached.{reached_below, reached_bytes};
 
+use crate::cells::{Cells, cells_table};
 use crate::facts::Facts;
 use crate::fault::ProfileFault;
 use crate::hosts::host_calls;
+use crate::memory_rules::memory_bytes;
 use crate::rules::check_rules;
+use crate::spans::{Span, bytes_below, reached_spans};
 use host_calls::HostCall;
 use std::alloc::{AllocError, Global};
 use std::marker::Model;
@@ -24,13 +29,19 @@ pub struct Verified {
     valid: Valid,
     facts: Facts,
     calls: Vec<HostCall>,
+    cells: Vec<Cells>,
+    spans: Vec<Span>,
 }
 
 impl Model for Verified {
+    ghost use Rattle.std.specs.Prelude.{◌≡◌};
     ghost use Rattle.wasm_ast.specs.declared.module.Module.{Module as AnyModule};
+    ghost use Rattle.validate.specs.Modules.{IsTyped};
+    ghost use Rattle.bounded_profile.specs.Cells.{cells_table};
     ghost use Rattle.bounded_profile.specs.Facts.{AreFacts};
     ghost use Rattle.bounded_profile.specs.Hosts.{AreHostCalls};
     ghost use Rattle.bounded_profile.specs.Profile.{IsBounded};
+    ghost use Rattle.bounded_profile.specs.inside.Marks.{TellReached};
     ghost use Rattle.wasm_ast.specs.contracts.module.Module as module_type;
 
     ghost Value = { AnyModule };
@@ -41,7 +52,10 @@ impl Model for Verified {
 
     ghost invariant = { λ verified. IsBounded verified.valid
         × AreFacts verified.valid verified.facts
-        × AreHostCalls verified.valid verified.calls.items };
+        × AreHostCalls verified.valid verified.calls.items
+        × (verified.cells.items ≡ cells_table verified.valid)
+        × IsTyped verified.valid
+        × TellReached verified.valid verified.spans.items };
 }
 
 impl Verified {
@@ -90,18 +104,54 @@ impl Verified {
         self.facts.max_frames
     }
 
+    /// How many cells a frame of the function needs, which the module defines. Its own operands are those of its body, without
+    /// what stands in the functions that it calls. A count of more than 32 bits is told as the greatest of those; no
+    /// function that runs has one. It takes no memory.
+    pub fn cells(&self, function: u32) -> Cells
+        requires { IsDefined self.now function }
+        ensures locals { result.locals ≡ locals_at self.now function }
+        ensures operands { result.operands ≡ min (own_height self.now function) most_told }
+        ensures exact { MayRun self.now function → result.operands ≡ own_height self.now function }
+    {
+        self.cells[function as usize - self.calls.len()]
+    }
+
+    /// How many bytes of the memory the loads and the stores of all functions reach, called or not; each counts once. It
+    /// takes no memory.
+    pub fn reach(&self) -> u32
+        ensures { result ≡ reached_bytes self.now }
+    {
+        bytes_below(
+            self.spans.as_slice(),
+            memory_bytes(self.valid.module()) as u32,
+        )
+    }
+
+    /// How many of these bytes lie below this one; it takes no memory.
+    pub fn place(&self, byte: u32) -> u32
+        ensures { result ≡ reached_below self.now byte }
+    {
+        bytes_below(self.spans.as_slice(), byte)
+    }
+
     /// The same module once more. The only refusal is that there is no memory for it.
     pub fn copy(&self, alloc: Global) -> Result<Verified, AllocError>
         ensures { IfOk result (λ copy. copy ≡ self.now) }
     {
         let mut calls = Vec::new(alloc);
         calls.extend_from_slice(self.calls.as_slice())?;
+        let mut cells = Vec::new(alloc);
+        cells.extend_from_slice(self.cells.as_slice())?;
+        let mut spans = Vec::new(alloc);
+        spans.extend_from_slice(self.spans.as_slice())?;
         let module = self.valid.module().copy(alloc)?;
         match validate(alloc, module) {
             Ok(valid) => Ok(Verified {
                 valid,
                 facts: self.facts,
                 calls,
+                cells,
+                spans,
             }),
             // The module is valid: there was no memory to see that.
             Err(_) => Err(AllocError),
@@ -112,8 +162,8 @@ impl Verified {
 /// The module as it is, exactly where it is in the bounded profile; any other is refused, with a rule that it breaks.
 /// The rules are tried in order, and the place is the first in preorder that breaks one.
 ///
-/// It takes time by the length of the module, and memory by the number of its functions and calls and by the operands
-/// at a place of a body.
+/// It takes time by the length of the module and of its memory, and memory by the number of its functions and calls, by
+/// the operands at a place of a body, and a mark for each byte of the module's memory, which goes with the call.
 pub fn verify(alloc: Global, valid: Valid) -> Result<Verified, ProfileFault>
     ensures kept { IfOk result (λ verified. verified ≡ valid) }
     ensures accepted { OnOk result (IsBounded valid) }
@@ -122,9 +172,13 @@ pub fn verify(alloc: Global, valid: Valid) -> Result<Verified, ProfileFault>
 {
     let facts = check_rules(alloc, &valid)?;
     let calls = host_calls(alloc, valid.module())?;
+    let cells = cells_table(alloc, valid.module())?;
+    let spans = reached_spans(alloc, valid.module())?;
     Ok(Verified {
         valid,
         facts,
         calls,
+        cells,
+        spans,
     })
 }

@@ -5,25 +5,26 @@
 //! `body BODY` is `verify` of the module that has the body in the frame of `frame.wat`, and `engine MODULE INPUT` is what a
 //! call of a module's bytes with an input's text tells, or how it is refused.
 
-mod lent_files;
+pub mod lent_files;
 
 use crate::cases::{is_case, one_line};
 use anyhow::Result;
 use clap::error::ErrorKind;
-use console::{Options, Source, call, command, options, refusal_line};
+use console::{Options, Request, Source, call, command, options, refusal_line};
 use lent_files::{LentFiles, lent_files};
 use std::alloc::{AllocError, Global};
 use std::rt::Files;
+use std::sync::Wait;
 use std::thread::Threads;
 use std::{fs, iter, str};
 
-pub fn show(rt: &(impl Files + Print + AllocGlobal + Threads + Sync)) -> Result<()> {
+pub fn show(rt: &(impl Files + Print + AllocGlobal + Threads + Wait + Sync)) -> Result<()> {
     let mut files = lent_files(rt)?;
     show_cases(rt, &mut files)
 }
 
 fn show_cases(
-    rt: &(impl Files + Print + AllocGlobal + Threads + Sync),
+    rt: &(impl Files + Print + AllocGlobal + Threads + Wait + Sync),
     files: &mut LentFiles,
 ) -> Result<()> {
     let text = fs::read_to_string(rt, "commands.txt")?;
@@ -35,7 +36,7 @@ fn show_cases(
 }
 
 fn answer(
-    rt: &(impl Files + AllocGlobal + Threads + Sync),
+    rt: &(impl Files + AllocGlobal + Threads + Wait + Sync),
     alloc: Global,
     case: &str,
     files: &mut LentFiles,
@@ -52,7 +53,7 @@ fn answer(
 }
 
 fn carried_out(
-    rt: &(impl Files + AllocGlobal + Threads + Sync),
+    rt: &(impl Files + AllocGlobal + Threads + Wait + Sync),
     alloc: Global,
     line: &str,
     room: &str,
@@ -65,15 +66,16 @@ fn carried_out(
 }
 
 fn read_and_carried_out(
-    rt: &(impl Files + AllocGlobal + Threads + Sync),
+    rt: &(impl Files + AllocGlobal + Threads + Wait + Sync),
     alloc: Global,
     words: &[&str],
     room: &str,
     files: &mut LentFiles,
 ) -> Result<String> {
     match options(alloc, words) {
-        Ok(options) if room.is_empty() => told(rt, alloc, options, files),
-        Ok(options) => told_in(rt, alloc, options, files, room.parse::<usize>()?),
+        Ok(Options::Session) => Ok(String::from_str(alloc, "a session")?),
+        Ok(Options::Command(request)) if room.is_empty() => told(rt, alloc, request, files),
+        Ok(Options::Command(request)) => told_in(rt, alloc, request, files, room.parse::<usize>()?),
         Err(error) => Ok(String::from_str(alloc, refused(error.kind()))?),
     }
 }
@@ -90,14 +92,14 @@ fn refused(kind: ErrorKind) -> &'static str {
 }
 
 fn told(
-    rt: &(impl Files + AllocGlobal + Threads + Sync),
+    rt: &(impl Files + AllocGlobal + Threads + Wait + Sync),
     alloc: Global,
-    options: Options,
+    request: Request,
     files: &mut LentFiles,
 ) -> Result<String> {
     files.forget_written();
     let mut out = Vec::new(alloc);
-    let status = command(rt, alloc, options, files, &mut out)?;
+    let status = command(rt, alloc, request, files, &mut out)?;
     shown(alloc, status, out.as_slice(), files)
 }
 
@@ -109,14 +111,14 @@ fn shown(alloc: Global, status: u8, out: &[u8], files: &LentFiles) -> Result<Str
 }
 
 fn told_in(
-    rt: &(impl Files + AllocGlobal + Threads + Sync),
+    rt: &(impl Files + AllocGlobal + Threads + Wait + Sync),
     alloc: Global,
-    options: Options,
+    request: Request,
     files: &mut LentFiles,
     room: usize,
 ) -> Result<String> {
     let mut room = vec![in alloc; 0u8; room]?;
-    match command(rt, alloc, options, files, &mut room.as_mut_slice()) {
+    match command(rt, alloc, request, files, &mut room.as_mut_slice()) {
         Ok(status) => Ok(format!(in alloc; "{status}")?),
         Err(fault) => {
             let begun = str::from_utf8(room.as_slice())?;
@@ -126,7 +128,7 @@ fn told_in(
 }
 
 fn bounds(
-    rt: &(impl Files + AllocGlobal + Threads + Sync),
+    rt: &(impl Files + AllocGlobal + Threads + Wait + Sync),
     alloc: Global,
     frame: &str,
     body: &str,

@@ -21,14 +21,17 @@ mod modules;
 mod numeric;
 mod profile;
 mod samples;
+mod sessions;
 mod simulations;
 mod slow_walk;
 mod texts;
+mod threads;
 mod validation;
 mod widths;
 
 use anyhow::Result;
 use std::rt::Files;
+use std::sync::Wait;
 use std::thread::Threads;
 
 fn main(rt: HostRuntime) -> Result<()> {
@@ -61,8 +64,8 @@ fn judgements(rt: &(impl Files + Print + AllocGlobal)) -> Result<()> {
     costs::show(rt)
 }
 
-// Compute calls, graphs, inboxes, jobs, checkpoints, Keeps, simulations, and the console.
-fn runs(rt: &(impl Files + Print + AllocGlobal + Threads + Sync)) -> Result<()> {
+// Compute calls, graphs, inboxes, jobs, checkpoints, Keeps, simulations, threads, the console, and sessions.
+fn runs(rt: &(impl Files + Print + AllocGlobal + Threads + Wait + Sync)) -> Result<()> {
     host_functions::show(rt)?;
     calls::show(rt)?;
     calls::alike::show(rt)?;
@@ -72,6 +75,8 @@ fn runs(rt: &(impl Files + Print + AllocGlobal + Threads + Sync)) -> Result<()> 
     checkpoints::show(rt)?;
     keeps::show(rt)?;
     simulations::show(rt)?;
+    threads::show(rt)?;
     inputs::show(rt)?;
-    commands::show(rt)
+    commands::show(rt)?;
+    sessions::show(rt)
 }

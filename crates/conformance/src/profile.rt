@@ -1,5 +1,8 @@
 //! The bounded profile: `ok` and how large a call of `compute` can get, or `no profile`, a rule that the module breaks and
-//! the place, or the cycle of functions that call each other.
+//! the place, or the cycle of functions that call each other. And what frames hold.
+
+ghost use Rattle.std.specs.Prelude.{◌≡◌};
+ghost use Rattle.wasm_ast.specs.Limits.{imported_functions};
 
 use crate::cases::show_texts;
 use crate::modules::{agreed, line_of, valid_of};
@@ -8,27 +11,44 @@ use bounded_profile::{ProfileFault, Verified, verify};
 use console::CommandFault;
 use std::alloc::{AllocError, Global};
 use std::rt::Files;
-use validate::Valid;
+use wasm_ast::{Import, ImportDescription};
 
 pub fn show(rt: &(impl Files + Print + AllocGlobal)) -> Result<()> {
     show_texts(rt, "profile.txt", answer)?;
     show_texts(rt, "profile-constants.txt", answer)?;
     let told = told(rt.alloc(), ProfileFault::OutOfMemory)?;
     println!(rt; "want of memory: {told}")?;
+    show_texts(rt, "cells.txt", cells)?;
+    show_texts(rt, "reach.txt", reach)?;
     Ok(())
 }
 
 fn answer(alloc: Global, text: &str) -> Result<String, AllocError> {
-    match valid_of(alloc, text) {
-        Ok(valid) => bounds(alloc, valid),
-        Err(fault) => line_of(alloc, fault),
-    }
+    of_verified(alloc, text, accepted)
 }
 
-fn bounds(alloc: Global, valid: Valid) -> Result<String, AllocError> {
-    match verify(alloc, valid) {
-        Ok(verified) => accepted(alloc, &verified),
-        Err(fault) => told(alloc, fault),
+fn cells(alloc: Global, text: &str) -> Result<String, AllocError> {
+    of_verified(alloc, text, cells_of_each)
+}
+
+fn reach(alloc: Global, text: &str) -> Result<String, AllocError> {
+    of_verified(alloc, text, reach_and_places)
+}
+
+// What `show` tells of the module, where it is in the profile.
+fn of_verified<F: Fn(Global, &Verified) -> Result<String, AllocError>>(
+    alloc: Global,
+    text: &str,
+    show: F,
+) -> Result<String, AllocError>
+    requires { F.IsAlwaysCallable show }
+{
+    match valid_of(alloc, text) {
+        Ok(valid) => match verify(alloc, valid) {
+            Ok(verified) => show(alloc, &verified),
+            Err(fault) => told(alloc, fault),
+        },
+        Err(fault) => line_of(alloc, fault),
     }
 }
 
@@ -57,4 +77,36 @@ fn told(alloc: Global, fault: ProfileFault) -> Result<String, AllocError> {
     let own = format!(in alloc; "no profile {fault}")?;
     let line = format!(in alloc; "{}", CommandFault::from(fault))?;
     agreed(alloc, line, own)
+}
+
+// For each function that the module defines, how many parameters and locals it has and how high its own operands stand.
+fn cells_of_each(alloc: Global, verified: &Verified) -> Result<String, AllocError> {
+    let module = verified.module();
+    let imported = imported_count(module.imports.as_slice());
+    let mut text = String::from_str(alloc, "cells")?;
+    for (index, _function) in module.functions.as_slice().iter().enumerate() {
+        if let Ok(number) = u32::try_from(imported.saturating_add(index)) {
+            let cells = verified.cells(number);
+            write!(text, " {} {}", cells.locals, cells.operands)?;
+        }
+    }
+    Ok(text)
+}
+
+// How many bytes are reached, and how many of them lie below bytes 0, 2, 8 and 65,535.
+fn reach_and_places(alloc: Global, verified: &Verified) -> Result<String, AllocError> {
+    let mut text = format!(in alloc; "reach {} places", verified.reach())?;
+    for byte in [0, 2, 8, 65_535] {
+        write!(text, " {}", verified.place(byte))?;
+    }
+    Ok(text)
+}
+
+fn imported_count(imports: &[Import]) -> usize
+    ensures { result ≡ imported_functions imports.now }
+{
+    imports
+        .iter()
+        .filter(|import| matches!(import.description, ImportDescription::Function(_)))
+        .count()
 }

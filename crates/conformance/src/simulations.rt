@@ -8,8 +8,8 @@
 //! steps are drawn. It is told how many end as the run on one machine does.
 
 mod doubles;
-mod faulty_keep;
-mod sweeps;
+pub mod faulty_keep;
+pub mod sweeps;
 
 use crate::cases::{bytes, is_case, named, one_line, spelled};
 use crate::jobs::{fault_told, job_in};

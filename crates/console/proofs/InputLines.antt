@@ -1,11 +1,11 @@
 -- One line after another: what is kept of the lines so far.
-use Rattle.std.proofs.Common.{◌≡◌, ℕ, ◌+◌, ◌<◌, ◌≤◌, List, [], ◌∷◌, ◌++◌, length, take, drop, get_or, Option, Some, None, true, false, refl, ap, sym, ◌∙◌, arith, length-append}
+use Rattle.std.proofs.Common.{◌≡◌, ℕ, ◌+◌, ◌≤◌, List, [], ◌∷◌, ◌++◌, length, take, drop, Option, Some, None, true, false, refl, ap, sym, ◌∙◌, arith, length-append}
 use Rattle.std.specs.Prelude.{is_none}
 use Rattle.std.specs.List.{enumerate_from, flat_map}
 use Rattle.std.specs.Option.{option_to_list}
 use Rattle.std.specs.Str.Lines.{lines}
 use Rattle.std.proofs.lemmas.Bool.{both_ways}
-use Rattle.std.proofs.lemmas.List.{append-nil, take_more, take-append-drop, get_or-map, get_or_append_left, take_all, length-map}
+use Rattle.std.proofs.lemmas.List.{append-nil, take_more, take-append-drop, get_or_append_left, take_all}
 use Rattle.std.proofs.lemmas.List.Elements.{All-push, All-contains, Contains-push}
 use Rattle.std.proofs.lemmas.Grind.{flat_map-append, fold-append}
 use Rattle.console.specs.declared.input.Input.{Input}

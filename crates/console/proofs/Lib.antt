@@ -8,3 +8,6 @@ pub mod Disks
 pub mod Telling
 pub mod JobLines
 pub mod Replays
+pub mod CommandRules
+pub mod Pregel
+pub mod Entries

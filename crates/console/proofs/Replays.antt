@@ -1,5 +1,5 @@
 -- What a simulation says of a replay.
-use Rattle.std.proofs.Common.{◌≡◌, inl, inr, ℕ, List, Bool, true, Ok, Err, subst}
+use Rattle.std.proofs.Common.{◌≡◌, inl, inr, ℕ, List, Bool, true, Ok, subst}
 use Rattle.superstep.specs.Job.{Work}
 use Rattle.rollback.specs.Simulation.{IsRun, IsSimulated}
 use Rattle.rollback.specs.declared.simulation.Step.{Step}

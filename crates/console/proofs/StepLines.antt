@@ -10,7 +10,7 @@ use Rattle.console.specs.declared.step_line.StepLine.TheVariants.{Skipped, Says,
 use Rattle.console.specs.StepLine.{step_line_of}
 use Rattle.console.specs.Steps.{IsStepsFault, put_first, steps_from}
 use Rattle.console.specs.inside.Stepping.{with_step}
-use Rattle.console.proofs.TextLines.{Comes, none_left}
+use Rattle.console.proofs.TextLines.{Comes}
 
 -- steps, and those that come then
 abbrev pub behind : List Step → Result (List Step) ℕ → Result (List Step) ℕ

@@ -2,8 +2,8 @@
 use Rattle.std.proofs.Common.{inl, inr, ◌≡◌, ◌⊎◌, ℕ, List, Option, Some, Result, refl, subst}
 use Rattle.console.specs.declared.fault.CommandFault.{CommandFault}
 use Rattle.console.specs.declared.fault.CommandFault.TheVariants as command
-use Rattle.console.specs.declared.request.Options.{Options}
-use Rattle.console.specs.declared.request.Options.TheVariants as options
+use Rattle.console.specs.declared.request.Request.{Request}
+use Rattle.console.specs.declared.request.Request.TheVariants as request
 use Rattle.console.specs.declared.sources.Source.{Source}
 use Rattle.console.specs.Disk.{Disk, Stays}
 use Rattle.console.specs.Engine.{Refuses, RefusesText, content, is_text}
@@ -25,17 +25,17 @@ refused_in_text disk middle module_path input_path seen text read stays holds fo
     (inr (m, loads, inr (text, there, subst (λ t. RefusesText m t fault) same refused)))
 
 -- memory may run out at any command
-pub want_is_cause : (disk : Disk) (asked : Options) → IsCause disk asked command.OutOfMemory
-want_is_cause disk (options.Call module_path input_path) = inl tt
-want_is_cause disk (options.Run asked) = inl (inl (inl tt))
-want_is_cause disk (options.Replay asked steps_path) = inl (inl (inl tt))
-want_is_cause disk (options.Upgrade path newer_path) = inl (inl tt)
-want_is_cause disk (options.Assemble module_path binary_path) = inl tt
-want_is_cause disk (options.Print module_path) = inl tt
-want_is_cause disk (options.Verify module_path) = inl tt
+pub want_is_cause : (disk : Disk) (asked : Request) → IsCause disk asked command.OutOfMemory
+want_is_cause disk (request.Call module_path input_path) = inl tt
+want_is_cause disk (request.Run asked) = inl tt
+want_is_cause disk (request.Replay asked steps_path) = inl (inl (inl tt))
+want_is_cause disk (request.Upgrade path newer_path) = inl (inl tt)
+want_is_cause disk (request.Assemble module_path binary_path) = inl tt
+want_is_cause disk (request.Print module_path) = inl tt
+want_is_cause disk (request.Verify module_path) = inl tt
 
 -- the fault is told, or in its place that there is no memory for its line
-pub refusal_told : (before after : Disk) (asked : Options) (fault other : CommandFault) → IsCause before asked fault
+pub refusal_told : (before after : Disk) (asked : Request) (fault other : CommandFault) → IsCause before asked fault
     → (IsBeforeWriting fault → Stays before after) → MayTry before after asked → (other ≡ fault) ⊎ (other ≡ command.OutOfMemory)
     → Told before after asked (status_of other) (line (fault_text other))
 refusal_told before after asked fault other cause unwritten tried (inl same) =

@@ -1,16 +1,18 @@
 -- The job of a module over the graph that a text means, what it tells, and why it does not.
-use Rattle.std.specs.Prelude.{◌≡◌, ℕ, Bool, List, map, Some, None}
+use denote.Bor.{Bor}
+use Rattle.std.specs.Prelude.{◌≡◌, ℕ, Bool, List, map, Option, Some, None}
 use Rattle.std.specs.List.{range_with_len}
 use Rattle.wasm_ast.specs.declared.module.Module.{Module}
 use Rattle.graph.specs.Entry.{Entry}
 use Rattle.graph.specs.Graph.{IsGraphText, IsWithinLimits}
 use Rattle.graph.specs.declared.fault.GraphFault.TheVariants as graph_fault
-use Rattle.superstep.specs.declared.fault.JobFault.TheVariants as job_fault
+use Rattle.superstep.specs.declared.run.Ended.{Ended}
 use Rattle.superstep.specs.declared.settings.Settings.{Settings}
 use Rattle.superstep.specs.Settings.{first_bad}
 use Rattle.superstep.specs.Job.{IsGraphOf, Meaning, Work}
 use Rattle.superstep.specs.PlainRun.{Answer, IsAnswer, units_at}
-use Rattle.console.specs.Lines.{job_lines}
+use Rattle.workers.specs.Answers.{IsRunFault}
+use Rattle.console.specs.Lines.{ended_lines, job_lines}
 use Rattle.console.specs.declared.fault.CommandFault.{CommandFault}
 use Rattle.console.specs.declared.fault.CommandFault.TheVariants as command
 
@@ -36,6 +38,16 @@ pub record AreLinesOf (job : Work) (meaning : Meaning job) (tells_units : Bool) 
 abbrev pub AreJobLines : Work → (tells_units : Bool) → List ℕ → Type 0
 AreJobLines job tells_units lines = (meaning : Meaning job) → AreLinesOf job meaning tells_units lines
 
+-- the lines of what some job ends with
+abbrev pub AreEndLines : (tells_units : Bool) → List ℕ → Type 0
+AreEndLines tells_units lines = (ended : Ended) × (lines ≡ ended_lines tells_units ended)
+
+-- The lines of a run in threads: of the job's answer where its states are kept in memory, and of some end where they are kept
+-- in a folder, since others may change its files.
+abbrev pub AreRunLines : Work → (folder : Option (Bor (List ℕ))) → (tells_units : Bool) → List ℕ → Type 0
+AreRunLines job None tells_units lines = AreJobLines job tells_units lines
+AreRunLines job (Some folder) tells_units lines = AreEndLines tells_units lines
+
 -- ---- refusals
 
 -- what a fault says of a text where no graph is read of it; want of memory says nothing
@@ -49,8 +61,8 @@ RefusesSettings settings (command.Settings setting) = first_bad settings ≡ Som
 RefusesSettings settings command.OutOfMemory = first_bad settings ≡ None
 RefusesSettings settings _ = ⊥
 
--- memory ran out in a job, or for the lines of what it ended with
-abbrev pub IsWantOfJob : CommandFault → Type 0
-IsWantOfJob (command.Job (job_fault.OutOfMemory place)) = Unit {0}
-IsWantOfJob command.OutOfMemory = Unit {0}
-IsWantOfJob _ = ⊥
+-- the job ended by a fault of its own or of threads, or there is no memory for the lines of what it ended with
+abbrev pub IsFaultOfRun : CommandFault → Type 0
+IsFaultOfRun (command.Job fault) = IsRunFault fault
+IsFaultOfRun command.OutOfMemory = Unit {0}
+IsFaultOfRun _ = ⊥

@@ -7,6 +7,8 @@ pub mod InputFaults
 -- the steps of a replay, and which of them a text means
 pub mod StepLine
 pub mod Steps
+-- which worker of a run is lost
+pub mod Loss
 -- what is told of an outcome and of a fault
 pub mod Lines
 pub mod Refusal
@@ -18,5 +20,7 @@ pub mod Engine
 pub mod Jobs
 pub mod Replays
 pub mod Program
+-- and what its command line asks for
+pub mod CommandLine
 -- what only mirrors the code, for its proofs
 pub mod inside

@@ -20,14 +20,17 @@ use Rattle.checkpoint.specs.Reading.{Fails, state_of}
 use Rattle.console.specs.declared.fault.CommandFault.{CommandFault}
 use Rattle.console.specs.declared.fault.CommandFault.TheVariants as command
 use Rattle.console.specs.declared.request.JobRequest.{JobRequest}
-use Rattle.console.specs.declared.request.Options.{Options}
-use Rattle.console.specs.declared.request.Options.TheVariants as options
+use Rattle.console.specs.declared.request.Request.{Request}
+use Rattle.console.specs.declared.request.RunRequest.{RunRequest}
+use Rattle.console.specs.declared.loss.Loss.{Loss}
+use Rattle.console.specs.declared.request.Request.TheVariants as request
 use Rattle.console.specs.Lines.{line}
 use Rattle.console.specs.Disk.{Disk, HoldsAt, Stays, Tries, Writes}
 use Rattle.console.specs.Modules.{IsModuleAt, Loads, MeansBy, is_text_path}
 use Rattle.console.specs.Refusal.{fault_text, status_of}
 use Rattle.console.specs.Engine.{IsAnswer, RefusesLoad, RefusesModule, RefusesText}
-use Rattle.console.specs.Jobs.{AreJobLines, IsGraphIn, IsJobOf, IsWantOfJob, RefusesGraph, RefusesSettings}
+use Rattle.console.specs.Jobs.{AreRunLines, IsFaultOfRun, IsGraphIn, IsJobOf, RefusesGraph, RefusesSettings}
+use Rattle.console.specs.Loss.{NamesLoss, RefusesLoss}
 use Rattle.console.specs.Replays.{AreReplayLines, IsFaultOfReplay}
 use Rattle.console.specs.Steps.{RefusesSteps, steps_of}
 
@@ -54,9 +57,13 @@ pub record IsJobAt (disk : Disk) (asked : JobRequest) (job : Work) : Type 0 wher
   pub read : IsReadAt disk asked.graph.now graph
   pub is_job : IsJobOf m graph asked.settings job
 
--- the lines of what that job ends with are told
-abbrev pub TellsJob : Disk → JobRequest → (told : List ℕ) → Type 0
-TellsJob disk asked told = (job : Work) × IsJobAt disk asked job × AreJobLines job asked.tells_units told
+-- The worker that is lost is named, where one is, and the lines of what that job ends with are told.
+pub record TellsRun (disk : Disk) (asked : RunRequest) (told : List ℕ) : Type 0 where
+  pub loss : Option Loss
+  pub named : NamesLoss asked.lose loss
+  pub job : Work
+  pub is_job : IsJobAt disk asked.job job
+  pub lines : AreRunLines job asked.keep asked.job.tells_units told
 
 -- the file's text means these steps
 abbrev pub AreStepsAt : Disk → (path : List ℕ) → List Step → Type 0
@@ -117,14 +124,14 @@ pub record IsBoundsLine (m : Module) (told : List ℕ) : Type 0 where
 abbrev pub TellsBounds : Disk → (module_path told : List ℕ) → Type 0
 TellsBounds disk module_path told = (m : Module) × IsLoadedAt disk module_path m × IsBoundsLine m told
 
-abbrev pub Answered : (before after : Disk) → Options → List ℕ → Type 0
-Answered before after (options.Call module_path input_path) told = TellsOutcome before module_path.now input_path.now told
-Answered before after (options.Run asked) told = TellsJob before asked told
-Answered before after (options.Replay asked steps_path) told = TellsReplay before asked steps_path.now told
-Answered before after (options.Upgrade path newer_path) told = TellsUpgraded before after path.now newer_path.now told
-Answered before after (options.Assemble module_path binary_path) told = TellsLength before after module_path.now binary_path.now told
-Answered before after (options.Print module_path) told = TellsLayout before module_path.now told
-Answered before after (options.Verify module_path) told = TellsBounds before module_path.now told
+abbrev pub Answered : (before after : Disk) → Request → List ℕ → Type 0
+Answered before after (request.Call module_path input_path) told = TellsOutcome before module_path.now input_path.now told
+Answered before after (request.Run asked) told = TellsRun before asked told
+Answered before after (request.Replay asked steps_path) told = TellsReplay before asked steps_path.now told
+Answered before after (request.Upgrade path newer_path) told = TellsUpgraded before after path.now newer_path.now told
+Answered before after (request.Assemble module_path binary_path) told = TellsLength before after module_path.now binary_path.now told
+Answered before after (request.Print module_path) told = TellsLayout before module_path.now told
+Answered before after (request.Verify module_path) told = TellsBounds before module_path.now told
 
 -- ---- why a command is not carried out
 
@@ -176,9 +183,14 @@ IsUnopened disk asked fault =
     IsRefusedAt disk asked.«module».now RefusesLoad fault
     ⊎ ((m : Module) × IsLoadedAt disk asked.«module».now m × RefusesJob disk asked fault)
 
--- why nothing is told of a job: there is none, or memory runs out
-abbrev pub IsUnrun : Disk → JobRequest → CommandFault → Type 0
-IsUnrun disk asked fault = IsUnopened disk asked fault ⊎ ((job : Work) × IsJobAt disk asked job × IsWantOfJob fault)
+-- why a run of which the worker that is lost is named tells nothing: there is no job, or it ends by a fault
+abbrev pub RefusesRun : Disk → JobRequest → CommandFault → Type 0
+RefusesRun disk asked fault = IsUnopened disk asked fault ⊎ ((job : Work) × IsJobAt disk asked job × IsFaultOfRun fault)
+
+-- why nothing is told of a run: the text names no worker that is lost, or the run tells nothing
+abbrev pub IsUnrun : Disk → RunRequest → CommandFault → Type 0
+IsUnrun disk asked fault =
+    RefusesLoss fault asked.lose ⊎ ((loss : Option Loss) × NamesLoss asked.lose loss × RefusesRun disk asked.job fault)
 
 -- the file of steps is not read, or what is in it means none
 abbrev pub IsNoStepsAt : Disk → (path : List ℕ) → CommandFault → Type 0
@@ -229,21 +241,21 @@ RefusesSpelled disk binary_path is_text content fault =
 abbrev pub IsUnassembled : Disk → (module_path binary_path : List ℕ) → CommandFault → Type 0
 IsUnassembled disk module_path binary_path fault = IsRefusedAt disk module_path (RefusesSpelled disk binary_path) fault
 
-abbrev pub IsCause : Disk → Options → CommandFault → Type 0
-IsCause disk (options.Call module_path input_path) fault = IsUncalled disk module_path.now input_path.now fault
-IsCause disk (options.Run asked) fault = IsUnrun disk asked fault
-IsCause disk (options.Replay asked steps_path) fault = IsUnreplayed disk asked steps_path.now fault
-IsCause disk (options.Upgrade path newer_path) fault = IsNotUpgraded disk path.now newer_path.now fault
-IsCause disk (options.Assemble module_path binary_path) fault = IsUnassembled disk module_path.now binary_path.now fault
-IsCause disk (options.Print module_path) fault = IsRefusedAt disk module_path.now RefusesModule fault
-IsCause disk (options.Verify module_path) fault = IsRefusedAt disk module_path.now RefusesLoad fault
+abbrev pub IsCause : Disk → Request → CommandFault → Type 0
+IsCause disk (request.Call module_path input_path) fault = IsUncalled disk module_path.now input_path.now fault
+IsCause disk (request.Run asked) fault = IsUnrun disk asked fault
+IsCause disk (request.Replay asked steps_path) fault = IsUnreplayed disk asked steps_path.now fault
+IsCause disk (request.Upgrade path newer_path) fault = IsNotUpgraded disk path.now newer_path.now fault
+IsCause disk (request.Assemble module_path binary_path) fault = IsUnassembled disk module_path.now binary_path.now fault
+IsCause disk (request.Print module_path) fault = IsRefusedAt disk module_path.now RefusesModule fault
+IsCause disk (request.Verify module_path) fault = IsRefusedAt disk module_path.now RefusesLoad fault
 
 -- ---- what is written to files
 
 -- whether the command may write a file
-abbrev pub writes_file : Options → Bool
-writes_file (options.Assemble module_path binary_path) = true
-writes_file (options.Upgrade path newer_path) = true
+abbrev pub writes_file : Request → Bool
+writes_file (request.Assemble module_path binary_path) = true
+writes_file (request.Upgrade path newer_path) = true
 writes_file asked = false
 
 -- the fault is told before any file is written
@@ -267,10 +279,10 @@ TriesUpgraded before after path newer_path =
     (state : Standing) × IsKeptAt before path state × Tries newer_path (checkpoint_bytes state) before after
 
 -- what a command that is refused may leave: the files as they were, or one that was to be written
-abbrev pub MayTry : (before after : Disk) → Options → Type 0
-MayTry before after (options.Assemble module_path binary_path) =
+abbrev pub MayTry : (before after : Disk) → Request → Type 0
+MayTry before after (request.Assemble module_path binary_path) =
     Stays before after ⊎ TriesSpelling before after module_path.now binary_path.now
-MayTry before after (options.Upgrade path newer_path) =
+MayTry before after (request.Upgrade path newer_path) =
     Stays before after ⊎ TriesUpgraded before after path.now newer_path.now
 MayTry before after asked = Stays before after
 
@@ -278,7 +290,7 @@ MayTry before after asked = Stays before after
 
 -- A fault is told, and there is a cause for it. The files are as they were where it came before writing, and else hold no
 -- more than a beginning of what was to be written.
-pub record TellsRefusal (before after : Disk) (asked : Options) (status : ℕ) (told : List ℕ) : Type 0 where
+pub record TellsRefusal (before after : Disk) (asked : Request) (status : ℕ) (told : List ℕ) : Type 0 where
   pub fault : CommandFault
   pub because : IsCause before asked fault
   pub unwritten : StaysBeforeWriting before after fault
@@ -287,7 +299,7 @@ pub record TellsRefusal (before after : Disk) (asked : Options) (status : ℕ) (
   pub line_of_fault : told ≡ line (fault_text fault)
 
 -- what a command may tell, and with which status: an answer with 0, or a refusal
-abbrev pub Told : (before after : Disk) → Options → ℕ → List ℕ → Type 0
+abbrev pub Told : (before after : Disk) → Request → ℕ → List ℕ → Type 0
 Told before after asked status told =
     ((status ≡ 0) × Answered before after asked told) ⊎ TellsRefusal before after asked status told
 

@@ -101,6 +101,7 @@ fault_text (command.Invalid fault) = codes "no valid " ++ invalid_text fault
 fault_text (command.Unbounded fault) = codes "no profile " ++ unbounded_text fault
 fault_text (command.Input fault) = input_text fault
 fault_text command.Run = codes "no run OutOfMemory"
+fault_text command.Loss = codes "no input lose"
 fault_text (command.Graph fault) = graph_text fault
 fault_text (command.Settings which) = codes "no settings " ++ setting_word which
 fault_text (command.Job fault) = job_text fault

@@ -1,10 +1,8 @@
 -- What a replay tells of a job's steps, and why it does not.
-use Rattle.std.specs.Prelude.{◌≡◌, ℕ, Bool, true, List, ◌++◌, codes, Result, Ok, Err}
+use Rattle.std.specs.Prelude.{◌≡◌, ℕ, Bool, true, List, ◌++◌, codes, Ok, Err}
 use Rattle.std.specs.List.{flat_map}
 use Rattle.std.specs.Fmt.{decimal}
-use Rattle.superstep.specs.Ending.{answer_of}
 use Rattle.superstep.specs.Job.{Work}
-use Rattle.superstep.specs.declared.run.Ended.{Ended}
 use Rattle.rollback.specs.Simulation.{IsCalm, IsRun, IsSimulated}
 use Rattle.rollback.specs.declared.event.Answer.{Answer}
 use Rattle.rollback.specs.declared.event.Answer.TheVariants.{Advanced, RolledBack, Stale, Taken}

@@ -2,3 +2,4 @@
 pub mod Adding
 pub mod Answering
 pub mod Stepping
+pub mod Commands

@@ -30,6 +30,8 @@ pub enum CommandFault<'a> {
     Input(InputFault),
     /// Memory ran out in the call.
     Run,
+    /// The text `W:S` of a worker that is lost is none.
+    Loss,
     /// The text means no graph.
     Graph(GraphFault),
     /// This setting is the first that is out of its range.

@@ -1,18 +1,22 @@
 //! A job, from a module and a graph to printed lines.
 
-ghost use Rattle.std.specs.Prelude.{◌≡◌, IfOk, IfErr, MatchResult, OnOk, string_bytes};
+ghost use Rattle.std.specs.Prelude.{◌≡◌, true, IfOk, IfErr, MatchResult, OnOk, string_bytes};
 ghost use Rattle.graph.specs.Print.{value_lines};
 ghost use Rattle.superstep.specs.Ending.{answer_of};
 ghost use Rattle.console.specs.Lines.{Gains, IfTold, end_line, ended_lines, numbered_line, numbered_lines};
-ghost use Rattle.console.specs.Jobs.{AreJobLines, IsJobOf, IsWantOfJob, RefusesSettings};
+ghost use Rattle.console.specs.Jobs.{AreEndLines, AreJobLines, IsFaultOfRun, IsJobOf, RefusesSettings};
 ghost use Rattle.console.specs.inside.Answering.{opening_fault};
 
 use crate::fault::CommandFault;
 use bounded_profile::Verified;
+use checkpoint::Keep;
 use graph::Graph;
 use std::alloc::{AllocError, Global};
+use std::rt::Files;
+use std::sync::Wait;
 use std::thread::Threads;
-use superstep::{Ended, How, Job, JobFault, Place, Settings, one_machine};
+use superstep::{Ended, How, Job, JobFault, Settings};
+use workers::{Gate, run_in_threads};
 
 /// The job of a module over a graph. `Settings` names the first setting that is out of its range.
 pub fn open<'a>(
@@ -40,23 +44,28 @@ fn opening_fault<'a>(fault: JobFault) -> CommandFault<'a>
     }
 }
 
-/// What a job prints: a line `v ID VALUE` for each vertex, by rising id, then `end finished supersteps S units U dropped D`,
-/// or `end limit ..` where the limit came before; and, where `tells_units` says so, a line `units S U` for each superstep.
-pub fn run<'a>(
-    rt: &(impl Threads + Sync),
+/// What a job prints that is run in threads, its states kept here and its workers lost as the gate says: a line `v ID VALUE` for
+/// each vertex, by rising id, then `end finished supersteps S units U dropped D`, or `end limit ..` where the limit came
+/// before; and, where `tells_units` says so, a line `units S U` for each superstep.
+pub fn run<'a, K: Keep + Drop, G: Gate + Sync, R: Wait + Threads + Sync + Files + AllocGlobal>(
+    rt: &R,
     alloc: Global,
     job: &Job,
+    keep: K,
+    gate: &G,
     tells_units: bool,
 ) -> Result<String, CommandFault<'a>>
-    ensures told { IfTold result (AreJobLines job.now tells_units) }
-    ensures refused { IfErr result IsWantOfJob }
+    ensures told { IfTold result (AreEndLines tells_units) }
+    ensures answered { K.honest keep ≡ true → IfTold result (AreJobLines job.now tells_units) }
+    ensures refused { IfErr result IsFaultOfRun }
 {
-    let Ok(ended) = one_machine(rt, alloc, job) else {
-        // It does not tell for which work there is no memory.
-        return Err(CommandFault::Job(JobFault::OutOfMemory(Place::Call)));
-    };
-    let text = ended_text(alloc, &ended, tells_units)?;
-    Ok(text)
+    match run_in_threads(rt, alloc, job, keep, gate) {
+        Ok(report) => {
+            let text = ended_text(alloc, &report.ended, tells_units)?;
+            Ok(text)
+        }
+        Err(fault) => Err(CommandFault::Job(fault)),
+    }
 }
 
 // The lines of what a job ended with.

@@ -5,33 +5,38 @@ ghost use Rattle.wasm_ast.specs.Limits.{IsWithinLimits};
 ghost use Rattle.wasm_decode.specs.Canonical.{canonical};
 ghost use Rattle.checkpoint.specs.Checkpoint.{checkpoint_bytes};
 ghost use Rattle.console.specs.Disk.{Stays, Tries};
+ghost use Rattle.console.specs.Jobs.{AreRunLines, IsFaultOfRun};
 ghost use Rattle.console.specs.Lines.{IfTold};
+ghost use Rattle.console.specs.Loss.{NamesLoss, RefusesLoss};
 ghost use Rattle.console.specs.Modules.{IsModuleAt};
 ghost use Rattle.console.specs.Engine.{RefusesLoad, RefusesModule};
-ghost use Rattle.console.specs.Program.{Answered, AreStepsAt, IsBoundsLine, IsCause, IsJobAt, IsKeptAt, IsLoadedAt, IsNoCheckpointAt, IsNoGraphAt, IsNoStepsAt, IsNotUpgraded, IsReadAt, IsRefusedAt, IsTold, IsUnassembled, IsUncalled, IsUnopened, IsUnreplayed, IsUnrun, IsUnspelled, IsUnwritable, MayTry, StaysBeforeWriting, TellsBounds, TellsJob, TellsLayout, TellsLength, TellsOutcome, TellsReplay, TellsSpelling, TellsUpgraded, TellsWritten, Told, TriesSpelling, TriesUpgraded, bounds_line, length_line, writes_file};
+ghost use Rattle.console.specs.Program.{Answered, AreStepsAt, IsBoundsLine, IsCause, IsJobAt, IsKeptAt, IsLoadedAt, IsNoCheckpointAt, IsNoGraphAt, IsNoStepsAt, IsNotUpgraded, IsReadAt, IsRefusedAt, IsTold, IsUnassembled, IsUncalled, IsUnopened, IsUnreplayed, IsUnrun, IsUnspelled, IsUnwritable, MayTry, StaysBeforeWriting, TellsBounds, TellsLayout, TellsLength, TellsOutcome, TellsReplay, TellsRun, TellsSpelling, TellsUpgraded, TellsWritten, Told, TriesSpelling, TriesUpgraded, bounds_line, length_line, writes_file};
 ghost use Rattle.console.specs.inside.Answering.{IsFaultTold};
 
 use crate::engine::{call, load};
 use crate::fault::{CommandFault, status_of};
 use crate::files::Files;
 use crate::jobs::{open, run};
+use crate::loss::{Loss, LossGate};
 use crate::modules::module_of;
 use crate::refusal::refusal_line;
 use crate::replay::replay;
-use crate::request::{JobRequest, Options};
+use crate::request::{JobRequest, Request, RunRequest};
 use crate::sources::{read_bytes, read_source, read_text, write};
 use crate::steps::steps_of;
 use bounded_profile::Verified;
+use checkpoint::{FileKeep, MemoryKeep};
 use graph::{Graph, Output, Unwritten, put};
 use rollback::Step;
 use std::alloc::{AllocError, Global};
+use std::sync::Wait;
 use std::thread::Threads;
 use superstep::{Job, State};
 use wasm_ast::Module;
 use wasm_decode::encode;
 use wat_asm::print;
 
-/// Does what the options ask for, and writes the answer or, as one line, its refusal.
+/// Does what is asked for, and writes the answer or, as one line, its refusal.
 ///
 /// It answers the status for the process: 0 where there is an answer, 1 where the module, the input, the call, the graph,
 /// a setting or the steps were refused, 3 where a job ended by a fault, and 4 where a file cannot be read or written, which
@@ -40,27 +45,28 @@ use wat_asm::print;
 /// and then a beginning of what was to be told was written.
 ///
 /// `call` answers with the outcome's lines; the module is looked at before it is told that the input's file cannot be
-/// read. `run` answers with the values of a job's vertices and how it ended; the module is looked at first, then the graph,
-/// then the settings. `replay` answers with a line for each of the steps and where they lead, and looks at the steps after
+/// read. `run` answers with the values of a job's vertices and how it ended; the text of the worker that is lost is looked at
+/// first, then the module, the graph, and the settings. Where it keeps its states in a folder, their files are the system's, not
+/// `files`. `replay` answers with a line for each of the steps and where they lead, and looks at the steps after
 /// the settings. `verify` answers `ok size S operands M frames F`. `upgrade` reads a checkpoint of any version, writes it to the other file as one of version 2, and answers `ok LENGTH`. `asm` writes the module's canonical spelling to the other file,
 /// and answers `ok LENGTH`. `print` answers with the module's text. These two do not ask that the module is valid, and the
 /// others ask that it is and that it is in the bounded profile. A refusal is one of the module's and the input's own, or
 /// want of memory.
 pub fn command<F: Files, O: Output>(
-    rt: &(impl Threads + Sync + std::rt::Files + AllocGlobal),
+    rt: &(impl Wait + Threads + Sync + std::rt::Files + AllocGlobal),
     alloc: Global,
-    options: Options<'_>,
+    request: Request<'_>,
     files: &mut F,
     out: &mut O,
 ) -> Result<u8, Unwritten>
     ensures told { (status : ℕ) × (told : List ℕ)
-        × Told (F.disk files.old) (F.disk files.new) options.entry status told
+        × Told (F.disk files.old) (F.disk files.new) request.entry status told
         × IsTold (O.contents out.old) (O.contents out.new) status told result }
     ensures failed { OnErr result (O.has_failed out.new) }
     // No command but `asm` writes a file.
-    ensures kept { writes_file options.entry ≡ false → Stays (F.disk files.old) (F.disk files.new) }
+    ensures kept { writes_file request.entry ≡ false → Stays (F.disk files.old) (F.disk files.new) }
 {
-    match carry_out(rt, alloc, options, files) {
+    match carry_out(rt, alloc, request, files) {
         Ok(text) => tell(0, text.as_bytes(), out),
         Err(fault) => refuse(alloc, &fault, out),
     }
@@ -88,26 +94,26 @@ fn refuse<O: Output>(alloc: Global, fault: &CommandFault, out: &mut O) -> Result
 
 // What is told of a command.
 fn carry_out<'a, F: Files>(
-    rt: &(impl Threads + Sync + std::rt::Files + AllocGlobal),
+    rt: &(impl Wait + Threads + Sync + std::rt::Files + AllocGlobal),
     alloc: Global,
-    options: Options<'a>,
+    request: Request<'a>,
     files: &mut F,
 ) -> Result<String, CommandFault<'a>>
     ensures answered { IfTold result
-        (Answered (F.disk files.old) (F.disk files.new) options.entry) }
-    ensures kept { writes_file options.entry ≡ false → Stays (F.disk files.old) (F.disk files.new) }
-    ensures refused { IfErr result (IsCause (F.disk files.old) options.entry) }
+        (Answered (F.disk files.old) (F.disk files.new) request.entry) }
+    ensures kept { writes_file request.entry ≡ false → Stays (F.disk files.old) (F.disk files.new) }
+    ensures refused { IfErr result (IsCause (F.disk files.old) request.entry) }
     ensures before { IfErr result (StaysBeforeWriting (F.disk files.old) (F.disk files.new)) }
-    ensures tried { OnErr result (MayTry (F.disk files.old) (F.disk files.new) options.entry) }
+    ensures tried { OnErr result (MayTry (F.disk files.old) (F.disk files.new) request.entry) }
 {
-    match options {
-        Options::Call { module, input } => call_files(alloc, module, input, files),
-        Options::Run(asked) => run_files(rt, alloc, asked, files),
-        Options::Replay { asked, steps } => replay_files(rt, alloc, asked, steps, files),
-        Options::Upgrade { checkpoint, newer } => upgrade_file(alloc, checkpoint, newer, files),
-        Options::Assemble { module, binary } => assemble_file(alloc, module, binary, files),
-        Options::Print { module } => print_file(alloc, module, files),
-        Options::Verify { module } => verify_file(alloc, module, files),
+    match request {
+        Request::Call { module, input } => call_files(alloc, module, input, files),
+        Request::Run(asked) => run_files(rt, alloc, asked, files),
+        Request::Replay { asked, steps } => replay_files(rt, alloc, asked, steps, files),
+        Request::Upgrade { checkpoint, newer } => upgrade_file(alloc, checkpoint, newer, files),
+        Request::Assemble { module, binary } => assemble_file(alloc, module, binary, files),
+        Request::Print { module } => print_file(alloc, module, files),
+        Request::Verify { module } => verify_file(alloc, module, files),
     }
 }
 
@@ -134,17 +140,55 @@ fn call_files<'a, F: Files>(
 
 // Runs the job of the module in one file over the graph in another.
 fn run_files<'a, F: Files>(
-    rt: &(impl Threads + Sync),
+    rt: &(impl Wait + Threads + Sync + std::rt::Files + AllocGlobal),
     alloc: Global,
-    asked: JobRequest<'a>,
+    asked: RunRequest<'a>,
     files: &mut F,
 ) -> Result<String, CommandFault<'a>>
-    ensures answered { IfTold result (TellsJob (F.disk files.old) asked.entry) }
+    ensures answered { IfTold result (TellsRun (F.disk files.old) asked.entry) }
     ensures kept { Stays (F.disk files.old) (F.disk files.new) }
     ensures refused { IfErr result (IsUnrun (F.disk files.old) asked.entry) }
 {
-    let job = job_of(alloc, asked, files)?;
-    run(rt, alloc, &job, asked.tells_units)
+    let loss = loss_of(asked)?;
+    let job = job_of(alloc, asked.job, files)?;
+    run_kept(rt, alloc, &job, asked, &LossGate::new(loss, asked.again))
+}
+
+// Which worker is lost, if one is.
+fn loss_of<'a>(asked: RunRequest<'a>) -> Result<Option<Loss>, CommandFault<'a>>
+    ensures named { IfOk result (NamesLoss asked.entry.lose) }
+    ensures refused { IfErr result (λ fault.
+        (fault ≡ CommandFault.Loss) × RefusesLoss fault asked.entry.lose) }
+{
+    let Some(text) = asked.lose else {
+        return Ok(None);
+    };
+    match Loss::read(text) {
+        Some(loss) => Ok(Some(loss)),
+        None => Err(CommandFault::Loss),
+    }
+}
+
+// Runs a job, its states kept in a folder where one is named, else in memory.
+fn run_kept<'a>(
+    rt: &(impl Wait + Threads + Sync + std::rt::Files + AllocGlobal),
+    alloc: Global,
+    job: &Job,
+    asked: RunRequest<'a>,
+    gate: &LossGate,
+) -> Result<String, CommandFault<'a>>
+    ensures told { IfTold result
+        (AreRunLines job.now asked.entry.keep asked.entry.job.tells_units) }
+    ensures refused { IfErr result IsFaultOfRun }
+{
+    let tells_units = asked.job.tells_units;
+    match asked.keep {
+        None => run(rt, alloc, job, MemoryKeep::new(alloc), gate, tells_units),
+        Some(folder) => {
+            let keep = FileKeep::new(alloc, folder)?;
+            run(rt, alloc, job, keep, gate, tells_units)
+        }
+    }
 }
 
 // Replays the job of the module in one file over the graph in another, by the steps in a third.

@@ -16,7 +16,7 @@ use wasm_decode::EncodeFault;
 use wat_asm::{Position, TextFault};
 
 /// The line that tells of a fault, with its end: `no decode WORD PLACE`, `no text WORD LINE COLUMN`,
-/// `no valid WORD FUNC INSTR`, `no profile RULE FUNC INSTR`, `no profile P12` and the numbers of the cycle, `no input LINE`,
+/// `no valid WORD FUNC INSTR`, `no profile RULE FUNC INSTR`, `no profile P12` and the numbers of the cycle, `no input LINE`, `no input lose`,
 /// `no run OutOfMemory`, `no graph WORD LINE`, `no settings WHICH`, `end fault WORD`, `no checkpoint WORD`, `no encode WORD`,
 /// `no file PATH` or `no memory`. FUNC, INSTR, PLACE and the LINE of a graph are `-` where there is none.
 pub fn refusal_line(alloc: Global, fault: &CommandFault) -> Result<String, AllocError>
@@ -38,6 +38,7 @@ impl fmt::Display for CommandFault<'_> {
             CommandFault::Unbounded(fault) => write!(f, "no profile {fault}"),
             CommandFault::Input(fault) => tell_input_fault(*fault, f),
             CommandFault::Run => f.write_str("no run OutOfMemory"),
+            CommandFault::Loss => f.write_str("no input lose"),
             CommandFault::Graph(fault) => tell_graph_fault(*fault, f),
             CommandFault::Settings(setting) => tell_setting(*setting, f),
             CommandFault::Job(fault) => f.write_str(job_line(*fault)),

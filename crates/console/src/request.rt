@@ -5,13 +5,22 @@ use superstep::Settings;
 /// What the command line asks for.
 #[derive(Clone, Copy)]
 pub enum Options<'a> {
+    /// A session on standard input and output.
+    Session,
+    /// One command over files.
+    Command(Request<'a>),
+}
+
+/// A command over files.
+#[derive(Clone, Copy)]
+pub enum Request<'a> {
     /// Call the module in one file with the input in the other.
     Call {
         module: &'a str,
         input: &'a str,
     },
-    /// Run a job.
-    Run(JobRequest<'a>),
+    /// Run a job in threads.
+    Run(RunRequest<'a>),
     /// Replay a job by the steps in a file.
     Replay {
         asked: JobRequest<'a>,
@@ -45,4 +54,16 @@ pub struct JobRequest<'a> {
     pub settings: Settings,
     /// Whether the units of each superstep are told too.
     pub tells_units: bool,
+}
+
+/// A job that is run in threads, whose workers can be lost.
+#[derive(Clone, Copy)]
+pub struct RunRequest<'a> {
+    pub job: JobRequest<'a>,
+    /// The folder in which its states are kept; without one they are kept in memory.
+    pub keep: Option<&'a str>,
+    /// Which worker is lost, as `W:S`.
+    pub lose: Option<&'a str>,
+    /// Whether a worker that is lost joins again.
+    pub again: bool,
 }

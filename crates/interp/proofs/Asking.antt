@@ -18,20 +18,23 @@ use Rattle.wasm_ast.specs.declared.plain.Plain.{Plain}
 use Rattle.wasm_ast.specs.declared.plain.Plain.TheVariants as plain
 use Rattle.wasm_ast.specs.declared.module.Function.{Function}
 use Rattle.wasm_ast.specs.Code.{Code}
+use Rattle.wasm_ast.specs.declared.plain.MemoryArgument.{MemoryArgument}
+use Rattle.bounded_profile.specs.Memory.{number_of}
 use Rattle.wasm_ast.specs.Numeric.{conversion_from, division_traps}
+use Rattle.wasm_ast.specs.NumericTypes.{numeric_takes}
 use Rattle.wasm_ast.specs.Widths.{load_width, store_type, store_width}
 use Rattle.host_calls.specs.declared.call.TheConstants.{SLOTS}
 use Rattle.host_calls.specs.declared.imports.HostCall.{HostCall}
 use Rattle.host_calls.specs.declared.imports.HostCall.TheVariants as call
 use Rattle.host_calls.specs.Effects.{HostEffect, host_effect}
 use Rattle.host_calls.specs.Effects as host
-use Rattle.host_calls.specs.Host.{Host}
 use Rattle.host_calls.specs.Operands.{pop}
 use Rattle.interp.specs.Configuration.{State, Effect, Gives, Traps, Misses}
 use Rattle.interp.specs.Memory.{write, bytes_of_number}
-use Rattle.interp.specs.Effects.{popped, numeric_effect, select, pushed, variable_effect, load_effect, store_effect, memory_effect, effect, call_effect, lifted}
+use Rattle.interp.specs.Effects.{popped, numeric_effect, select, pushed, variable_effect, load_effect, store_effect, memory_effect, effect, lifted}
 use Rattle.interp.specs.Machine.{Machine, Stuck, Layer, Label, Frame, after_effect, jump, enter, taking}
-use Rattle.interp.specs.inside.Going.{is_going, has_labels, has_tops, of_top, of_next, divides, numeric_asks, select_asks, variable_asks, reaches, memory_asks, plain_asks, call_asks}
+use Rattle.interp.specs.inside.Cells.{call_takes, cell_call, cell_effect, cell_memory, cell_numeric, narrowed, seen, topped}
+use Rattle.interp.specs.inside.Going.{is_going, has_labels, has_tops, of_top, of_next, divides, numeric_asks, variable_asks, reaches, memory_asks, plain_asks, call_asks}
 use Rattle.interp.proofs.Plains.{bytes_length}
 
 -- ---- layers
@@ -55,52 +58,54 @@ both : (a b : Bool) → a ≡ true → b ≡ true → a && b ≡ true
 both true b e h = h
 both false b e h = e
 
-pub taking_asks : (vs : List Value) (count : ℕ) (go : ℕ → List Value → Machine) → is_going (taking vs count go) ≡ true → has_tops (val_type.I32 ∷ []) vs ≡ true
+pub taking_asks : (vs : List Value) (count : ℕ) (go : ℕ → List Value → Machine) → is_going (taking (seen (val_type.I32 ∷ []) vs) count go) ≡ true → has_tops 1 vs ≡ true
 taking_asks [] count go g = g
-taking_asks (I32 n ∷ vs) count go g = refl
-taking_asks (I64 n ∷ vs) count go g = g
+taking_asks (v ∷ vs) count go g = refl
+
+pub one_there : (vs : List Value) → has_tops 1 vs ≡ true → 1 ≤ length vs
+one_there [] g = absurd (false≢true g)
+one_there (v ∷ vs) g = omega arith
 
 -- operands and a state are given
-abbrev IsGiven : Effect → Type 0
+abbrev pub IsGiven : Effect → Type 0
 IsGiven (Gives vs st) = Unit {0}
 IsGiven Traps = ⊥
 IsGiven Misses = ⊥
 
-effect_given : (e : Effect) (is : Code) (ls : List Layer) (count : ℕ) → is_going (after_effect e is ls count) ≡ true → IsGiven e
+pub effect_given : (e : Effect) (is : Code) (ls : List Layer) (count : ℕ) → is_going (after_effect e is ls count) ≡ true → IsGiven e
 effect_given (Gives vs st) is ls count g = tt
 effect_given Traps is ls count g = absurd (false≢true g)
 effect_given Misses is ls count g = absurd (false≢true g)
 
+topped_given : (may : Value → Bool) (e : Effect) → IsGiven (topped may e) → IsGiven e
+topped_given may (Gives vs st) h = tt
+topped_given may Traps h = h
+topped_given may Misses h = h
+
 -- what is taken off the operands is there
 module _ {E : Type 0} (G : E → Type 0) (missing : E) (none : G missing → ⊥) where
-  tops : (t : ValType) (ts : List ValType) (vs : List Value) (go : ℕ → List Value → E) → G (pop missing t vs go) → ((n : ℕ) (us : List Value) → G (go n us) → has_tops ts us ≡ true) → has_tops (t ∷ ts) vs ≡ true
-  tops t ts [] go h f = absurd (none h)
-  tops val_type.I32 ts (I32 n ∷ vs) go h f = f n vs h
-  tops val_type.I32 ts (I64 n ∷ vs) go h f = absurd (none h)
-  tops val_type.I64 ts (I32 n ∷ vs) go h f = absurd (none h)
-  tops val_type.I64 ts (I64 n ∷ vs) go h f = f n vs h
+  tops : (t : ValType) (ts : List ValType) (n : ℕ) (vs : List Value) (go : ℕ → List Value → E) → G (pop missing t (seen (t ∷ ts) vs) go) → ((k : ℕ) (us : List Value) → G (go k (seen ts us)) → has_tops n us ≡ true) → has_tops (suc n) vs ≡ true
+  tops t ts n [] go h f = absurd (none h)
+  tops val_type.I32 ts n (v ∷ vs) go h f = f (narrowed val_type.I32 (number_of v)) vs h
+  tops val_type.I64 ts n (v ∷ vs) go h f = f (number_of v) vs h
 
-  top : (t : ValType) (p : ℕ → Bool) (vs : List Value) (go : ℕ → List Value → E) → G (pop missing t vs go) → ((n : ℕ) (us : List Value) → G (go n us) → p n ≡ true) → of_top p vs ≡ true
-  top t p [] go h f = refl
-  top val_type.I32 p (I32 n ∷ vs) go h f = f n vs h
-  top val_type.I32 p (I64 n ∷ vs) go h f = absurd (none h)
-  top val_type.I64 p (I32 n ∷ vs) go h f = absurd (none h)
-  top val_type.I64 p (I64 n ∷ vs) go h f = f n vs h
+  top : (t : ValType) (ts : List ValType) (p : ℕ → Bool) (vs : List Value) (go : ℕ → List Value → E) → G (pop missing t (seen (t ∷ ts) vs) go) → ((n : ℕ) (us : List Value) → G (go n (seen ts us)) → p n ≡ true) → of_top t p vs ≡ true
+  top t ts p [] go h f = refl
+  top val_type.I32 ts p (v ∷ vs) go h f = f (narrowed val_type.I32 (number_of v)) vs h
+  top val_type.I64 ts p (v ∷ vs) go h f = f (number_of v) vs h
 
-  next : (t : ValType) (p : ℕ → Bool) (vs : List Value) (go : ℕ → List Value → E) → G (pop missing t vs go) → ((n : ℕ) (us : List Value) → G (go n us) → of_top p us ≡ true) → of_next p vs ≡ true
-  next t p [] go h f = refl
-  next val_type.I32 p (I32 n ∷ vs) go h f = f n vs h
-  next val_type.I32 p (I64 n ∷ vs) go h f = absurd (none h)
-  next val_type.I64 p (I32 n ∷ vs) go h f = absurd (none h)
-  next val_type.I64 p (I64 n ∷ vs) go h f = f n vs h
+  next : (t u : ValType) (ts : List ValType) (p : ℕ → Bool) (vs : List Value) (go : ℕ → List Value → E) → G (pop missing t (seen (t ∷ ts) vs) go) → ((n : ℕ) (us : List Value) → G (go n (seen ts us)) → of_top u p us ≡ true) → of_next u p vs ≡ true
+  next t u ts p [] go h f = refl
+  next val_type.I32 u ts p (v ∷ vs) go h f = f (narrowed val_type.I32 (number_of v)) vs h
+  next val_type.I64 u ts p (v ∷ vs) go h f = f (number_of v) vs h
 
-popped_tops : (t : ValType) (ts : List ValType) (vs : List Value) (go : ℕ → List Value → Effect) → IsGiven (popped t vs go) → ((n : ℕ) (us : List Value) → IsGiven (go n us) → has_tops ts us ≡ true) → has_tops (t ∷ ts) vs ≡ true
+popped_tops : (t : ValType) (ts : List ValType) (n : ℕ) (vs : List Value) (go : ℕ → List Value → Effect) → IsGiven (popped t (seen (t ∷ ts) vs) go) → ((k : ℕ) (us : List Value) → IsGiven (go k (seen ts us)) → has_tops n us ≡ true) → has_tops (suc n) vs ≡ true
 popped_tops = tops IsGiven Misses (λ h. h)
 
-popped_top : (t : ValType) (p : ℕ → Bool) (vs : List Value) (go : ℕ → List Value → Effect) → IsGiven (popped t vs go) → ((n : ℕ) (us : List Value) → IsGiven (go n us) → p n ≡ true) → of_top p vs ≡ true
+popped_top : (t : ValType) (ts : List ValType) (p : ℕ → Bool) (vs : List Value) (go : ℕ → List Value → Effect) → IsGiven (popped t (seen (t ∷ ts) vs) go) → ((n : ℕ) (us : List Value) → IsGiven (go n (seen ts us)) → p n ≡ true) → of_top t p vs ≡ true
 popped_top = top IsGiven Misses (λ h. h)
 
-popped_next : (t : ValType) (p : ℕ → Bool) (vs : List Value) (go : ℕ → List Value → Effect) → IsGiven (popped t vs go) → ((n : ℕ) (us : List Value) → IsGiven (go n us) → of_top p us ≡ true) → of_next p vs ≡ true
+popped_next : (t u : ValType) (ts : List ValType) (p : ℕ → Bool) (vs : List Value) (go : ℕ → List Value → Effect) → IsGiven (popped t (seen (t ∷ ts) vs) go) → ((n : ℕ) (us : List Value) → IsGiven (go n (seen ts us)) → of_top u p us ≡ true) → of_next u p vs ≡ true
 popped_next = next IsGiven Misses (λ h. h)
 
 -- ---- numbers
@@ -109,32 +114,29 @@ untrapped : (b : Bool) (vs : List Value) (st : State) → IsGiven (if b then Tra
 untrapped true vs st h = absurd h
 untrapped false vs st h = refl
 
-divided : (t : ValType) (op : Division) (vs : List Value) (st : State) → IsGiven (numeric_effect (numeric.Division t op) vs st) → divides t op vs ≡ true
+divided : (t : ValType) (op : Division) (vs : List Value) (st : State) → IsGiven (numeric_effect (numeric.Division t op) (seen (t ∷ t ∷ []) vs) st) → divides t op vs ≡ true
 divided t op [] st h = refl
-divided val_type.I32 op (I32 y ∷ vs) st h = popped_top val_type.I32 (λ x. not (division_traps 32 op x y)) vs _ h (λ x ws g. untrapped (division_traps 32 op x y) _ st g)
-divided val_type.I32 op (I64 y ∷ vs) st h = absurd h
-divided val_type.I64 op (I32 y ∷ vs) st h = absurd h
-divided val_type.I64 op (I64 y ∷ vs) st h = popped_top val_type.I64 (λ x. not (division_traps 64 op x y)) vs _ h (λ x ws g. untrapped (division_traps 64 op x y) _ st g)
+divided val_type.I32 op (v ∷ vs) st h = let y = narrowed val_type.I32 (number_of v) in popped_top val_type.I32 [] (λ x. not (division_traps 32 op x y)) vs _ h (λ x ws g. untrapped (division_traps 32 op x y) _ st g)
+divided val_type.I64 op (v ∷ vs) st h = let y = number_of v in popped_top val_type.I64 [] (λ x. not (division_traps 64 op x y)) vs _ h (λ x ws g. untrapped (division_traps 64 op x y) _ st g)
 
-numeric_asked : (op : Numeric) (vs : List Value) (st : State) → IsGiven (numeric_effect op vs st) → numeric_asks op vs ≡ true
-numeric_asked (numeric.Eqz t) vs st h = popped_tops t [] vs _ h (λ x us g. refl)
-numeric_asked (numeric.Comparison t op) vs st h = popped_tops t (t ∷ []) vs _ h (λ y us g. popped_tops t [] us _ g (λ x ws i. refl))
-numeric_asked (numeric.Unary t op) vs st h = popped_tops t [] vs _ h (λ x us g. refl)
-numeric_asked (numeric.Binary t op) vs st h = popped_tops t (t ∷ []) vs _ h (λ y us g. popped_tops t [] us _ g (λ x ws i. refl))
-numeric_asked (numeric.Division t op) vs st h =
-    both (has_tops (t ∷ t ∷ []) vs) (divides t op vs) (popped_tops t (t ∷ []) vs _ h (λ y us g. popped_tops t [] us _ g (λ x ws i. refl))) (divided t op vs st h)
-numeric_asked (numeric.Conversion op) vs st h = popped_tops (conversion_from op) [] vs _ h (λ x us g. refl)
+numbers_asked : (op : Numeric) (vs : List Value) (st : State) → IsGiven (numeric_effect op (seen (numeric_takes op) vs) st) → numeric_asks op vs ≡ true
+numbers_asked (numeric.Eqz t) vs st h = popped_tops t [] 0 vs _ h (λ x us g. refl)
+numbers_asked (numeric.Comparison t op) vs st h = popped_tops t (t ∷ []) 1 vs _ h (λ y us g. popped_tops t [] 0 us _ g (λ x ws i. refl))
+numbers_asked (numeric.Unary t op) vs st h = popped_tops t [] 0 vs _ h (λ x us g. refl)
+numbers_asked (numeric.Binary t op) vs st h = popped_tops t (t ∷ []) 1 vs _ h (λ y us g. popped_tops t [] 0 us _ g (λ x ws i. refl))
+numbers_asked (numeric.Division t op) vs st h =
+    both (has_tops 2 vs) (divides t op vs) (popped_tops t (t ∷ []) 1 vs _ h (λ y us g. popped_tops t [] 0 us _ g (λ x ws i. refl))) (divided t op vs st h)
+numbers_asked (numeric.Conversion op) vs st h = popped_tops (conversion_from op) [] 0 vs _ h (λ x us g. refl)
 
-select_asked : (vs : List Value) (st : State) → IsGiven (popped val_type.I32 vs (λ n us. select n us st)) → select_asks vs ≡ true
+numeric_asked : (may : Value → Bool) (op : Numeric) (vs : List Value) (st : State) → IsGiven (cell_numeric may op vs st) → numeric_asks op vs ≡ true
+numeric_asked may op vs st h = numbers_asked op vs st (topped_given may (numeric_effect op (seen (numeric_takes op) vs) st) h)
+
+select_asked : (vs : List Value) (st : State) → IsGiven (popped val_type.I32 (seen (val_type.I32 ∷ []) vs) (λ n us. select n us st)) → has_tops 3 vs ≡ true
 select_asked [] st h = absurd h
-select_asked (I64 n ∷ vs) st h = absurd h
-select_asked (I32 n ∷ []) st h = absurd h
-select_asked (I32 n ∷ I32 b ∷ []) st h = absurd h
-select_asked (I32 n ∷ I64 b ∷ []) st h = absurd h
-select_asked (I32 n ∷ I32 b ∷ I32 a ∷ vs) st h = refl
-select_asked (I32 n ∷ I32 b ∷ I64 a ∷ vs) st h = absurd h
-select_asked (I32 n ∷ I64 b ∷ I32 a ∷ vs) st h = absurd h
-select_asked (I32 n ∷ I64 b ∷ I64 a ∷ vs) st h = refl
+select_asked (v ∷ []) st h = absurd h
+select_asked (v ∷ I32 b ∷ []) st h = absurd h
+select_asked (v ∷ I64 b ∷ []) st h = absurd h
+select_asked (v ∷ u ∷ w ∷ vs) st h = refl
 
 -- ---- variables
 
@@ -171,17 +173,20 @@ written_asked place width n bytes vs st h =
     ap (λ (k : ℕ). nat_le (place + k) (length bytes)) (sym (bytes_length 0 width n))
     ∙ stored_asked _ (nat_le (place + length (bytes_of_number width n)) (length bytes)) vs st h
 
-memory_asked : (op : Memory) (vs : List Value) (st : State) → IsGiven (memory_effect op vs st) → memory_asks op vs st.memory ≡ true
-memory_asked (memory.Load op a) vs st h =
-    both (has_tops (val_type.I32 ∷ []) vs) (of_top (reaches a.offset (load_width op) st.memory) vs)
-    (popped_tops val_type.I32 [] vs _ h (λ i us g. refl))
-    (popped_top val_type.I32 (reaches a.offset (load_width op) st.memory) vs _ h (λ i us g. loaded_asked op _ (nat_le (i + a.offset + load_width op) (length st.memory)) us st g))
-memory_asked (memory.Store op a) vs st h =
-    both (has_tops (store_type op ∷ val_type.I32 ∷ []) vs) (of_next (reaches a.offset (store_width op) st.memory) vs)
-    (popped_tops (store_type op) (val_type.I32 ∷ []) vs _ h (λ n us g. popped_tops val_type.I32 [] us _ g (λ i ws j. refl)))
-    (popped_next (store_type op) (reaches a.offset (store_width op) st.memory) vs _ h (λ n us g. popped_top val_type.I32 (reaches a.offset (store_width op) st.memory) us _ g (λ i ws j. written_asked (i + a.offset) (store_width op) n st.memory ws st j)))
-memory_asked memory.Size vs st h = refl
-memory_asked memory.Grow vs st h = absurd h
+loads_asked : (op : Load) (a : MemoryArgument) (vs : List Value) (st : State) → IsGiven (memory_effect (memory.Load op a) (seen (val_type.I32 ∷ []) vs) st) → memory_asks (memory.Load op a) vs st.memory ≡ true
+loads_asked op a vs st h =
+    both (has_tops 1 vs) (of_top val_type.I32 (reaches a.offset (load_width op) st.memory) vs)
+    (popped_tops val_type.I32 [] 0 vs _ h (λ i us g. refl))
+    (popped_top val_type.I32 [] (reaches a.offset (load_width op) st.memory) vs _ h (λ i us g. loaded_asked op _ (nat_le (i + a.offset + load_width op) (length st.memory)) us st g))
+
+memory_asked : (may : Value → Bool) (op : Memory) (vs : List Value) (st : State) → IsGiven (cell_memory may op vs st) → memory_asks op vs st.memory ≡ true
+memory_asked may (memory.Load op a) vs st h = loads_asked op a vs st (topped_given may (memory_effect (memory.Load op a) (seen (val_type.I32 ∷ []) vs) st) h)
+memory_asked may (memory.Store op a) vs st h =
+    both (has_tops 2 vs) (of_next val_type.I32 (reaches a.offset (store_width op) st.memory) vs)
+    (popped_tops (store_type op) (val_type.I32 ∷ []) 1 vs _ h (λ n us g. popped_tops val_type.I32 [] 0 us _ g (λ i ws j. refl)))
+    (popped_next (store_type op) val_type.I32 (val_type.I32 ∷ []) (reaches a.offset (store_width op) st.memory) vs _ h (λ n us g. popped_top val_type.I32 [] (reaches a.offset (store_width op) st.memory) us _ g (λ i ws j. written_asked (i + a.offset) (store_width op) n st.memory ws st j)))
+memory_asked may memory.Size vs st h = refl
+memory_asked may memory.Grow vs st h = absurd h
 
 -- ---- all of them
 
@@ -189,17 +194,17 @@ discard_asked : (vs : List Value) (st : State) → IsGiven (effect plain.Drop vs
 discard_asked [] st h = absurd h
 discard_asked (v ∷ vs) st h = lt-ltb 0 (length (v ∷ vs)) (omega arith)
 
-plain_given : (p : Plain) (vs : List Value) (st : State) → IsGiven (effect p vs st) → plain_asks p vs st.locals st.globals st.memory ≡ true
-plain_given plain.Nop vs st h = refl
-plain_given plain.Drop vs st h = discard_asked vs st h
-plain_given plain.Select vs st h = select_asked vs st h
-plain_given (plain.Const v) vs st h = refl
-plain_given (plain.Numeric op) vs st h = numeric_asked op vs st h
-plain_given (plain.Variable op) vs st h = variable_asked op vs st h
-plain_given (plain.Memory op) vs st h = memory_asked op vs st h
+plain_given : (may : Value → Bool) (p : Plain) (vs : List Value) (st : State) → IsGiven (cell_effect may p vs st) → plain_asks p vs st.locals st.globals st.memory ≡ true
+plain_given may plain.Nop vs st h = refl
+plain_given may plain.Drop vs st h = discard_asked vs st h
+plain_given may plain.Select vs st h = select_asked vs st h
+plain_given may (plain.Const v) vs st h = refl
+plain_given may (plain.Numeric op) vs st h = numeric_asked may op vs st h
+plain_given may (plain.Variable op) vs st h = variable_asked op vs st h
+plain_given may (plain.Memory op) vs st h = memory_asked may op vs st h
 
-pub plain_asked : (p : Plain) (vs : List Value) (is : Code) (ls : List Layer) (st : State) → is_going (after_effect (effect p vs st) is ls st.count) ≡ true → plain_asks p vs st.locals st.globals st.memory ≡ true
-plain_asked p vs is ls st g = plain_given p vs st (effect_given (effect p vs st) is ls st.count g)
+pub plain_asked : (may : Value → Bool) (p : Plain) (vs : List Value) (is : Code) (ls : List Layer) (st : State) → is_going (after_effect (cell_effect may p vs st) is ls st.count) ≡ true → plain_asks p vs st.locals st.globals st.memory ≡ true
+plain_asked may p vs is ls st g = plain_given may p vs st (effect_given (cell_effect may p vs st) is ls st.count g)
 
 -- ---- calls of the host
 
@@ -213,35 +218,38 @@ lifted_given (host.Gives vs h) st g = tt
 lifted_given host.Traps st g = g
 lifted_given host.Misses st g = g
 
-argument_tops : (t : ValType) (ts : List ValType) (vs : List Value) (go : ℕ → List Value → HostEffect) → IsAnswered (pop host.Misses t vs go) → ((n : ℕ) (us : List Value) → IsAnswered (go n us) → has_tops ts us ≡ true) → has_tops (t ∷ ts) vs ≡ true
+argument_tops : (t : ValType) (ts : List ValType) (n : ℕ) (vs : List Value) (go : ℕ → List Value → HostEffect) → IsAnswered (pop host.Misses t (seen (t ∷ ts) vs) go) → ((k : ℕ) (us : List Value) → IsAnswered (go k (seen ts us)) → has_tops n us ≡ true) → has_tops (suc n) vs ≡ true
 argument_tops = tops IsAnswered host.Misses (λ h. h)
 
 slot_asked : (b : Bool) (e : HostEffect) → IsAnswered (if b then e else host.Traps) → b ≡ true
 slot_asked true e h = refl
 slot_asked false e h = absurd h
 
-answered : (c : HostCall) (vs : List Value) (h : Host) → IsAnswered (host_effect c vs h) → call_asks c vs ≡ true
-answered call.SetValue vs h g = argument_tops val_type.I64 [] vs _ g (λ n us i. refl)
-answered call.Send vs h g = argument_tops val_type.I64 (val_type.I64 ∷ []) vs _ g (λ n us i. argument_tops val_type.I64 [] us _ i (λ k ws j. refl))
-answered call.Aggregate vs h g =
-    both (has_tops (val_type.I64 ∷ val_type.I32 ∷ []) vs) (of_next (λ k. nat_lt k SLOTS) vs)
-    (argument_tops val_type.I64 (val_type.I32 ∷ []) vs _ g (λ n us i. argument_tops val_type.I32 [] us _ i (λ k ws j. refl)))
-    (next IsAnswered host.Misses (λ x. x) val_type.I64 (λ k. nat_lt k SLOTS) vs _ g (λ n us i. top IsAnswered host.Misses (λ x. x) val_type.I32 (λ k. nat_lt k SLOTS) us _ i (λ k ws j. slot_asked (nat_lt k SLOTS) _ j)))
-answered call.Aggregated vs h g =
-    both (has_tops (val_type.I32 ∷ []) vs) (of_top (λ k. nat_lt k SLOTS) vs)
-    (argument_tops val_type.I32 [] vs _ g (λ k us i. refl))
-    (top IsAnswered host.Misses (λ x. x) val_type.I32 (λ k. nat_lt k SLOTS) vs _ g (λ k us i. slot_asked (nat_lt k SLOTS) _ i))
-answered call.VertexId vs h g = refl
-answered call.Superstep vs h g = refl
-answered call.NumVertices vs h g = refl
-answered call.GetValue vs h g = refl
-answered call.NextMessage vs h g = refl
-answered call.MessageValue vs h g = refl
-answered call.NextEdge vs h g = refl
-answered call.EdgeTarget vs h g = refl
-answered call.EdgeValue vs h g = refl
-answered call.VoteToHalt vs h g = refl
+call_given : (may : Value → Bool) (c : HostCall) (vs : List Value) (st : State) → IsGiven (cell_call may c vs st) → call_asks c vs ≡ true
+call_given may call.SetValue vs st h =
+    argument_tops val_type.I64 [] 0 vs _ (lifted_given (host_effect call.SetValue (seen (call_takes call.SetValue) vs) st.host) st h) (λ n us i. refl)
+call_given may call.Send vs st h =
+    argument_tops val_type.I64 (val_type.I64 ∷ []) 1 vs _ (lifted_given (host_effect call.Send (seen (call_takes call.Send) vs) st.host) st h) (λ n us i. argument_tops val_type.I64 [] 0 us _ i (λ k ws j. refl))
+call_given may call.Aggregate vs st h =
+    let g = lifted_given (host_effect call.Aggregate (seen (call_takes call.Aggregate) vs) st.host) st h in
+    both (has_tops 2 vs) (of_next val_type.I32 (λ k. nat_lt k SLOTS) vs)
+    (argument_tops val_type.I64 (val_type.I32 ∷ []) 1 vs _ g (λ n us i. argument_tops val_type.I32 [] 0 us _ i (λ k ws j. refl)))
+    (next IsAnswered host.Misses (λ x. x) val_type.I64 val_type.I32 (val_type.I32 ∷ []) (λ k. nat_lt k SLOTS) vs _ g (λ n us i. top IsAnswered host.Misses (λ x. x) val_type.I32 [] (λ k. nat_lt k SLOTS) us _ i (λ k ws j. slot_asked (nat_lt k SLOTS) _ j)))
+call_given may call.Aggregated vs st h =
+    let g = lifted_given (host_effect call.Aggregated (seen (call_takes call.Aggregated) vs) st.host) st h in
+    both (has_tops 1 vs) (of_top val_type.I32 (λ k. nat_lt k SLOTS) vs)
+    (argument_tops val_type.I32 [] 0 vs _ g (λ k us i. refl))
+    (top IsAnswered host.Misses (λ x. x) val_type.I32 [] (λ k. nat_lt k SLOTS) vs _ g (λ k us i. slot_asked (nat_lt k SLOTS) _ i))
+call_given may call.VertexId vs st h = refl
+call_given may call.Superstep vs st h = refl
+call_given may call.NumVertices vs st h = refl
+call_given may call.GetValue vs st h = refl
+call_given may call.NextMessage vs st h = refl
+call_given may call.MessageValue vs st h = refl
+call_given may call.NextEdge vs st h = refl
+call_given may call.EdgeTarget vs st h = refl
+call_given may call.EdgeValue vs st h = refl
+call_given may call.VoteToHalt vs st h = refl
 
-pub call_asked : (c : HostCall) (vs : List Value) (is : Code) (ls : List Layer) (st : State) → is_going (after_effect (call_effect c vs st) is ls st.count) ≡ true → call_asks c vs ≡ true
-call_asked c vs is ls st g =
-    answered c vs st.host (lifted_given (host_effect c vs st.host) st (effect_given (call_effect c vs st) is ls st.count g))
+pub call_asked : (may : Value → Bool) (c : HostCall) (vs : List Value) (is : Code) (ls : List Layer) (st : State) → is_going (after_effect (cell_call may c vs st) is ls st.count) ≡ true → call_asks c vs ≡ true
+call_asked may c vs is ls st g = call_given may c vs st (effect_given (cell_call may c vs st) is ls st.count g)

@@ -33,3 +33,8 @@ pub mod Faults
 pub mod Imports
 pub mod Running
 pub mod Outcomes
+pub mod Cells
+pub mod Fits
+pub mod Stored
+pub mod Following
+pub mod Laying

@@ -57,6 +57,13 @@ module _ {A : Type 0} where
       let e : suc k + i ≡ suc (k + i) = omega arith in
       rw e (drop-set k i xs x)
 
+  pub take-set : (k i : ℕ) (xs : List A) (x : A) → take k (slice_set xs (k + i) x) ≡ take k xs
+  take-set zero i xs x = refl
+  take-set (suc k) i [] x = refl
+  take-set (suc k) i (y ∷ xs) x =
+      let e : suc k + i ≡ suc (k + i) = omega arith in
+      rw e (ap (λ (l : List A). y ∷ l) (take-set k i xs x))
+
   drop-nil : (k : ℕ) → drop k (let e : List A = [] in e) ≡ []
   drop-nil zero = refl
   drop-nil (suc k) = refl

@@ -11,14 +11,15 @@ use Rattle.validate.specs.Modules.{IsTyped}
 use Rattle.bounded_profile.specs.Compute.{IsComputeNumber}
 use Rattle.bounded_profile.specs.Facts.{IsSizeOfCompute}
 use Rattle.bounded_profile.specs.Profile.{IsBounded}
-use Rattle.interp.specs.inside.Begun.{BeginsAt, BeginsWith, IsDefinedAt, EndsWith}
+use Rattle.interp.specs.inside.Cells.{cells_state}
+use Rattle.interp.specs.inside.Begun.{BeginsAt, BeginsWith, EndsFrom, EndsWith, IsBeginning, IsDefinedAt}
 use Rattle.interp.specs.Bounded.{Ends, IsWithinBound, NeverFails, items_of}
 use Rattle.interp.specs.Call.{IsOutcome, outcome_of, shown}
 use Rattle.interp.specs.Configuration.{State}
 use Rattle.interp.specs.Machine.{Machine, defined, functions_of, run}
 use Rattle.interp.specs.Start.{Starts}
-use Rattle.interp.specs.inside.Place.{Standing, at, running}
-use Rattle.interp.specs.inside.Walk.{EndsWithin}
+use Rattle.interp.specs.inside.Place.{Place, Standing, at}
+use Rattle.interp.specs.inside.Walk.{Concludes, EndsWithin, Leads}
 use Rattle.interp.proofs.Faults.{no_fault, never_fails}
 use Rattle.interp.proofs.Fixed.{depths_there, heights_there}
 use Rattle.interp.proofs.OneEnd.{one_start}
@@ -63,6 +64,13 @@ module _ (m : Module) (typed : IsTyped m) (bounded : IsBounded m) where
     pub within_bound : (outcome : CallOutcome) → IsOutcome m input outcome → IsWithinBound m input outcome
     within_bound outcome is size told = within size told outcome is
 
+-- each start of an equal module ends within the units that are told of it
+pub ends_at : (n m : Module) → n ≡ m → IsTyped m → IsBounded m → (input : CallInput) (size : ℕ) → IsSizeOfCompute m size → (most : ℕ) → most ≡ size * (1 + items_of input) → (x : Machine) → Starts n input x → EndsWithin n x most
+ends_at n m same typed bounded input size told most e x s =
+    let t = subst (λ (k : Module). Starts k input x) same s in
+    let ends = ends_within m typed bounded input size told x t in
+    subst (λ (k : Module). EndsWithin k x most) (sym same) (subst (λ (b : ℕ). EndsWithin m x b) (sym e) ends)
+
 -- ---- the function with the number
 
 begun_at : (m : Module) (n : ℕ) (b : BeginsAt m n) → slice_get (functions_of m) n ≡ Some (defined b.function)
@@ -78,8 +86,11 @@ begins_with m n f b e =
     subst (λ (g : Function). BeginsWith m g) same (record { globals = b.globals; bytes = b.bytes; begins = b.begins })
 
 -- the same code at the start
-pub starts_at : (m : Module) (input : CallInput) (s : Standing) (k body : Code) → k ≡ body → Starts m input (running (at s body 0)) → Starts m input (running (at s k 0))
-starts_at m input s k body e h = subst (λ (j : Code). Starts m input (running (at s j 0))) (sym e) h
+pub beginning_at : (m : Module) (input : CallInput) (s : Standing) (k body : Code) → k ≡ body → IsBeginning m body input s → IsBeginning m k input s
+beginning_at m input s k body e h = subst (λ (j : Code). IsBeginning m j input s) (sym e) h
+
+pub leads : (m : Module) (input : CallInput) (s : Standing) (k : Code) (most : ℕ) → ((x : Machine) → Starts m input x → EndsWithin m x most) → IsBeginning m k input s → Leads m (at s k 0) most
+leads m input s k most ends b = record { from = b.from; follows = b.follows; ends = ends b.from b.starts }
 
 left : (outcome : CallOutcome) (st : State) → Leaves outcome st.host st.count → shown outcome ≡ outcome_of st
 left outcome st l =
@@ -100,8 +111,18 @@ along : {A E : Type 0} {P Q : A → Type 0} (r : Result A E) → ((x : A) → P 
 along (Ok x) go h = go x h
 along (Err e) go h = h
 
-pub outcome_told : {E : Type 0} (r : Result CallOutcome E) (n m : Module) (input : CallInput) (x : Machine) → n ≡ m → Starts n input x → IfOk r (EndsWith n x) → IfOk r (IsOutcome m input)
-outcome_told r n m input x same s = subst (λ (m : Module). IfOk r (EndsWith n x) → IfOk r (IsOutcome m input)) same (along r (λ outcome c. comes_to n input x outcome s c))
+pub outcome_told : {E : Type 0} (r : Result CallOutcome E) (n m : Module) (input : CallInput) (s : Standing) (k : Code) (most : ℕ) → n ≡ m → ((x : Machine) → Starts n input x → EndsWithin n x most) → IsBeginning n k input s → IfOk r (EndsFrom n (at s k 0) most) → IfOk r (IsOutcome m input)
+outcome_told r n m input s k most same ends b = subst (λ (m : Module). IfOk r (EndsFrom n (at s k 0) most) → IfOk r (IsOutcome m input)) same (along r (λ outcome c. comes_to n input b.from outcome b.starts (c b.from b.follows (ends b.from b.starts))))
+
+left_as_cells : (st final : State) (outcome : CallOutcome) → cells_state st ≡ final → Leaves outcome final.host final.count → Leaves outcome st.host st.count
+left_as_cells st final outcome e l = subst (λ (s : State). Leaves outcome s.host s.count) (sym e) l
+
+-- the run was concluded, and the outcome is what it left
+pub concluded : (m : Module) (here : Place) (most : ℕ) (outcome : CallOutcome) (final : State) → Concludes m here most final → Leaves outcome final.host final.count → EndsFrom m here most outcome
+concluded m here most outcome final c l =
+    λ from follows ends.
+    let d = c from follows ends in
+    (d.0, d.1, left_as_cells d.0 final outcome d.2 l)
 
 pub bound_told : {E : Type 0} (r : Result CallOutcome E) (m : Module) → IsTyped m → IsBounded m → (input : CallInput) → IfOk r (IsOutcome m input) → IfOk r (IsWithinBound m input)
 bound_told r m typed bounded input = along r (λ outcome is. within_bound m typed bounded input outcome is)

@@ -11,3 +11,6 @@ pub mod Going
 pub mod Walk
 -- how a call begins and ends
 pub mod Begun
+-- the machine over cells, and values that fit their type
+pub mod Cells
+pub mod Fits

@@ -1,31 +1,34 @@
 //! The locals of all frames in one list, of which the last belong to the innermost.
 
-ghost use Rattle.std.specs.Prelude.{◌≡◌, ◌++◌, ◌<◌, ◌≤◌, [], Some, length, take, drop, map, slice_get, slice_set, IsSome, OnOk, OnErr};
-ghost use Rattle.wasm_ast.specs.Values.{zero_of};
+ghost use Rattle.std.specs.Prelude.{◌≡◌, ◌++◌, ◌<◌, ◌≤◌, [], Some, length, take, drop, map, option_map, slice_get, slice_set, IsSome, OnOk, OnErr};
+ghost use Rattle.wasm_ast.specs.declared.types.Value.TheVariants.{I64};
+ghost use Rattle.interp.specs.inside.Cells.{zero_cells};
 
 use std::alloc::{AllocError, Global};
 use std::marker::Model;
-use wasm_ast::{ValType, Value};
+use wasm_ast::ValType;
 
-/// Locals, which contracts see in two parts in order: those of the innermost frame, and those below.
+/// Locals as cells, which contracts see as the i64 of their numbers in two parts in order: those of the innermost frame,
+/// and those below.
 #[derive(Drop)]
 pub struct Locals {
-    values: Vec<Value>,
+    cells: Vec<u64>,
     base: usize,
 }
 
 impl Model for Locals {
-    ghost use Rattle.std.specs.Prelude.{◌≤◌, take, drop, length};
+    ghost use Rattle.std.specs.Prelude.{◌≤◌, map, take, drop, length};
+    ghost use Rattle.wasm_ast.specs.declared.types.Value.TheVariants.{I64};
     ghost use Rattle.interp.specs.inside.Split.{Split};
 
     ghost Value = { Split };
 
     ghost view = { λ a. record {
-      here = drop a.base a.values.items;
-      below = take a.base a.values.items;
+      here = drop a.base (map I64 a.cells.items);
+      below = take a.base (map I64 a.cells.items);
     } };
 
-    ghost invariant = { λ a. a.base ≤ length a.values.items };
+    ghost invariant = { λ a. a.base ≤ length a.cells.items };
 }
 
 impl Locals {
@@ -35,7 +38,7 @@ impl Locals {
         ensures below { result.below ≡ [] }
     {
         Locals {
-            values: Vec::new(alloc),
+            cells: Vec::new(alloc),
             base: 0,
         }
     }
@@ -44,39 +47,39 @@ impl Locals {
     pub fn clear(&mut self)
         ensures { self.new ≡ record { here = []; below = [] } }
     {
-        self.values.clear();
+        self.cells.clear();
         self.base = 0;
     }
 
-    /// The value of a local of the frame.
+    /// A local of the frame.
     #[inline]
-    pub fn get(&self, number: u32) -> Value
+    pub fn get(&self, number: u32) -> u64
         requires { IsSome (slice_get self.now.here number) }
-        ensures { slice_get self.now.here number ≡ Some result }
+        ensures { slice_get self.now.here number ≡ Some (I64 result) }
     {
         self.find(number).unwrap()
     }
 
-    // The local's value, if the frame has one with this number.
+    // The local, if the frame has one with this number.
     #[inline]
-    fn find(&self, number: u32) -> Option<Value>
-        ensures { result ≡ slice_get self.now.here number }
+    fn find(&self, number: u32) -> Option<u64>
+        ensures { option_map I64 result ≡ slice_get self.now.here number }
     {
-        let here = &self.values[self.base..];
+        let here = &self.cells[self.base..];
         here.get(number as usize).copied()
     }
 
     /// Sets a local of the frame.
     #[inline]
-    pub fn set(&mut self, number: u32, value: Value)
+    pub fn set(&mut self, number: u32, cell: u64)
         requires { number < length self.old.here }
-        ensures here { self.new.here ≡ slice_set self.old.here number value }
+        ensures here { self.new.here ≡ slice_set self.old.here number (I64 cell) }
         ensures below { self.new.below ≡ self.old.below }
     {
         let number = number as usize;
-        if number < self.values.len() - self.base {
+        if number < self.cells.len() - self.base {
             let at = self.base + number;
-            self.values[at] = value;
+            self.cells[at] = cell;
         } else {
             unreachable!()
         }
@@ -92,23 +95,26 @@ impl Locals {
 
     /// Begins a frame with these.
     #[inline]
-    pub fn open(&mut self, arguments: &[Value]) -> Result<(), AllocError>
+    pub fn open(&mut self, arguments: &[u64]) -> Result<(), AllocError>
         ensures ok { OnOk result
-            (self.new ≡ record { here = arguments.now; below = self.old.below ++ self.old.here }) }
+            (self.new ≡ record {
+              here = map I64 arguments.now;
+              below = self.old.below ++ self.old.here;
+            }) }
         ensures err { OnErr result (self.new ≡ self.old) }
     {
-        let base = self.values.len();
-        self.values.extend_from_slice(arguments)?;
+        let base = self.cells.len();
+        self.cells.extend_from_slice(arguments)?;
         self.base = base;
         Ok(())
     }
 
     /// Adds a local of each type, each 0 (Core 1.0, 4.4.7).
     pub fn add(&mut self, types: &[ValType]) -> Result<(), AllocError>
-        ensures here { OnOk result (self.new.here ≡ self.old.here ++ map zero_of types.now) }
+        ensures here { OnOk result (self.new.here ≡ self.old.here ++ zero_cells types.now) }
         ensures below { self.new.below ≡ self.old.below }
     {
-        add_zeros(&mut self.values, types)
+        add_zeros(&mut self.cells, types)
     }
 
     /// Ends a frame. The next one's begin at a base.
@@ -118,17 +124,18 @@ impl Locals {
         ensures here { self.new.here ≡ drop base self.old.below }
         ensures below { self.new.below ≡ take base self.old.below }
     {
-        self.values.truncate(self.base);
+        self.cells.truncate(self.base);
         self.base = base;
     }
 }
 
-fn add_zeros(values: &mut Vec<Value>, types: &[ValType]) -> Result<(), AllocError>
-    ensures ok { OnOk result (values.new.items ≡ values.old.items ++ map zero_of types.now) }
-    ensures kept { take (length values.old.items) values.new.items ≡ values.old.items }
+fn add_zeros(cells: &mut Vec<u64>, types: &[ValType]) -> Result<(), AllocError>
+    ensures ok { OnOk result
+        (map I64 cells.new.items ≡ map I64 cells.old.items ++ zero_cells types.now) }
+    ensures kept { take (length cells.old.items) cells.new.items ≡ cells.old.items }
 {
-    for one in types {
-        values.push(Value::zero(*one))?;
+    for _ in types {
+        cells.push(0)?;
     }
     Ok(())
 }

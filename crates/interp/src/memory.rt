@@ -1,14 +1,16 @@
 //! The memory of a call (Core 1.0, 4.2.8).
 
-ghost use Rattle.std.specs.Prelude.{◌≡◌, ◌+◌, ◌*◌, ◌/◌, ◌<◌, ◌≤◌, ℕ, [], Some, length, replicate, option_map, take, drop, OnOk, OnErr};
+ghost use Rattle.std.specs.Prelude.{◌≡◌, ◌+◌, ◌*◌, ◌/◌, ◌<◌, ◌≤◌, ℕ, [], Some, length, replicate, option_map, take, drop, true, OnOk, OnErr};
 ghost use Rattle.wasm_ast.specs.Widths.{load_type, load_width, store_width};
 ghost use Rattle.bounded_profile.specs.Memory.{page, max_minimum};
 ghost use Rattle.interp.specs.Effects.{value};
+ghost use Rattle.interp.specs.inside.Cells.{in_width};
 ghost use Rattle.interp.specs.Memory.{number_of_bytes, sign_extended, loaded, read, laid, write};
 
+use crate::cell::of_i32;
 use std::alloc::{AllocError, Global};
 use std::marker::Model;
-use wasm_ast::{Load, Store, Value, i64_extend_i32_s};
+use wasm_ast::{Load, Store, i64_extend_i32_s};
 
 /// Bytes of a page (Core 1.0, 4.2.8).
 const PAGE: usize = 65_536;
@@ -68,26 +70,27 @@ impl Memory {
         self.bytes[start..start + others.len()].copy_from_slice(others);
     }
 
-    /// What a load gives from a place where all its bytes are there.
+    /// What a load gives from a place where all its bytes are there, as a cell.
     #[inline]
-    pub fn load(&self, op: Load, place: u64) -> Value
+    pub fn load(&self, op: Load, place: u64) -> u64
         requires { place + load_width op ≤ length self.now }
-        ensures { option_map (λ n. value (load_type op) (loaded op n))
-            (read place (load_width op) self.now) ≡ Some result }
+        ensures number { option_map (loaded op) (read place (load_width op) self.now)
+            ≡ Some result }
+        ensures fits { in_width (value (load_type op) result) ≡ true }
     {
         match op {
-            Load::I32 => Value::I32(self.read_4(place)),
-            Load::I64 => Value::I64(self.read_8(place)),
-            Load::I32From8S => Value::I32(i32_sign_8(self.read_1(place))),
-            Load::I32From8U => Value::I32(u32::from(self.read_1(place))),
-            Load::I32From16S => Value::I32(i32_sign_16(self.read_2(place))),
-            Load::I32From16U => Value::I32(u32::from(self.read_2(place))),
-            Load::I64From8S => Value::I64(i64_sign_8(self.read_1(place))),
-            Load::I64From8U => Value::I64(u64::from(self.read_1(place))),
-            Load::I64From16S => Value::I64(i64_sign_16(self.read_2(place))),
-            Load::I64From16U => Value::I64(u64::from(self.read_2(place))),
-            Load::I64From32S => Value::I64(i64_extend_i32_s(self.read_4(place))),
-            Load::I64From32U => Value::I64(u64::from(self.read_4(place))),
+            Load::I32 => of_i32(self.read_4(place)),
+            Load::I64 => self.read_8(place),
+            Load::I32From8S => of_i32(i32_sign_8(self.read_1(place))),
+            Load::I32From8U => of_i32(u32::from(self.read_1(place))),
+            Load::I32From16S => of_i32(i32_sign_16(self.read_2(place))),
+            Load::I32From16U => of_i32(u32::from(self.read_2(place))),
+            Load::I64From8S => i64_sign_8(self.read_1(place)),
+            Load::I64From8U => u64::from(self.read_1(place)),
+            Load::I64From16S => i64_sign_16(self.read_2(place)),
+            Load::I64From16U => u64::from(self.read_2(place)),
+            Load::I64From32S => i64_extend_i32_s(self.read_4(place)),
+            Load::I64From32U => u64::from(self.read_4(place)),
         }
     }
 

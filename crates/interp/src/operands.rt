@@ -1,34 +1,33 @@
 //! Operands in one list, of which the topmost belong to the innermost layer.
 
-ghost use Rattle.std.specs.Prelude.{◌≡◌, ◌∷◌, ◌++◌, ◌-◌, ◌≤◌, Some, [], length, take, drop, reverse, true, IsSome, OnOk};
-ghost use Rattle.wasm_ast.specs.declared.types.ValType.TheVariants.{I32 as i32_type, I64 as i64_type};
-ghost use Rattle.interp.specs.Effects.{value};
-ghost use Rattle.interp.specs.inside.Going.{has_tops};
+ghost use Rattle.std.specs.Prelude.{◌≡◌, ◌∷◌, ◌++◌, ◌-◌, ◌≤◌, [], Some, length, map, take, drop, reverse, option_map, IsSome, OnOk};
+ghost use Rattle.wasm_ast.specs.declared.types.Value.TheVariants.{I64};
 ghost use Rattle.interp.specs.Machine.{first, carry};
 
 use std::alloc::{AllocError, Global};
 use std::marker::Model;
-use wasm_ast::{ValType, Value};
 
-/// Operands, which contracts see in two parts with the topmost first: those of the innermost layer, and those below.
+/// Operands as cells, which contracts see as the i64 of their numbers in two parts with the topmost first: those of the
+/// innermost layer, and those below.
 #[derive(Drop)]
 pub struct Operands {
-    values: Vec<Value>,
+    cells: Vec<u64>,
     floor: usize,
 }
 
 impl Model for Operands {
-    ghost use Rattle.std.specs.Prelude.{◌≤◌, reverse, take, drop, length};
+    ghost use Rattle.std.specs.Prelude.{◌≤◌, map, reverse, take, drop, length};
+    ghost use Rattle.wasm_ast.specs.declared.types.Value.TheVariants.{I64};
     ghost use Rattle.interp.specs.inside.Split.{Split};
 
     ghost Value = { Split };
 
     ghost view = { λ a. record {
-      here = reverse (drop a.floor a.values.items);
-      below = reverse (take a.floor a.values.items);
+      here = reverse (drop a.floor (map I64 a.cells.items));
+      below = reverse (take a.floor (map I64 a.cells.items));
     } };
 
-    ghost invariant = { λ a. a.floor ≤ length a.values.items };
+    ghost invariant = { λ a. a.floor ≤ length a.cells.items };
 }
 
 impl Operands {
@@ -38,7 +37,7 @@ impl Operands {
         ensures below { result.below ≡ [] }
     {
         Operands {
-            values: Vec::new(alloc),
+            cells: Vec::new(alloc),
             floor: 0,
         }
     }
@@ -47,82 +46,44 @@ impl Operands {
     pub fn clear(&mut self)
         ensures { self.new ≡ record { here = []; below = [] } }
     {
-        self.values.clear();
+        self.cells.clear();
         self.floor = 0;
     }
 
-    /// Puts a value on top.
+    /// Puts a cell on top.
     #[inline]
-    pub fn push(&mut self, value: Value) -> Result<(), AllocError>
-        ensures here { OnOk result (self.new.here ≡ value ∷ self.old.here) }
+    pub fn push(&mut self, cell: u64) -> Result<(), AllocError>
+        ensures here { OnOk result (self.new.here ≡ I64 cell ∷ self.old.here) }
         ensures below { self.new.below ≡ self.old.below }
     {
-        self.values.push(value)?;
+        self.cells.push(cell)?;
         Ok(())
     }
 
-    /// The topmost value, which the layer has.
+    /// The topmost cell, which the layer has.
     #[inline]
-    pub fn pop(&mut self) -> Value
+    pub fn pop(&mut self) -> u64
         requires { 1 ≤ length self.old.here }
-        ensures { self.old ≡ record { here = result ∷ self.new.here; below = self.new.below } }
+        ensures { self.old ≡ record { here = I64 result ∷ self.new.here; below = self.new.below } }
     {
-        self.values.pop().unwrap()
+        self.cells.pop().unwrap()
     }
 
-    /// The topmost value, which is an i32.
+    /// The topmost cell, where the layer has one.
     #[inline]
-    pub fn pop_i32(&mut self) -> u32
-        requires { has_tops (i32_type ∷ []) self.old.here ≡ true }
-        ensures { self.old
-            ≡ record { here = Value.I32 result ∷ self.new.here; below = self.new.below } }
+    pub fn top(&self) -> Option<u64>
+        ensures { option_map I64 result ≡ first self.now.here }
     {
-        match self.pop() {
-            Value::I32(number) => number,
-            Value::I64(_) => unreachable!(),
-        }
-    }
-
-    /// The topmost value, which is an i64.
-    #[inline]
-    pub fn pop_i64(&mut self) -> u64
-        requires { has_tops (i64_type ∷ []) self.old.here ≡ true }
-        ensures { self.old
-            ≡ record { here = Value.I64 result ∷ self.new.here; below = self.new.below } }
-    {
-        match self.pop() {
-            Value::I64(number) => number,
-            Value::I32(_) => unreachable!(),
-        }
-    }
-
-    /// The number of the topmost value, which is of this type.
-    #[inline]
-    pub fn pop_number(&mut self, of: ValType) -> u64
-        requires { has_tops (of ∷ []) self.old.here ≡ true }
-        ensures { self.old
-            ≡ record { here = value of result ∷ self.new.here; below = self.new.below } }
-    {
-        match of {
-            ValType::I32 => u64::from(self.pop_i32()),
-            ValType::I64 => self.pop_i64(),
-        }
-    }
-
-    /// The topmost value, where the layer has one.
-    #[inline]
-    pub fn top(&self) -> Option<Value>
-        ensures { result ≡ first self.now.here }
-    {
-        let here = &self.values[self.floor..];
+        let here = &self.cells[self.floor..];
         here.last().copied()
     }
 
-    /// Puts a value on top where one is wanted, and there is one then.
+    /// Puts a cell on top where one is wanted, and there is one then.
     #[inline]
-    pub fn carry(&mut self, keeps: bool, top: Option<Value>) -> Result<(), AllocError>
-        requires { IsSome (carry keeps top self.old.here) }
-        ensures here { OnOk result (carry keeps top self.old.here ≡ Some self.new.here) }
+    pub fn carry(&mut self, keeps: bool, top: Option<u64>) -> Result<(), AllocError>
+        requires { IsSome (carry keeps (option_map I64 top) self.old.here) }
+        ensures here { OnOk result
+            (carry keeps (option_map I64 top) self.old.here ≡ Some self.new.here) }
         ensures below { self.new.below ≡ self.old.below }
     {
         if !keeps {
@@ -130,30 +91,30 @@ impl Operands {
         }
         match top {
             None => unreachable!(),
-            Some(value) => {
-                self.push(value)?;
+            Some(cell) => {
+                self.push(cell)?;
                 Ok(())
             }
         }
     }
 
-    /// So many of the topmost values, the lowest first. The layer has as many.
+    /// So many of the topmost cells, the lowest first. The layer has as many.
     #[inline]
-    pub fn topmost(&self, count: usize) -> &[Value]
+    pub fn topmost(&self, count: usize) -> &[u64]
         requires { count ≤ length self.now.here }
-        ensures { result.now ≡ reverse (take count self.now.here) }
+        ensures { map I64 result.now ≡ reverse (take count self.now.here) }
     {
-        &self.values[self.values.len() - count..]
+        &self.cells[self.cells.len() - count..]
     }
 
-    /// Drops so many of the topmost values.
+    /// Drops so many of the topmost cells.
     #[inline]
     pub fn shed(&mut self, count: usize)
         requires { count ≤ length self.old.here }
         ensures { self.new ≡ record { here = drop count self.old.here; below = self.old.below } }
     {
-        let left = self.values.len() - count;
-        self.values.truncate(left);
+        let left = self.cells.len() - count;
+        self.cells.truncate(left);
     }
 
     /// How many lie below the innermost layer.
@@ -169,7 +130,7 @@ impl Operands {
     pub fn open(&mut self)
         ensures { self.new ≡ record { here = []; below = self.old.here ++ self.old.below } }
     {
-        self.floor = self.values.len();
+        self.floor = self.cells.len();
     }
 
     /// Joins the innermost layer to the next one, which begins at a floor.
@@ -190,7 +151,7 @@ impl Operands {
         ensures here { self.new.here ≡ take (length self.old.below - floor) self.old.below }
         ensures below { self.new.below ≡ drop (length self.old.below - floor) self.old.below }
     {
-        self.values.truncate(self.floor);
+        self.cells.truncate(self.floor);
         self.floor = floor;
     }
 }

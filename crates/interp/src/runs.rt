@@ -2,12 +2,12 @@
 
 ghost use Rattle.std.specs.Prelude.{◌≡◌, ◌↔◌, ◌+◌, ◌*◌, IfOk, IsTrue};
 ghost use Rattle.wasm_ast.specs.View.{code_of};
-ghost use Rattle.interp.specs.inside.Begun.{EndsWith};
+ghost use Rattle.interp.specs.inside.Begun.{EndsFrom};
 ghost use Rattle.interp.specs.Bounded.{HasIds, IsWithinBound, NeverFails, items_of};
 ghost use Rattle.interp.specs.Call.{IsOutcome};
 ghost use Rattle.interp.specs.inside.Meaning.{AreImports};
-ghost use Rattle.interp.specs.inside.Place.{at, running};
-ghost use Rattle.interp.specs.inside.Walk.{EndsWithin};
+ghost use Rattle.interp.specs.inside.Place.{at};
+ghost use Rattle.interp.specs.inside.Walk.{Leads};
 
 use crate::program::Program;
 use crate::rooms::Rooms;
@@ -73,9 +73,9 @@ fn finish<'a, 'b>(
     most: u128,
 ) -> (Result<CallOutcome, AllocError>, Rooms<'a>)
     requires calls { AreImports program.calls.now program.«module».now }
-    requires ends { EndsWithin program.«module».now (running (at walk (code_of code.now) 0)) most }
-    ensures { IfOk result.0 (EndsWith program.entry.«module».now
-        (running (at walk.entry (code_of code.now) 0))) }
+    requires ends { Leads program.«module».now (at walk (code_of code.now) 0) most }
+    ensures { IfOk result.0 (EndsFrom program.entry.«module».now
+        (at walk.entry (code_of code.now) 0) most) }
 {
     let ended = walk.finish(program, code, most);
     let Walk {

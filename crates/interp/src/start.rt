@@ -43,7 +43,7 @@ pub fn begin<'a, 'b>(
 ) -> Walk<'a, 'b>
     requires begins { BeginsWith «module».now function.now }
     requires laid { AreLaid «module».now function.now rooms }
-    ensures { IsBeginning «module».now function.now input.now result }
+    ensures { IsBeginning «module».now function.now.body input.now result }
 {
     let Rooms {
         layers,

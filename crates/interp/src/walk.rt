@@ -3,12 +3,11 @@
 ghost use Rattle.std.specs.Prelude.{◌≡◌, ◌+◌, ◌^◌, ◌<◌, true, IfOk};
 ghost use Rattle.wasm_ast.specs.View.{code_of, then_code};
 ghost use Rattle.cost.specs.Weights.{units_of};
-ghost use Rattle.interp.specs.Effects.{effect, call_effect};
-ghost use Rattle.interp.specs.Machine.{advance};
+ghost use Rattle.interp.specs.inside.Cells.{cell_advance, cell_call, cell_effect, in_width, of_any_width};
 ghost use Rattle.interp.specs.inside.Going.{goes_on, is_going};
 ghost use Rattle.interp.specs.inside.Meaning.{AreImports};
 ghost use Rattle.interp.specs.inside.Place.{at, running, state_of};
-ghost use Rattle.interp.specs.inside.Walk.{Turned, Turns, EndsWithin, Finishes, HasRoom, affected, taken};
+ghost use Rattle.interp.specs.inside.Walk.{Turned, Turns, Concludes, Leads, HasRoom, affected, taken};
 
 mod branches;
 mod calls;
@@ -68,10 +67,9 @@ impl<'a, 'b> Walk<'a, 'b> {
         most: u128,
     ) -> Result<u128, AllocError>
         requires calls { AreImports program.calls.now program.«module».now }
-        requires ends { EndsWithin program.«module».now
-            (running (at self.old (code_of code.now) 0)) most }
-        ensures { IfOk result (λ count. Finishes program.entry.«module».now
-            (running (at self.old (code_of code.now) 0)) (state_of self.new count)) }
+        requires ends { Leads program.«module».now (at self.old (code_of code.now) 0) most }
+        ensures { IfOk result (λ count. Concludes program.entry.«module».now
+            (at self.old (code_of code.now) 0) most (state_of self.new count)) }
     {
         let mut rest = code;
         let mut count = 0;
@@ -99,9 +97,9 @@ impl<'a, 'b> Walk<'a, 'b> {
     ) -> Result<Turn<'a>, AllocError>
         requires calls { AreImports program.calls.now program.«module».now }
         requires fits { HasRoom program.«module».now (at self.old (code_of code.now) count) }
-        requires goes { is_going (advance program.«module».now
+        requires goes { is_going (cell_advance of_any_width program.«module».now
             (running (at self.old (code_of code.now) count))) ≡ true }
-        ensures { Turned result (advance program.entry.«module».now
+        ensures { Turned result (cell_advance in_width program.entry.«module».now
             (running (at self.old (code_of code.now) count))) self.new }
     {
         match code.split_first() {
@@ -123,10 +121,10 @@ impl<'a, 'b> Walk<'a, 'b> {
         requires calls { AreImports program.calls.now program.«module».now }
         requires whole { code_of whole.now ≡ then_code first.now (code_of rest.now) }
         requires fits { count + units_of program.«module».now first.now < 2 ^ 128 }
-        requires goes { goes_on (taken program.«module».now (code_of whole.now))
+        requires goes { goes_on (taken of_any_width program.«module».now (code_of whole.now))
             (code_of rest.now) (count + units_of program.«module».now first.now)
             self.old ≡ true }
-        ensures { Turns result (taken program.entry.«module».now (code_of whole.now))
+        ensures { Turns result (taken in_width program.entry.«module».now (code_of whole.now))
             (code_of rest.now) (count + units_of program.entry.«module».now first.now)
             self.old self.new }
     {
@@ -153,8 +151,9 @@ impl<'a, 'b> Walk<'a, 'b> {
 
     #[inline]
     fn act(&mut self, plain: Plain, code: &'a [Instr], count: u128) -> Result<Turn<'a>, AllocError>
-        requires { goes_on (affected (effect plain)) (code_of code.now) count self.old ≡ true }
-        ensures { Turns result (affected (effect plain)) (code_of code.now) count
+        requires { goes_on (affected (cell_effect of_any_width plain)) (code_of code.now) count
+            self.old ≡ true }
+        ensures { Turns result (affected (cell_effect in_width plain)) (code_of code.now) count
             self.old self.new }
     {
         act_plain(
@@ -173,8 +172,9 @@ impl<'a, 'b> Walk<'a, 'b> {
         code: &'a [Instr],
         count: u128,
     ) -> Result<Turn<'a>, AllocError>
-        requires { goes_on (affected (call_effect call)) (code_of code.now) count self.old ≡ true }
-        ensures { Turns result (affected (call_effect call)) (code_of code.now) count
+        requires { goes_on (affected (cell_call of_any_width call)) (code_of code.now) count
+            self.old ≡ true }
+        ensures { Turns result (affected (cell_call in_width call)) (code_of code.now) count
             self.old self.new }
     {
         call_host(call, &mut self.operands, &mut self.host)?;

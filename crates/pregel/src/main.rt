@@ -5,9 +5,11 @@ ghost use Rattle.std.specs.Prelude.{◌≡◌, ◌⊎◌, IfOk, OnErr};
 ghost use Rattle.std.specs.Process.{exit_status};
 
 use clap::error::ErrorKind;
-use console::{CommandFault, SystemFiles, command, options};
+use console::{CommandFault, SystemFiles, options};
+use session::carry_out;
 use std::process::ExitCode;
 use std::rt::{Env, Files};
+use std::sync::Wait;
 use std::thread::Threads;
 use std::{env, io};
 
@@ -18,11 +20,13 @@ fn main(rt: HostRuntime) -> ExitCode {
 
 // The status: 0 for an answer, 1 for a refusal, 2 for a mistake in the command line, 3 for a job that ended by a fault, 4
 // for a file that cannot be read or written.
-fn run(rt: &(impl Env + Files + Print + Eprint + AllocGlobal + Threads + Sync)) -> io::Result<u8> {
+fn run(
+    rt: &(impl Env + Input + Files + Print + Eprint + AllocGlobal + Threads + Wait + Sync),
+) -> io::Result<u8> {
     match env::args(rt) {
         Ok(arguments) => {
             let words: Vec<String> = arguments.collect(rt.alloc())?;
-            carry_out(rt, words.as_slice())
+            read_and_carry_out(rt, words.as_slice())
         }
         Err(error) if error.kind() == io::ErrorKind::InvalidData => {
             eprintln!(rt; "error: an argument is not in UTF-8")?;
@@ -33,8 +37,8 @@ fn run(rt: &(impl Env + Files + Print + Eprint + AllocGlobal + Threads + Sync)) 
 }
 
 // Does what the words ask for; the first is the program's name.
-fn carry_out(
-    rt: &(impl Files + Print + Eprint + AllocGlobal + Threads + Sync),
+fn read_and_carry_out(
+    rt: &(impl Input + Files + Print + Eprint + AllocGlobal + Threads + Wait + Sync),
     words: &[String],
 ) -> io::Result<u8> {
     let alloc = rt.alloc();
@@ -48,11 +52,12 @@ fn carry_out(
             return Ok(if error.use_stderr() { 2 } else { 0 });
         }
     };
-    let status = command(
+    let status = carry_out(
         rt,
         alloc,
         options,
         &mut SystemFiles(rt),
+        &mut rt.reader(),
         &mut io::writer(rt),
     );
     status.map_err(|_| io::Error::from(io::ErrorKind::Other))

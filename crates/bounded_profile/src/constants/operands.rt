@@ -1,8 +1,11 @@
 //! What is known of the operands at a place of a body.
 
-ghost use Rattle.std.specs.Prelude.{◌≡◌, [], ◌∷◌, ◌++◌, OnOk};
+ghost use Rattle.std.specs.Prelude.{◌≡◌, [], ◌∷◌, ◌++◌, get_or, OnOk};
+ghost use Rattle.bounded_profile.specs.declared.constants.operands.Operand.TheVariants.{Unknown};
+ghost use Rattle.bounded_profile.specs.Reached.{known_after};
 ghost use Rattle.bounded_profile.specs.inside.Tracking.{Goes, operands_of, fits, top, below, take_one, take_each, change, forget_each, forget_result, unknowns, given_of};
 
+use crate::arity::Arity;
 use crate::constants::demands::{Demand, is_met};
 use crate::constants::fault::ConstantsFault;
 use std::alloc::{AllocError, Global};
@@ -61,6 +64,31 @@ impl Operands {
             Some(operand) => operand,
             None => Operand::Unknown,
         }
+    }
+
+    /// The operand under so many others; of one that is not there nothing is known.
+    pub fn at(&self, depth: usize) -> Operand
+        ensures { result ≡ get_or (operands_of self.now) depth Unknown }
+    {
+        let count = self.operands.len();
+        if depth < count {
+            self.operands[count - 1 - depth]
+        } else {
+            Operand::Unknown
+        }
+    }
+
+    /// Takes and gives so many, of which nothing is known.
+    pub fn pass(&mut self, arity: Arity) -> Result<(), AllocError>
+        ensures { OnOk result (operands_of self.new ≡ known_after arity (operands_of self.old)) }
+    {
+        for _taken in 0..arity.takes {
+            let _operand = self.pop();
+        }
+        for _given in 0..arity.gives {
+            self.push(Operand::Unknown)?;
+        }
+        Ok(())
     }
 
     /// Takes one that is as demanded.

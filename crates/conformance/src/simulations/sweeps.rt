@@ -94,7 +94,8 @@ fn end_of<R: Files + AllocGlobal + Threads + Sync>(
     Ok(trace.outcome)
 }
 
-fn are_alike(ended: &Ended, plain: &Ended) -> bool {
+/// Whether a job ended as another.
+pub fn are_alike(ended: &Ended, plain: &Ended) -> bool {
     have_finished(ended) == have_finished(plain)
         && ended.superstep == plain.superstep
         && ended.values.as_slice() == plain.values.as_slice()

@@ -1,18 +1,25 @@
 -- How a call begins, and how it ends.
-use Rattle.std.specs.Prelude.{◌≡◌, ℕ, List, [], map, slice_get, Some}
+use Rattle.std.specs.Prelude.{◌≡◌, ℕ, List, [], ◌∷◌, map, replicate, slice_get, Option, Some, None}
+use Rattle.std.specs.Option.{option_and_then}
 use Rattle.wasm_ast.specs.declared.types.Value.{Value}
 use Rattle.wasm_ast.specs.declared.module.Function.{Function}
 use Rattle.wasm_ast.specs.declared.module.Module.{Module}
-use Rattle.wasm_ast.specs.Values.{zero_of}
+use Rattle.wasm_ast.specs.declared.module.Data.{Data}
+use Rattle.wasm_ast.specs.declared.module.Global.{Global}
+use Rattle.wasm_ast.specs.Code.{Code}
+use Rattle.bounded_profile.specs.Memory.{memory_bytes, number_of}
 use Rattle.host_calls.specs.declared.call.CallInput.{CallInput}
 use Rattle.host_calls.specs.declared.call.CallOutcome.{CallOutcome}
 use Rattle.host_calls.specs.Host.{Leaves}
 use Rattle.interp.specs.Configuration.{State}
 use Rattle.interp.specs.Machine.{Machine, defined, functions_of}
-use Rattle.interp.specs.inside.Place.{Standing, at, running}
-use Rattle.interp.specs.Start.{Begins, Starts, initial_globals, initial_memory}
+use Rattle.interp.specs.inside.Place.{Place, Standing, at}
+use Rattle.interp.specs.Memory.{laid}
+use Rattle.interp.specs.Start.{Begins, Starts, constant_value, initial_globals, initial_memory}
 use Rattle.interp.specs.declared.rooms.Rooms.{Rooms}
-use Rattle.interp.specs.inside.Walk.{Finishes}
+use Rattle.interp.specs.inside.Cells.{cell_of, zero_cells}
+use Rattle.interp.specs.inside.Fits.{AreFit}
+use Rattle.interp.specs.inside.Walk.{EndsWithin, Finishes, Follows}
 
 -- the module defines the function with this number
 abbrev pub IsDefinedAt : Module → ℕ → Type 0
@@ -32,20 +39,50 @@ pub record BeginsWith (m : Module) (function : Function) : Type 0 where
   pub bytes : List ℕ
   pub begins : Begins m function globals bytes
 
+-- ---- values as cells
+
+-- the cells of the globals' initial values, which fit
+pub record AreInitial (globals : List Global) (cells : List Value) : Type 0 where
+  pub values : List Value
+  pub initial : initial_globals globals ≡ Some values
+  pub are : map cell_of values ≡ cells
+  pub fit : AreFit values
+
+-- segments over the bytes, at the number of a cell
+abbrev pub cell_laid_at : Option Value → List ℕ → List ℕ → Option (List ℕ)
+cell_laid_at None segment bytes = None
+cell_laid_at (Some v) segment bytes = laid (number_of v) segment bytes
+
+abbrev pub cell_segment_laid : List Value → Data → List ℕ → Option (List ℕ)
+cell_segment_laid cells d bytes = cell_laid_at (constant_value cells d.offset) d.bytes bytes
+
+abbrev pub cells_laid_in : List Value → List Data → List ℕ → Option (List ℕ)
+cells_laid_in cells [] bytes = Some bytes
+cells_laid_in cells (d ∷ ds) bytes = option_and_then (λ laid. cells_laid_in cells ds laid) (cell_segment_laid cells d bytes)
+
+abbrev pub cell_memory_laid : List Value → Module → Option (List ℕ)
+cell_memory_laid cells m = cells_laid_in cells m.data (replicate (memory_bytes m) 0)
+
 -- the lists hold what a call of the function begins with
 pub record AreLaid (m : Module) (function : Function) (rooms : Rooms) : Type 0 where
   pub layers : rooms.layers.items ≡ []
   pub operands : rooms.operands.here ≡ []
   pub operands_below : rooms.operands.below ≡ []
-  pub locals : rooms.locals.here ≡ map zero_of function.locals
+  pub locals : rooms.locals.here ≡ zero_cells function.locals
   pub locals_below : rooms.locals.below ≡ []
-  pub globals : initial_globals m.globals ≡ Some rooms.globals
-  pub bytes : initial_memory rooms.globals m ≡ Some rooms.memory
+  pub globals : AreInitial m.globals rooms.globals
+  pub bytes : initial_memory globals.values m ≡ Some rooms.memory
 
--- the call begins with the function's body where a run stands so
-abbrev pub IsBeginning : Module → Function → CallInput → Standing → Type 0
-IsBeginning m function input s = Starts m input (running (at s function.body 0))
+-- a call begins with this code where a run stands so
+pub record IsBeginning (m : Module) (code : Code) (input : CallInput) (s : Standing) : Type 0 where
+  pub from : Machine
+  pub starts : Starts m input from
+  pub follows : Follows m from (at s code 0)
 
--- the run from this machine ends with this outcome
+-- a run ends with this outcome
 abbrev pub EndsWith : Module → Machine → CallOutcome → Type 0
 EndsWith m from outcome = (final : State) × Finishes m from final × Leaves outcome final.host final.count
+
+-- each run over values that comes by here does, where it ends within so many units
+abbrev pub EndsFrom : Module → Place → (most : ℕ) → CallOutcome → Type 0
+EndsFrom m here most outcome = (from : Machine) → Follows m from here → EndsWithin m from most → EndsWith m from outcome

@@ -4,7 +4,6 @@ use Rattle.std.specs.Option.{is_some}
 use Rattle.wasm_ast.specs.declared.types.ValType.{ValType}
 use Rattle.wasm_ast.specs.declared.types.ValType.TheVariants as val_type
 use Rattle.wasm_ast.specs.declared.types.Value.{Value}
-use Rattle.wasm_ast.specs.declared.types.Value.TheVariants.{I32, I64}
 use Rattle.wasm_ast.specs.declared.numeric.Division.{Division}
 use Rattle.wasm_ast.specs.declared.numeric.Numeric.{Numeric}
 use Rattle.wasm_ast.specs.declared.numeric.Numeric.TheVariants as numeric
@@ -15,15 +14,15 @@ use Rattle.wasm_ast.specs.declared.plain.Variable.TheVariants as variable
 use Rattle.wasm_ast.specs.declared.plain.Plain.{Plain}
 use Rattle.wasm_ast.specs.declared.plain.Plain.TheVariants as plain
 use Rattle.wasm_ast.specs.Code.{Code}
-use Rattle.wasm_ast.specs.Numeric.{bits_of, conversion_from, division_traps}
-use Rattle.wasm_ast.specs.Widths.{load_width, store_type, store_width}
+use Rattle.wasm_ast.specs.Numeric.{bits_of, division_traps}
+use Rattle.wasm_ast.specs.Widths.{load_width, store_width}
 use Rattle.host_calls.specs.declared.call.TheConstants.{SLOTS}
 use Rattle.host_calls.specs.declared.imports.HostCall.{HostCall}
 use Rattle.host_calls.specs.declared.imports.HostCall.TheVariants as call
-use Rattle.host_calls.specs.Operands.{number}
 use Rattle.bounded_profile.specs.Memory.{number_of}
 use Rattle.interp.specs.Configuration.{State}
 use Rattle.interp.specs.Machine.{Machine, Running, Done, Trapped, Stuck, Layer, Label, Frame}
+use Rattle.interp.specs.inside.Cells.{narrowed}
 use Rattle.interp.specs.inside.Place.{Standing, state_of}
 
 -- the machine runs or is done
@@ -46,48 +45,35 @@ has_labels (suc l) (Frame keeps locals values after ∷ ls) = false
 
 -- ---- operands, the topmost first
 
--- the topmost are of these types
-abbrev pub has_tops : List ValType → List Value → Bool
-has_tops [] vs = true
-has_tops (t ∷ ts) [] = false
-has_tops (t ∷ ts) (v ∷ vs) = is_some (number t v) && has_tops ts vs
+-- there are so many
+abbrev pub has_tops : ℕ → List Value → Bool
+has_tops zero vs = true
+has_tops (suc n) [] = false
+has_tops (suc n) (v ∷ vs) = has_tops n vs
 
--- this holds of the number on top, and of the one below it
-abbrev pub of_top : (ℕ → Bool) → List Value → Bool
-of_top p [] = true
-of_top p (v ∷ vs) = p (number_of v)
+-- this holds of the number on top, seen as one of a type, and of the one below it
+abbrev pub of_top : ValType → (ℕ → Bool) → List Value → Bool
+of_top t p [] = true
+of_top t p (v ∷ vs) = p (narrowed t (number_of v))
 
-abbrev pub of_next : (ℕ → Bool) → List Value → Bool
-of_next p [] = true
-of_next p (v ∷ vs) = of_top p vs
+abbrev pub of_next : ValType → (ℕ → Bool) → List Value → Bool
+of_next t p [] = true
+of_next t p (v ∷ vs) = of_top t p vs
 
 -- the number on top divides the one below it
 abbrev pub divides : ValType → Division → List Value → Bool
 divides t op [] = true
-divides t op (v ∷ vs) = of_top (λ n. not (division_traps (bits_of t) op n (number_of v))) vs
-
--- two are of one type
-abbrev pub has_pair : List Value → Bool
-has_pair (I32 b ∷ I32 a ∷ vs) = true
-has_pair (I64 b ∷ I64 a ∷ vs) = true
-has_pair _ = false
-
-abbrev pub has_pair_below : List Value → Bool
-has_pair_below [] = false
-has_pair_below (v ∷ vs) = has_pair vs
+divides t op (v ∷ vs) = of_top t (λ n. not (division_traps (bits_of t) op n (narrowed t (number_of v)))) vs
 
 -- ---- what instructions ask
 
 abbrev pub numeric_asks : Numeric → List Value → Bool
-numeric_asks (numeric.Eqz t) vs = has_tops (t ∷ []) vs
-numeric_asks (numeric.Comparison t op) vs = has_tops (t ∷ t ∷ []) vs
-numeric_asks (numeric.Unary t op) vs = has_tops (t ∷ []) vs
-numeric_asks (numeric.Binary t op) vs = has_tops (t ∷ t ∷ []) vs
-numeric_asks (numeric.Division t op) vs = has_tops (t ∷ t ∷ []) vs && divides t op vs
-numeric_asks (numeric.Conversion op) vs = has_tops (conversion_from op ∷ []) vs
-
-abbrev pub select_asks : List Value → Bool
-select_asks vs = has_tops (val_type.I32 ∷ []) vs && has_pair_below vs
+numeric_asks (numeric.Eqz t) vs = has_tops 1 vs
+numeric_asks (numeric.Comparison t op) vs = has_tops 2 vs
+numeric_asks (numeric.Unary t op) vs = has_tops 1 vs
+numeric_asks (numeric.Binary t op) vs = has_tops 2 vs
+numeric_asks (numeric.Division t op) vs = has_tops 2 vs && divides t op vs
+numeric_asks (numeric.Conversion op) vs = has_tops 1 vs
 
 abbrev pub variable_asks : Variable → (values locals globals : List Value) → Bool
 variable_asks (variable.LocalGet x) vs locals globals = is_some (slice_get locals x)
@@ -102,16 +88,16 @@ reaches offset width bytes i = nat_le (i + offset + width) (length bytes)
 
 abbrev pub memory_asks : Memory → List Value → (bytes : List ℕ) → Bool
 memory_asks (memory.Load op a) vs bytes =
-    has_tops (val_type.I32 ∷ []) vs && of_top (reaches a.offset (load_width op) bytes) vs
+    has_tops 1 vs && of_top val_type.I32 (reaches a.offset (load_width op) bytes) vs
 memory_asks (memory.Store op a) vs bytes =
-    has_tops (store_type op ∷ val_type.I32 ∷ []) vs && of_next (reaches a.offset (store_width op) bytes) vs
+    has_tops 2 vs && of_next val_type.I32 (reaches a.offset (store_width op) bytes) vs
 memory_asks memory.Size vs bytes = true
 memory_asks memory.Grow vs bytes = false
 
 abbrev pub plain_asks : Plain → (values locals globals : List Value) → (bytes : List ℕ) → Bool
 plain_asks plain.Nop vs locals globals bytes = true
 plain_asks plain.Drop vs locals globals bytes = nat_lt 0 (length vs)
-plain_asks plain.Select vs locals globals bytes = select_asks vs
+plain_asks plain.Select vs locals globals bytes = has_tops 3 vs
 plain_asks (plain.Const v) vs locals globals bytes = true
 plain_asks (plain.Numeric op) vs locals globals bytes = numeric_asks op vs
 plain_asks (plain.Variable op) vs locals globals bytes = variable_asks op vs locals globals
@@ -119,8 +105,8 @@ plain_asks (plain.Memory op) vs locals globals bytes = memory_asks op vs bytes
 
 -- a call of the host asks its arguments, and that a slot among them is none past the last
 abbrev pub call_asks : HostCall → List Value → Bool
-call_asks call.SetValue vs = has_tops (val_type.I64 ∷ []) vs
-call_asks call.Send vs = has_tops (val_type.I64 ∷ val_type.I64 ∷ []) vs
-call_asks call.Aggregate vs = has_tops (val_type.I64 ∷ val_type.I32 ∷ []) vs && of_next (λ slot. nat_lt slot SLOTS) vs
-call_asks call.Aggregated vs = has_tops (val_type.I32 ∷ []) vs && of_top (λ slot. nat_lt slot SLOTS) vs
+call_asks call.SetValue vs = has_tops 1 vs
+call_asks call.Send vs = has_tops 2 vs
+call_asks call.Aggregate vs = has_tops 2 vs && of_next val_type.I32 (λ slot. nat_lt slot SLOTS) vs
+call_asks call.Aggregated vs = has_tops 1 vs && of_top val_type.I32 (λ slot. nat_lt slot SLOTS) vs
 call_asks _ vs = true

@@ -1,5 +1,6 @@
 -- What the answers of the walk say of the machine's run.
 use Rattle.std.specs.Prelude.{◌≡◌, ◌≢◌, ℕ, ◌+◌, ◌-◌, ◌*◌, ◌^◌, ◌<◌, ◌≤◌, List, [], ◌∷◌, length, slice_get, Bool, Option, Result, Ok, Err}
+use Rattle.wasm_ast.specs.declared.types.ValType.TheVariants.{I32}
 use Rattle.wasm_ast.specs.declared.types.Value.{Value}
 use Rattle.wasm_ast.specs.declared.module.Function.{Function}
 use Rattle.wasm_ast.specs.declared.module.Module.{Module}
@@ -8,7 +9,9 @@ use Rattle.wasm_ast.specs.View.{code_of}
 use Rattle.interp.specs.declared.walk.Turn.{Turn}
 use Rattle.interp.specs.declared.walk.Turn.TheVariants as turn
 use Rattle.interp.specs.Configuration.{State, Effect}
-use Rattle.interp.specs.Machine.{Machine, Running, Done, Layer, Label, after_effect, arm, arrive, back, enter, functions_of, jump, next_units, run, take_call, take_next, taking}
+use Rattle.interp.specs.Machine.{Machine, Running, Done, Layer, Label, after_effect, arm, arrive, back, enter, functions_of, jump, next_units, run, taking}
+use Rattle.interp.specs.inside.Cells.{cell_next, cell_take_call, celled, cells_place, cells_state, seen}
+use Rattle.interp.specs.inside.Fits.{MachineFits}
 use Rattle.interp.specs.inside.Place.{Place, Standing, at, running, state_of}
 
 -- the machine is this: it runs at the place that is answered, or is done, unless memory runs out
@@ -24,8 +27,8 @@ abbrev pub Turns : {E : Type 0} → Result Turn E → (List Value → Code → L
 Turns r step code count old new = Turned r (step old.values code old.layers (state_of old count)) new
 
 -- an instruction taken off a whole sequence, of which the rest is the code
-abbrev pub taken : Module → (whole : Code) → List Value → Code → List Layer → State → Machine
-taken m whole vs is ls st = take_next m vs whole ls st
+abbrev pub taken : (Value → Bool) → Module → (whole : Code) → List Value → Code → List Layer → State → Machine
+taken may m whole vs is ls st = cell_next may m vs whole ls st
 
 abbrev pub affected : (List Value → State → Effect) → List Value → Code → List Layer → State → Machine
 affected e vs is ls st = after_effect (e vs st) is ls st.count
@@ -37,13 +40,13 @@ opened keeps target body vs is ls st = Running [] body (Label keeps vs target is
 -- one of two sequences in a label
 abbrev pub chosen : (keeps : Bool) (then_body else_body : Code) → List Value → Code → List Layer → State → Machine
 chosen keeps then_body else_body vs is ls st =
-    taking vs st.count (λ n us. Running [] (arm n then_body else_body) (Label keeps us is is ∷ ls) st)
+    taking (seen (I32 ∷ []) vs) st.count (λ n us. Running [] (arm n then_body else_body) (Label keeps us is is ∷ ls) st)
 
-abbrev pub called : Module → (number : ℕ) → List Value → Code → List Layer → State → Machine
-called m number vs is ls st = take_call m (slice_get (functions_of m) number) vs is ls st
+abbrev pub called : (Value → Bool) → Module → (number : ℕ) → List Value → Code → List Layer → State → Machine
+called may m number vs is ls st = cell_take_call may m (slice_get (functions_of m) number) vs is ls st
 
 abbrev pub entered : Module → Function → List Value → Code → List Layer → State → Machine
-entered m f vs is ls st = enter f (slice_get m.types f.type_number) vs is ls st
+entered m f vs is ls st = enter (celled f) (slice_get m.types f.type_number) vs is ls st
 
 -- layers without so many labels
 abbrev pub Unwinds : (labels : ℕ) (old new : List Layer) → Type 0
@@ -76,6 +79,26 @@ pub record EndsWithin (m : Module) (from : Machine) (most : ℕ) : Type 0 where
   pub final : State
   pub done : run m steps from ≡ Done final
   pub within : final.count ≤ most
+
+-- ---- runs over values
+
+-- the run from this machine over values comes to a place that fits, which is this one over cells
+pub record Follows (m : Module) (from : Machine) (here : Place) : Type 0 where
+  pub place : Place
+  pub comes : Comes m from (running place)
+  pub fits : MachineFits (running place)
+  pub is : cells_place place ≡ here
+
+-- a run over values that begins here comes to its end within so many units
+pub record Leads (m : Module) (here : Place) (most : ℕ) : Type 0 where
+  pub from : Machine
+  pub follows : Follows m from here
+  pub ends : EndsWithin m from most
+
+-- each run over values that comes by here is done in this state, as cells
+abbrev pub Concludes : Module → Place → (most : ℕ) → State → Type 0
+Concludes m here most final =
+    (from : Machine) → Follows m from here → EndsWithin m from most → (st : State) × Finishes m from st × (cells_state st ≡ final)
 
 -- how many steps may be left
 abbrev pub left_of : ℕ → Place → ℕ

@@ -4,8 +4,10 @@ ghost use Rattle.std.specs.Prelude.{◌≡◌, ◌≤◌, ◌*◌, [], Some, IsS
 ghost use Rattle.std.specs.List.{AllByRecursion};
 ghost use Rattle.wasm_ast.specs.declared.types.Limits.{Limits as AnyLimits};
 ghost use Rattle.bounded_profile.specs.Memory.{MinimumsWithin, bytes_of, max_minimum, page};
-ghost use Rattle.interp.specs.Start.{constant_value, constant_plain, initial_globals, initial_memory, laid_in, segment_laid};
+ghost use Rattle.interp.specs.Start.{constant_value, constant_plain, initial_globals};
+ghost use Rattle.interp.specs.inside.Begun.{AreInitial, cells_laid_in, cell_memory_laid, cell_segment_laid};
 
+use crate::cell::of_value;
 use crate::globals::Globals;
 use crate::memory::Memory;
 use std::alloc::{AllocError, Global};
@@ -13,7 +15,7 @@ use wasm_ast::{
     Body, Data, Global as GlobalDefinition, Instr, Limits, Module, Plain, Value, Variable,
 };
 
-/// The initial value of each global.
+/// The initial value of each global, as a cell.
 pub fn lay_globals(
     alloc: Global,
     definitions: &[GlobalDefinition],
@@ -21,12 +23,12 @@ pub fn lay_globals(
 ) -> Result<(), AllocError>
     requires empty { globals.old ≡ [] }
     requires there { IsSome (initial_globals definitions.now) }
-    ensures { OnOk result (initial_globals definitions.now ≡ Some globals.new) }
+    ensures { OnOk result (AreInitial definitions.now globals.new) }
 {
     let none = Globals::new(alloc);
     for definition in definitions {
         match constant_value(&none, &definition.initial) {
-            Some(value) => globals.add(value)?,
+            Some(value) => globals.add(of_value(value))?,
             None => unreachable!(),
         }
     }
@@ -36,8 +38,8 @@ pub fn lay_globals(
 /// Zeros, and the data segments in order.
 pub fn lay_memory(module: &Module, globals: &Globals, memory: &mut Memory) -> Result<(), AllocError>
     requires minimums { MinimumsWithin «module».now }
-    requires there { IsSome (initial_memory globals.now «module».now) }
-    ensures { OnOk result (initial_memory globals.now «module».now ≡ Some memory.new) }
+    requires there { IsSome (cell_memory_laid globals.now «module».now) }
+    ensures { OnOk result (cell_memory_laid globals.now «module».now ≡ Some memory.new) }
 {
     memory.renew(page_count(module.memories.as_slice()))?;
     lay_segments(module.data.as_slice(), globals, memory);
@@ -45,8 +47,8 @@ pub fn lay_memory(module: &Module, globals: &Globals, memory: &mut Memory) -> Re
 }
 
 fn lay_segments(segments: &[Data], globals: &Globals, memory: &mut Memory)
-    requires { IsSome (laid_in globals.now segments.now memory.old) }
-    ensures { laid_in globals.now segments.now memory.old ≡ Some memory.new }
+    requires { IsSome (cells_laid_in globals.now segments.now memory.old) }
+    ensures { cells_laid_in globals.now segments.now memory.old ≡ Some memory.new }
 {
     for segment in segments {
         lay_segment(segment, globals, memory);
@@ -54,12 +56,11 @@ fn lay_segments(segments: &[Data], globals: &Globals, memory: &mut Memory)
 }
 
 fn lay_segment(segment: &Data, globals: &Globals, memory: &mut Memory)
-    requires { IsSome (segment_laid globals.now segment.now memory.old) }
-    ensures { segment_laid globals.now segment.now memory.old ≡ Some memory.new }
+    requires { IsSome (cell_segment_laid globals.now segment.now memory.old) }
+    ensures { cell_segment_laid globals.now segment.now memory.old ≡ Some memory.new }
 {
     match constant_value(globals, &segment.offset) {
-        Some(Value::I32(place)) => memory.lay(u64::from(place), segment.bytes.as_slice()),
-        Some(Value::I64(_)) => unreachable!(),
+        Some(place) => memory.lay(of_value(place), segment.bytes.as_slice()),
         None => unreachable!(),
     }
 }
@@ -76,7 +77,7 @@ fn page_count(memories: &[Limits]) -> u32
     }
 }
 
-// The value of a constant expression (Core 1.0, 3.3.7).
+// The value of a constant expression (Core 1.0, 3.3.7), a global's as the i64 of its cell.
 fn constant_value(globals: &Globals, body: &Body) -> Option<Value>
     ensures { result ≡ constant_value globals.now body.now }
 {
@@ -91,7 +92,10 @@ fn constant_plain(globals: &Globals, plain: Plain) -> Option<Value>
 {
     match plain {
         Plain::Const(value) => Some(value),
-        Plain::Variable(Variable::GlobalGet(number)) => globals.find(number),
+        Plain::Variable(Variable::GlobalGet(number)) => match globals.find(number) {
+            Some(cell) => Some(Value::I64(cell)),
+            None => None,
+        },
         _ => None,
     }
 }

@@ -4,11 +4,13 @@ ghost use Rattle.std.specs.Prelude.{◌≡◌, reverse, true};
 ghost use Rattle.wasm_ast.specs.declared.plain.Branch.TheVariants as branches;
 ghost use Rattle.wasm_ast.specs.Code.{end};
 ghost use Rattle.wasm_ast.specs.View.{code_of};
-ghost use Rattle.interp.specs.Machine.{label_of, take_branch};
+ghost use Rattle.interp.specs.Machine.{label_of};
+ghost use Rattle.interp.specs.inside.Cells.{cell_branch};
 ghost use Rattle.interp.specs.inside.Going.{goes_on, has_labels};
 ghost use Rattle.interp.specs.inside.Meaning.{AreNested, floor_of, layers_round};
 ghost use Rattle.interp.specs.inside.Walk.{Turns, Unwinds, UnwindsFrame};
 
+use crate::cell::as_i32;
 use crate::layers::{Layer, pop_layer};
 use crate::locals::Locals;
 use crate::operands::Operands;
@@ -25,9 +27,9 @@ impl<'a, 'b> Walk<'a, 'b> {
         code: &'a [Instr],
         count: u128,
     ) -> Result<Turn<'a>, AllocError>
-        requires { goes_on (take_branch branch.now) (code_of code.now) count
+        requires { goes_on (cell_branch branch.now) (code_of code.now) count
             self.old ≡ true }
-        ensures { Turns result (take_branch branch.now) (code_of code.now) count
+        ensures { Turns result (cell_branch branch.now) (code_of code.now) count
             self.old self.new }
     {
         match branch {
@@ -45,12 +47,12 @@ impl<'a, 'b> Walk<'a, 'b> {
         code: &'a [Instr],
         count: u128,
     ) -> Result<Turn<'a>, AllocError>
-        requires { goes_on (take_branch (branches.BrIf label)) (code_of code.now) count
+        requires { goes_on (cell_branch (branches.BrIf label)) (code_of code.now) count
             self.old ≡ true }
-        ensures { Turns result (take_branch (branches.BrIf label)) (code_of code.now) count
+        ensures { Turns result (cell_branch (branches.BrIf label)) (code_of code.now) count
             self.old self.new }
     {
-        if self.operands.pop_i32() == 0 {
+        if as_i32(self.operands.pop()) == 0 {
             Ok(Turn::Next { code, count })
         } else {
             self.jump(label, count)
@@ -58,19 +60,19 @@ impl<'a, 'b> Walk<'a, 'b> {
     }
 
     fn branch_by(&mut self, labels: &[u32], other: u32, count: u128) -> Result<Turn<'a>, AllocError>
-        requires { goes_on (take_branch (branches.BrTable labels.now other)) end count
+        requires { goes_on (cell_branch (branches.BrTable labels.now other)) end count
             self.old ≡ true }
-        ensures { Turns result (take_branch (branches.BrTable labels.now other)) end count
+        ensures { Turns result (cell_branch (branches.BrTable labels.now other)) end count
             self.old self.new }
     {
-        let place = self.operands.pop_i32();
+        let place = as_i32(self.operands.pop());
         self.jump(label_at(labels, place, other), count)
     }
 
     /// To a label, whatever code comes next.
     fn jump(&mut self, label: u32, count: u128) -> Result<Turn<'a>, AllocError>
-        requires { goes_on (take_branch (branches.Br label)) end count self.old ≡ true }
-        ensures { Turns result (take_branch (branches.Br label)) end count self.old self.new }
+        requires { goes_on (cell_branch (branches.Br label)) end count self.old ≡ true }
+        ensures { Turns result (cell_branch (branches.Br label)) end count self.old self.new }
     {
         let top = self.operands.top();
         unwind(&mut self.layers, &mut self.operands, &self.locals, label);
@@ -79,8 +81,8 @@ impl<'a, 'b> Walk<'a, 'b> {
 
     /// Out of the innermost frame.
     fn back(&mut self, count: u128) -> Result<Turn<'a>, AllocError>
-        requires { goes_on (take_branch branches.Return) end count self.old ≡ true }
-        ensures { Turns result (take_branch branches.Return) end count self.old self.new }
+        requires { goes_on (cell_branch branches.Return) end count self.old ≡ true }
+        ensures { Turns result (cell_branch branches.Return) end count self.old self.new }
     {
         let top = self.operands.top();
         unwind_all(&mut self.layers, &mut self.operands, &self.locals);

@@ -3,6 +3,7 @@
 ghost use Rattle.std.specs.Prelude.{◌≡◌, Some, true};
 ghost use Rattle.wasm_ast.specs.View.{code_of};
 ghost use Rattle.interp.specs.Machine.{enter};
+ghost use Rattle.interp.specs.inside.Cells.{celled, in_width, of_any_width};
 ghost use Rattle.interp.specs.inside.Going.{goes_on};
 ghost use Rattle.interp.specs.inside.Meaning.{AreImports};
 ghost use Rattle.interp.specs.inside.Walk.{Turns, called, entered};
@@ -23,10 +24,10 @@ impl<'a, 'b> Walk<'a, 'b> {
         count: u128,
     ) -> Result<Turn<'a>, AllocError>
         requires calls { AreImports program.calls.now program.«module».now }
-        requires goes { goes_on (called program.«module».now number) (code_of code.now) count
-            self.old ≡ true }
-        ensures { Turns result (called program.entry.«module».now number) (code_of code.now) count
-            self.old self.new }
+        requires goes { goes_on (called of_any_width program.«module».now number) (code_of code.now)
+            count self.old ≡ true }
+        ensures { Turns result (called in_width program.entry.«module».now number)
+            (code_of code.now) count self.old self.new }
     {
         match program.callee(number) {
             None => unreachable!(),
@@ -61,10 +62,10 @@ impl<'a, 'b> Walk<'a, 'b> {
         code: &'a [Instr],
         count: u128,
     ) -> Result<Turn<'a>, AllocError>
-        requires { goes_on (enter function.now (Some func_type.now)) (code_of code.now) count
-            self.old ≡ true }
-        ensures { Turns result (enter function.now (Some func_type.now)) (code_of code.now) count
-            self.old self.new }
+        requires { goes_on (enter (celled function.now) (Some func_type.now)) (code_of code.now)
+            count self.old ≡ true }
+        ensures { Turns result (enter (celled function.now) (Some func_type.now))
+            (code_of code.now) count self.old self.new }
     {
         let arguments = func_type.parameters.as_slice().len();
         let keeps = !func_type.results.as_slice().is_empty();

@@ -1,23 +1,27 @@
 //! Blocks (Core 1.0, 4.4.5), and what goes on after them.
 
-ghost use Rattle.std.specs.Prelude.{◌≡◌, true};
+ghost use Rattle.std.specs.Prelude.{◌≡◌, option_map, true};
+ghost use Rattle.wasm_ast.specs.declared.types.Value.TheVariants.{I64};
 ghost use Rattle.wasm_ast.specs.View.{code_of};
 ghost use Rattle.interp.specs.Machine.{arrive, leave};
 ghost use Rattle.interp.specs.inside.Going.{goes_on, is_going};
 ghost use Rattle.interp.specs.inside.Place.{state_of};
 ghost use Rattle.interp.specs.inside.Walk.{Turned, Turns, chosen, opened};
 
+use crate::cell::as_i32;
 use crate::layers::{Layer, pop_layer, push_layer};
 use crate::walk::{Turn, Walk};
 use std::alloc::AllocError;
-use wasm_ast::{Body, Instr, Value};
+use wasm_ast::{Body, Instr};
 
 impl<'a, 'b> Walk<'a, 'b> {
     /// Goes on at the innermost label or frame, with an operand.
     #[inline(always)]
-    pub fn arrive(&mut self, top: Option<Value>, count: u128) -> Result<Turn<'a>, AllocError>
-        requires { is_going (arrive top self.old.layers (state_of self.old count)) ≡ true }
-        ensures { Turned result (arrive top self.old.layers (state_of self.old count)) self.new }
+    pub fn arrive(&mut self, top: Option<u64>, count: u128) -> Result<Turn<'a>, AllocError>
+        requires { is_going (arrive (option_map I64 top) self.old.layers
+            (state_of self.old count)) ≡ true }
+        ensures { Turned result (arrive (option_map I64 top) self.old.layers
+            (state_of self.old count)) self.new }
     {
         match pop_layer(&mut self.layers) {
             None => Ok(Turn::Finished { count }),
@@ -122,7 +126,7 @@ impl<'a, 'b> Walk<'a, 'b> {
         ensures { Turns result (chosen keeps then_body.now else_body.now) (code_of code.now) count
             self.old self.new }
     {
-        if self.operands.pop_i32() == 0 {
+        if as_i32(self.operands.pop()) == 0 {
             self.open(keeps, code, else_body, code, count)
         } else {
             self.open(keeps, code, then_body, code, count)

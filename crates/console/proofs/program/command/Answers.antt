@@ -9,7 +9,7 @@ pub returns-in-Ok-clause-told : goal.returns-in-Ok-clause-told
 returns-in-Ok-clause-told g c =
     let before = g.F.Files.disk c.args.files.now in
     let after = g.F.Files.disk c.carry_out.new.files in
-    let answered = subst (λ told. Answered before after c.args.options told) (sym c.as_bytes.ensures.value) c.in-Ok.ensures.answered in
+    let answered = subst (λ told. Answered before after c.args.request told) (sym c.as_bytes.ensures.value) c.in-Ok.ensures.answered in
     (0, c.as_bytes.result.now, inl (refl, answered), c.tell.ensures.told)
 
 pub returns-in-Err-clause-told : goal.returns-in-Err-clause-told
@@ -19,7 +19,7 @@ returns-in-Err-clause-told g c =
     let other = c.refuse.ensures.told.0 in (
       status_of other,
       line (fault_text other),
-      refusal_told before after c.args.options c.in-Err.fault other c.in-Err.ensures.refused c.in-Err.ensures.before
+      refusal_told before after c.args.request c.in-Err.fault other c.in-Err.ensures.refused c.in-Err.ensures.before
           c.in-Err.ensures.tried c.refuse.ensures.told.1,
       c.refuse.ensures.told.2,
     )

@@ -1,4 +1,4 @@
-use Rattle.std.proofs.Common.{◌≡◌, inl, inr, subst, Ok, MatchResult}
+use Rattle.std.proofs.Common.{◌≡◌, inl, inr, subst, Ok}
 use Rattle.std.specs.String.{string_bytes}
 use Rattle.console.specs.Steps.{IsStepsFault, steps_of}
 use Rattle.console.proofs.Faults.{is_fault}

@@ -1,9 +1,10 @@
-use Rattle.std.proofs.Common.{◌≡◌, ◌++◌, drop, take, length, map}
-use Rattle.wasm_ast.specs.Values.{zero_of}
+use Rattle.std.proofs.Common.{◌≡◌, ◌++◌, drop, take, length}
+use Rattle.interp.specs.inside.Cells.{zero_cells}
+use Rattle.interp.proofs.Stored.{stored}
 use Rattle.interp.proofs.locals.add_zeros.Given as goal
 
-abbrev pub invariant-loop-one : goal.invariant-loop-one
-invariant-loop-one l = record {
-  so_far : l.values.items ++ map zero_of (drop l.one-index l.types) ≡ l.fn.values.items ++ map zero_of l.types;
-  kept : take (length l.fn.values.items) l.values.items ≡ l.fn.values.items;
+abbrev pub invariant-loop : goal.invariant-loop
+invariant-loop l = record {
+  so_far : stored l.cells.items ++ zero_cells (drop l.index l.types) ≡ stored l.fn.cells.items ++ zero_cells l.types;
+  kept : take (length l.fn.cells.items) l.cells.items ≡ l.fn.cells.items;
 }

@@ -3,10 +3,7 @@ use Rattle.wasm_ast.specs.declared.module.Module.{Module}
 use Rattle.wasm_ast.specs.View.{code_of}
 use Rattle.bounded_profile.specs.Memory.{MinimumsWithin}
 use Rattle.interp.specs.inside.Begun.{BeginsAt, IsDefinedAt}
-use Rattle.interp.specs.Start.{Starts}
-use Rattle.interp.specs.inside.Place.{at, running}
-use Rattle.interp.specs.inside.Walk.{EndsWithin}
-use Rattle.interp.proofs.Running.{begins_at, begins_with, defined_at, ends_within, fails_never, outcome_told, bound_told, starts_at}
+use Rattle.interp.proofs.Running.{beginning_at, begins_at, begins_with, bound_told, defined_at, ends_at, fails_never, leads, outcome_told}
 use Rattle.interp.proofs.runs.run.Goals as goal
 
 pub defined-function-requires-clause-defined : goal.defined-function-requires-clause-defined
@@ -35,21 +32,27 @@ begin-walk-requires-clause-begins c =
 pub finish-ended-requires-clause-ends : goal.finish-ended-requires-clause-ends
 finish-ended-requires-clause-ends c =
     let told = c.program_for-program.ensures in
-    let x = running (at c.begin-walk.result (code_of c.as_slice.result.now) 0) in
-    let starts = subst (λ (m : Module). Starts m c.args.input.now x) told.same (starts_at c.program_for-program.result.module.now c.args.input.now c.begin-walk.result (code_of c.as_slice.result.now) c.defined-function.result.now.body c.as_slice.ensures c.begin-walk.ensures) in
-    let ends = ends_within c.args.verified.now told.typed told.bounded c.args.input.now c.size.result c.size.ensures x starts in
-    subst (λ (m : Module). EndsWithin m x c.most_units-most.result) (sym told.same) (subst (λ n. EndsWithin c.args.verified.now x n) (sym c.most_units-most.ensures) ends)
+    let m = c.program_for-program.result.module.now in
+    let ends = ends_at m c.args.verified.now told.same told.typed told.bounded c.args.input.now c.size.result c.size.ensures c.most_units-most.result c.most_units-most.ensures in
+    let begins = beginning_at m c.args.input.now c.begin-walk.result (code_of c.as_slice.result.now) c.defined-function.result.now.body c.as_slice.ensures c.begin-walk.ensures in
+    leads m c.args.input.now c.begin-walk.result (code_of c.as_slice.result.now) c.most_units-most.result ends begins
 
 pub returns-clause-outcome : goal.returns-clause-outcome
 returns-clause-outcome c =
     let told = c.program_for-program.ensures in
-    outcome_told c.finish-ended.result.0 c.program_for-program.result.module.now c.args.verified.now c.args.input.now (running (at c.begin-walk.result (code_of c.as_slice.result.now) 0)) told.same (starts_at c.program_for-program.result.module.now c.args.input.now c.begin-walk.result (code_of c.as_slice.result.now) c.defined-function.result.now.body c.as_slice.ensures c.begin-walk.ensures) c.finish-ended.ensures
+    let m = c.program_for-program.result.module.now in
+    let ends = ends_at m c.args.verified.now told.same told.typed told.bounded c.args.input.now c.size.result c.size.ensures c.most_units-most.result c.most_units-most.ensures in
+    let begins = beginning_at m c.args.input.now c.begin-walk.result (code_of c.as_slice.result.now) c.defined-function.result.now.body c.as_slice.ensures c.begin-walk.ensures in
+    outcome_told c.finish-ended.result.0 m c.args.verified.now c.args.input.now c.begin-walk.result (code_of c.as_slice.result.now) c.most_units-most.result told.same ends begins c.finish-ended.ensures
 
 pub returns-clause-units : goal.returns-clause-units
 returns-clause-units c =
     let told = c.program_for-program.ensures in
+    let m = c.program_for-program.result.module.now in
+    let ends = ends_at m c.args.verified.now told.same told.typed told.bounded c.args.input.now c.size.result c.size.ensures c.most_units-most.result c.most_units-most.ensures in
+    let begins = beginning_at m c.args.input.now c.begin-walk.result (code_of c.as_slice.result.now) c.defined-function.result.now.body c.as_slice.ensures c.begin-walk.ensures in
     bound_told c.finish-ended.result.0 c.args.verified.now told.typed told.bounded c.args.input.now
-    (outcome_told c.finish-ended.result.0 c.program_for-program.result.module.now c.args.verified.now c.args.input.now (running (at c.begin-walk.result (code_of c.as_slice.result.now) 0)) told.same (starts_at c.program_for-program.result.module.now c.args.input.now c.begin-walk.result (code_of c.as_slice.result.now) c.defined-function.result.now.body c.as_slice.ensures c.begin-walk.ensures) c.finish-ended.ensures)
+    (outcome_told c.finish-ended.result.0 m c.args.verified.now c.args.input.now c.begin-walk.result (code_of c.as_slice.result.now) c.most_units-most.result told.same ends begins c.finish-ended.ensures)
 
 pub returns-clause-fails_never : goal.returns-clause-fails_never
 returns-clause-fails_never c = let told = c.program_for-program.ensures in fails_never c.args.verified.now told.typed told.bounded c.args.input.now

@@ -1,6 +1,6 @@
 use Rattle.std.proofs.Common.{ap, ◌∙◌}
 use Rattle.wasm_ast.specs.View.{code_of}
-use Rattle.interp.specs.Effects.{effect}
+use Rattle.interp.specs.inside.Cells.{cell_effect, of_any_width}
 use Rattle.interp.specs.inside.Going.{goes_on}
 use Rattle.interp.specs.inside.Meaning.{standing_of}
 use Rattle.interp.specs.inside.Place.{state_of}
@@ -11,4 +11,4 @@ use Rattle.interp.proofs.walk.Walk.act.Goals as goal
 pub act_plain-requires : goal.act_plain-requires
 act_plain-requires c =
     let s = standing_of c.self.inside in
-    plain_asked c.args.plain s.values (code_of c.args.code.now) s.layers (state_of s c.args.count) (ap (goes_on (affected (effect c.args.plain)) (code_of c.args.code.now) c.args.count) c.self.view_is ∙ c.requires)
+    plain_asked of_any_width c.args.plain s.values (code_of c.args.code.now) s.layers (state_of s c.args.count) (ap (goes_on (affected (cell_effect of_any_width c.args.plain)) (code_of c.args.code.now) c.args.count) c.self.view_is ∙ c.requires)

@@ -1,6 +1,6 @@
 use Rattle.std.proofs.Common.{ap, ◌∙◌}
 use Rattle.wasm_ast.specs.View.{code_of}
-use Rattle.interp.specs.Effects.{call_effect}
+use Rattle.interp.specs.inside.Cells.{cell_call, of_any_width}
 use Rattle.interp.specs.inside.Going.{goes_on}
 use Rattle.interp.specs.inside.Meaning.{standing_of}
 use Rattle.interp.specs.inside.Place.{state_of}
@@ -11,4 +11,4 @@ use Rattle.interp.proofs.walk.Walk.act_host.Goals as goal
 pub call_host-requires : goal.call_host-requires
 call_host-requires c =
     let s = standing_of c.self.inside in
-    call_asked c.args.call s.values (code_of c.args.code.now) s.layers (state_of s c.args.count) (ap (goes_on (affected (call_effect c.args.call)) (code_of c.args.code.now) c.args.count) c.self.view_is ∙ c.requires)
+    call_asked of_any_width c.args.call s.values (code_of c.args.code.now) s.layers (state_of s c.args.count) (ap (goes_on (affected (cell_call of_any_width c.args.call)) (code_of c.args.code.now) c.args.count) c.self.view_is ∙ c.requires)

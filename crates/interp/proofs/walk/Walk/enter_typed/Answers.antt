@@ -2,6 +2,7 @@ use Rattle.std.proofs.Common.{◌≡◌, ◌≤◌, ◌++◌, Some, length, reve
 use Rattle.wasm_ast.specs.View.{code_of}
 use Rattle.interp.specs.inside.Meaning.{Ordered}
 use Rattle.interp.specs.Machine.{enter}
+use Rattle.interp.specs.inside.Cells.{celled}
 use Rattle.interp.specs.inside.Going.{goes_on}
 use Rattle.interp.specs.inside.Meaning.{standing_of}
 use Rattle.interp.specs.inside.Place.{state_of}
@@ -12,7 +13,7 @@ use Rattle.interp.proofs.walk.Walk.enter_typed.Goals as goal
 pub topmost-requires : goal.topmost-requires
 topmost-requires c =
     let s = standing_of c.self.inside in
-    let asked = enter_asks c.args.function.now c.args.func_type.now s.values (code_of c.args.code.now) s.layers (state_of s c.args.count) (ap (goes_on (enter c.args.function.now (Some c.args.func_type.now)) (code_of c.args.code.now) c.args.count) c.self.view_is ∙ c.requires) in
+    let asked = enter_asks (celled c.args.function.now) c.args.func_type.now s.values (code_of c.args.code.now) s.layers (state_of s c.args.count) (ap (goes_on (enter (celled c.args.function.now) (Some c.args.func_type.now)) (code_of c.args.code.now) c.args.count) c.self.view_is ∙ c.requires) in
     subst (λ n. n ≤ length s.values) (search rules) asked
 
 pub invariant_of-self-in_err-add : goal.invariant_of-self-in_err-add

@@ -1,35 +1,43 @@
 use Rattle.std.proofs.Common.{◌≡◌, arith}
 use Rattle.wasm_ast.specs.View.{code_of}
-use Rattle.interp.specs.Machine.{Done, advance}
+use Rattle.interp.specs.Machine.{Done}
+use Rattle.interp.specs.inside.Cells.{cell_advance, in_width}
 use Rattle.interp.specs.inside.Place.{at, running, state_of}
-use Rattle.interp.proofs.Counts.{falls}
-use Rattle.interp.proofs.Ending.{comes_on, finishes, room, goes}
+use Rattle.interp.proofs.Following.{cell_goes, cell_room, falls_on, finishes_on, follows_on}
 use Rattle.interp.proofs.walk.Walk.finish.Goals as goal
 
 pub turn-requires-clause-fits : goal.turn-requires-clause-fits
 turn-requires-clause-fits c =
-    let within = room c.args.program.module.now (running (at c.args.self.now (code_of c.args.code.now) 0)) (at c.turns.self (code_of c.turns.rest.now) c.turns.count) c.turns.invariant c.args.most c.requires.ends in
+    let leads = c.requires.ends in
+    let within = cell_room c.args.program.module.now leads.from (at c.turns.self (code_of c.turns.rest.now) c.turns.count) (c.turns.invariant leads.from leads.follows leads.ends) c.args.most leads.ends in
     omega (arith, within, c.ranges.most.fits)
 
 pub turn-requires-clause-goes : goal.turn-requires-clause-goes
-turn-requires-clause-goes c = goes c.args.program.module.now (running (at c.args.self.now (code_of c.args.code.now) 0)) (at c.turns.self (code_of c.turns.rest.now) c.turns.count) c.turns.invariant c.args.most c.requires.ends
+turn-requires-clause-goes c =
+    let leads = c.requires.ends in
+    cell_goes c.args.program.module.now leads.from (at c.turns.self (code_of c.turns.rest.now) c.turns.count) (c.turns.invariant leads.from leads.follows leads.ends) c.args.most leads.ends
+
+pub turns-init : goal.turns-init
+turns-init c = λ from follows ends. follows
 
 pub turns-smaller : goal.turns-smaller
 turns-smaller c =
     let here = at c.turns.self (code_of c.turns.rest.now) c.turns.count in
     let next = at c.turn.new.self (code_of c.in-Next.next.now) c.in-Next.counted in
-    let s : advance c.args.program.module.now (running here) ≡ running next = rw c.in-Next.is at c.in_ok-next.ensures in
-    falls c.args.program.module.now c.args.most here next s (room c.args.program.module.now (running (at c.args.self.now (code_of c.args.code.now) 0)) here c.turns.invariant c.args.most c.requires.ends)
+    let step : cell_advance in_width c.args.program.module.now (running here) ≡ running next = rw c.in-Next.is at c.in_ok-next.ensures in
+    let leads = c.requires.ends in
+    falls_on c.args.program.module.now leads.from here (c.turns.invariant leads.from leads.follows leads.ends) c.args.most leads.ends next step
 
 pub turns-preserved : goal.turns-preserved
 turns-preserved c =
     let here = at c.turns.self (code_of c.turns.rest.now) c.turns.count in
     let next = at c.turn.new.self (code_of c.in-Next.next.now) c.in-Next.counted in
-    let s : advance c.args.program.module.now (running here) ≡ running next = rw c.in-Next.is at c.in_ok-next.ensures in
-    comes_on c.args.program.module.now (running (at c.args.self.now (code_of c.args.code.now) 0)) (running here) (running next) c.turns.invariant s
+    let step : cell_advance in_width c.args.program.module.now (running here) ≡ running next = rw c.in-Next.is at c.in_ok-next.ensures in
+    λ from follows ends. follows_on c.args.program.module.now from here (c.turns.invariant from follows ends) c.args.most ends next step
 
 pub returns-in-Finished : goal.returns-in-Finished
 returns-in-Finished c =
     let here = at c.turns.self (code_of c.turns.rest.now) c.turns.count in
-    let s : advance c.args.program.module.now (running here) ≡ Done (state_of c.turn.new.self c.in-Finished.counted) = rw c.in-Finished.is at c.in_ok-next.ensures in
-    finishes c.args.program.module.now (running (at c.args.self.now (code_of c.args.code.now) 0)) here c.turns.invariant (state_of c.turn.new.self c.in-Finished.counted) s
+    let final = state_of c.turn.new.self c.in-Finished.counted in
+    let step : cell_advance in_width c.args.program.module.now (running here) ≡ Done final = rw c.in-Finished.is at c.in_ok-next.ensures in
+    λ from follows ends. finishes_on c.args.program.module.now from here (c.turns.invariant from follows ends) c.args.most ends final step

@@ -1,10 +1,11 @@
 use Rattle.wasm_ast.specs.View.{code_of}
-use Rattle.interp.specs.inside.Place.{at, running}
-use Rattle.interp.specs.inside.Walk.{Comes, left_of}
+use Rattle.interp.specs.Machine.{Machine}
+use Rattle.interp.specs.inside.Place.{at}
+use Rattle.interp.specs.inside.Walk.{EndsWithin, Follows, left_of}
 use Rattle.interp.proofs.walk.Walk.finish.Given as goal
 
 abbrev pub invariant-turns : goal.invariant-turns
-invariant-turns l = Comes l.program.«module».now (running (at l.initial.self (code_of l.initial.rest) 0)) (running (at l.self (code_of l.rest) l.count))
+invariant-turns l = (from : Machine) → Follows l.program.«module».now from (at l.initial.self (code_of l.initial.rest) 0) → EndsWithin l.program.«module».now from l.fn.most → Follows l.program.«module».now from (at l.self (code_of l.rest) l.count)
 
 abbrev pub decreases-turns : goal.decreases-turns
 decreases-turns l = left_of l.fn.most (at l.self (code_of l.rest) l.count)

@@ -1,0 +1,91 @@
+//! Where a session's lines come from, and where its replies go.
+
+use std::alloc::Global;
+use std::io;
+use std::io::{ErrorKind, Read, Write};
+
+/// Gives at most so many bytes at a time. Each read but the failing one is interrupted before.
+#[derive(Drop)]
+pub struct Given<'a> {
+    rest: &'a [u8],
+    /// How many bytes a read gives, at most.
+    pub most: u32,
+    /// The read that fails, from 1, or 0 where none does.
+    pub left: u32,
+    is_interrupted: bool,
+}
+
+impl<'a> Given<'a> {
+    pub fn new(bytes: &'a [u8]) -> Given<'a> {
+        Given {
+            rest: bytes,
+            most: u32::MAX,
+            left: 0,
+            is_interrupted: false,
+        }
+    }
+}
+
+impl Read for Given<'_> {
+    fn read(&mut self, buffer: &mut [u8]) -> io::Result<usize> {
+        self.is_interrupted = !self.is_interrupted;
+        if self.is_interrupted {
+            return Err(io::Error::from(ErrorKind::Interrupted));
+        }
+        if fails(&mut self.left) {
+            return Err(io::Error::from(ErrorKind::BrokenPipe));
+        }
+        let count = buffer.len().min(self.rest.len()).min(self.most as usize);
+        let (front, rest) = self.rest.split_at(count);
+        buffer[..count].copy_from_slice(front);
+        self.rest = rest;
+        Ok(count)
+    }
+}
+
+/// Takes at most so many bytes at a time.
+#[derive(Drop)]
+pub struct Taken {
+    pub bytes: Vec<u8>,
+    /// How many bytes a write takes, at most.
+    pub most: u32,
+    /// The write or flush that fails, from 1, or 0 where none does.
+    pub left: u32,
+}
+
+impl Taken {
+    pub fn new(alloc: Global) -> Taken {
+        Taken {
+            bytes: Vec::new(alloc),
+            most: u32::MAX,
+            left: 0,
+        }
+    }
+}
+
+impl Write for Taken {
+    fn write(&mut self, bytes: &[u8]) -> io::Result<usize> {
+        if fails(&mut self.left) {
+            return Err(io::Error::from(ErrorKind::BrokenPipe));
+        }
+        let count = bytes.len().min(self.most as usize);
+        self.bytes.extend_from_slice(&bytes[..count])?;
+        Ok(count)
+    }
+
+    fn flush(&mut self) -> io::Result<()> {
+        if fails(&mut self.left) {
+            return Err(io::Error::from(ErrorKind::BrokenPipe));
+        }
+        Ok(())
+    }
+}
+
+// Whether this is the call that fails.
+fn fails(left: &mut u32) -> bool {
+    if *left == 0 {
+        return false;
+    }
+    *left -= 1;
+    *left == 0
+}

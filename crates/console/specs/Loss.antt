@@ -1,0 +1,38 @@
+-- Which worker of a run is lost, and why a text names none.
+use denote.Bor.{Bor}
+use Rattle.std.specs.Prelude.{◌≡◌, ◌≢◌, ℕ, ◌==◌, ◌&&◌, nat_le, nat_lt, Bool, List, length, Option, Some, None, if◌then◌else◌}
+use Rattle.std.specs.List.{after_first, before_first, position_or_len}
+use Rattle.console.specs.declared.fault.CommandFault.{CommandFault}
+use Rattle.console.specs.declared.fault.CommandFault.TheVariants as command
+use Rattle.console.specs.declared.loss.Loss.{Loss}
+use Rattle.console.specs.InputLine.{small_of}
+
+abbrev pub is_colon : ℕ → Bool
+is_colon byte = byte == 58
+
+abbrev pub loss_at : (worker superstep : Option ℕ) → Option Loss
+loss_at (Some worker) (Some superstep) = Some (record { worker = worker; superstep = superstep })
+loss_at _ _ = None
+
+-- a worker and a superstep, each of 32 bits, and the first colon between them
+abbrev pub loss_of : List ℕ → Option Loss
+loss_of text =
+    if nat_lt (position_or_len is_colon text) (length text)
+    then loss_at (small_of (before_first is_colon text)) (small_of (after_first is_colon text))
+    else None
+
+-- the worker is lost with a task of this superstep
+abbrev pub is_due : Loss → (worker superstep : ℕ) → Bool
+is_due loss worker superstep = (loss.worker == worker) && nat_le loss.superstep superstep
+
+-- what is asked for names a loss, or none is asked for
+abbrev pub NamesLoss : Option (Bor (List ℕ)) → Option Loss → Type 0
+NamesLoss None loss = loss ≡ None
+NamesLoss (Some text) loss = (loss ≡ loss_of text.now) × (loss ≢ None)
+
+-- what a fault says of a text that names none; there may be no memory for its line
+abbrev pub RefusesLoss : CommandFault → Option (Bor (List ℕ)) → Type 0
+RefusesLoss command.Loss None = ⊥
+RefusesLoss command.Loss (Some text) = loss_of text.now ≡ None
+RefusesLoss command.OutOfMemory lose = Unit {0}
+RefusesLoss _ lose = ⊥

@@ -1,0 +1,180 @@
+-- What a call begins with, as cells.
+use Rattle.std.proofs.Common.{◌≡◌, ◌^◌, ℕ, List, [], ◌∷◌, ◌++◌, Option, Some, None, Result, Ok, Err, IsSome, true, option_map, map, replicate, slice_get, refl, sym, ap, ◌∙◌, subst}
+use Rattle.std.proofs.lemmas.Bool.{ltb-true}
+use Rattle.std.proofs.lemmas.List.{map-append}
+use Rattle.std.proofs.lemmas.Option.{slice_get-map}
+use Rattle.std.specs.Option.{option_and_then}
+use Rattle.std.specs.Prelude.{OnOk}
+use Rattle.wasm_ast.specs.declared.types.Value.{Value}
+use Rattle.wasm_ast.specs.declared.types.Value.TheVariants.{I32, I64}
+use Rattle.wasm_ast.specs.declared.plain.Plain.{Plain}
+use Rattle.wasm_ast.specs.declared.plain.Plain.TheVariants as plain
+use Rattle.wasm_ast.specs.declared.plain.Variable.TheVariants as variable
+use Rattle.wasm_ast.specs.declared.module.Data.{Data}
+use Rattle.wasm_ast.specs.declared.module.Function.{Function}
+use Rattle.wasm_ast.specs.declared.module.Global.{Global}
+use Rattle.wasm_ast.specs.declared.module.Module.{Module}
+use Rattle.wasm_ast.specs.Code.{Code}
+use Rattle.wasm_ast.specs.Code as code
+use Rattle.host_calls.specs.declared.call.CallInput.{CallInput}
+use Rattle.host_calls.specs.Host.{Host, host_of}
+use Rattle.bounded_profile.specs.Memory.{memory_bytes}
+use Rattle.interp.specs.Machine.{Layer}
+use Rattle.interp.specs.Start.{Starts, before, constant_plain, constant_value, initial_globals, initial_memory, laid_at, laid_in, segment_laid, start_state}
+use Rattle.interp.specs.inside.Begun.{AreInitial, BeginsWith, IsBeginning, cell_laid_at, cell_memory_laid, cell_segment_laid, cells_laid_in}
+use Rattle.interp.specs.inside.Cells.{cell_of, cells_place, in_width, zero_cells}
+use Rattle.interp.specs.inside.Fits.{AreFit, IsFit}
+use Rattle.interp.specs.inside.Place.{Place, Standing, at, running}
+use Rattle.interp.proofs.Beginnings.{after, after_all, after_one}
+use Rattle.interp.proofs.Cells.{zeros_follow}
+use Rattle.interp.proofs.Ending.{comes_here}
+use Rattle.interp.proofs.Fits.{fit-append, zeros_fit}
+use Rattle.interp.proofs.Values.{some_is}
+
+-- ---- answers
+
+pub on_ok : {T E : Type 0} {P Q : Type 0} (r : Result T E) → OnOk r P → (P → Q) → OnOk r Q
+on_ok (Ok x) p f = f p
+on_ok (Err e) p f = p
+
+-- ---- globals
+
+pub fits_in : (v : Value) → in_width v ≡ true → IsFit v
+fits_in (I32 n) e = ltb-true n (2 ^ 32) e
+fits_in (I64 n) e = tt
+
+-- the cells of the initial values so far, with those that are left
+pub record SoFar (all left : List Global) (cells : List Value) : Type 0 where
+  pub values : List Value
+  pub initial : initial_globals all ≡ after values (initial_globals left)
+  pub are : map cell_of values ≡ cells
+  pub fit : AreFit values
+
+pub one_more : (all left rest : List Global) (g : Global) (cells : List Value) (v : Value) (cell : ℕ) → left ≡ g ∷ rest → Some v ≡ constant_value [] g.initial → I64 cell ≡ cell_of v → in_width v ≡ true → SoFar all left cells → SoFar all rest (cells ++ I64 cell ∷ [])
+one_more all left rest g cells v cell e is same fits s = record {
+  values = s.values ++ v ∷ [];
+  initial = s.initial ∙ ap (λ (gs : List Global). after s.values (initial_globals gs)) e ∙ ap (λ (o : Option Value). after s.values (before o (initial_globals rest))) (sym is) ∙ after_one s.values v (initial_globals rest);
+  are = map-append cell_of s.values (v ∷ []) ∙ ap (λ (l : List Value). l ++ cell_of v ∷ []) s.are ∙ ap (λ (c : Value). cells ++ c ∷ []) (sym same);
+  fit = fit-append s.values (v ∷ []) s.fit (fits_in v fits, tt);
+}
+
+pub all_laid : (all left : List Global) (cells : List Value) → left ≡ [] → SoFar all left cells → AreInitial all cells
+all_laid all left cells e s = record {
+  values = s.values;
+  initial = s.initial ∙ ap (λ (gs : List Global). after s.values (initial_globals gs)) e ∙ after_all s.values;
+  are = s.are;
+  fit = s.fit;
+}
+
+-- ---- the memory
+
+constant_both : (P : Option Value → Option Value → Type 0) (gs hs : List Value) → ((p : Plain) → P (constant_plain gs p) (constant_plain hs p)) → P None None → (body : Code) → P (constant_value gs body) (constant_value hs body)
+constant_both P gs hs f n (code.plain p code.end) = f p
+constant_both P gs hs f n (code.plain p (code.plain q is)) = n
+constant_both P gs hs f n (code.plain p (code.branch b is)) = n
+constant_both P gs hs f n (code.plain p (code.call g is)) = n
+constant_both P gs hs f n (code.plain p (code.call_indirect t is)) = n
+constant_both P gs hs f n (code.plain p (code.unreachable is)) = n
+constant_both P gs hs f n (code.plain p (code.block t inner is)) = n
+constant_both P gs hs f n (code.plain p (code.loop t inner is)) = n
+constant_both P gs hs f n (code.plain p (code.choice t inner other is)) = n
+constant_both P gs hs f n code.end = n
+constant_both P gs hs f n (code.branch b is) = n
+constant_both P gs hs f n (code.call g is) = n
+constant_both P gs hs f n (code.call_indirect t is) = n
+constant_both P gs hs f n (code.unreachable is) = n
+constant_both P gs hs f n (code.block t inner is) = n
+constant_both P gs hs f n (code.loop t inner is) = n
+constant_both P gs hs f n (code.choice t inner other is) = n
+
+-- where a segment lies at a value, it does at its cell
+abbrev Lies : Option Value → Option Value → Type 0
+Lies o u = (segment bytes r : List ℕ) → laid_at o segment bytes ≡ Some r → cell_laid_at u segment bytes ≡ Some r
+
+no_place : Lies None None
+no_place segment bytes r e = absurd cc
+
+got : (o : Option Value) → Lies o (option_map cell_of o)
+got None segment bytes r e = absurd cc
+got (Some (I32 n)) segment bytes r e = e
+got (Some (I64 n)) segment bytes r e = absurd cc
+
+at_variable : (gs : List Value) (x : ℕ) → Lies (slice_get gs x) (slice_get (map cell_of gs) x)
+at_variable gs x = subst (λ (o : Option Value). Lies (slice_get gs x) o) (sym (slice_get-map cell_of gs x)) (got (slice_get gs x))
+
+at_plain : (gs : List Value) (p : Plain) → Lies (constant_plain gs p) (constant_plain (map cell_of gs) p)
+at_plain gs (plain.Const (I32 n)) segment bytes r e = e
+at_plain gs (plain.Const (I64 n)) segment bytes r e = absurd cc
+at_plain gs (plain.Variable (variable.GlobalGet x)) segment bytes r e = at_variable gs x segment bytes r e
+at_plain gs (plain.Variable (variable.LocalGet x)) segment bytes r e = absurd cc
+at_plain gs (plain.Variable (variable.LocalSet x)) segment bytes r e = absurd cc
+at_plain gs (plain.Variable (variable.LocalTee x)) segment bytes r e = absurd cc
+at_plain gs (plain.Variable (variable.GlobalSet x)) segment bytes r e = absurd cc
+at_plain gs plain.Nop segment bytes r e = absurd cc
+at_plain gs plain.Drop segment bytes r e = absurd cc
+at_plain gs plain.Select segment bytes r e = absurd cc
+at_plain gs (plain.Numeric op) segment bytes r e = absurd cc
+at_plain gs (plain.Memory op) segment bytes r e = absurd cc
+
+segment_lies : (gs : List Value) (d : Data) (bytes r : List ℕ) → segment_laid gs d bytes ≡ Some r → cell_segment_laid (map cell_of gs) d bytes ≡ Some r
+segment_lies gs d bytes r e = constant_both Lies gs (map cell_of gs) (at_plain gs) no_place d.offset d.bytes bytes r e
+
+others_lie : (gs : List Value) (d : Data) (ds : List Data) (bytes r : List ℕ) (o : Option (List ℕ)) → ((b : List ℕ) → laid_in gs ds b ≡ Some r → cells_laid_in (map cell_of gs) ds b ≡ Some r) → segment_laid gs d bytes ≡ o → option_and_then (λ laid. laid_in gs ds laid) o ≡ Some r → cells_laid_in (map cell_of gs) (d ∷ ds) bytes ≡ Some r
+others_lie gs d ds bytes r None others s e = absurd cc
+others_lie gs d ds bytes r (Some b) others s e =
+    ap (λ (o : Option (List ℕ)). option_and_then (λ laid. cells_laid_in (map cell_of gs) ds laid) o) (segment_lies gs d bytes b s) ∙ others b e
+
+segments_lie : (gs : List Value) (ds : List Data) (bytes r : List ℕ) → laid_in gs ds bytes ≡ Some r → cells_laid_in (map cell_of gs) ds bytes ≡ Some r
+segments_lie gs [] bytes r e = e
+segments_lie gs (d ∷ ds) bytes r e = others_lie gs d ds bytes r (segment_laid gs d bytes) (λ b. segments_lie gs ds b r) refl e
+
+module _ (m : Module) (f : Function) (begins : BeginsWith m f) (cells : List Value) (a : AreInitial m.globals cells) where
+  same_values : a.values ≡ begins.globals
+  same_values = some_is a.values begins.globals (sym a.initial ∙ begins.begins.initial_values)
+
+  memory_lies : cell_memory_laid cells m ≡ Some begins.bytes
+  memory_lies =
+      ap (λ (l : List Value). cell_memory_laid l m) (sym a.are) ∙ ap (λ (vs : List Value). cell_memory_laid (map cell_of vs) m) same_values
+      ∙ segments_lie begins.globals m.data (replicate (memory_bytes m) 0) begins.bytes begins.begins.initial_bytes
+
+  pub memory_there : IsSome (cell_memory_laid cells m)
+  memory_there = subst (λ (o : Option (List ℕ)). IsSome o) (sym memory_lies) refl
+
+  pub memory_is : (bytes : List ℕ) → cell_memory_laid cells m ≡ Some bytes → initial_memory a.values m ≡ Some bytes
+  memory_is bytes e = ap (λ (vs : List Value). initial_memory vs m) same_values ∙ begins.begins.initial_bytes ∙ sym memory_lies ∙ e
+
+-- ---- the first configuration
+
+abbrev place_with : Code → (values : List Value) (layers : List Layer) (locals globals : List Value) (bytes : List ℕ) (host : Host) → Place
+place_with k vs ls locals globals bytes host =
+    record { values = vs; code = k; layers = ls; state = record { locals = locals; globals = globals; memory = bytes; host = host; count = 0 } }
+
+module _ (m : Module) (f : Function) (input : CallInput) (begins : BeginsWith m f) where
+  abbrev first_place : (globals : List Value) (bytes : List ℕ) → Place
+  first_place globals bytes = record { values = []; code = f.body; layers = []; state = start_state f globals bytes input }
+
+  starts : (globals : List Value) (bytes : List ℕ) → initial_globals m.globals ≡ Some globals → initial_memory globals m ≡ Some bytes → Starts m input (running (first_place globals bytes))
+  starts globals bytes g b =
+      let h = begins.begins in
+      record {
+        function = f;
+        globals = globals;
+        bytes = bytes;
+        begins = record { imports = h.imports; no_start = h.no_start; no_elements = h.no_elements; number = h.number; exported = h.exported; is_defined = h.is_defined; func_type = h.func_type; initial_values = g; initial_bytes = b };
+        is = refl;
+      }
+
+  pub begins_as_cells : (s : Standing) (a : AreInitial m.globals s.globals) → initial_memory a.values m ≡ Some s.memory → s.values ≡ [] → s.layers ≡ [] → s.locals ≡ zero_cells f.locals → s.host ≡ host_of input → IsBeginning m f.body input s
+  begins_as_cells s a bytes no_values no_layers locals host =
+      let first = first_place a.values s.memory in
+      let is : cells_place first ≡ at s f.body 0 =
+      ap (λ (l : List Value). place_with f.body [] [] l (map cell_of a.values) s.memory (host_of input)) (sym (zeros_follow f.locals) ∙ sym locals)
+      ∙ ap (λ (l : List Value). place_with f.body [] [] s.locals l s.memory (host_of input)) a.are
+      ∙ ap (λ (h : Host). place_with f.body [] [] s.locals s.globals s.memory h) (sym host)
+      ∙ ap (λ (l : List Value). place_with f.body l [] s.locals s.globals s.memory s.host) (sym no_values)
+      ∙ ap (λ (l : List Layer). place_with f.body s.values l s.locals s.globals s.memory s.host) (sym no_layers) in
+      record {
+        from = running first;
+        starts = starts a.values s.memory a.initial bytes;
+        follows = record { place = first; comes = comes_here m (running first); fits = (tt, (tt, (zeros_fit f.locals, a.fit))); is = is };
+      }

@@ -1,0 +1,56 @@
+-- What may be said of how jobs run.
+use Rattle.std.specs.Prelude.{◌≡◌, ⊤, [], Result, Ok, Err}
+use Rattle.superstep.specs.declared.fault.JobFault.{JobFault}
+use Rattle.superstep.specs.declared.fault.JobFault.TheVariants as job_fault
+use Rattle.superstep.specs.Ending.{IsEndOf}
+use Rattle.superstep.specs.Job.{Work}
+use Rattle.workers.specs.Answers.{IsRunFault}
+use Rattle.rollback.specs.declared.report.Report.{Report}
+use Rattle.session.specs.declared.runner.JobRunner.{JobRunner}
+use Rattle.session.specs.declared.runner.JobRunner.TheVariants as way
+
+-- how the run of a job may end
+pub record Runs : Type 1 where
+  pub may_end : Work → Result Report JobFault → Type 0
+
+-- of which anything may be true
+abbrev pub unknown : Runs
+unknown = record { may_end = λ _ _. ⊤ }
+
+-- after a run: what may come could come before
+pub record KeepsRuns (before after : Runs) : Type 0 where
+  pub ends : (work : Work) (end : Result Report JobFault) → after.may_end work end → before.may_end work end
+
+-- ---- runs on one machine
+
+-- what the plain run ends with is told, and no loss
+pub record IsPlainReport (work : Work) (report : Report) : Type 0 where
+  pub ends : IsEndOf work report.ended
+  pub epoch : report.epoch ≡ 0
+  pub missed : report.missed ≡ 0
+  pub restarts : report.restarts ≡ 0
+  pub spent : report.spent.items ≡ []
+
+-- or there is no memory
+abbrev pub IsPlainEnd : Work → Result Report JobFault → Type 0
+IsPlainEnd work (Ok report) = IsPlainReport work report
+IsPlainEnd work (Err (job_fault.OutOfMemory place)) = Unit {0}
+IsPlainEnd work (Err fault) = ⊥
+
+abbrev pub plain : Runs
+plain = record { may_end = IsPlainEnd }
+
+-- ---- runs in threads
+
+-- What the plain run ends with is told, with the units of each superstep from the first on; or a fault that only a run in
+-- threads ends by.
+abbrev pub IsThreadedEnd : Work → Result Report JobFault → Type 0
+IsThreadedEnd work (Ok report) = IsEndOf work report.ended × (report.ended.since ≡ 0)
+IsThreadedEnd work (Err fault) = IsRunFault fault
+
+abbrev pub threaded : Runs
+threaded = record { may_end = IsThreadedEnd }
+
+abbrev pub runs_of : {G : _} → JobRunner G → Runs
+runs_of (way.InThreads gate) = threaded
+runs_of way.OnOneMachine = plain

@@ -1,0 +1,63 @@
+-- What the steps of an answer say.
+use Rattle.std.specs.Prelude.{◌≡◌, ◌≢◌, ◌⊎◌, ℕ, Bool, true, false, List, Option, Some}
+use Rattle.superstep.specs.Job.{Work}
+use Rattle.superstep.specs.Ending.{IsEndOf}
+use Rattle.session.specs.declared.held.Ending.{Ending}
+use Rattle.session.specs.declared.held.Ending.TheVariants as ending
+use Rattle.session.specs.declared.held.HeldJob.{HeldJob}
+use Rattle.rollback.specs.declared.report.Report.{Report}
+use Rattle.session.specs.Held.{IsSound}
+use Rattle.session.specs.Maps.{put}
+use Rattle.session.specs.Replies.{job_line, memory_line, not_ended_line, values_text}
+use Rattle.session.specs.Runs.{Runs}
+
+-- runs of which none ends; what does not run any is answered alike over all runs
+abbrev pub never : Runs
+never = record { may_end = λ _ _. ⊥ }
+
+-- The value got the name, and this is told; or memory ran out, and nothing changed.
+abbrev pub GivesName : {X : Type 0} → (Told : List ℕ → Type 0) → (name : List ℕ) → X → (before after : List ℕ → Option X)
+    → (reply : List ℕ) → Type 0
+GivesName Told name value before after reply =
+    ((after ≡ put name (Some value) before) × Told reply) ⊎ ((after ≡ before) × (reply ≡ memory_line))
+
+-- a job that waits
+pub record IsWaitingJob (job : Work) (held : HeldJob) : Type 0 where
+  pub same : held.job ≡ job
+  pub waits : held.ending ≡ ending.Waiting
+
+abbrev pub NamesJob : (name : List ℕ) → Work → (before after : List ℕ → Option HeldJob) → (reply : List ℕ) → Type 0
+NamesJob name job before after reply =
+    (held : HeldJob) × IsWaitingJob job held × GivesName (λ told. told ≡ job_line name) name held before after reply
+
+abbrev pub is_waiting : Ending → Bool
+is_waiting ending.Waiting = true
+is_waiting _ = false
+
+-- this may be how the run of the job ended that has the name
+abbrev pub IsSoundAt : (List ℕ → Option HeldJob) → (name : List ℕ) → Ending → Type 0
+IsSoundAt jobs name end = (held : HeldJob) → jobs name ≡ Some held → IsSound held.job end
+
+-- the job that has the name ended so
+pub record EndsSo (before after : List ℕ → Option HeldJob) (name : List ℕ) (end : Ending) (held : HeldJob) : Type 0 where
+  pub next : HeldJob
+  pub same : next.job ≡ held.job
+  pub ended : next.ending ≡ end
+  pub kept : after ≡ put name (Some next) before
+
+abbrev pub IsSet : (before after : List ℕ → Option HeldJob) → (name : List ℕ) → Ending → Type 0
+IsSet before after name end = (held : HeldJob) → before name ≡ Some held → EndsSo before after name end held
+
+-- the values that a job ended with are told, or that it has no answer, or that memory ran out
+pub record TellsEnded (held : HeldJob) (reply : List ℕ) : Type 0 where
+  pub report : Report
+  pub ended : held.ending ≡ ending.Ended report
+  pub ends : IsEndOf held.job report.ended
+  pub told : reply ≡ values_text report.ended
+
+pub record TellsNone (held : HeldJob) (reply : List ℕ) : Type 0 where
+  pub none : (report : Report) → held.ending ≢ ending.Ended report
+  pub told : reply ≡ not_ended_line
+
+abbrev pub TellsHeldValues : HeldJob → (reply : List ℕ) → Type 0
+TellsHeldValues held reply = TellsEnded held reply ⊎ TellsNone held reply ⊎ (reply ≡ memory_line)

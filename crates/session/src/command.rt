@@ -1,0 +1,207 @@
+//! What a line asks for.
+
+ghost use Rattle.std.specs.Prelude.{◌≡◌, Option};
+ghost use Rattle.console.specs.InputLine.{small_of};
+ghost use Rattle.session.specs.Words.{words_of};
+ghost use Rattle.session.specs.Commands.{asked_alone, asked_by, asked_job, asked_of, asked_of_drop, asked_of_name, asked_of_two, settings_by, settings_of};
+ghost use Rattle.session.specs.inside.Seen.{asked};
+
+use crate::word::{first_word, is_name};
+use graph::id_of;
+use superstep::Settings;
+
+/// How many bytes a line may have, without its line feed.
+pub const LONGEST_LINE: usize = 4_096;
+
+// How many ticks a worker of a session's job may take for a task.
+const LEASE: u32 = 1_000_000;
+
+/// What may be dropped.
+#[derive(Clone, Copy)]
+pub enum Kind {
+    Module,
+    Graph,
+    Job,
+}
+
+/// What a line asks for.
+#[derive(Clone, Copy)]
+pub enum Command<'a> {
+    /// The module in a file gets a name.
+    AddModule {
+        name: &'a str,
+        path: &'a str,
+    },
+    /// The graph in a file gets a name.
+    AddGraph {
+        name: &'a str,
+        path: &'a str,
+    },
+    /// A job of a module over a graph gets a name.
+    AddJob {
+        name: &'a str,
+        module: &'a str,
+        graph: &'a str,
+        settings: Settings,
+    },
+    /// Run a job.
+    Run(&'a str),
+    /// Tell how a job stands.
+    Status(&'a str),
+    /// Tell the values that a job ended with.
+    Values(&'a str),
+    /// Let go what has a name.
+    Drop(Kind, &'a str),
+    Quit,
+    /// It is no command.
+    Unknown,
+}
+
+/// What a line asks for, which stands without its line feed. A tab or a carriage return belongs to its word.
+pub fn command_of(line: &[u8]) -> Command<'_>
+    ensures { asked result ≡ asked_of line.now }
+{
+    if line.len() > LONGEST_LINE {
+        return Command::Unknown;
+    }
+    match str::from_utf8(line) {
+        Ok(text) => command_by(text),
+        Err(_) => Command::Unknown,
+    }
+}
+
+// What the words of a line ask for.
+fn command_by(line: &str) -> Command<'_>
+    ensures { asked result ≡ asked_by (words_of line.now) }
+{
+    let Some((word, rest)) = first_word(line) else {
+        return Command::Unknown;
+    };
+    let Some((first, rest)) = first_word(rest) else {
+        return command_alone(word);
+    };
+    let Some((second, rest)) = first_word(rest) else {
+        return command_of_name(word, first);
+    };
+    let Some((third, rest)) = first_word(rest) else {
+        return command_of_two(word, first, second);
+    };
+    if word == "job" && is_name(first) && is_name(second) && is_name(third) {
+        job(first, second, third, rest)
+    } else {
+        Command::Unknown
+    }
+}
+
+fn command_alone(word: &str) -> Command<'_>
+    ensures { asked result ≡ asked_alone word.now }
+{
+    if word == "quit" {
+        Command::Quit
+    } else {
+        Command::Unknown
+    }
+}
+
+// A word and a name.
+fn command_of_name<'a>(word: &str, name: &'a str) -> Command<'a>
+    ensures { asked result ≡ asked_of_name word.now name.now }
+{
+    if !is_name(name) {
+        return Command::Unknown;
+    }
+    match word {
+        "run" => Command::Run(name),
+        "status" => Command::Status(name),
+        "values" => Command::Values(name),
+        _ => Command::Unknown,
+    }
+}
+
+// A word and two more.
+fn command_of_two<'a>(word: &str, first: &'a str, second: &'a str) -> Command<'a>
+    ensures { asked result ≡ asked_of_two word.now first.now second.now }
+{
+    if word == "drop" {
+        return command_of_drop(first, second);
+    }
+    if !is_name(first) {
+        return Command::Unknown;
+    }
+    match word {
+        "module" => Command::AddModule {
+            name: first,
+            path: second,
+        },
+        "graph" => Command::AddGraph {
+            name: first,
+            path: second,
+        },
+        _ => Command::Unknown,
+    }
+}
+
+// The kind of what is dropped, and its name.
+fn command_of_drop<'a>(kind: &str, name: &'a str) -> Command<'a>
+    ensures { asked result ≡ asked_of_drop kind.now name.now }
+{
+    if !is_name(name) {
+        return Command::Unknown;
+    }
+    match kind {
+        "module" => Command::Drop(Kind::Module, name),
+        "graph" => Command::Drop(Kind::Graph, name),
+        "job" => Command::Drop(Kind::Job, name),
+        _ => Command::Unknown,
+    }
+}
+
+// The names of a job, of its module and of its graph, and the words of its settings.
+fn job<'a>(name: &'a str, module: &'a str, graph: &'a str, numbers: &str) -> Command<'a>
+    ensures { asked result ≡ asked_job name.now «module».now graph.now (words_of numbers.now) }
+{
+    match settings_of(numbers) {
+        Some(settings) => Command::AddJob {
+            name,
+            module,
+            graph,
+            settings,
+        },
+        None => Command::Unknown,
+    }
+}
+
+// Four numbers: the parts, the workers, how often a state is saved, and the limit.
+fn settings_of(numbers: &str) -> Option<Settings>
+    ensures { result ≡ settings_of (words_of numbers.now) }
+{
+    let (parts, rest) = first_word(numbers)?;
+    let (workers, rest) = first_word(rest)?;
+    let (every, rest) = first_word(rest)?;
+    let (limit, rest) = first_word(rest)?;
+    if first_word(rest).is_some() {
+        return None;
+    }
+    settings_by(parts, workers, every, limit)
+}
+
+fn settings_by(parts: &str, workers: &str, every: &str, limit: &str) -> Option<Settings>
+    ensures { result ≡ settings_by (small_of parts.now) (small_of workers.now) (small_of every.now)
+        (small_of limit.now) }
+{
+    Some(Settings {
+        parts: number_of(parts)?,
+        workers: number_of(workers)?,
+        every: number_of(every)?,
+        limit: number_of(limit)?,
+        lease: LEASE,
+    })
+}
+
+// The number of 32 bits that decimal digits write.
+fn number_of(word: &str) -> Option<u32>
+    ensures { result ≡ small_of word.now }
+{
+    let number = id_of(word.as_bytes())?;
+    u32::try_from(number).ok()
+}

@@ -1,0 +1,52 @@
+//! What is told to a line.
+
+ghost use Rattle.std.specs.Prelude.{◌≡◌};
+ghost use Rattle.session.specs.inside.Seen.{IsReplyOf, reply_text};
+
+use std::alloc::AllocError;
+
+/// What is told to a line.
+#[derive(Drop)]
+pub enum Reply {
+    /// This, with its line feeds.
+    Text(String),
+    Dropped,
+    Bye,
+    Usage,
+    NameTaken,
+    UnknownName,
+    File,
+    NotWaiting,
+    NotEnded,
+    OutOfMemory,
+}
+
+impl Reply {
+    /// A text, unless there was no memory for it.
+    pub fn of(text: Result<String, AllocError>) -> Reply
+        ensures { IsReplyOf text result }
+    {
+        match text {
+            Ok(text) => Reply::Text(text),
+            Err(_) => Reply::OutOfMemory,
+        }
+    }
+
+    /// The bytes that are told.
+    pub fn as_bytes(&self) -> &[u8]
+        ensures { result.now ≡ reply_text self.now }
+    {
+        match self {
+            Reply::Text(text) => text.as_bytes(),
+            Reply::Dropped => b"ok drop\n".as_slice(),
+            Reply::Bye => b"ok bye\n".as_slice(),
+            Reply::Usage => b"no 1 Usage\n".as_slice(),
+            Reply::NameTaken => b"no 2 NameTaken\n".as_slice(),
+            Reply::UnknownName => b"no 3 UnknownName\n".as_slice(),
+            Reply::File => b"no 4 File\n".as_slice(),
+            Reply::NotWaiting => b"no 11 NotWaiting\n".as_slice(),
+            Reply::NotEnded => b"no 12 NotEnded\n".as_slice(),
+            Reply::OutOfMemory => b"no 14 OutOfMemory\n".as_slice(),
+        }
+    }
+}

@@ -1,0 +1,149 @@
+//! The texts of replies.
+
+ghost use Rattle.std.specs.Prelude.{◌≡◌, ◌≤◌, IfOk, OnOk, length, string_bytes};
+ghost use Rattle.bounded_profile.specs.Facts.{IsSizeOfCompute};
+ghost use Rattle.graph.specs.Entry.{edge_count, entries_of};
+ghost use Rattle.graph.specs.Print.{value_lines};
+ghost use Rattle.superstep.specs.Ending.{is_finished};
+ghost use Rattle.console.specs.Lines.{Gains, IfTold, end_word};
+ghost use Rattle.session.specs.Replies.{fault_word, failed_line, graph_line, job_line, module_line, run_line, values_text};
+ghost use Rattle.session.specs.inside.Seen.{IsModuleLine, end_line};
+
+use bounded_profile::Verified;
+use graph::{Graph, MAX_EDGES, Vertex};
+use rollback::Report;
+use std::alloc::{AllocError, Global};
+use superstep::{Ended, How, JobFault};
+
+/// `ok module NAME S`, with the size of the module.
+pub fn module_text(alloc: Global, name: &str, verified: &Verified) -> Result<String, AllocError>
+    ensures { IfTold result (IsModuleLine name.now verified.now) }
+{
+    sized_text(alloc, name, verified.size())
+}
+
+fn sized_text(alloc: Global, name: &str, size: u32) -> Result<String, AllocError>
+    ensures { IfOk result (λ text. string_bytes text ≡ module_line name.now size) }
+{
+    let mut text = String::new(alloc);
+    writeln!(text, "ok module {name} {size}")?;
+    Ok(text)
+}
+
+/// `ok graph NAME VERTICES EDGES`.
+pub fn graph_text(alloc: Global, name: &str, graph: &Graph) -> Result<String, AllocError>
+    ensures { IfOk result (λ text. string_bytes text
+        ≡ graph_line name.now (length graph.now) (edge_count graph.now)) }
+{
+    let vertices = graph.vertices();
+    counted_text(alloc, name, vertices.len(), count_edges(vertices))
+}
+
+// How many edges the vertices have.
+fn count_edges(vertices: &[Vertex]) -> usize
+    requires { edge_count (entries_of vertices.now) ≤ MAX_EDGES }
+    ensures { result ≡ edge_count (entries_of vertices.now) }
+{
+    let mut count = 0;
+    for vertex in vertices {
+        count += vertex.edges.len();
+    }
+    count
+}
+
+fn counted_text(
+    alloc: Global,
+    name: &str,
+    vertices: usize,
+    edges: usize,
+) -> Result<String, AllocError>
+    ensures { IfOk result (λ text. string_bytes text ≡ graph_line name.now vertices edges) }
+{
+    let mut text = String::new(alloc);
+    writeln!(text, "ok graph {name} {vertices} {edges}")?;
+    Ok(text)
+}
+
+/// `ok job NAME`.
+pub fn job_text(alloc: Global, name: &str) -> Result<String, AllocError>
+    ensures { IfOk result (λ text. string_bytes text ≡ job_line name.now) }
+{
+    let mut text = String::new(alloc);
+    writeln!(text, "ok job {name}")?;
+    Ok(text)
+}
+
+/// How a run ended: `ok run NAME finished S`, `ok run NAME limit S`, or the word of its fault.
+pub fn end_text(
+    alloc: Global,
+    name: &str,
+    end: &Result<Report, JobFault>,
+) -> Result<String, AllocError>
+    ensures { IfOk result (λ text. string_bytes text ≡ end_line name.now end.now) }
+{
+    match end {
+        Ok(report) => run_text(alloc, name, &report.ended),
+        Err(fault) => failed_text(alloc, *fault),
+    }
+}
+
+fn run_text(alloc: Global, name: &str, ended: &Ended) -> Result<String, AllocError>
+    ensures { IfOk result (λ text. string_bytes text ≡ run_line name.now ended.now) }
+{
+    let how = how_word(ended.how);
+    let superstep = ended.superstep;
+    let mut text = String::new(alloc);
+    writeln!(text, "ok run {name} {how} {superstep}")?;
+    Ok(text)
+}
+
+/// How a job ended, in a word.
+pub fn how_word(how: How) -> &'static str
+    ensures { result.now ≡ end_word (is_finished how) }
+{
+    match how {
+        How::Finished => "finished",
+        How::Limit => "limit",
+    }
+}
+
+fn failed_text(alloc: Global, fault: JobFault) -> Result<String, AllocError>
+    ensures { IfOk result (λ text. string_bytes text ≡ failed_line fault) }
+{
+    let word = fault_word(fault);
+    let mut text = String::new(alloc);
+    writeln!(text, "no 13 {word}")?;
+    Ok(text)
+}
+
+/// The word of the fault that a job ended with.
+pub fn fault_word(fault: JobFault) -> &'static str
+    ensures { result.now ≡ fault_word fault }
+{
+    match fault {
+        JobFault::OutOfMemory(_) => "OutOfMemory",
+        JobFault::NoWorkers => "NoWorkers",
+        JobFault::Settings(_) => "Settings",
+        JobFault::ThreadRefused => "ThreadRefused",
+        JobFault::Closed => "Closed",
+    }
+}
+
+/// The values that a job ended with, each on its line, and a point.
+pub fn values_text(alloc: Global, ended: &Ended) -> Result<String, AllocError>
+    ensures { IfOk result (λ text. string_bytes text ≡ values_text ended.now) }
+{
+    let mut text = String::new(alloc);
+    push_values(&mut text, &ended.values)?;
+    writeln!(text, ".")?;
+    Ok(text)
+}
+
+fn push_values(text: &mut String, values: &[(u64, i64)]) -> Result<(), AllocError>
+    ensures { OnOk result (Gains text.old text.new (value_lines values.now)) }
+{
+    for (id, value) in values {
+        writeln!(text, "v {id} {value}")?;
+    }
+    Ok(())
+}

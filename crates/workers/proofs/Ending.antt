@@ -1,0 +1,156 @@
+-- What the end of a list of hands and events says of the answer.
+use Rattle.std.proofs.Common.{◌≡◌, ◌<◌, ℕ, Bool, true, false, List, [], ◌++◌, length, slice_index_or, Result, Ok, Err, IfErr, IfOk, refl, sym, ap, ◌∙◌, subst}
+use Rattle.superstep.specs.Job.{Work}
+use Rattle.superstep.specs.declared.fault.JobFault.{JobFault}
+use Rattle.superstep.specs.declared.fault.JobFault.TheVariants.{Closed, NoWorkers, OutOfMemory, Settings, ThreadRefused}
+use Rattle.superstep.specs.declared.fault.Place.{Place}
+use Rattle.superstep.specs.declared.fault.Place.TheVariants as place
+use Rattle.rollback.specs.declared.ending.End.{End}
+use Rattle.rollback.specs.declared.ending.End.TheVariants.{Fault, Finished, Limit, Running}
+use Rattle.rollback.specs.declared.report.Report.{Report}
+use Rattle.rollback.specs.Book.{IsReport}
+use Rattle.rollback.specs.Keeping.{KeepsFor}
+use Rattle.rollback.specs.Machine.{Machine, has_answer, opened}
+use Rattle.workers.specs.Answers.{HasSpent, IsAnswerAt, IsDriveFault, IsOpened, IsRunFault, IsTold, Ran, WhereEnded, WhereOpened, WhereRefused, WhereRun, has_ended}
+use Rattle.workers.specs.Hub.{at}
+use Rattle.workers.specs.Steps.{AreMoves, Steps, after, events, hands, outs_in, stamps_in}
+use Rattle.workers.specs.declared.message.Message.{Message}
+use Rattle.workers.specs.declared.message.Order.{Order}
+use Rattle.workers.proofs.Accounts.{spent_of}
+use Rattle.workers.proofs.Faults.{is_own, is_own_fault, steps_own}
+
+-- ---- by what is answered
+
+pub where_ended : (r : Result Report JobFault) (P : Type 0) → P → WhereEnded r P
+where_ended (Ok report) P p = p
+where_ended (Err (OutOfMemory place)) P p = p
+where_ended (Err NoWorkers) P p = p
+where_ended (Err (Settings setting)) P p = tt
+where_ended (Err ThreadRefused) P p = tt
+where_ended (Err Closed) P p = tt
+
+-- what is said where the job ended, by what is said there
+pub where_mapped : (r : Result Report JobFault) (P Q : Type 0) → (P → Q) → WhereEnded r P → WhereEnded r Q
+where_mapped (Ok report) P Q f p = f p
+where_mapped (Err (OutOfMemory place)) P Q f p = f p
+where_mapped (Err NoWorkers) P Q f p = f p
+where_mapped (Err (Settings setting)) P Q f p = tt
+where_mapped (Err ThreadRefused) P Q f p = tt
+where_mapped (Err Closed) P Q f p = tt
+
+pub not_ended : (r : Result Report JobFault) (P : Type 0) → has_ended r ≡ false → WhereEnded r P
+not_ended (Ok report) P e = absurd (cc)
+not_ended (Err (OutOfMemory place)) P e = absurd (cc)
+not_ended (Err NoWorkers) P e = absurd (cc)
+not_ended (Err (Settings setting)) P e = tt
+not_ended (Err ThreadRefused) P e = tt
+not_ended (Err Closed) P e = tt
+
+opened_at : (of : Place) (P : Type 0) → P → WhereOpened of P
+opened_at place.Open P p = tt
+opened_at place.Call P p = p
+opened_at place.Slice P p = p
+opened_at place.Merge P p = p
+opened_at place.Save P p = p
+opened_at place.Load P p = p
+opened_at place.Channel P p = p
+opened_at place.Report P p = p
+
+pub where_run : (r : Result Report JobFault) (P : Type 0) → WhereEnded r P → WhereRun r P
+where_run (Ok report) P p = p
+where_run (Err (OutOfMemory place)) P p = opened_at place P p
+where_run (Err NoWorkers) P p = p
+where_run (Err (Settings setting)) P p = tt
+where_run (Err ThreadRefused) P p = tt
+where_run (Err Closed) P p = tt
+
+pub not_refused : (r : Result Report JobFault) (P : Type 0) → IfErr r IsDriveFault → WhereRefused r P
+not_refused (Ok report) P h = tt
+not_refused (Err (OutOfMemory place)) P h = tt
+not_refused (Err NoWorkers) P h = tt
+not_refused (Err (Settings setting)) P h = tt
+not_refused (Err ThreadRefused) P h = absurd h
+not_refused (Err Closed) P h = tt
+
+pub run_fault : (r : Result Report JobFault) → IfErr r IsDriveFault → IfErr r IsRunFault
+run_fault (Ok report) h = tt
+run_fault (Err (OutOfMemory place)) h = tt
+run_fault (Err NoWorkers) h = tt
+run_fault (Err (Settings setting)) h = absurd h
+run_fault (Err ThreadRefused) h = absurd h
+run_fault (Err Closed) h = tt
+
+-- ---- the answer
+
+pub answer_fault : (work : Work) (honest : Bool) (m : Machine) (fault : JobFault) → Fault fault ≡ m.ending → IsAnswerAt work honest m m.ending (Err fault)
+answer_fault work honest m fault e = subst (λ x. IsAnswerAt work honest m x (Err fault)) e refl
+
+told : (work : Work) (honest : Bool) (m : Machine) (end : End) (r : Result Report JobFault) → has_answer end ≡ true → IsTold work honest m r → IsAnswerAt work honest m end r
+told work honest m Running r h is = absurd (cc)
+told work honest m Finished r h is = is
+told work honest m Limit r h is = is
+told work honest m (Fault fault) r h is = absurd (cc)
+
+pub answer_told : (work : Work) (honest : Bool) (m : Machine) (r : Result Report JobFault) → has_answer m.ending ≡ true → IsTold work honest m r → IsAnswerAt work honest m m.ending r
+answer_told work honest m r h is = told work honest m m.ending r h is
+
+pub answers_report : (work : Work) (honest : Bool) (m : Machine) (end : End) (report : Report) → IsAnswerAt work honest m end (Ok report) → (has_answer end ≡ true) × IsReport work honest m report
+answers_report work honest m Running report is = absurd is
+answers_report work honest m Finished report is = (refl, is)
+answers_report work honest m Limit report is = (refl, is)
+answers_report work honest m (Fault fault) report is = absurd (cc)
+
+own_fault : (fault : JobFault) → is_own_fault fault ≡ true → IsDriveFault fault
+own_fault (OutOfMemory place) h = tt
+own_fault NoWorkers h = tt
+own_fault (Settings setting) h = absurd (cc)
+own_fault ThreadRefused h = absurd (cc)
+own_fault Closed h = tt
+
+told_fault : (work : Work) (honest : Bool) (m : Machine) (r : Result Report JobFault) → IsTold work honest m r → IfErr r IsDriveFault
+told_fault work honest m (Ok report) is = tt
+told_fault work honest m (Err fault) is = subst IsDriveFault (sym is) tt
+
+fault_at : (work : Work) (honest : Bool) (m : Machine) (end : End) (r : Result Report JobFault) → is_own end ≡ true → IsAnswerAt work honest m end r → IfErr r IsDriveFault
+fault_at work honest m Running r h is = absurd is
+fault_at work honest m Finished r h is = told_fault work honest m r is
+fault_at work honest m Limit r h is = told_fault work honest m r is
+fault_at work honest m (Fault fault) r h is = subst (λ x. IfErr x IsDriveFault) (sym is) (own_fault fault h)
+
+module _ {J : Type 0} (work : Work) (honest : Bool) (m n : Machine) (got got' : List (Message J)) (ls ls' : List (List (Order J))) where
+  pub drive_fault : (r : Result Report JobFault) → Steps work honest m n got got' ls ls' → IsOpened work m → IsAnswerAt work honest n n.ending r → IfErr r IsDriveFault
+  drive_fault r p o is = fault_at work honest n n.ending r (steps_own work honest work.settings o.0 m n got got' ls ls' p o.2) is
+
+  pub ran_of : (r : Result Report JobFault) → Steps work honest m n got got' ls ls' → IsOpened work m → got ≡ [] → ((w : ℕ) → at ls w ≡ []) → work.settings.workers ≡ length ls
+      → IsAnswerAt work honest n n.ending r → Ran work honest got' ls' r
+  ran_of r p o none empty many is = record {
+    quiet = o.0;
+    first = o.1;
+    moves = p.moves;
+    are = subst (λ (x : Machine). AreMoves work honest x p.moves) o.2 p.are;
+    end = n;
+    leads = ap (λ (x : Machine). after x p.moves) (sym o.2) ∙ p.leads;
+    took = p.took ∙ ap (λ l. stamps_in l ++ events p.moves) none;
+    gave = λ w h. p.gave w (subst (λ (k : ℕ). w < k) many h) ∙ ap (λ l. outs_in l ++ hands w p.moves) (empty w);
+    answers = is;
+  }
+
+  pub has_spent : (r : Result Report JobFault) (k : ℕ) → Steps work honest m n got got' ls ls' → IsOpened work m → got ≡ [] → k ≡ work.settings.workers
+      → IsAnswerAt work honest n n.ending r → IfOk r (HasSpent k got')
+  has_spent (Ok report) k p o none many is =
+      let a = answers_report work honest n n.ending report is in
+      let q : Steps work honest (opened work.settings o.0) n got got' ls ls' = subst (λ (x : Machine). Steps work honest x n got got' ls ls') o.2 p in
+      λ w h. ap (λ l. slice_index_or l w 0) a.1.spent ∙ spent_of work honest work.settings o.0 n got got' ls ls' q a.0 none w (subst (λ (x : ℕ). w < x) many h)
+  has_spent (Err fault) k p o none many is = tt
+
+-- ---- the Keep
+
+-- a book that was opened counts nothing as saved
+pub keeps_first : (work : Work) (trusted honest : Bool) (kept : _) (may_load : List ℕ → Type 0) (m : Machine) → IsOpened work m → (trusted ≡ true → honest ≡ true) → KeepsFor work trusted honest kept may_load m
+keeps_first work trusted honest kept may_load m o sure =
+    let none = ap (λ (x : Machine). x.saved) o.2 in
+    record {
+      trusts = sure;
+      saved = λ s e. let z = sym none ∙ e in absurd (cc);
+      bytes = λ t s e. let z = sym none ∙ e in absurd (cc);
+    }

@@ -1,0 +1,52 @@
+-- Rows of threads and of receipts, one longer.
+use Rattle.std.proofs.Common.{◌≡◌, ℕ, ◌+◌, List, [], ◌∷◌, ◌++◌, length, sym, ◌∙◌, subst, arith}
+use Rattle.std.specs.declared.thread.PromisedHandle.{PromisedHandle}
+use Rattle.workers.specs.Hub.{Channels, IsReceiptOn, IsSettled, IsTickReceiptOn, IsTickerSettled, at, channels_of, handed, received}
+use Rattle.workers.specs.Messages.{closes, coordinator, sender_of, stops}
+use Rattle.workers.specs.Passes as pass
+use Rattle.workers.specs.Rule.{IsOnceInOrder}
+use Rattle.workers.specs.Threads.{AreHired, AreSettled, IsHired}
+use Rattle.workers.specs.declared.ends.Ends.{Ends}
+use Rattle.workers.specs.declared.hired.HiredWorker.{HiredWorker}
+use Rattle.workers.specs.declared.message.Message.{Message}
+use Rattle.workers.specs.declared.message.Order.{Order}
+use Rattle.workers.specs.declared.pass.TickReceipt.{TickReceipt}
+use Rattle.workers.specs.declared.pass.WorkerReceipt.{WorkerReceipt}
+
+module _ {J : Type 0} where
+  module _ {T : Type 0} where
+    pub hired_more : (ends : Ends J) (n : ℕ) (hs : List (PromisedHandle T (HiredWorker J))) (h : PromisedHandle T (HiredWorker J))
+        → AreHired ends n hs → IsHired ends (n + length hs) h → AreHired ends n (hs ++ h ∷ [])
+    hired_more ends n [] h old new = (subst (λ (k : ℕ). IsHired ends k h) (let z : n + 0 ≡ n = omega arith in z) new, tt)
+    hired_more ends n (x ∷ xs) h old new =
+        (old.0, hired_more ends (n + 1) xs h old.1 (subst (λ (k : ℕ). IsHired ends k h) (let z : n + length (x ∷ xs) ≡ n + 1 + length xs = omega arith in z) new))
+
+    pub hired_same : (ends now : Ends J) (n : ℕ) (hs : List (PromisedHandle T (HiredWorker J))) → channels_of now ≡ channels_of ends → AreHired ends n hs → AreHired now n hs
+    hired_same ends now n [] same old = tt
+    hired_same ends now n (h ∷ hs) same old = (record { worker = old.0.worker; hub = old.0.hub ∙ sym same }, hired_same ends now (n + 1) hs same old.1)
+
+  -- the ends changed, but not in what a settled receipt says
+  settled_still : (ends now : Ends J) (w : ℕ) (receipt : WorkerReceipt J)
+      → received now ≡ received ends → handed now ≡ handed ends → channels_of now ≡ channels_of ends → IsSettled ends w receipt → IsSettled now w receipt
+  settled_still ends now w receipt a b c s = record {
+    on = subst (λ (channels : Channels J). IsReceiptOn channels w receipt) (sym c) s.on;
+    events = subst (λ (l : List (Message J)). IsOnceInOrder sender_of closes (w + 1) (pass.handed_in_by receipt) l) (sym a) s.events;
+    tasks = subst (λ (l : List (List (Order J))). IsOnceInOrder coordinator stops 0 (at l w) (pass.taken_by receipt)) (sym b) s.tasks;
+  }
+
+  pub settled_same : (ends now : Ends J) (n : ℕ) (rs : List (WorkerReceipt J))
+      → received now ≡ received ends → handed now ≡ handed ends → channels_of now ≡ channels_of ends → AreSettled ends n rs → AreSettled now n rs
+  settled_same ends now n [] a b c old = tt
+  settled_same ends now n (r ∷ rs) a b c old = (settled_still ends now n r a b c old.0, settled_same ends now (n + 1) rs a b c old.1)
+
+  pub ticker_same : (ends now : Ends J) (receipt : TickReceipt J) → received now ≡ received ends → channels_of now ≡ channels_of ends → IsTickerSettled ends receipt → IsTickerSettled now receipt
+  ticker_same ends now receipt a c s = record {
+    on = subst (λ (channels : Channels J). IsTickReceiptOn channels receipt) (sym c) s.on;
+    events = subst (λ (l : List (Message J)). IsOnceInOrder sender_of closes 0 (pass.ticked_by receipt) l) (sym a) s.events;
+  }
+
+  pub settled_more : (ends : Ends J) (n : ℕ) (rs : List (WorkerReceipt J)) (r : WorkerReceipt J)
+      → AreSettled ends n rs → IsSettled ends (n + length rs) r → AreSettled ends n (rs ++ r ∷ [])
+  settled_more ends n [] r old new = (subst (λ (k : ℕ). IsSettled ends k r) (let z : n + 0 ≡ n = omega arith in z) new, tt)
+  settled_more ends n (x ∷ xs) r old new =
+      (old.0, settled_more ends (n + 1) xs r old.1 (subst (λ (k : ℕ). IsSettled ends k r) (let z : n + length (x ∷ xs) ≡ n + 1 + length xs = omega arith in z) new))

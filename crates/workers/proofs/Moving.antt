@@ -1,0 +1,169 @@
+-- Lists of hands and events follow one another.
+use Rattle.std.proofs.lemmas.Bool.Decides.{eqb_tells}
+use Rattle.std.proofs.Common.{◌≡◌, ◌≢◌, ℕ, zero, suc, ◌<◌, Bool, cond, Some, List, [], ◌∷◌, ◌++◌, map, length, set, sym, refl, ap, ◌∙◌, subst, append_assoc, eq-eqb, ne_eqb, ◌⊎◌, ⊎_elim, inl, inr}
+use mathlib.Core.List.{append-nil, map-append}
+use Rattle.superstep.specs.Job.{Work}
+use Rattle.superstep.specs.declared.task.Task.{Task}
+use Rattle.rollback.specs.declared.control.Out.{Out}
+use Rattle.rollback.specs.declared.event.Event.{Event}
+use Rattle.rollback.specs.Machine.{Machine, hand, handed, task_of}
+use Rattle.rollback.specs.Events.{Heard, accepted}
+use Rattle.rollback.specs.Book.{stamp_of, task_out}
+use Rattle.workers.specs.Hub.{at, events_in, tasks_in, with_order}
+use Rattle.workers.specs.Steps.{AreMoves, IsMove, Move, Steps, after, event_of, events, hand_of, hands, moved, outs_in, stamps_in}
+use Rattle.workers.specs.Steps.Move.{Hand, Take}
+use Rattle.workers.specs.declared.message.Message.{Message}
+use Rattle.workers.specs.declared.message.Message.TheVariants as message
+use Rattle.workers.specs.declared.message.Order.{Order}
+use Rattle.workers.specs.declared.message.Order.TheVariants.{Do}
+use Rattle.workers.specs.declared.message.Sender.{Sender}
+use Rattle.workers.proofs.Handing.{at_set_else, at_set_here, tasks-append}
+
+-- ---- lists of moves
+
+after-append : (m : Machine) (xs ys : List Move) → after m (xs ++ ys) ≡ after (after m xs) ys
+after-append m [] ys = refl
+after-append m (x ∷ xs) ys = after-append (moved m x) xs ys
+
+moves-append : (work : Work) (honest : Bool) (m : Machine) (xs ys : List Move) → AreMoves work honest m xs → AreMoves work honest (after m xs) ys → AreMoves work honest m (xs ++ ys)
+moves-append work honest m [] ys h k = k
+moves-append work honest m (x ∷ xs) ys h k = (h.0, moves-append work honest (moved m x) xs ys h.1 k)
+
+events-append : (xs ys : List Move) → events (xs ++ ys) ≡ events xs ++ events ys
+events-append [] ys = refl
+events-append (x ∷ xs) ys = ap (λ l. event_of x ++ l) (events-append xs ys) ∙ sym (append_assoc (event_of x) (events xs) (events ys))
+
+hands-append : (w : ℕ) (xs ys : List Move) → hands w (xs ++ ys) ≡ hands w xs ++ hands w ys
+hands-append w [] ys = refl
+hands-append w (x ∷ xs) ys = ap (λ l. hand_of w x ++ l) (hands-append w xs ys) ∙ sym (append_assoc (hand_of w x) (hands w xs) (hands w ys))
+
+-- ---- messages and orders in numbers
+
+module _ {J : Type 0} where
+  events_in-append : (a b : List (Message J)) → events_in (a ++ b) ≡ events_in a ++ events_in b
+  events_in-append [] b = refl
+  events_in-append (message.Event event ∷ a) b = ap (λ l. event ∷ l) (events_in-append a b)
+  events_in-append (message.Bye sender ∷ a) b = events_in-append a b
+
+  stamps_event : (a : List (Message J)) (event : Event J) → stamps_in (a ++ message.Event event ∷ []) ≡ stamps_in a ++ stamp_of event ∷ []
+  stamps_event a event = ap (map stamp_of) (events_in-append a (message.Event event ∷ [])) ∙ map-append stamp_of (events_in a) (event ∷ [])
+
+  stamps_bye : (a : List (Message J)) (sender : Sender) → stamps_in (a ++ message.Bye sender ∷ []) ≡ stamps_in a
+  stamps_bye a sender = ap (map stamp_of) (events_in-append a (message.Bye sender ∷ []) ∙ append-nil (events_in a))
+
+  outs_task : (a : List (Order J)) (task : Task J) → outs_in (a ++ Do task ∷ []) ≡ outs_in a ++ task_out task ∷ []
+  outs_task a task = ap (map task_out) (tasks-append a (Do task ∷ [])) ∙ map-append task_out (tasks_in a) (task ∷ [])
+
+-- ---- one hand
+
+hand_here : (w v : ℕ) (task : Out) → v ≡ w → hands w (Hand v task ∷ []) ≡ task ∷ []
+hand_here w v task e = append-nil (hand_of w (Hand v task)) ∙ ap (λ b. cond b (task ∷ []) []) (eq-eqb v w e)
+
+hand_else : (w v : ℕ) (task : Out) → v ≢ w → hands w (Hand v task ∷ []) ≡ []
+hand_else w v task e = append-nil (hand_of w (Hand v task)) ∙ ap (λ b. cond b (task ∷ []) []) (ne_eqb v w e)
+
+either_way : (v w : ℕ) → (v ≡ w) ⊎ (v ≢ w)
+either_way v w = ⊎_elim (λ x. inl x.1) (λ x. inr x.1) (eqb_tells v w)
+
+length_set : {A : Type 0} (xs : List A) (w : ℕ) (x : A) → length (set xs w x) ≡ length xs
+length_set [] w x = refl
+length_set (y ∷ ys) zero x = refl
+length_set (y ∷ ys) (suc w) x = ap suc (length_set ys w x)
+
+module _ {J : Type 0} where
+  gave_one : (ls : List (List (Order J))) (w v : ℕ) (task : Task J) → w < length ls → (v ≡ w) ⊎ (v ≢ w)
+      → outs_in (at (with_order ls w (Do task)) v) ≡ outs_in (at ls v) ++ hands v (Hand w (task_out task) ∷ [])
+  gave_one ls w v task h (inl e) =
+      ap (λ x. outs_in (at (with_order ls w (Do task)) x)) e ∙ ap outs_in (at_set_here ls w (at ls w ++ Do task ∷ []) h)
+      ∙ outs_task (at ls w) task ∙ ap (λ x. outs_in (at ls x) ++ task_out task ∷ []) (sym e)
+      ∙ ap (λ l. outs_in (at ls v) ++ l) (sym (hand_here v w (task_out task) (sym e)))
+  gave_one ls w v task h (inr n) =
+      ap outs_in (at_set_else ls w v (at ls w ++ Do task ∷ []) n) ∙ sym (append-nil (outs_in (at ls v)))
+      ∙ ap (λ l. outs_in (at ls v) ++ l) (sym (hand_else v w (task_out task) (λ q. n (sym q))))
+
+-- ---- steps
+
+module _ {J : Type 0} (work : Work) (honest : Bool) where
+  pub steps_none : (m : Machine) (got : List (Message J)) (ls : List (List (Order J))) → Steps work honest m m got got ls ls
+  steps_none m got ls = record {
+    moves = [];
+    are = tt;
+    leads = refl;
+    took = sym (append-nil (stamps_in got));
+    gave = λ w h. sym (append-nil (outs_in (at ls w)));
+    width = refl;
+  }
+
+  pub steps_same : (m n : Machine) (got : List (Message J)) (ls : List (List (Order J))) → n ≡ m → Steps work honest m n got got ls ls
+  steps_same m n got ls is = record {
+    moves = [];
+    are = tt;
+    leads = sym is;
+    took = sym (append-nil (stamps_in got));
+    gave = λ w h. sym (append-nil (outs_in (at ls w)));
+    width = refl;
+  }
+
+  pub steps_then : {a b c : Machine} {g1 g2 g3 : List (Message J)} {l1 l2 l3 : List (List (Order J))}
+      → Steps work honest a b g1 g2 l1 l2 → Steps work honest b c g2 g3 l2 l3 → Steps work honest a c g1 g3 l1 l3
+  steps_then {a} {b} {c} {g1} {g2} {g3} {l1} {l2} {l3} p q = record {
+    moves = p.moves ++ q.moves;
+    are = moves-append work honest a p.moves q.moves p.are (subst (λ (x : Machine). AreMoves work honest x q.moves) (sym p.leads) q.are);
+    leads = after-append a p.moves q.moves ∙ ap (λ x. after x q.moves) p.leads ∙ q.leads;
+    took = q.took ∙ ap (λ l. l ++ events q.moves) p.took ∙ append_assoc (stamps_in g1) (events p.moves) (events q.moves)
+        ∙ ap (λ l. stamps_in g1 ++ l) (sym (events-append p.moves q.moves));
+    gave = λ w h. q.gave w (subst (λ (n : ℕ). w < n) (sym p.width) h) ∙ ap (λ l. l ++ hands w q.moves) (p.gave w h)
+        ∙ append_assoc (outs_in (at l1 w)) (hands w p.moves) (hands w q.moves)
+        ∙ ap (λ l. outs_in (at l1 w) ++ l) (sym (hands-append w p.moves q.moves));
+    width = q.width ∙ p.width;
+  }
+
+  -- a task is handed out
+  pub steps_hand : (m n : Machine) (got got' : List (Message J)) (ls ls' : List (List (Order J))) (w : ℕ) (task : Task J)
+      → w < length ls → hand m w ≡ Some task.part → task_out task ≡ task_of m task.part → n ≡ handed m w task.part → got' ≡ got → ls' ≡ with_order ls w (Do task)
+      → Steps work honest m n got got' ls ls'
+  steps_hand m n got got' ls ls' w task h may same to still is = record {
+    moves = Hand w (task_out task) ∷ [];
+    are = ((may, same), tt);
+    leads = sym to;
+    took = ap stamps_in still ∙ sym (append-nil (stamps_in got));
+    gave = λ v k. ap (λ l. outs_in (at l v)) is ∙ gave_one ls w v task h (either_way v w);
+    width = ap length is ∙ length_set ls w (at ls w ++ Do task ∷ []);
+  }
+
+  -- an event is taken
+  pub steps_event : (m n : Machine) (heard : Heard) (got got' : List (Message J)) (ls ls' : List (List (Order J))) (event : Event J)
+      → IsMove work honest m (Take heard (stamp_of event)) → (accepted heard m (stamp_of event)).0 ≡ n → got' ≡ got ++ message.Event event ∷ [] → ls' ≡ ls
+      → Steps work honest m n got got' ls ls'
+  steps_event m n heard got got' ls ls' event may to more same = record {
+    moves = Take heard (stamp_of event) ∷ [];
+    are = (may, tt);
+    leads = to;
+    took = ap stamps_in more ∙ stamps_event got event;
+    gave = λ v k. ap (λ l. outs_in (at l v)) same ∙ sym (append-nil (outs_in (at ls v)));
+    width = ap length same;
+  }
+
+  -- a bye is taken
+  pub steps_bye : (m n : Machine) (got got' : List (Message J)) (ls ls' : List (List (Order J))) (sender : Sender)
+      → n ≡ m → got' ≡ got ++ message.Bye sender ∷ [] → ls' ≡ ls → Steps work honest m n got got' ls ls'
+  steps_bye m n got got' ls ls' sender is more same = record {
+    moves = [];
+    are = tt;
+    leads = sym is;
+    took = ap stamps_in more ∙ stamps_bye got sender ∙ sym (append-nil (stamps_in got));
+    gave = λ v k. ap (λ l. outs_in (at l v)) same ∙ sym (append-nil (outs_in (at ls v)));
+    width = ap length same;
+  }
+
+  -- nothing but stops was handed out
+  pub steps_still : {m n : Machine} {g g1 : List (Message J)} {l l1 : List (List (Order J))} (g2 : List (Message J)) (l2 : List (List (Order J)))
+      → Steps work honest m n g g1 l l1 → g2 ≡ g1 → ((w : ℕ) → tasks_in (at l2 w) ≡ tasks_in (at l1 w)) → length l2 ≡ length l1 → Steps work honest m n g g2 l l2
+  steps_still g2 l2 p same kept wide = record {
+    moves = p.moves;
+    are = p.are;
+    leads = p.leads;
+    took = ap stamps_in same ∙ p.took;
+    gave = λ w h. ap (map task_out) (kept w) ∙ p.gave w h;
+    width = wide ∙ p.width;
+  }

@@ -1,0 +1,25 @@
+use Rattle.std.proofs.Common.{arith, refl}
+use Rattle.workers.specs.Hub.{channel_on, sent_on}
+use Rattle.workers.specs.declared.message.Order.TheVariants.{Do}
+use Rattle.workers.proofs.Handing.{channels_as, map_one, map_same, on_err, on_ok}
+use Rattle.workers.proofs.ends.Ends.offer.Goals as goal
+
+pub returns-clause-handed : goal.returns-clause-handed
+returns-clause-handed g c =
+    let lines = c.args.self.now.lines in
+    on_ok _ _ c.send.result c.send.ensures.sent
+    (λ e. map_one sent_on lines.items c.args.worker c.index_mut-line.result.now c.send.new.self (Do c.args.task) (omega (arith, c.requires, lines.ok.0)) c.index_mut-line.ensures.value e)
+
+pub returns-clause-err : goal.returns-clause-err
+returns-clause-err g c =
+    let lines = c.args.self.now.lines in
+    on_err _ _ c.send.result c.send.ensures.err
+    (λ e. map_same sent_on lines.items c.args.worker c.index_mut-line.result.now c.send.new.self (omega (arith, c.requires, lines.ok.0)) c.index_mut-line.ensures.value e)
+
+pub returns-clause-hub : goal.returns-clause-hub
+returns-clause-hub g c =
+    let lines = c.args.self.now.lines in
+    record {
+      channels = channels_as _ _ _ _ refl (map_same channel_on lines.items c.args.worker c.index_mut-line.result.now c.send.new.self (omega (arith, c.requires, lines.ok.0)) c.index_mut-line.ensures.value c.send.ensures.channel);
+      workers = refl;
+    }

@@ -1,0 +1,44 @@
+use Rattle.std.proofs.Common.{arith, ap, refl, sym, ◌∙◌, ◌<◌, length, slice_get, Some}
+use Rattle.workers.specs.Hub.{at, channel_on, sent_on}
+use Rattle.workers.specs.Messages.{closes, coordinator, sender_of, stops}
+use Rattle.workers.proofs.Handing.{at_map, channels_as, get_map, map_same}
+use Rattle.workers.proofs.InOrder.{in_order_as}
+use Rattle.workers.proofs.ends.Ends.settle.Goals as goal
+
+pub compare-orders-requires : goal.compare-orders-requires
+compare-orders-requires g c =
+    let lines = c.args.self.now.lines in
+    get_map channel_on lines.items c.args.receipt.worker c.index_mut-line.result.now _ (omega (arith, c.requires.worker, lines.ok.0)) c.index_mut-line.ensures.value c.requires.hub.orders
+
+pub returns-clause-settled : goal.returns-clause-settled
+returns-clause-settled g c =
+    let lines = c.args.self.now.lines in
+    let w = c.args.receipt.worker in
+    let line = c.index_mut-line.result.now in
+    let here : w < length lines.items = omega (arith, c.requires.worker, lines.ok.0) in
+    let same = map_same channel_on lines.items w line c.compare-orders.new.self here c.index_mut-line.ensures.value c.compare-orders.ensures.channel in
+    let orders = map_same sent_on lines.items w line c.compare-orders.new.self here c.index_mut-line.ensures.value c.compare-orders.ensures.sent in
+    let e = c.compare-events.ensures in
+    let o = c.compare-orders.ensures in
+    record {
+      on = record {
+        worker = refl;
+        events = e.sender.channel_is ∙ c.requires.hub.events ∙ sym e.same.channel_is;
+        orders = ap (λ l. slice_get l w) same ∙ c.requires.hub.orders ∙ ap (λ x. Some x) (sym o.taken.0.channel_is);
+      };
+      events = in_order_as sender_of closes _ _ _ _ _ _ c.args.receipt.number e.sent e.received e.in_order;
+      tasks = in_order_as coordinator stops 0 0 _ _ _ _ refl (ap (λ l. at l w) orders ∙ at_map sent_on lines.items w line here c.index_mut-line.ensures.value) o.taken.1 o.order;
+    }
+
+pub returns-clause-handed : goal.returns-clause-handed
+returns-clause-handed g c =
+    let lines = c.args.self.now.lines in
+    map_same sent_on lines.items c.args.receipt.worker c.index_mut-line.result.now c.compare-orders.new.self (omega (arith, c.requires.worker, lines.ok.0)) c.index_mut-line.ensures.value c.compare-orders.ensures.sent
+
+pub returns-clause-hub : goal.returns-clause-hub
+returns-clause-hub g c =
+    let lines = c.args.self.now.lines in
+    record {
+      channels = channels_as _ _ _ _ c.compare-events.ensures.same.channel_is (map_same channel_on lines.items c.args.receipt.worker c.index_mut-line.result.now c.compare-orders.new.self (omega (arith, c.requires.worker, lines.ok.0)) c.index_mut-line.ensures.value c.compare-orders.ensures.channel);
+      workers = refl;
+    }

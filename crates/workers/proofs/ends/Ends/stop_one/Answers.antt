@@ -1,0 +1,35 @@
+use Rattle.std.proofs.Common.{arith, ap, refl, ◌∙◌, ◌<◌, length}
+use Rattle.workers.specs.Hub.{channel_on, handed, sent_on}
+use Rattle.workers.specs.Messages.{stops}
+use Rattle.workers.specs.Rule.{has_bye}
+use Rattle.workers.specs.declared.message.Order.TheVariants.{Stop}
+use Rattle.workers.proofs.Handing.{at_map_set, channels_as, length_map, map_maybe, map_same, on_ok, stops_keep, stops_tasks}
+use Rattle.workers.proofs.ends.Ends.stop_one.Goals as goal
+
+pub returns-clause-stopped : goal.returns-clause-stopped
+returns-clause-stopped g c =
+    let lines = c.args.self.now.lines in
+    on_ok _ _ c.stop.result c.stop.ensures.stopped
+    (λ e. ap (has_bye stops) (at_map_set sent_on lines.items c.args.worker c.stop.new.self (omega (arith, c.requires, lines.ok.0))) ∙ e)
+
+pub returns-clause-kept : goal.returns-clause-kept
+returns-clause-kept g c =
+    let lines = c.args.self.now.lines in
+    let here : c.args.worker < length (handed c.args.self.now) = omega (arith, c.requires, lines.ok.0, length_map sent_on lines.items) in
+    stops_keep (handed c.args.self.now) _ c.args.worker here
+    (map_maybe sent_on lines.items c.args.worker c.index_mut-line.result.now c.stop.new.self Stop (omega (arith, c.requires, lines.ok.0)) c.index_mut-line.ensures.value c.stop.ensures.sent)
+
+pub returns-clause-tasks : goal.returns-clause-tasks
+returns-clause-tasks g c =
+    let lines = c.args.self.now.lines in
+    let here : c.args.worker < length (handed c.args.self.now) = omega (arith, c.requires, lines.ok.0, length_map sent_on lines.items) in
+    stops_tasks (handed c.args.self.now) _ c.args.worker here
+    (map_maybe sent_on lines.items c.args.worker c.index_mut-line.result.now c.stop.new.self Stop (omega (arith, c.requires, lines.ok.0)) c.index_mut-line.ensures.value c.stop.ensures.sent)
+
+pub returns-clause-hub : goal.returns-clause-hub
+returns-clause-hub g c =
+    let lines = c.args.self.now.lines in
+    record {
+      channels = channels_as _ _ _ _ refl (map_same channel_on lines.items c.args.worker c.index_mut-line.result.now c.stop.new.self (omega (arith, c.requires, lines.ok.0)) c.index_mut-line.ensures.value c.stop.ensures.channel);
+      workers = refl;
+    }

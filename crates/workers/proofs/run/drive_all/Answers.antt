@@ -1,0 +1,54 @@
+use Rattle.std.proofs.Common.{◌≡◌, false, ℕ, sym, ◌∙◌, subst, IfOk}
+use Rattle.workers.specs.Answers.{HasSpent, Ran, WhereEnded, has_ended}
+use Rattle.workers.specs.Hub.{HasByes, handed, received, staff}
+use Rattle.workers.proofs.Ending.{not_ended, where_ended}
+use Rattle.workers.proofs.Handing.{hub_then}
+use Rattle.workers.proofs.Hiring.{hired_same}
+use Rattle.workers.proofs.run.drive_all.Goals as goal
+
+pub settle_all-requires-clause-ticking : goal.settle_all-requires-clause-ticking
+settle_all-requires-clause-ticking g c = c.requires.ticking ∙ sym c.drive-answer.ensures.hub.channels
+
+pub settle_all-requires-clause-hired : goal.settle_all-requires-clause-hired
+settle_all-requires-clause-hired g c =
+    hired_same c.args.ends.now c.drive-answer.new.self 0 c.args.threads.items c.drive-answer.ensures.hub.channels c.requires.hired
+
+pub returns-then-not-was_driven-clause-settled : goal.returns-then-not-was_driven-clause-settled
+returns-then-not-was_driven-clause-settled g c =
+    let h : has_ended c.drive-answer.result ≡ false = cc in
+    not_ended c.drive-answer.result _ h
+
+pub returns-in-Ok-clause-ran : goal.returns-in-Ok-clause-ran
+returns-in-Ok-clause-ran g c =
+    let work = g.J.Origin.work in
+    let honest = g.J.Origin.honest in
+    let r = c.drive-answer.result in
+    let e = c.drive-answer.new.self in
+    let f = c.settle_all.new.ends in
+    subst (λ l. WhereEnded r (Ran work honest l (handed f) r)) (sym c.settle_all.ensures.received)
+    (subst (λ l. WhereEnded r (Ran work honest (received e) l r)) (sym c.settle_all.ensures.handed) c.drive-answer.ensures.ran)
+
+pub returns-in-Ok-clause-byes : goal.returns-in-Ok-clause-byes
+returns-in-Ok-clause-byes g c =
+    let r = c.drive-answer.result in
+    let e = c.drive-answer.new.self in
+    let f = c.settle_all.new.ends in
+    subst (λ (n : ℕ). WhereEnded r (HasByes n (received f))) (sym c.settle_all.ensures.hub.workers)
+    (subst (λ l. WhereEnded r (HasByes (staff e) l)) (sym c.settle_all.ensures.received) c.drive-answer.ensures.byes)
+
+pub returns-in-Ok-clause-spent : goal.returns-in-Ok-clause-spent
+returns-in-Ok-clause-spent g c =
+    let r = c.drive-answer.result in
+    let e = c.drive-answer.new.self in
+    let f = c.settle_all.new.ends in
+    subst (λ (n : ℕ). IfOk r (HasSpent n (received f))) (sym c.settle_all.ensures.hub.workers)
+    (subst (λ l. IfOk r (HasSpent (staff e) l)) (sym c.settle_all.ensures.received) c.drive-answer.ensures.spent)
+
+pub returns-in-Ok-clause-settled : goal.returns-in-Ok-clause-settled
+returns-in-Ok-clause-settled g c = where_ended c.drive-answer.result _ c.in-Ok.ensures.settled
+
+pub returns-in-Ok-clause-hub : goal.returns-in-Ok-clause-hub
+returns-in-Ok-clause-hub g c = hub_then c.drive-answer.ensures.hub c.settle_all.ensures.hub
+
+pub returns-in-Err-clause-hub : goal.returns-in-Err-clause-hub
+returns-in-Err-clause-hub g c = hub_then c.drive-answer.ensures.hub c.settle_all.ensures.hub

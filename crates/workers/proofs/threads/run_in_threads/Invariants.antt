@@ -1,0 +1,4 @@
+use Rattle.workers.proofs.threads.run_in_threads.Given as goal
+
+abbrev pub ghosts-run_as : goal.ghosts-run_as
+ghosts-run_as g a = record { work = a.job.now; honest = g.K.Keep.honest a.keep }

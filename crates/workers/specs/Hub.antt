@@ -1,0 +1,139 @@
+-- What belongs to one hub, and what its coordinator received and handed out.
+use Rattle.std.specs.Global.{Vec}
+use Rattle.std.specs.Prelude.{◌≡◌, ◌<◌, ◌+◌, ℕ, true, List, [], ◌∷◌, ◌++◌, map, vec_len, slice_get, slice_index_or, slice_set, Some}
+use Rattle.superstep.specs.declared.task.Task.{Task}
+use Rattle.rollback.specs.declared.event.Event.{Event}
+use Rattle.workers.specs.Mail.{channel_of, received_by, sent_by, source_of}
+use Rattle.workers.specs.Messages.{closes, coordinator, sender_of, stops}
+use Rattle.workers.specs.Passes as pass
+use Rattle.workers.specs.Rule.{IsOnceInOrder, has_bye, of}
+use Rattle.workers.specs.declared.ends.Ends.{Ends}
+use Rattle.workers.specs.declared.line.Line.{Line}
+use Rattle.workers.specs.declared.message.Message.{Message}
+use Rattle.workers.specs.declared.message.Message.TheVariants as message
+use Rattle.workers.specs.declared.message.Order.{Order}
+use Rattle.workers.specs.declared.message.Order.TheVariants.{Do, Stop}
+use Rattle.workers.specs.declared.pass.TickPass.{TickPass}
+use Rattle.workers.specs.declared.pass.TickReceipt.{TickReceipt}
+use Rattle.workers.specs.declared.pass.WorkerPass.{WorkerPass}
+use Rattle.workers.specs.declared.pass.WorkerReceipt.{WorkerReceipt}
+use Rattle.workers.specs.Channel.{Channel}
+
+-- the channels of a hub: that of events, and that of each worker's tasks
+pub record Channels (J : Type 0) : Type 0 where
+  pub events : Channel (Message J)
+  pub orders : List (Channel (Order J))
+
+module _ {J : Type 0} where
+  -- ---- lists of messages and orders
+
+  -- without byes
+  abbrev pub events_in : List (Message J) → List (Event J)
+  events_in [] = []
+  events_in (message.Event event ∷ messages) = event ∷ events_in messages
+  events_in (message.Bye sender ∷ messages) = events_in messages
+
+  -- without stops
+  abbrev pub tasks_in : List (Order J) → List (Task J)
+  tasks_in [] = []
+  tasks_in (Do task ∷ orders) = task ∷ tasks_in orders
+  tasks_in (Stop ∷ orders) = tasks_in orders
+
+  -- what was handed to worker w, of what was handed to each
+  abbrev pub at : List (List (Order J)) → ℕ → List (Order J)
+  at handed w = slice_index_or handed w []
+
+  -- one order more for worker w
+  abbrev pub with_order : List (List (Order J)) → ℕ → Order J → List (List (Order J))
+  with_order handed w order = slice_set handed w (at handed w ++ order ∷ [])
+
+  -- all that send to the coordinator, so many workers and the ticker, said bye
+  abbrev pub HasByes : ℕ → List (Message J) → Type 0
+  HasByes workers received = (p : ℕ) → p < workers + 1 → has_bye closes (of sender_of p received) ≡ true
+
+  -- ---- the coordinator's ends
+
+  -- what was sent to the worker, in order
+  abbrev pub sent_on : Line J → List (Order J)
+  sent_on line = sent_by line.orders
+
+  abbrev pub channel_on : Line J → Channel (Order J)
+  channel_on line = channel_of line.orders
+
+  -- what was received, in order
+  abbrev pub received : Ends J → List (Message J)
+  received ends = received_by ends.events
+
+  -- what was handed to each worker, in order
+  abbrev pub handed : Ends J → List (List (Order J))
+  handed ends = map sent_on ends.lines.items
+
+  -- how many workers there are
+  abbrev pub staff : Ends J → ℕ
+  staff ends = vec_len ends.lines
+
+  -- worker w was told that no task comes any more
+  abbrev pub IsStopped : Ends J → ℕ → Type 0
+  IsStopped ends w = has_bye stops (at (handed ends) w) ≡ true
+
+  -- nothing was received or handed out
+  pub record IsUnused (ends : Ends J) : Type 0 where
+    pub nothing_received : received ends ≡ []
+    pub nothing_handed : (w : ℕ) → at (handed ends) w ≡ []
+
+  -- ---- the channels of a hub, and the passes that belong to them
+
+  abbrev pub channels_of : Ends J → Channels J
+  channels_of ends = record { events = source_of ends.events; orders = map channel_on ends.lines.items }
+
+  -- the channels and the workers are the same
+  pub record IsSameHub (before after : Ends J) : Type 0 where
+    pub channels : channels_of after ≡ channels_of before
+    pub workers : staff after ≡ staff before
+
+  -- the pass of worker w, which has handed in and taken nothing
+  pub record IsNewPass (channels : Channels J) (w : ℕ) (mine : WorkerPass J) : Type 0 where
+    pub worker : pass.worker_of mine ≡ w
+    pub events : channel_of mine.events ≡ channels.events
+    pub orders : slice_get channels.orders w ≡ Some (source_of mine.orders)
+    pub nothing_handed_in : pass.handed_in mine ≡ []
+    pub nothing_taken : pass.taken mine ≡ []
+
+  -- those of the workers from w on
+  abbrev pub AreNewPasses : Channels J → ℕ → List (WorkerPass J) → Type 0
+  AreNewPasses channels w [] = Unit {0}
+  AreNewPasses channels w (mine ∷ passes) = IsNewPass channels w mine × AreNewPasses channels (w + 1) passes
+
+  -- the ticker's pass, which has handed in nothing
+  pub record IsNewTicker (channels : Channels J) (mine : TickPass J) : Type 0 where
+    pub events : channel_of mine.events ≡ channels.events
+    pub nothing_handed_in : pass.ticked mine ≡ []
+
+  -- the ends of a new hub: those of the coordinator, of so many workers, and of the ticker
+  pub record IsNewHubOf (workers : ℕ) (ends : Ends J) (passes : Vec (WorkerPass J)) (ticker : TickPass J) : Type 0 where
+    pub unused : IsUnused ends
+    pub workers_are : staff ends ≡ workers
+    pub passes_are : AreNewPasses (channels_of ends) 0 passes.items
+    pub passes_len : vec_len passes ≡ workers
+    pub ticker_is : IsNewTicker (channels_of ends) ticker
+
+  -- ---- what is left of passes
+
+  -- it is of worker w
+  pub record IsReceiptOn (channels : Channels J) (w : ℕ) (receipt : WorkerReceipt J) : Type 0 where
+    pub worker : receipt.worker ≡ w
+    pub events : channel_of receipt.events ≡ channels.events
+    pub orders : slice_get channels.orders w ≡ Some (source_of receipt.orders)
+
+  abbrev pub IsTickReceiptOn : Channels J → TickReceipt J → Type 0
+  IsTickReceiptOn channels receipt = channel_of receipt.events ≡ channels.events
+
+  -- What was received of worker w came once and in order, and so did the tasks that it took.
+  pub record IsSettled (ends : Ends J) (w : ℕ) (receipt : WorkerReceipt J) : Type 0 where
+    pub on : IsReceiptOn (channels_of ends) w receipt
+    pub events : IsOnceInOrder sender_of closes (w + 1) (pass.handed_in_by receipt) (received ends)
+    pub tasks : IsOnceInOrder coordinator stops 0 (at (handed ends) w) (pass.taken_by receipt)
+
+  pub record IsTickerSettled (ends : Ends J) (receipt : TickReceipt J) : Type 0 where
+    pub on : IsTickReceiptOn (channels_of ends) receipt
+    pub events : IsOnceInOrder sender_of closes 0 (pass.ticked_by receipt) (received ends)

@@ -1,0 +1,18 @@
+-- What a reader has to believe, in this order: the rule of a channel, and what its ends show.
+pub mod Views
+pub mod Rule
+pub mod Channel
+pub mod Mail
+-- the messages of a job, and what its passes and its ends show
+pub mod Messages
+pub mod Passes
+pub mod Hub
+-- one list of hands and events, and what it brings
+pub mod Steps
+pub mod Units
+pub mod Answers
+-- the threads of a hub, and its coordinator
+pub mod Threads
+pub mod Coordinator
+-- what only mirrors the code, for its proofs
+pub mod inside

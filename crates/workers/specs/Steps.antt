@@ -1,0 +1,74 @@
+-- What the book, the received list and the handed lists have to do with one list of hands and events.
+use Rattle.std.specs.Prelude.{◌≡◌, ◌<◌, ◌==◌, ℕ, suc, Bool, true, List, [], ◌∷◌, ◌++◌, length, map, Some, if◌then◌else◌}
+use Rattle.superstep.specs.Job.{Work}
+use Rattle.rollback.specs.declared.control.Out.{Out}
+use Rattle.rollback.specs.Machine.{Machine, hand, handed, task_of}
+use Rattle.rollback.specs.Events.{Heard, Stamp, accepted}
+use Rattle.rollback.specs.Book.{IsQuietAt, stamp_of, task_out}
+use Rattle.workers.specs.Hub.{at, events_in, tasks_in}
+use Rattle.workers.specs.declared.message.Message.{Message}
+use Rattle.workers.specs.declared.message.Order.{Order}
+
+-- ---- hands and events
+
+-- a worker was handed this task; or an event was taken, of which the machine was told this
+pub data Move : Type 0 where
+  Hand : (worker : ℕ) → (task : Out) → Move
+  Take : (heard : Heard) → (stamp : Stamp) → Move
+
+abbrev pub moved : Machine → Move → Machine
+moved m (Hand w task) = handed m w task.part
+moved m (Take heard stamp) = (accepted heard m stamp).0
+
+-- A hand is the one that the machine makes. Where the job's Keep is honest, the machine is told how the plain run stands.
+abbrev pub IsMove : Work → Bool → Machine → Move → Type 0
+IsMove work honest m (Hand w task) = (hand m w ≡ Some task.part) × (task ≡ task_of m task.part)
+IsMove work honest m (Take heard stamp) =
+    honest ≡ true → (accepted heard m stamp).0.superstep ≡ suc m.superstep → IsQuietAt work (suc m.superstep) heard.quiet
+
+-- where they lead
+abbrev pub after : Machine → List Move → Machine
+after m [] = m
+after m (move ∷ moves) = after (moved m move) moves
+
+abbrev pub AreMoves : Work → Bool → Machine → List Move → Type 0
+AreMoves work honest m [] = Unit {0}
+AreMoves work honest m (move ∷ moves) = IsMove work honest m move × AreMoves work honest (moved m move) moves
+
+abbrev pub event_of : Move → List Stamp
+event_of (Hand w task) = []
+event_of (Take heard stamp) = stamp ∷ []
+
+-- the events, in order
+abbrev pub events : List Move → List Stamp
+events [] = []
+events (move ∷ moves) = event_of move ++ events moves
+
+abbrev pub hand_of : ℕ → Move → List Out
+hand_of w (Hand v task) = if v == w then task ∷ [] else []
+hand_of w (Take heard stamp) = []
+
+-- the tasks that worker w was handed, in order
+abbrev pub hands : ℕ → List Move → List Out
+hands w [] = []
+hands w (move ∷ moves) = hand_of w move ++ hands w moves
+
+-- ---- what a coordinator did
+
+-- what it received, without byes and in numbers
+abbrev pub stamps_in : {J : Type 0} → List (Message J) → List Stamp
+stamps_in messages = map stamp_of (events_in messages)
+
+-- what a worker was handed, without stops and in numbers
+abbrev pub outs_in : {J : Type 0} → List (Order J) → List Out
+outs_in orders = map task_out (tasks_in orders)
+
+-- There is one list of hands and events that leads from the one machine to the other. Its events are what was received in
+-- between, and its hands to each worker are what was handed to it, in their order.
+pub record Steps {J : Type 0} (work : Work) (honest : Bool) (before now : Machine) (received received' : List (Message J)) (handed handed' : List (List (Order J))) : Type 0 where
+  pub moves : List Move
+  pub are : AreMoves work honest before moves
+  pub leads : after before moves ≡ now
+  pub took : stamps_in received' ≡ stamps_in received ++ events moves
+  pub gave : (w : ℕ) → w < length handed → outs_in (at handed' w) ≡ outs_in (at handed w) ++ hands w moves
+  pub width : length handed' ≡ length handed

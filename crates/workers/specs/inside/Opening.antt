@@ -1,0 +1,34 @@
+-- How a hub is opened.
+use Rattle.std.specs.Prelude.{◌≡◌, ◌≤◌, ◌+◌, ℕ, false, [], map, replicate, vec_len, vec_capacity}
+use Rattle.workers.specs.Hub.{AreNewPasses, at, channel_on, sent_on}
+use Rattle.workers.specs.Mail.{channel_of, source_of}
+use Rattle.workers.specs.Passes as pass
+use Rattle.workers.specs.declared.hub.Rows.{Rows}
+use Rattle.workers.specs.declared.message.Message.{Message}
+use Rattle.workers.specs.declared.message.Order.{Order}
+use Rattle.workers.specs.declared.pass.WorkerPass.{WorkerPass}
+use Rattle.workers.specs.Channel.{Channel}
+
+module _ {J : Type 0} where
+  -- there is room for so many workers
+  pub record AreEmptyRows (workers : ℕ) (rows : Rows J) : Type 0 where
+    pub lines : rows.lines.items ≡ []
+    pub passes : rows.passes.items ≡ []
+    pub lines_room : workers ≤ vec_capacity rows.lines
+    pub passes_room : workers ≤ vec_capacity rows.passes
+    pub gone : rows.gone.items ≡ replicate (workers + 1) false
+
+  -- the new ends of worker w, on these channels
+  pub record IsNewPassOf (events : Channel (Message J)) (orders : Channel (Order J)) (w : ℕ) (mine : WorkerPass J) : Type 0 where
+    pub worker : pass.worker_of mine ≡ w
+    pub events_are : channel_of mine.events ≡ events
+    pub orders_are : source_of mine.orders ≡ orders
+    pub nothing_handed_in : pass.handed_in mine ≡ []
+    pub nothing_taken : pass.taken mine ≡ []
+
+  -- so many workers have new lines and passes
+  pub record AreFilledRows (events : Channel (Message J)) (workers : ℕ) (rows : Rows J) : Type 0 where
+    pub lines : vec_len rows.lines ≡ workers
+    pub passes : vec_len rows.passes ≡ workers
+    pub nothing : (w : ℕ) → at (map sent_on rows.lines.items) w ≡ []
+    pub new : AreNewPasses (record { events = events; orders = map channel_on rows.lines.items }) 0 rows.passes.items

@@ -1,0 +1,163 @@
+//! A hub: the channels of a job, and all their ends.
+
+ghost use Rattle.std.specs.Prelude.{◌≡◌, ◌<◌, ◌≤◌, ◌+◌, ◌⊎◌, [], ℕ, true, false, map, replicate, vec_len, vec_capacity, IfOk, IfErr, OnOk};
+ghost use Rattle.superstep.specs.declared.fault.JobFault.TheVariants.{OutOfMemory};
+ghost use Rattle.superstep.specs.declared.fault.Place.TheVariants.{Channel, Open};
+ghost use Rattle.workers.specs.Hub.{IsNewHubOf, at, channel_on, sent_on};
+ghost use Rattle.workers.specs.Mail.{channel_of, received_by, senders_of, source_of};
+
+use crate::coordinator::Coordinator;
+use crate::ends::Ends;
+use crate::line::Line;
+use crate::mail::{ReceivingEnd, SendingEnd};
+use crate::message::Message;
+use crate::pass::{TickPass, WorkerPass};
+use checkpoint::Keep;
+use std::alloc::{AllocError, Global};
+use std::sync::Arc;
+use std::sync::atomic::AtomicBool;
+use superstep::{Job, JobFault, Origin, Place};
+
+// Room for what there is of each worker and of each sender.
+#[derive(Drop)]
+struct Rows<J: Origin> {
+    lines: Vec<Line<J>>,
+    passes: Vec<WorkerPass<J>>,
+    gone: Vec<bool>,
+}
+
+ghost use Rattle.workers.specs.inside.Opening.{AreEmptyRows, AreFilledRows, IsNewPassOf};
+
+fn new_rows<J: Origin>(alloc: Global, workers: usize) -> Result<Rows<J>, AllocError>
+    requires { workers ≤ 64 }
+    ensures { IfOk result (AreEmptyRows workers) }
+{
+    Ok(Rows {
+        lines: Vec::with_capacity(alloc, workers)?,
+        passes: Vec::with_capacity(alloc, workers)?,
+        gone: Vec::from_elem(alloc, false, workers + 1)?,
+    })
+}
+
+// The channel of the next worker's tasks, which holds two, and the worker's ends.
+fn open_line<J: Origin>(
+    alloc: Global,
+    worker: u32,
+    events: &mut ReceivingEnd<Message<J>>,
+    ticks: &SendingEnd<Message<J>>,
+) -> Result<(Line<J>, WorkerPass<J>), AllocError>
+    requires ticks { channel_of ticks.now ≡ source_of events.old }
+    requires next { senders_of events.old ≡ worker + 1 }
+    ensures line { IfOk result (λ pair. sent_on pair.0 ≡ []) }
+    ensures pass { IfOk result (λ pair.
+        IsNewPassOf (source_of events.old) (channel_on pair.0) worker pair.1) }
+    ensures senders { OnOk result (senders_of events.new ≡ worker + 2) }
+    ensures received { received_by events.new ≡ received_by events.old }
+    ensures channel { source_of events.new ≡ source_of events.old }
+{
+    let (orders, to) = ReceivingEnd::open(alloc, 2)?;
+    let mine = events.add_sender(ticks)?;
+    Ok((
+        Line {
+            orders: to,
+            stopped: false,
+        },
+        WorkerPass {
+            worker,
+            events: mine,
+            orders,
+        },
+    ))
+}
+
+// Those of all workers.
+fn open_lines<J: Origin>(
+    alloc: Global,
+    workers: u32,
+    events: &mut ReceivingEnd<Message<J>>,
+    ticks: &SendingEnd<Message<J>>,
+    rows: &mut Rows<J>,
+) -> Result<(), AllocError>
+    requires ticks { channel_of ticks.now ≡ source_of events.old }
+    requires first { senders_of events.old ≡ 1 }
+    requires empty { AreEmptyRows workers rows.old }
+    ensures filled { OnOk result (AreFilledRows (source_of events.old) workers rows.new) }
+    ensures gone { rows.new.gone.items ≡ rows.old.gone.items }
+    ensures senders { OnOk result (senders_of events.new ≡ workers + 1) }
+    ensures received { received_by events.new ≡ received_by events.old }
+    ensures channel { source_of events.new ≡ source_of events.old }
+{
+    for worker in 0..workers {
+        let (line, pass) = open_line(alloc, worker, events, ticks)?;
+        rows.lines.push_reserved(line);
+        rows.passes.push_reserved(pass);
+    }
+    Ok(())
+}
+
+// The channels of so many workers and the ticker. That of events holds two more than there are workers.
+fn connect<J: Origin>(
+    alloc: Global,
+    workers: u32,
+    mut rows: Rows<J>,
+) -> Result<(Ends<J>, Vec<WorkerPass<J>>, TickPass<J>), AllocError>
+    requires few { workers ≤ 64 }
+    requires rows { AreEmptyRows workers rows }
+    ensures { IfOk result (λ hub. IsNewHubOf workers hub.0 hub.1 hub.2) }
+{
+    let (mut events, ticks) = ReceivingEnd::open(alloc, workers as usize + 2)?;
+    let stopped = Arc::new(alloc, AtomicBool::new(false))?;
+    let seen = Arc::try_clone(&stopped)?;
+    open_lines(alloc, workers, &mut events, &ticks, &mut rows)?;
+    let Rows {
+        lines,
+        passes,
+        gone,
+    } = rows;
+    Ok((
+        Ends {
+            events,
+            lines,
+            gone,
+            stopped,
+        },
+        passes,
+        TickPass {
+            events: ticks,
+            stopped: seen,
+        },
+    ))
+}
+
+/// The channels of a job.
+pub struct Hub;
+
+impl Hub {
+    ghost use Rattle.workers.specs.Coordinator.{IsNewHub};
+
+    /// The channels of a job, and all their ends: those of the coordinator, of each worker, and of the ticker. The type says
+    /// of which job they are, and whether its Keep is honest.
+    ///
+    /// A task channel holds two tasks, and that of events two more than there are workers. The only refusal is that there is
+    /// no memory: for the lists, to `Open` them, or for a `Channel`.
+    pub fn open<J: Origin, K: Keep>(
+        alloc: Global,
+        job: &Job,
+        _keep: &K,
+    ) -> Result<(Coordinator<J>, Vec<WorkerPass<J>>, TickPass<J>), JobFault>
+        requires job { J.work ≡ job.now }
+        requires keep { J.honest ≡ true → K.honest _keep.now ≡ true }
+        ensures hub { IfOk result (λ hub. IsNewHub job.now.settings.workers hub.0 hub.1 hub.2) }
+        ensures refused { IfErr result (λ fault.
+            (fault ≡ OutOfMemory Open) ⊎ (fault ≡ OutOfMemory Channel)) }
+    {
+        let workers = job.settings().workers;
+        let Ok(rows) = new_rows(alloc, workers as usize) else {
+            return Err(JobFault::OutOfMemory(Place::Open));
+        };
+        match connect(alloc, workers, rows) {
+            Ok((ends, passes, ticker)) => Ok((Coordinator::of(ends), passes, ticker)),
+            Err(_) => Err(JobFault::OutOfMemory(Place::Channel)),
+        }
+    }
+}

@@ -1,0 +1,28 @@
+//! Jobs in threads: a coordinator, workers that can be lost, and a ticker.
+#![tactic(auto)]
+
+mod closed;
+mod coordinator;
+mod driving;
+mod ends;
+mod gate;
+mod hired;
+mod hub;
+mod line;
+mod mail;
+mod message;
+mod pass;
+mod rule;
+mod run;
+mod settling;
+mod threads;
+mod view;
+mod work;
+
+pub use coordinator::Coordinator;
+pub use gate::{Gate, NoLoss, Turn};
+pub use hub::Hub;
+pub use message::{Message, Sender};
+pub use pass::{TickPass, TickReceipt, WorkerPass, WorkerReceipt};
+pub use run::run_job;
+pub use threads::run_in_threads;

@@ -1,0 +1,144 @@
+//! What the threads of workers and of the ticker do.
+
+ghost use Rattle.std.specs.Prelude.{◌≡◌, ◌+◌, IfOk, IfSome};
+ghost use Rattle.workers.specs.Messages.{event_sender};
+ghost use Rattle.workers.specs.Passes.{IsReceipt, IsSamePass, IsTickReceipt, worker_of};
+
+use crate::gate::{Gate, Turn};
+use crate::pass::{TickPass, TickReceipt, WorkerPass, WorkerReceipt};
+use interp::Scratch;
+use rollback::Event;
+use std::alloc::Global;
+use std::sync::Wait;
+use superstep::{Done, Job, JobFault, Origin, Place, Task, TaskLost, run_task};
+
+// What comes back of a task. The scratch is made for the first one.
+fn work_on<'a, J: Origin>(
+    alloc: Global,
+    job: &'a Job,
+    task: Task<J>,
+    scratch: &mut Option<Scratch<'a>>,
+) -> Result<Done<J>, TaskLost>
+    requires job { J.work ≡ job.now }
+    requires fits { IfSome scratch.old (λ scratch. scratch ≡ job.now.«module») }
+    ensures fits { IfSome scratch.new (λ scratch. scratch ≡ job.now.«module») }
+{
+    if scratch.is_none() {
+        let Ok(made) = Scratch::new(alloc, job.verified()) else {
+            return Err(TaskLost { place: Place::Call });
+        };
+        *scratch = Some(made);
+    }
+    match scratch {
+        Some(scratch) => run_task(alloc, job, task, scratch),
+        None => unreachable!(),
+    }
+}
+
+// What the worker hands in for a task.
+fn outcome<'a, J: Origin>(
+    alloc: Global,
+    job: &'a Job,
+    worker: u32,
+    task: Task<J>,
+    scratch: &mut Option<Scratch<'a>>,
+) -> Event<J>
+    requires job { J.work ≡ job.now }
+    requires fits { IfSome scratch.old (λ scratch. scratch ≡ job.now.«module») }
+    ensures own { event_sender result ≡ worker + 1 }
+    ensures fits { IfSome scratch.new (λ scratch. scratch ≡ job.now.«module») }
+{
+    match work_on(alloc, job, task, scratch) {
+        Ok(done) => Event::Done(worker, done),
+        Err(lost) => Event::Failed(worker, lost.place),
+    }
+}
+
+// Is lost with its task, and joins again where the gate says so. Answers whether it did not.
+fn be_lost<J: Origin, G: Gate, R: Wait>(
+    rt: &R,
+    gate: &G,
+    pass: &mut WorkerPass<J>,
+) -> Result<bool, JobFault>
+    ensures same { IsSamePass pass.old pass.new }
+{
+    let worker = pass.worker();
+    pass.hand_in(rt, Event::Lost(worker))?;
+    if !gate.again(worker) {
+        return Ok(true);
+    }
+    pass.hand_in(rt, Event::Joined(worker))?;
+    Ok(false)
+}
+
+// Works on one task, or is lost with it, as the gate says. Answers whether it is lost for good.
+fn work_one<'a, J: Origin, G: Gate, R: Wait>(
+    rt: &R,
+    alloc: Global,
+    job: &'a Job,
+    gate: &G,
+    pass: &mut WorkerPass<J>,
+    task: Task<J>,
+    scratch: &mut Option<Scratch<'a>>,
+) -> Result<bool, JobFault>
+    requires job { J.work ≡ job.now }
+    requires fits { IfSome scratch.old (λ scratch. scratch ≡ job.now.«module») }
+    ensures fits { IfSome scratch.new (λ scratch. scratch ≡ job.now.«module») }
+    ensures same { IsSamePass pass.old pass.new }
+{
+    let worker = pass.worker();
+    match gate.before(worker, task.superstep(), task.part()) {
+        Turn::Go => {
+            let event = outcome(alloc, job, worker, task, scratch);
+            pass.hand_in(rt, event)?;
+            Ok(false)
+        }
+        Turn::Lose => {
+            drop(task);
+            be_lost(rt, gate, pass)
+        }
+    }
+}
+
+/// What a worker does: it asks the gate before each task, works on it or is lost with it, and hands in what became of it.
+/// Once it is lost for good it lets all tasks go by. Where it is stopped it says bye.
+pub fn work_all<J: Origin, G: Gate, R: Wait>(
+    rt: &R,
+    alloc: Global,
+    job: &Job,
+    gate: &G,
+    mut pass: WorkerPass<J>,
+) -> Result<WorkerReceipt<J>, JobFault>
+    requires { J.work ≡ job.now }
+    ensures { IfOk result (IsReceipt pass) }
+{
+    let mut scratch = None;
+    let mut lost = false;
+    for _ in rt.forever() {
+        let Some(task) = pass.take(rt)? else {
+            break;
+        };
+        if !lost {
+            lost = work_one(rt, alloc, job, gate, &mut pass, task, &mut scratch)?;
+        }
+    }
+    pass.bye(rt)
+}
+
+/// What the ticker does: it asks the gate before each tick, until that says no or the coordinator has stopped all. Then it
+/// says bye.
+pub fn tick_all<J: Origin, G: Gate, R: Wait>(
+    rt: &R,
+    gate: &G,
+    mut pass: TickPass<J>,
+) -> Result<TickReceipt<J>, JobFault>
+    ensures { IfOk result (IsTickReceipt pass) }
+{
+    for n in 1..u64::MAX {
+        if pass.stopped() || !gate.tick(n) {
+            break;
+        }
+        pass.tick(rt)?;
+    }
+    pass.bye(rt)
+}

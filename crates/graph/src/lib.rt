@@ -18,7 +18,7 @@ mod print;
 mod rising;
 mod vertex;
 
-pub use cutting::{Identified, cut_by_id, part_of, sort_by_id};
+pub use cutting::{Identified, cut_by_id, merge_by_id, part_of, sort_by_id};
 pub use fault::{GraphFault, PrintFault};
 pub use fields::Fields;
 pub use graph::Graph;

@@ -19,10 +19,12 @@ pub fn letters_have_one_order()
 {}
 
 /// An order of letters is one of the same letters however they lie, so inboxes do not depend on
-/// the lists over which letters are spread.
+/// the lists over which letters are spread; and no two are one then either.
 pub fn letters_keep_their_order_in_any_lists()
-    ensures { (letters shuffled ordered : List AnyLetter) → IsPermutation letters shuffled
+    ensures order { (letters shuffled ordered : List AnyLetter) → IsPermutation letters shuffled
         → IsBySource letters ordered → IsBySource shuffled ordered }
+    ensures distinct { (letters shuffled : List AnyLetter) → IsPermutation letters shuffled
+        → IsDistinct are_one letters → IsDistinct are_one shuffled }
 {}
 
 /// Letters drop alike in any order: how many of them go to none of the ids does not depend on how

@@ -18,9 +18,10 @@ use std::thread::Threads;
 /// what [`merge`](crate::merge) puts into it of all letters: the values of those to its id, by
 /// source and in the order of sending.
 ///
-/// It copies the letters once and sorts them in as many threads as there are processors, in time of
-/// the order of n log n, and each inbox takes no more room than its messages. An `Err` is want of
-/// memory.
+/// It copies the letters once and merges what lies in order in them, in time of the order of n times
+/// the logarithm of how many lists there are, where each is in the letters' order, and n log n at
+/// worst. Inboxes are made in as many threads as there are processors, and each takes no more room
+/// than its messages. An `Err` is want of memory.
 pub fn merge_parts(
     rt: &(impl Threads + Sync),
     alloc: Global,
@@ -37,7 +38,7 @@ pub fn merge_parts(
     ensures dropped { IfOk result (λ merged.
         merged.1 ≡ dropped_of (all_of lists.now) (all_of ids.now)) }
 {
-    let letters = by_target(rt, alloc, lists)?;
+    let letters = by_target(alloc, lists)?;
     let mut dropped = letters.len() as u128;
     let mut parts = Vec::with_capacity(alloc, ids.len())?;
     for part in ids {
@@ -49,16 +50,12 @@ pub fn merge_parts(
 }
 
 // All letters, by target and then by source.
-fn by_target(
-    rt: &(impl Threads + Sync),
-    alloc: Global,
-    lists: &[Vec<Letter>],
-) -> Result<Vec<Letter>, AllocError>
+fn by_target(alloc: Global, lists: &[Vec<Letter>]) -> Result<Vec<Letter>, AllocError>
     requires { IsDistinct are_one (all_of lists.now) }
     ensures { IfOk result (λ letters. IsByTarget (all_of lists.now) letters.items) }
 {
     let mut letters = gathered(alloc, lists)?;
-    par_sort_unstable(rt, letters.as_mut_slice());
+    letters.sort()?;
     Ok(letters)
 }
 

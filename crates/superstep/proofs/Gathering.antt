@@ -1,10 +1,13 @@
 -- What the parts left, gathered part by part.
-use Rattle.std.proofs.Common.{◌≡◌, ℕ, ℤ, ◌+◌, Bool, List, [], ◌∷◌, ◌++◌, map, vec_items, Some, refl, ap, sym, ◌∙◌, arith}
+use Rattle.std.proofs.Common.{◌≡◌, ℕ, ℤ, ◌+◌, Bool, List, [], ◌∷◌, ◌++◌, map, vec_items, Some, refl, ap, sym, ◌∙◌, arith, subst}
 use Rattle.std.specs.List.{AllByRecursion}
+use Rattle.std.specs.List.Sorted.{IsPermutation}
 use Rattle.std.proofs.lemmas.List.{append-nil, map-append}
 use Rattle.std.proofs.lemmas.List.Concat.{flat_map-append}
+use Rattle.std.proofs.lemmas.List.Sorted.{IsPermutation-append, IsPermutation-refl}
 use Rattle.std.proofs.lemmas.List.Sums.{sum_by-append}
 use Rattle.interp.specs.Call.{Outcome}
+use Rattle.graph.specs.Cutting.{joined}
 use Rattle.inbox.specs.declared.letters.Letter.{Letter}
 use Rattle.superstep.specs.declared.closing.Gathered.{Gathered}
 use Rattle.superstep.specs.declared.state.VertexState.{VertexState}
@@ -13,7 +16,7 @@ use Rattle.host_calls.specs.Slots.{slot_starts}
 use Rattle.superstep.specs.Superstep.{contributions_of, units_left}
 use Rattle.superstep.specs.Job.{Work}
 use Rattle.superstep.specs.State.{state_id}
-use Rattle.superstep.specs.Tasks.{DoneStamp, IsDone, Left, emptied, letters_of, outcomes_in}
+use Rattle.superstep.specs.Tasks.{DoneStamp, IsDone, Left, emptied, letters_from, letters_of, outcomes_in}
 use Rattle.superstep.specs.inside.Closing.{IsGathered, IsPartLeft, PartLeft, left_ids, spread}
 use Rattle.superstep.specs.inside.Uniting.{united}
 use Rattle.superstep.proofs.Aggregating.{contributions_joined}
@@ -41,6 +44,18 @@ slots_more first second =
 units_more : (first second : List Left) → units_left (outcomes_in (first ++ second)) ≡ units_left (outcomes_in first) + units_left (outcomes_in second)
 units_more first second =
     ap units_left (outcomes_more first second) ∙ sum_by-append (λ (outcome : Outcome). outcome.units) (outcomes_in first) (outcomes_in second)
+
+-- the letters of one more part, behind the others
+letters_more : (parts : List PartLeft) (part : PartLeft) (old : List (List Letter)) (own : List Letter) (new : List (List Letter))
+    → IsPermutation (letters_of (spread parts)) (joined old) → IsPermutation (letters_of part.1) own → new ≡ old ++ own ∷ []
+    → IsPermutation (letters_of (spread (parts ++ part ∷ []))) (joined new)
+letters_more parts part old own new before is more =
+    subst (λ (lists : List (List Letter)). IsPermutation (letters_of (spread (parts ++ part ∷ []))) (joined lists)) (sym more)
+    (subst (λ (xs : List Letter). IsPermutation (letters_of (spread (parts ++ part ∷ []))) xs)
+    (sym (flat_map-append (λ (list : List Letter). list) old (own ∷ []) ∙ ap (λ (xs : List Letter). joined old ++ xs) (append-nil own)))
+    (subst (λ (xs : List Letter). IsPermutation xs (joined old ++ own))
+    (sym (ap letters_of (spread_more parts part) ∙ flat_map-append (λ (one : Left). letters_from one.0 one.1) (spread parts) part.1))
+    (IsPermutation-append _ _ _ _ before is)))
 
 pub capped_sum : (a b : ℕ) → capped (capped a + capped b) ≡ capped (a + b)
 capped_sum a b = omega arith
@@ -72,9 +87,7 @@ gathered_more work honest dones done old new vertices letters given before is mo
       vertices = more.more_vertices ∙ ap (λ xs. xs ++ vertices ∷ []) before.vertices
           ∙ ap (λ (own : List VertexState). map (λ (one : PartLeft). map emptied one.1) before.parts ++ own ∷ []) is.comes.vertices
           ∙ sym (map-append (λ (one : PartLeft). map emptied one.1) before.parts (part ∷ []));
-      letters = more.more_letters ∙ ap (λ xs. xs ++ letters ∷ []) before.letters
-          ∙ ap (λ (own : List Letter). map (λ (one : PartLeft). letters_of one.1) before.parts ++ own ∷ []) is.comes.letters
-          ∙ sym (map-append (λ (one : PartLeft). letters_of one.1) before.parts (part ∷ []));
+      letters = letters_more before.parts part (map vec_items old.letters.items) letters (map vec_items new.letters.items) before.letters is.comes.letters more.more_letters;
       slots = more.more_slots ∙ ap (λ xs. united xs given) before.slots
           ∙ ap (united (aggregated (contributions_of (outcomes_in (spread before.parts))))) is.comes.slots
           ∙ sym (slots_more (spread before.parts) is.left)
@@ -95,7 +108,7 @@ gathered_none work honest gathered no_ids no_vertices no_letters slots units = r
   each = tt;
   ids = ap (map vec_items) no_ids;
   vertices = ap (map vec_items) no_vertices;
-  letters = ap (map vec_items) no_letters;
+  letters = subst (λ xs. IsPermutation [] (joined (map vec_items xs))) (sym no_letters) (IsPermutation-refl []);
   slots = slots;
   units = units;
 }

@@ -1,5 +1,5 @@
 -- The letters of vertices, and what becomes of them.
-use Rattle.std.proofs.Common.{◌≡◌, ℕ, ℤ, ◌+◌, ◌<◌, not, List, [], ◌∷◌, ◌++◌, map, filter, cond, eqb, refl, ap, sym, ◌∙◌, arith}
+use Rattle.std.proofs.Common.{◌≡◌, ℕ, ℤ, ◌+◌, ◌<◌, not, List, [], ◌∷◌, ◌++◌, map, filter, cond, eqb, refl, ap, sym, subst, ◌∙◌, arith}
 use Rattle.std.specs.List.{AllByRecursion, IsDistinct, count_by, enumerate_from, flat_map, fold, list_any, sum_by}
 use Rattle.std.specs.List.Sorted.{IsPermutation, IsStrictlySortedBy}
 use Rattle.std.specs.Ordering.{nat_cmp}
@@ -115,17 +115,12 @@ pub joined_map : {X Y : Type 0} (f : X → Y) (lists : List (List X)) → joined
 joined_map f [] = refl
 joined_map f (list ∷ lists) = ap (λ rest. map f list ++ rest) (joined_map f lists) ∙ sym (map-append f list (joined lists))
 
-joined_letters : (lefts : List (List Left)) → joined (map letters_of lefts) ≡ letters_of (joined lefts)
-joined_letters [] = refl
-joined_letters (left ∷ lefts) =
-    ap (λ rest. letters_of left ++ rest) (joined_letters lefts)
-    ∙ sym (flat_map-append (λ (one : Left). letters_from one.0 one.1) left (joined lefts))
-
 pub spread_ids : (ids : List (List ℕ)) (letters : List (List Letter)) (lefts : List (List Left)) (ordered : List Left) → IsSpread ids letters lefts ordered
     → joined ids ≡ left_ids (joined lefts)
 spread_ids ids letters lefts ordered is = ap joined is.ids ∙ joined_map left_id lefts
 
 pub spread_letters : (ids : List (List ℕ)) (letters : List (List Letter)) (lefts : List (List Left)) (ordered : List Left) → IsSpread ids letters lefts ordered
-    → joined letters ≡ flat_map (sent_by (joined lefts)) (left_ids (joined lefts))
+    → IsPermutation (flat_map (sent_by (joined lefts)) (left_ids (joined lefts))) (joined letters)
 spread_letters ids letters lefts ordered is =
-    ap joined is.letters ∙ joined_letters lefts ∙ sym (sent_by_all (joined lefts) (distinct_ids (joined lefts) ordered is.rising is.same))
+    subst (λ (xs : List Letter). IsPermutation xs (joined letters))
+    (sym (sent_by_all (joined lefts) (distinct_ids (joined lefts) ordered is.rising is.same))) is.letters

@@ -1,8 +1,10 @@
 -- The calls of a part's vertices, one more at a time.
 use Rattle.std.proofs.Common.{◌≡◌, ℕ, ℤ, ◌+◌, ◌-◌, ◌^◌, ◌<◌, ◌≤◌, min, List, [], ◌∷◌, ◌++◌, length, get_or, map, take, drop, set, refl, ap, sym, subst, ◌∙◌, arith, append-nil}
 use Rattle.std.specs.List.{All, fold}
+use Rattle.std.specs.List.Sorted.{IsPermutation}
 use Rattle.std.proofs.lemmas.List.{drop-drop, drop-set-lt, get_or-drop, get_or-map, length-map, length-take-le, map-append, take_all, take_more, take_more_set}
 use Rattle.std.proofs.lemmas.List.Concat.{flat_map-append}
+use Rattle.std.proofs.lemmas.List.Sorted.{IsPermutation-append_left, IsPermutation-refl, IsPermutation-trans}
 use Rattle.std.proofs.lemmas.List.Sums.{fold-append, sum_by_push}
 use Rattle.interp.specs.Call.{Outcome}
 use Rattle.graph.specs.declared.vertex.Vertex.{Vertex}
@@ -40,13 +42,23 @@ adds_idle row id left = record {
 pub none_called : (shared : Shared) (left : Left) → IsNothing left → CallsPart shared [] [] [] left
 none_called shared left is = record {
   left = [];
-  comes = record { vertices = refl; letters = is.letters; slots = is.slots; units = is.units };
+  comes = record {
+    vertices = refl;
+    letters = subst (λ (xs : List Letter). IsPermutation [] xs) (sym is.letters) (IsPermutation-refl []);
+    slots = is.slots;
+    units = is.units;
+  };
   ids = refl;
   is = λ outcomes tells. refl;
 }
 
 one_outcome_more : (left : List OneLeft) (one : OneLeft) → outcomes_in (left ++ one ∷ []) ≡ outcomes_in left ++ one.1 ∷ []
 one_outcome_more left one = map-append (λ (o : OneLeft). o.1) left (one ∷ [])
+
+one_letters_more : (left : List OneLeft) (one : OneLeft) → letters_of (left ++ one ∷ []) ≡ letters_of left ++ letters_from one.0 one.1
+one_letters_more left one =
+    flat_map-append (λ (o : OneLeft). letters_from o.0 o.1) left (one ∷ [])
+    ∙ ap (λ (xs : List Letter). letters_of left ++ xs) (append-nil (letters_from one.0 one.1))
 
 one_more_back : (left : List OneLeft) (one : OneLeft) (states : List VertexState) (state : VertexState) (old new : Left)
     → ComesBack left states old.letters.items old.slots old.units → state ≡ emptied one → Adds one.0 one.1 old new
@@ -57,10 +69,9 @@ one_more_back left one states state old new back is adds = record {
       ∙ ap (λ (x : VertexState). map emptied left ++ x ∷ []) is
       ∙ sym (map-append emptied left (one ∷ []));
   letters =
-      adds.letters
-      ∙ ap (λ (xs : List Letter). xs ++ letters_from one.0 one.1) back.letters
-      ∙ ap (λ (xs : List Letter). letters_of left ++ xs) (sym (append-nil (letters_from one.0 one.1)))
-      ∙ sym (flat_map-append (λ (o : OneLeft). letters_from o.0 o.1) left (one ∷ []));
+      subst (λ (xs : List Letter). IsPermutation (letters_of (left ++ one ∷ [])) xs) (sym adds.letters)
+      (subst (λ (xs : List Letter). IsPermutation xs (old.letters.items ++ letters_from one.0 one.1)) (sym (one_letters_more left one))
+      (IsPermutation-append_left (letters_from one.0 one.1) (letters_of left) old.letters.items back.letters));
   slots =
       adds.slots
       ∙ ap (λ (slots : List ℤ). fold give slots one.1.contributions) back.slots
@@ -166,3 +177,18 @@ part_end shared entries before now i left same long over part =
     subst (λ (xs : List Entry). CallsPart shared xs before now left) (take_all i entries (omega arith))
     (subst (λ (xs : List VertexState). CallsPart shared (take i entries) xs now left) (take_all i before (omega arith))
     (subst (λ (xs : List VertexState). CallsPart shared (take i entries) (take i before) xs left) (take_all i now (omega arith)) part))
+
+-- the letters may be put in another order
+pub calls_sorted : (shared : Shared) (entries : List Entry) (before after : List VertexState) (old new : Left) → CallsPart shared entries before after old
+    → IsPermutation old.letters.items new.letters.items → new.slots ≡ old.slots → new.units ≡ old.units → CallsPart shared entries before after new
+calls_sorted shared entries before after old new calls moved slots units = record {
+  left = calls.left;
+  comes = record {
+    vertices = calls.comes.vertices;
+    letters = IsPermutation-trans _ _ _ calls.comes.letters moved;
+    slots = slots ∙ calls.comes.slots;
+    units = units ∙ calls.comes.units;
+  };
+  ids = calls.ids;
+  is = calls.is;
+}

@@ -18,7 +18,7 @@ use Rattle.superstep.specs.Snapshot.{Row, row_id, row_ids}
 use Rattle.superstep.specs.Superstep.{all_left, left_by, row_after}
 use Rattle.superstep.specs.PlainRun.{first_row, state_at}
 use Rattle.superstep.specs.Job.{IsGraphOf, Meaning, Work}
-use Rattle.superstep.specs.Tasks.{DoneStamp, IsRow, Left, part_rows}
+use Rattle.superstep.specs.Tasks.{DoneStamp, IsRow, Left, letters_of, part_rows}
 use Rattle.superstep.specs.inside.Closing.{IsGathered, IsPartLeft, IsSpread, PartLeft, left_id, left_ids, spread}
 use Rattle.superstep.proofs.Graphs.{whole}
 use Rattle.superstep.proofs.Letters.{joined_map}
@@ -95,7 +95,7 @@ pub is_spread : (work : Work) (honest : Bool) (s : ℕ) (dones : List DoneStamp)
     → IsSpread (map vec_items gathered.ids.items) (map vec_items gathered.letters.items) (map part_left is.parts) (ordered is.parts graph)
 is_spread work honest s dones gathered graph some is_graph is row = record {
   ids = is.ids ∙ sym (map-map left_ids part_left is.parts);
-  letters = is.letters ∙ sym (map-map _ part_left is.parts);
+  letters = subst (λ left. IsPermutation (letters_of left) (joined (map vec_items gathered.letters.items))) (sym (joined_spread is.parts)) is.letters;
   same = found_moved (joined (map part_left is.parts)) (ids graph) is_graph.proper.rising (all_ids work honest s dones gathered graph some is_graph is row);
   rising = subst (λ numbers. IsStrictlyIncreasing numbers) (sym (ids_found (joined (map part_left is.parts)) (ids graph))) is_graph.proper.rising;
 }

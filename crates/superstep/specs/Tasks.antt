@@ -1,6 +1,7 @@
 -- Slices, tasks and what comes back of them: the parts of a state that move. Each says by its type of which job it is.
 use Rattle.std.specs.Prelude.{◌≡◌, ◌%◌, ◌==◌, ℕ, ℤ, Bool, true, not, List, [], map, filter, slice_get, Some}
 use Rattle.std.specs.List.{All, enumerate_from, flat_map, range_with_len}
+use Rattle.std.specs.List.Sorted.{IsPermutation}
 use Rattle.interp.specs.Call.{Outcome}
 use Rattle.graph.specs.Entry.{ids}
 use Rattle.inbox.specs.declared.letters.Letter.{Letter}
@@ -84,7 +85,8 @@ emptied one = record { id = one.0; value = one.1.value; active = not one.1.halte
 -- What comes back of a part is what its vertices left.
 pub record ComesBack (left : List Left) (after : List VertexState) (sent : List Letter) (folded : List ℤ) (total : ℕ) : Type 0 where
   pub vertices : after ≡ map emptied left
-  pub letters : sent ≡ letters_of left
+  -- in any order
+  pub letters : IsPermutation (letters_of left) sent
   pub slots : folded ≡ aggregated (contributions_of (outcomes_in left))
   pub units : total ≡ capped (units_left (outcomes_in left))
 

@@ -15,10 +15,11 @@ use crate::slice::Origin;
 use crate::state::{State, VertexState};
 use crate::task::Done;
 use crate::totals::Totals;
-use graph::sort_by_id;
+use graph::merge_by_id;
 use host_calls::slot_starts;
 use inbox::{
-    Inbox, Letter, drops_add_up_over_sources, inboxes_are_concatenated_by_source, merge_parts,
+    Inbox, Letter, drops_add_up_over_sources, inboxes_are_concatenated_by_source,
+    letters_drop_alike_in_any_order, letters_keep_their_order_in_any_lists, merge_parts,
     sources_send_in_any_order,
 };
 use std::alloc::{AllocError, Global};
@@ -54,7 +55,7 @@ pub fn barrier<J: Origin>(
     } = gather(alloc, job.settings().parts, dones)?;
     let (inboxes, dropped) = delivered(rt, alloc, &letters, &ids)?;
     let mut vertices = filled(alloc, job.count(), vertices, inboxes)?;
-    sort_by_id(&mut vertices);
+    merge_by_id(&mut vertices)?;
     let totals = totals.after(units, dropped)?;
     Ok(State::of(totals, slots, vertices))
 }
@@ -142,6 +143,8 @@ fn delivered(
         → merged.1 ≡ sum_by (dropped_by (left_ids ordered)) (outcomes_in ordered)) }
 {
     sources_send_in_any_order();
+    letters_keep_their_order_in_any_lists();
+    letters_drop_alike_in_any_order();
     inboxes_are_concatenated_by_source();
     drops_add_up_over_sources();
     merge_parts(rt, alloc, letters, ids)

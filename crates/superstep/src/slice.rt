@@ -12,7 +12,8 @@ use std::alloc::{AllocError, Global};
 use std::marker::{Brand, Model, PhantomData};
 
 /// Names the one job that slices, tasks and what comes back of them are of, and says whether each state of it that was
-/// loaded is one that was saved.
+/// loaded is one that was saved. A caller names a job by a generic function that asks `J.work ≡ job.now` and is called with
+/// `Brand`.
 pub trait Origin {
     ghost use Rattle.std.specs.Prelude.{Bool};
     ghost use Rattle.superstep.specs.Job.{Work};
@@ -53,12 +54,14 @@ impl<J: Origin> Model for Slice<J> {
 }
 
 impl<J: Origin> Slice<J> {
+    /// The part, from 0 on.
     pub fn part(&self) -> u32
         ensures { result ≡ self.now.part }
     {
         self.part
     }
 
+    /// The superstep that comes next.
     pub fn superstep(&self) -> u32
         ensures { result ≡ self.now.superstep }
     {

@@ -10,7 +10,7 @@ ghost use Rattle.superstep.specs.Totals.{standing_of};
 
 use crate::job::Job;
 use crate::totals::Totals;
-use graph::{Identified, Part, Vertex, sort_by_id};
+use graph::{Identified, Part, Vertex, merge_by_id};
 use host_calls::slot_starts;
 use inbox::Inbox;
 use std::alloc::{AllocError, Global};
@@ -86,7 +86,7 @@ impl State {
         for part in job.parts() {
             push_part(alloc, &mut vertices, part)?;
         }
-        sort_by_id(&mut vertices);
+        merge_by_id(&mut vertices)?;
         Ok(State {
             superstep: 0,
             since: 0,

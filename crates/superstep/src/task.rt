@@ -60,18 +60,21 @@ impl<J: Origin> Task<J> {
         }
     }
 
+    /// The epoch in which it was handed out.
     pub fn epoch(&self) -> u64
         ensures { result ≡ self.now.epoch }
     {
         self.epoch
     }
 
+    /// The superstep that is worked on.
     pub fn superstep(&self) -> u32
         ensures { result ≡ self.now.superstep }
     {
         self.slice.superstep()
     }
 
+    /// The part, from 0 on.
     pub fn part(&self) -> u32
         ensures { result ≡ self.now.part }
     {
@@ -115,18 +118,21 @@ impl<J: Origin> Model for Done<J> {
 }
 
 impl<J: Origin> Done<J> {
+    /// The epoch of its task.
     pub fn epoch(&self) -> u64
         ensures { result ≡ self.now.epoch }
     {
         self.epoch
     }
 
+    /// The superstep that was worked on.
     pub fn superstep(&self) -> u32
         ensures { result ≡ self.now.superstep }
     {
         self.superstep
     }
 
+    /// The part, from 0 on.
     pub fn part(&self) -> u32
         ensures { result ≡ self.now.part }
     {
@@ -232,7 +238,7 @@ struct Shared<'a> {
     aggregated: [i64; 8],
 }
 
-// The calls of a part's vertices, one after another, and what they leave. Entries have their edges.
+// The calls of a part's vertices, one after another, and what they leave, with the letters by target. Entries have their edges.
 fn run_part(
     alloc: Global,
     shared: &Shared,
@@ -252,6 +258,7 @@ fn run_part(
         let vertex = &mut vertices[index];
         run_vertex(alloc, shared, &entries[index], vertex, scratch, &mut left)?;
     }
+    left.sort_letters()?;
     Ok(left)
 }
 

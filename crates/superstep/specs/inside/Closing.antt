@@ -46,14 +46,14 @@ pub record IsGathered (work : Work) (honest : Bool) (dones : List DoneStamp) (ga
   pub each : AllByRecursion (IsPartLeft work honest) parts
   pub ids : map vec_items gathered.ids.items ≡ map (λ (part : PartLeft). left_ids part.1) parts
   pub vertices : map vec_items gathered.vertices.items ≡ map (λ (part : PartLeft). map emptied part.1) parts
-  pub letters : map vec_items gathered.letters.items ≡ map (λ (part : PartLeft). letters_of part.1) parts
+  pub letters : IsPermutation (letters_of (spread parts)) (joined (map vec_items gathered.letters.items))
   pub slots : gathered.slots ≡ aggregated (contributions_of (outcomes_in (spread parts)))
   pub units : gathered.units ≡ capped (units_left (outcomes_in (spread parts)))
 
 -- the ids and the letters of what vertices left, part by part, and the same vertices by rising id
 pub record IsSpread (all_ids : List (List ℕ)) (all_letters : List (List Letter)) (lefts : List (List Left)) (ordered : List Left) : Type 0 where
   pub ids : all_ids ≡ map left_ids lefts
-  pub letters : all_letters ≡ map letters_of lefts
+  pub letters : IsPermutation (letters_of (joined lefts)) (joined all_letters)
   pub same : IsPermutation (joined lefts) ordered
   pub rising : IsStrictlyIncreasing (left_ids ordered)
 

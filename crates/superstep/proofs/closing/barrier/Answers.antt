@@ -28,13 +28,13 @@ module _ (g : _) (c : goal.In_ok-totals g) where
   }
 
   made : IsMade g.J.Origin.work c.args.job.now g.J.Origin.honest c.args.totals c.args.dones.items c.in_ok-ids.field-0 ready
-      (map vec_items c.in_ok-inboxes.inboxes.items) c.in_ok-inboxes.dropped c.in_ok-vertices.vertices.items c.sort_by_id.new.elements.items c.in_ok-totals.totals
+      (map vec_items c.in_ok-inboxes.inboxes.items) c.in_ok-inboxes.dropped c.in_ok-vertices.vertices.items c.merge_by_id.new.elements.items c.in_ok-totals.totals
   made =
       record {
         inboxes = c.in_ok-inboxes.ensures.inboxes (lefts _ _ _ _ _ _ ready) (all _ _ _ _ _ _ ready) (rw (c.deref-2.ensures.value, c.deref.ensures.value) (lies _ _ _ _ _ _ ready));
         dropped = c.in_ok-inboxes.ensures.dropped (lefts _ _ _ _ _ _ ready) (all _ _ _ _ _ _ ready) (rw (c.deref-2.ensures.value, c.deref.ensures.value) (lies _ _ _ _ _ _ ready));
         fills = c.in_ok-vertices.ensures;
-        sorts = λ other is. order_is state_id _ _ other c.sort_by_id.ensures.permutation c.sort_by_id.ensures.sorted is.same is.rising;
+        sorts = λ other is. order_is state_id _ _ other c.in_ok-merge_by_id.ensures.permutation c.in_ok-merge_by_id.ensures.sorted is.same is.rising;
         follows = c.in_ok-totals.ensures;
       }
 

@@ -20,9 +20,10 @@ use Rattle.superstep.proofs.closing.delivered.Goals as goal
 module _ (g : _) (c : goal.After-drops_add_up_over_sources g) (lefts : List (List Left)) (ordered : List Left)
     (is : IsSpread (map vec_items c.args.ids.now) (map vec_items c.args.letters.now) lefts ordered) where
   -- what all sent, one part after another
-  all_letters : all_of c.args.letters.now ≡ flat_map (sent_by (joined lefts)) (left_ids (joined lefts))
+  all_letters : IsPermutation (flat_map (sent_by (joined lefts)) (left_ids (joined lefts))) (all_of c.args.letters.now)
   all_letters =
-      sym (flat_map-map (λ (list : List Letter). list) vec_items c.args.letters.now) ∙ spread_letters _ _ lefts ordered is
+      subst (λ (xs : List Letter). IsPermutation (flat_map (sent_by (joined lefts)) (left_ids (joined lefts))) xs)
+      (flat_map-map (λ (list : List Letter). list) vec_items c.args.letters.now) (spread_letters _ _ lefts ordered is)
 
   all_ids : all_of c.args.ids.now ≡ left_ids (joined lefts)
   all_ids = sym (flat_map-map (λ (list : List ℕ). list) vec_items c.args.ids.now) ∙ spread_ids _ _ lefts ordered is
@@ -32,7 +33,7 @@ module _ (g : _) (c : goal.After-drops_add_up_over_sources g) (lefts : List (Lis
 
   letters_apart : IsDistinct are_one (all_of c.args.letters.now)
   letters_apart =
-      subst (λ xs. IsDistinct are_one xs) (sym all_letters)
+      c.letters_keep_their_order_in_any_lists.ensures.distinct _ _ all_letters
       (c.sources_send_in_any_order.ensures.distinct (left_ids ordered) (left_ids (joined lefts)) (sent_by (joined lefts))
       (are_sent (joined lefts)) (sorted_from_strictly_increasing (left_ids ordered) is.rising) moved)
 
@@ -41,7 +42,7 @@ module _ (g : _) (c : goal.After-drops_add_up_over_sources g) (lefts : List (Lis
 
   in_order : IsBySource (all_of c.args.letters.now) (flat_map (sent_by (joined lefts)) (left_ids ordered))
   in_order =
-      subst (λ xs. IsBySource xs (flat_map (sent_by (joined lefts)) (left_ids ordered))) (sym all_letters)
+      c.letters_keep_their_order_in_any_lists.ensures.order _ _ _ all_letters
       (c.sources_send_in_any_order.ensures.ordered (left_ids ordered) (left_ids (joined lefts)) (sent_by (joined lefts))
       (are_sent (joined lefts)) (sorted_from_strictly_increasing (left_ids ordered) is.rising) moved)
 
@@ -60,7 +61,8 @@ module _ (g : _) (c : goal.After-drops_add_up_over_sources g) (lefts : List (Lis
 
   all_dropped : dropped_of (all_of c.args.letters.now) (all_of c.args.ids.now) ≡ sum_by (dropped_by (left_ids ordered)) (outcomes_in ordered)
   all_dropped =
-      (λ i. dropped_of (all_letters i) (all_ids i))
+      sym (c.letters_drop_alike_in_any_order.ensures.letters _ _ (all_of c.args.ids.now) all_letters)
+      ∙ ap (dropped_of (flat_map (sent_by (joined lefts)) (left_ids (joined lefts)))) all_ids
       ∙ c.drops_add_up_over_sources.ensures (left_ids (joined lefts)) (sent_by (joined lefts)) (left_ids (joined lefts))
       ∙ drops_found (joined lefts) ordered (distinct_ids (joined lefts) ordered is.rising is.same) is.same (IsPermutation-sym _ _ moved)
 

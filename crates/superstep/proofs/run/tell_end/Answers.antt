@@ -1,5 +1,4 @@
 use Rattle.std.proofs.Common.{rules}
-use Rattle.superstep.specs.Ending.{IsEndIn}
 use Rattle.superstep.proofs.Runs.{has_ended}
 use Rattle.superstep.proofs.run.tell_end.Goals as goal
 

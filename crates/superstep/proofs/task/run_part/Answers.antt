@@ -1,7 +1,7 @@
 use Rattle.std.proofs.Common.{◌∙◌, arith}
-use Rattle.std.proofs.lemmas.List.{length-map}
+use Rattle.std.proofs.lemmas.List.{length-map, take_all}
 use Rattle.graph.specs.Entry.{entries_of, entry_of}
-use Rattle.superstep.proofs.PartCalls.{as_many, entry_at, has_entry, part_step, proper_at, rest_step, same_id}
+use Rattle.superstep.proofs.PartCalls.{as_many, calls_sorted, entry_at, has_entry, part_step, proper_at, rest_step, same_id}
 use Rattle.superstep.proofs.task.run_part.Goals as goal
 
 pub run_vertex-requires-clause-same : goal.run_vertex-requires-clause-same
@@ -29,3 +29,14 @@ loop-index-preserved c =
           (entry_at entries i entry (omega arith) c.index-entries-index.is) c.loop-index.invariant.calls c.in_ok-run_vertex.ensures.calls;
       rest = rest_step before now i c.run_vertex.new.vertex c.loop-index.invariant.rest;
     }
+
+pub returns-clause-calls : goal.returns-clause-calls
+returns-clause-calls c =
+    let entries = entries_of c.args.entries.now in
+    let before = c.args.vertices.now in
+    let now = c.loop-index.vertices in
+    let i = c.loop-index.index in
+    let many = length-map c.args.entries.now entry_of ∙ as_many c.args.entries.now before c.requires.same in
+    let calls = rw (take_all i entries (omega (arith, many)), take_all i before (omega arith), take_all i now (omega arith)) at c.loop-index.invariant.calls in
+    calls_sorted c.args.shared.now entries before now c.loop-index.left c.sort_letters.new.self calls c.in_ok-sort_letters.ensures.letters
+    c.in_ok-sort_letters.ensures.slots c.in_ok-sort_letters.ensures.units

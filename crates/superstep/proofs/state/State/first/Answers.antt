@@ -20,7 +20,7 @@ all c =
     ∙ ap (λ (parts : List (List Entry)). first_states (joined parts)) c.parts-part-items.ensures.parts
 
 made : (c : goal.After-slot_starts) (graph : List Entry) → IsGraphOf c.args.job.now graph
-    → IsFirst graph (record { superstep = 0; since = 0; by_superstep = c.new.result.items; units = 0; dropped = 0; aggregates = c.slot_starts.result; vertices = c.sort_by_id.new.elements.items })
+    → IsFirst graph (record { superstep = 0; since = 0; by_superstep = c.new.result.items; units = 0; dropped = 0; aggregates = c.slot_starts.result; vertices = c.merge_by_id.new.elements.items })
 made c graph is =
     let some = some_parts c.args.job.now.settings c.parts-part-items.ensures.good in
     let ordered : IsInOrder c.loop-part.vertices.items (first_states graph) = rw (all c) (in_order c.args.job.now graph some is) in
@@ -31,7 +31,7 @@ made c graph is =
       units = refl;
       dropped = refl;
       aggregates = c.slot_starts.ensures;
-      vertices = order_is state_id _ _ (first_states graph) c.sort_by_id.ensures.permutation c.sort_by_id.ensures.sorted ordered.same ordered.rising;
+      vertices = order_is state_id _ _ (first_states graph) c.in_ok-merge_by_id.ensures.permutation c.in_ok-merge_by_id.ensures.sorted ordered.same ordered.rising;
     }
 
 pub invariant_of-result : goal.invariant_of-result

@@ -31,9 +31,10 @@ use Rattle.host_calls.specs.Effects as host
 use Rattle.host_calls.specs.Operands.{pop}
 use Rattle.interp.specs.Configuration.{State, Effect, Gives, Traps, Misses}
 use Rattle.interp.specs.Memory.{write, bytes_of_number}
-use Rattle.interp.specs.Effects.{popped, numeric_effect, select, pushed, variable_effect, load_effect, store_effect, memory_effect, effect, lifted}
+use Rattle.interp.specs.Effects.{popped, numeric_effect, select, pushed, variable_effect, load_effect, store_effect, effect, lifted}
 use Rattle.interp.specs.Machine.{Machine, Stuck, Layer, Label, Frame, after_effect, jump, enter, taking}
-use Rattle.interp.specs.inside.Cells.{call_takes, cell_call, cell_effect, cell_memory, cell_numeric, narrowed, seen, topped}
+use Rattle.interp.specs.inside.Cells.{call_takes, cell_call, cell_effect, cell_memory, cell_numeric, kept_effect, narrowed, seen, topped}
+use Rattle.interp.specs.inside.Kept.{is_kept, kept_read, kept_write}
 use Rattle.interp.specs.inside.Going.{is_going, has_labels, has_tops, of_top, of_next, divides, numeric_asks, variable_asks, reaches, memory_asks, plain_asks, call_asks}
 use Rattle.interp.proofs.Plains.{bytes_length}
 
@@ -160,7 +161,7 @@ variable_asked (variable.GlobalSet x) (v ∷ vs) st h = both (nat_lt 0 (length (
 
 -- ---- the memory
 
-loaded_asked : (op : Load) (n : ℕ) (b : Bool) (vs : List Value) (st : State) → IsGiven (load_effect op (if b then Some n else None) vs st) → b ≡ true
+pub loaded_asked : (op : Load) (n : ℕ) (b : Bool) (vs : List Value) (st : State) → IsGiven (load_effect op (if b then Some n else None) vs st) → b ≡ true
 loaded_asked op n true vs st h = refl
 loaded_asked op n false vs st h = absurd h
 
@@ -168,23 +169,30 @@ stored_asked : (bytes : List ℕ) (b : Bool) (vs : List Value) (st : State) → 
 stored_asked bytes true vs st h = refl
 stored_asked bytes false vs st h = absurd h
 
-written_asked : (place width n : ℕ) (bytes : List ℕ) (vs : List Value) (st : State) → IsGiven (store_effect (write place width n bytes) vs st) → nat_le (place + width) (length bytes) ≡ true
+pub written_asked : (place width n : ℕ) (bytes : List ℕ) (vs : List Value) (st : State) → IsGiven (store_effect (write place width n bytes) vs st) → nat_le (place + width) (length bytes) ≡ true
 written_asked place width n bytes vs st h =
     ap (λ (k : ℕ). nat_le (place + k) (length bytes)) (sym (bytes_length 0 width n))
     ∙ stored_asked _ (nat_le (place + length (bytes_of_number width n)) (length bytes)) vs st h
 
-loads_asked : (op : Load) (a : MemoryArgument) (vs : List Value) (st : State) → IsGiven (memory_effect (memory.Load op a) (seen (val_type.I32 ∷ []) vs) st) → memory_asks (memory.Load op a) vs st.memory ≡ true
+kept_asked : (op : Load) (place width : ℕ) (vs : List Value) (st : State) → IsGiven (load_effect op (kept_read place width st.memory) vs st) → is_kept place width st.memory ≡ true
+kept_asked op place width vs st h = loaded_asked op _ (is_kept place width st.memory) vs st h
+
+over_asked : (place width n : ℕ) (vs : List Value) (st : State) → IsGiven (store_effect (kept_write place width n st.memory) vs st) → is_kept place width st.memory ≡ true
+over_asked place width n vs st h =
+    ap (λ (k : ℕ). is_kept place k st.memory) (sym (bytes_length 0 width n)) ∙ stored_asked _ (is_kept place (length (bytes_of_number width n)) st.memory) vs st h
+
+loads_asked : (op : Load) (a : MemoryArgument) (vs : List Value) (st : State) → IsGiven (kept_effect (memory.Load op a) (seen (val_type.I32 ∷ []) vs) st) → memory_asks (memory.Load op a) vs st.memory ≡ true
 loads_asked op a vs st h =
     both (has_tops 1 vs) (of_top val_type.I32 (reaches a.offset (load_width op) st.memory) vs)
     (popped_tops val_type.I32 [] 0 vs _ h (λ i us g. refl))
-    (popped_top val_type.I32 [] (reaches a.offset (load_width op) st.memory) vs _ h (λ i us g. loaded_asked op _ (nat_le (i + a.offset + load_width op) (length st.memory)) us st g))
+    (popped_top val_type.I32 [] (reaches a.offset (load_width op) st.memory) vs _ h (λ i us g. kept_asked op (i + a.offset) (load_width op) us st g))
 
 memory_asked : (may : Value → Bool) (op : Memory) (vs : List Value) (st : State) → IsGiven (cell_memory may op vs st) → memory_asks op vs st.memory ≡ true
-memory_asked may (memory.Load op a) vs st h = loads_asked op a vs st (topped_given may (memory_effect (memory.Load op a) (seen (val_type.I32 ∷ []) vs) st) h)
+memory_asked may (memory.Load op a) vs st h = loads_asked op a vs st (topped_given may (kept_effect (memory.Load op a) (seen (val_type.I32 ∷ []) vs) st) h)
 memory_asked may (memory.Store op a) vs st h =
     both (has_tops 2 vs) (of_next val_type.I32 (reaches a.offset (store_width op) st.memory) vs)
     (popped_tops (store_type op) (val_type.I32 ∷ []) 1 vs _ h (λ n us g. popped_tops val_type.I32 [] 0 us _ g (λ i ws j. refl)))
-    (popped_next (store_type op) val_type.I32 (val_type.I32 ∷ []) (reaches a.offset (store_width op) st.memory) vs _ h (λ n us g. popped_top val_type.I32 [] (reaches a.offset (store_width op) st.memory) us _ g (λ i ws j. written_asked (i + a.offset) (store_width op) n st.memory ws st j)))
+    (popped_next (store_type op) val_type.I32 (val_type.I32 ∷ []) (reaches a.offset (store_width op) st.memory) vs _ h (λ n us g. popped_top val_type.I32 [] (reaches a.offset (store_width op) st.memory) us _ g (λ i ws j. over_asked (i + a.offset) (store_width op) n ws st j)))
 memory_asked may memory.Size vs st h = refl
 memory_asked may memory.Grow vs st h = absurd h
 

@@ -28,9 +28,9 @@ use Rattle.interp.proofs.Loops.{GoesOn, Turned}
 use Rattle.interp.proofs.Opening.{Took, item_or_none}
 
 -- Code of these operands, this size s and this height h comes to the end of a turn, whatever lies round it.
-abbrev pub GoodClosing : Module → ℕ → ℕ → Context → ℕ → ℕ → ℕ → Code → List Kind → List Kind → Type 0
-GoodClosing m H F c s h r is from to =
-    (vs : List Value) (ls : List Layer) (st : State) → HasKinds vs from → Sound m c.locals st → beneath ls + h ≤ H → callers ls + r ≤ F → Turned m H F c (Named is) s (Running vs is ls st) ls st to
+abbrev pub GoodClosing : Module → ℕ → ℕ → (ℕ → ℕ → Type 0) → Context → ℕ → ℕ → ℕ → Code → List Kind → List Kind → Type 0
+GoodClosing m H F R c s h r is from to =
+    (vs : List Value) (ls : List Layer) (st : State) → HasKinds vs from → Sound m c.locals st → beneath ls + h ≤ H → callers ls + r ≤ F → Turned m H F R c (Named is) s (Running vs is ls st) ls st to
 
 -- where no branch goes to the innermost label, no turn begins
 no_turn : (s a b t : ℕ) (N : ℕ → Type 0) → (N zero → ⊥) → (e : Exit) → Names N e → GoesOn s a b t e
@@ -52,26 +52,26 @@ goes_too s1 s2 a b c t1 t2 (Branches zero top) h g = (omega (arith, g.0), cost_b
 goes_too s1 s2 a b c t1 t2 (Branches (suc l) top) h g = tt
 goes_too s1 s2 a b c t1 t2 (Returns top) h g = tt
 
-module _ (m : Module) (H F : ℕ) where
+module _ (m : Module) (H F : ℕ) (R : ℕ → ℕ → Type 0) where
   -- an instruction that goes elsewhere, and not to the loop
-  pub elsewhere : (c : Context) (N M : ℕ → Type 0) → (N zero → ⊥) → ((l : ℕ) → N l → M l) → (u s : ℕ) (x : Machine) (ls : List Layer) (st : State) (to : List Kind) → Reaches m H F c N u x code.end ls st to → Turned m H F c M (u + s) x ls st to
+  pub elsewhere : (c : Context) (N M : ℕ → Type 0) → (N zero → ⊥) → ((l : ℕ) → N l → M l) → (u s : ℕ) (x : Machine) (ls : List Layer) (st : State) (to : List Kind) → Reaches m H F R c N u x code.end ls st to → Turned m H F R c M (u + s) x ls st to
   elsewhere c N M none up u s x ls st to p =
       let q = p.1 in
-      (p.0, record { final = q.final; steps = q.steps; by = q.by; fits = q.fits; named = renamed m H F N M up p.0 q.named; sound = q.sound; taken = q.taken; items = q.items; cost = cost_more u (u + s) st.count q.final.count q.taken (omega arith) q.cost; short = q.short }, no_turn (u + s) st.count q.final.count q.taken N none p.0 q.named)
+      (p.0, record { final = q.final; steps = q.steps; by = q.by; fits = q.fits; named = renamed m H F R N M up p.0 q.named; sound = q.sound; taken = q.taken; items = q.items; cost = cost_more u (u + s) st.count q.final.count q.taken (omega arith) q.cost; short = q.short }, no_turn (u + s) st.count q.final.count q.taken N none p.0 q.named)
 
-  module _ (c : Context) (N : ℕ → Type 0) (none : N zero → ⊥) (u s h h2 r : ℕ) (whole rest : Code) (from mid to : List Kind) (up1 : (l : ℕ) → N l → Named whole l) (up2 : (l : ℕ) → Named rest l → Named whole l) (less : h2 ≤ h) (good : GoodClosing m H F c s h2 r rest mid to) where
-    after_first : (x : Machine) (ls : List Layer) (st : State) → beneath ls + h ≤ H → callers ls + r ≤ F → (e : Exit) → Reach m H F c N u x rest ls st mid e → Turned m H F c (Named whole) (u + s) x ls st to
+  module _ (c : Context) (N : ℕ → Type 0) (none : N zero → ⊥) (u s h h2 r : ℕ) (whole rest : Code) (from mid to : List Kind) (up1 : (l : ℕ) → N l → Named whole l) (up2 : (l : ℕ) → Named rest l → Named whole l) (less : h2 ≤ h) (good : GoodClosing m H F R c s h2 r rest mid to) where
+    after_first : (x : Machine) (ls : List Layer) (st : State) → beneath ls + h ≤ H → callers ls + r ≤ F → (e : Exit) → Reach m H F R c N u x rest ls st mid e → Turned m H F R c (Named whole) (u + s) x ls st to
     after_first x ls st low shallow (Falls vs) p =
         let y = good vs ls p.final p.fits p.sound (omega (arith, low, less)) shallow in
         let q = y.1 in
-        (y.0, record { final = q.final; steps = p.steps + q.steps; by = comes_on m H F p.steps q.steps x _ _ p.by q.by; fits = q.fits; named = renamed m H F (Named rest) (Named whole) up2 y.0 q.named; sound = q.sound; taken = p.taken + q.taken; items = omega (arith, p.items, q.items); cost = cost_both u s _ _ _ p.taken q.taken p.cost q.cost; short = omega (arith, p.short, q.short) }, goes_too u s st.count p.final.count q.final.count p.taken q.taken y.0 p.cost y.2)
+        (y.0, record { final = q.final; steps = p.steps + q.steps; by = comes_on m H F R p.steps q.steps x _ _ p.by q.by; fits = q.fits; named = renamed m H F R (Named rest) (Named whole) up2 y.0 q.named; sound = q.sound; taken = p.taken + q.taken; items = omega (arith, p.items, q.items); cost = cost_both u s _ _ _ p.taken q.taken p.cost q.cost; short = omega (arith, p.short, q.short) }, goes_too u s st.count p.final.count q.final.count p.taken q.taken y.0 p.cost y.2)
     after_first x ls st low shallow (Branches l top) p =
         (Branches l top, record { final = p.final; steps = p.steps; by = p.by; fits = p.fits; named = up1 l p.named; sound = p.sound; taken = p.taken; items = p.items; cost = cost_more u (u + s) _ _ p.taken (omega arith) p.cost; short = p.short }, no_turn (u + s) st.count p.final.count p.taken N none (Branches l top) p.named)
     after_first x ls st low shallow (Returns top) p =
         (Returns top, record { final = p.final; steps = p.steps; by = p.by; fits = p.fits; named = p.named; sound = p.sound; taken = p.taken; items = p.items; cost = cost_more u (u + s) _ _ p.taken (omega arith) p.cost; short = p.short }, tt)
 
     -- an instruction that does not go to the loop, and then code that closes it
-    pub before : GoodStep m H F c N u h r whole rest from mid → GoodClosing m H F c (u + s) h r whole from to
+    pub before : GoodStep m H F R c N u h r whole rest from mid → GoodClosing m H F R c (u + s) h r whole from to
     before step vs ls st k sound low shallow =
         let p = step vs ls st k sound low shallow in after_first (Running vs whole ls st) ls st low shallow p.0 p.1
 
@@ -97,21 +97,21 @@ closing_least m f = omega (arith, call_least m f, branch_least (branch.BrIf 0))
 cost_one : (u a S t : ℕ) → u ≤ S → a + u ≤ a + S * (1 + t)
 cost_one u a S t h = omega arith
 
-module _ (m : Module) (H F : ℕ) (c : Context) (f : ℕ) (call : HostCall) (takes_item : TakesItem (Some call)) (called : slice_get (functions_of m) f ≡ Some (host (Some call))) (t : Option ValType) (label : slice_get c.labels 0 ≡ Some t) (from to : List Kind) (S h r : ℕ) (stays : (vs : List Value) → HasKinds vs from → (1 + length vs ≤ h) × IsTop t (first vs) × HasKinds vs to) (sized : closing_units m f ≤ S) (frame : 1 ≤ r) where
+module _ (m : Module) (H F : ℕ) (R : ℕ → ℕ → Type 0) (c : Context) (f : ℕ) (call : HostCall) (takes_item : TakesItem (Some call)) (called : slice_get (functions_of m) f ≡ Some (host (Some call))) (t : Option ValType) (label : slice_get c.labels 0 ≡ Some t) (from to : List Kind) (S h r : ℕ) (stays : (vs : List Value) → HasKinds vs from → (1 + length vs ≤ h) × IsTop t (first vs) × HasKinds vs to) (sized : closing_units m f ≤ S) (frame : 1 ≤ r) where
   module _ (vs : List Value) (ls : List Layer) (st : State) (k : HasKinds vs from) (sound : Sound m c.locals st) (low : beneath ls + h ≤ H) (shallow : callers ls + r ≤ F) where
     called_gives : (b : ℕ) (after : State) → call_effect call vs (tick (call_units m f) st) ≡ Gives (I32 b ∷ vs) after → advance m (Running vs (closing f) ls st) ≡ Running (I32 b ∷ vs) (code.branch (branch.BrIf 0) code.end) ls after
     called_gives b after e =
         ap (λ (o : Option Callee). take_call m o vs (code.branch (branch.BrIf 0) code.end) ls (tick (call_units m f) st)) called
         ∙ ap (λ (x : Effect). after_effect x (code.branch (branch.BrIf 0) code.end) ls (st.count + call_units m f)) e
 
-    two : (b : ℕ) (after : State) (z : Machine) → call_effect call vs (tick (call_units m f) st) ≡ Gives (I32 b ∷ vs) after → advance m (Running (I32 b ∷ vs) (code.branch (branch.BrIf 0) code.end) ls after) ≡ z → Comes m H F (1 + 1) (Running vs (closing f) ls st) z
+    two : (b : ℕ) (after : State) (z : Machine) → call_effect call vs (tick (call_units m f) st) ≡ Gives (I32 b ∷ vs) after → advance m (Running (I32 b ∷ vs) (code.branch (branch.BrIf 0) code.end) ls after) ≡ z → Comes m H F R (1 + 1) (Running vs (closing f) ls st) z
     two b after z e g =
         let n = (stays vs k).0 in
-        comes_on m H F 1 1 (Running vs (closing f) ls st) (Running (I32 b ∷ vs) (code.branch (branch.BrIf 0) code.end) ls after) z
-        (comes_one m H F _ _ (omega (arith, low, n), omega (arith, shallow, frame)) (called_gives b after e))
-        (comes_one m H F _ _ (omega (arith, low, n), omega (arith, shallow, frame)) g)
+        comes_on m H F R 1 1 (Running vs (closing f) ls st) (Running (I32 b ∷ vs) (code.branch (branch.BrIf 0) code.end) ls after) z
+        (comes_one m H F R _ _ (omega (arith, low, n), omega (arith, shallow, frame), tt) (called_gives b after e))
+        (comes_one m H F R _ _ (omega (arith, low, n), omega (arith, shallow, frame), tt) g)
 
-    leaves : call_effect call vs (tick (call_units m f) st) ≡ Gives (I32 0 ∷ vs) (tick (call_units m f) st) → Turned m H F c (Named (closing f)) S (Running vs (closing f) ls st) ls st to
+    leaves : call_effect call vs (tick (call_units m f) st) ≡ Gives (I32 0 ∷ vs) (tick (call_units m f) st) → Turned m H F R c (Named (closing f)) S (Running vs (closing f) ls st) ls st to
     leaves e =
         let n = cost_one (closing_units m f) st.count S 0 sized in (
           Falls vs,
@@ -130,7 +130,7 @@ module _ (m : Module) (H F : ℕ) (c : Context) (f : ℕ) (call : HostCall) (tak
           tt,
         )
 
-    goes_back : Took m c.locals call vs (tick (call_units m f) st) → Turned m H F c (Named (closing f)) S (Running vs (closing f) ls st) ls st to
+    goes_back : Took m c.locals call vs (tick (call_units m f) st) → Turned m H F R c (Named (closing f)) S (Running vs (closing f) ls st) ls st to
     goes_back w =
         let n = cost_one (closing_units m f) st.count S 1 sized in
         let d = cost_one (closing_units m f) st.count S 0 sized in
@@ -151,7 +151,7 @@ module _ (m : Module) (H F : ℕ) (c : Context) (f : ℕ) (call : HostCall) (tak
           (omega arith, omega (arith, d, w.counts)),
         )
 
-  pub closed : GoodClosing m H F c S h r (closing f) from to
+  pub closed : GoodClosing m H F R c S h r (closing f) from to
   closed vs ls st k sound low shallow =
       elim (item_or_none m c.locals vs (tick (call_units m f) st) (ticked m c.locals (call_units m f) st sound) call takes_item) [
         | inl e ↦ leaves vs ls st k sound low shallow e

@@ -66,7 +66,7 @@ gives_is : (ts : List ValType) → gives_one ts ≡ has_result (first_type ts)
 gives_is [] = refl
 gives_is (t ∷ ts) = refl
 
-module _ (m : Module) (H F : ℕ) (lo : List ValType) (o : Option ValType) (labels : List (Option ValType)) where
+module _ (m : Module) (H F : ℕ) (R : ℕ → ℕ → Type 0) (lo : List ValType) (o : Option ValType) (labels : List (Option ValType)) where
   -- ---- calls of the host
 
   abbrev TypedCall : Option HostCall → FuncType → List Kind → List Kind → Type 0
@@ -76,13 +76,13 @@ module _ (m : Module) (H F : ℕ) (lo : List ValType) (o : Option ValType) (labe
   host_changes f t g from to c =
       subst (λ (u : FuncType). TypedCall (Some g.call) u from to) g.typed (subst (λ (hc : Option HostCall). TypedCall hc t from to) g.named c)
 
-  host_good : (f s : ℕ) (t : FuncType) (g : IsHostFunction m f t) (from to : List Kind) → TypedCall (host_call_at m f) t from to → (vs : List Value) (is : Code) (ls : List Layer) (st : State) → HasKinds vs from → Sound m lo st → IsLow H F (Running vs (code.call f is) ls st) → Reaches m H F (context m lo o labels) (Named (code.call f code.end)) (call_units m f + s) (Running vs (code.call f is) ls st) is ls st to
+  host_good : (f s : ℕ) (t : FuncType) (g : IsHostFunction m f t) (from to : List Kind) → TypedCall (host_call_at m f) t from to → (vs : List Value) (is : Code) (ls : List Layer) (st : State) → HasKinds vs from → Sound m lo st → IsLow H F R (Running vs (code.call f is) ls st) → Reaches m H F R (context m lo o labels) (Named (code.call f code.end)) (call_units m f + s) (Running vs (code.call f is) ls st) is ls st to
   host_good f s t g from to c vs is ls st h sound low =
       let d = host_changes f t g from to c in
       let r = takes (memory_bytes m) (call_wants (context m lo o labels) (Some g.call) (type_of_call g.call).parameters) vs from d.0 d.1 h in
       let given = subst (λ (ks : List Kind). Given m lo (call_effect g.call vs (tick (call_units m f) st)) (tick (call_units m f) st) ks) (sym d.2) (host_given m lo g.call o labels vs r.0 (tick (call_units m f) st) d.0 r.1 r.2 (ticked m lo (call_units m f) st sound)) in
-      larger m H F (context m lo o labels) (Named (code.call f code.end)) (Named (code.call f code.end)) (λ l k. k) (call_units m f) (call_units m f + s) _ is ls st to (omega arith)
-      (acts m H F (call_units m f) (call_least m f) (context m lo o labels) (Named (code.call f code.end)) (Running vs (code.call f is) ls st) (call_effect g.call vs (tick (call_units m f) st)) (st.count + call_units m f) is ls st to low (ap (λ (x : Option Callee). take_call m x vs is ls (tick (call_units m f) st)) g.called) given)
+      larger m H F R (context m lo o labels) (Named (code.call f code.end)) (Named (code.call f code.end)) (λ l k. k) (call_units m f) (call_units m f + s) _ is ls st to (omega arith)
+      (acts m H F R (call_units m f) (call_least m f) (context m lo o labels) (Named (code.call f code.end)) (Running vs (code.call f is) ls st) (call_effect g.call vs (tick (call_units m f) st)) (st.count + call_units m f) is ls st to low (ap (λ (x : Option Callee). take_call m x vs is ls (tick (call_units m f) st)) g.called) given)
 
   -- ---- calls of the module's functions
 
@@ -103,10 +103,10 @@ module _ (m : Module) (H F : ℕ) (lo : List ValType) (o : Option ValType) (labe
       let turned = subst (λ (ts : List ValType). HasTypes (reverse (take (length t.parameters) vs)) ts) (reverse-reverse t.parameters) (types-reverse (take (length t.parameters) vs) (reverse t.parameters) k) in
       (omega (arith, n, a.enough), turned, subst (λ (j : ℕ). HasKinds (drop j vs) below) n a.left, subst (λ (j : ℕ). length vs ≡ j + length (drop j vs)) n a.counted)
 
-  entered : (f s hf df r : ℕ) (t : FuncType) (g : IsDefinedFunction m f t) → GoodCode m H F (inside m (t.parameters ++ g.function.locals) (first_type t.results)) s hf df g.function.body [] (kinds (first_type t.results))
-      → (from to : List Kind) → TypedCall (host_call_at m f) t from to → (vs : List Value) (is : Code) (ls : List Layer) (st : State) → HasKinds vs from → Sound m lo st → IsLow H F (Running vs (code.call f is) ls st)
+  entered : (f s hf df r : ℕ) (t : FuncType) (g : IsDefinedFunction m f t) → GoodCode m H F R (inside m (t.parameters ++ g.function.locals) (first_type t.results)) s hf df g.function.body [] (kinds (first_type t.results))
+      → (from to : List Kind) → TypedCall (host_call_at m f) t from to → (vs : List Value) (is : Code) (ls : List Layer) (st : State) → HasKinds vs from → Sound m lo st → IsLow H F R (Running vs (code.call f is) ls st)
       → beneath ls + (length vs - length t.parameters + hf) ≤ H → beneath ls + length to ≤ H → callers ls + r ≤ F → df < r → 1 ≤ df
-      → Reaches m H F (context m lo o labels) (Named (code.call f code.end)) (call_units m f + s) (Running vs (code.call f is) ls st) is ls st to
+      → Reaches m H F R (context m lo o labels) (Named (code.call f code.end)) (call_units m f + s) (Running vs (code.call f is) ls st) is ls st to
   entered f s hf df r t g good from to c vs is ls st h sound low room after shallow less one =
       let d = defined_changes f t g from to c in
       let k = takes (memory_bytes m) (map want.Value (reverse t.parameters)) vs from d.0 d.1 h in
@@ -121,12 +121,12 @@ module _ (m : Module) (H F : ℕ) (lo : List ValType) (o : Option ValType) (labe
         bytes_there = sound.bytes_there;
       } in
       let q = good [] inner there tt inner_sound (omega (arith, room, a.3)) (omega (arith, shallow, less)) in
-      let b = subst (λ (y : Machine). Reach m H F (inside m (t.parameters ++ g.function.locals) (first_type t.results)) (Named g.function.body) s y code.end inner there (kinds (first_type t.results)) q.0) (sym (enters f t g vs is ls st a.0)) q.1 in
+      let b = subst (λ (y : Machine). Reach m H F R (inside m (t.parameters ++ g.function.locals) (first_type t.results)) (Named g.function.body) s y code.end inner there (kinds (first_type t.results)) q.0) (sym (enters f t g vs is ls st a.0)) q.1 in
       let size = length-append (kinds (first_type t.results)) d.0 in
       let sum = ap (λ (ks : List Kind). length ks) d.2 in
       let left = kinds_length us d.0 a.2 in
-      subst (Reaches m H F (context m lo o labels) (Named (code.call f code.end)) (call_units m f + s) (Running vs (code.call f is) ls st) is ls st) (sym d.2)
-      (call m H F (context m lo o labels) (t.parameters ++ g.function.locals) (first_type t.results) (gives_one t.results) (gives_is t.results) s (Running vs (code.call f is) ls st) us is ls st zs d.0 a.2 sound low (call_units m f) (call_least m f) (omega (arith, after, size, sum, left)) (omega (arith, shallow, less, one)) (Named g.function.body) (Named (code.call f code.end)) q.0 b)
+      subst (Reaches m H F R (context m lo o labels) (Named (code.call f code.end)) (call_units m f + s) (Running vs (code.call f is) ls st) is ls st) (sym d.2)
+      (call m H F R (context m lo o labels) (t.parameters ++ g.function.locals) (first_type t.results) (gives_one t.results) (gives_is t.results) s (Running vs (code.call f is) ls st) us is ls st zs d.0 a.2 sound low (call_units m f) (call_least m f) (omega (arith, after, size, sum, left)) (omega (arith, shallow, less, one)) (Named g.function.body) (Named (code.call f code.end)) q.0 b)
 
   -- ---- both
 
@@ -150,10 +150,10 @@ module _ (m : Module) (H F : ℕ) (lo : List ValType) (o : Option ValType) (labe
   call_length f t (inl g) from to c = call_length_host f t g from to c
   call_length f t (inr g) from to c = call_length_defined f t g from to c
 
-  pub call_good : (f s hf df r : ℕ) (t : FuncType) (which : IsHostFunction m f t ⊎ IsDefinedFunction m f t) → ((g : IsDefinedFunction m f t) → (1 ≤ df) × GoodCode m H F (inside m (t.parameters ++ g.function.locals) (first_type t.results)) s hf df g.function.body [] (kinds (first_type t.results)))
-      → (from to : List Kind) → TypedCall (host_call_at m f) t from to → (vs : List Value) (is : Code) (ls : List Layer) (st : State) → HasKinds vs from → Sound m lo st → IsLow H F (Running vs (code.call f is) ls st)
+  pub call_good : (f s hf df r : ℕ) (t : FuncType) (which : IsHostFunction m f t ⊎ IsDefinedFunction m f t) → ((g : IsDefinedFunction m f t) → (1 ≤ df) × GoodCode m H F R (inside m (t.parameters ++ g.function.locals) (first_type t.results)) s hf df g.function.body [] (kinds (first_type t.results)))
+      → (from to : List Kind) → TypedCall (host_call_at m f) t from to → (vs : List Value) (is : Code) (ls : List Layer) (st : State) → HasKinds vs from → Sound m lo st → IsLow H F R (Running vs (code.call f is) ls st)
       → beneath ls + (length vs - length t.parameters + hf) ≤ H → beneath ls + length to ≤ H → callers ls + r ≤ F → df < r
-      → Reaches m H F (context m lo o labels) (Named (code.call f code.end)) (call_units m f + s) (Running vs (code.call f is) ls st) is ls st to
+      → Reaches m H F R (context m lo o labels) (Named (code.call f code.end)) (call_units m f + s) (Running vs (code.call f is) ls st) is ls st to
   call_good f s hf df r t (inl g) good from to c vs is ls st h sound low room after shallow less = host_good f s t g from to c vs is ls st h sound low
   call_good f s hf df r t (inr g) good from to c vs is ls st h sound low room after shallow less =
       let k = good g in

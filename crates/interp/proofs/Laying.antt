@@ -1,6 +1,6 @@
 -- What a call begins with, as cells.
-use Rattle.std.proofs.Common.{◌≡◌, ◌^◌, ℕ, List, [], ◌∷◌, ◌++◌, Option, Some, None, Result, Ok, Err, IsSome, true, option_map, map, replicate, slice_get, refl, sym, ap, ◌∙◌, subst}
-use Rattle.std.proofs.lemmas.Bool.{ltb-true}
+use Rattle.std.proofs.Common.{◌≡◌, ◌+◌, ◌^◌, ℕ, List, [], ◌∷◌, ◌++◌, Bool, true, false, Option, Some, None, Result, Ok, Err, IsSome, option_map, length, map, take, drop, nat_le, replicate, slice_get, if◌then◌else◌, refl, sym, ap, ◌∙◌, subst}
+use Rattle.std.proofs.lemmas.Bool.{leb-true, ltb-true}
 use Rattle.std.proofs.lemmas.List.{map-append}
 use Rattle.std.proofs.lemmas.Option.{slice_get-map}
 use Rattle.std.specs.Option.{option_and_then}
@@ -16,19 +16,23 @@ use Rattle.wasm_ast.specs.declared.module.Global.{Global}
 use Rattle.wasm_ast.specs.declared.module.Module.{Module}
 use Rattle.wasm_ast.specs.Code.{Code}
 use Rattle.wasm_ast.specs.Code as code
+use Rattle.wasm_ast.specs.Values.{zero_of}
 use Rattle.host_calls.specs.declared.call.CallInput.{CallInput}
 use Rattle.host_calls.specs.Host.{Host, host_of}
 use Rattle.bounded_profile.specs.Memory.{memory_bytes}
 use Rattle.interp.specs.Machine.{Layer}
+use Rattle.interp.specs.Memory.{laid}
 use Rattle.interp.specs.Start.{Starts, before, constant_plain, constant_value, initial_globals, initial_memory, laid_at, laid_in, segment_laid, start_state}
-use Rattle.interp.specs.inside.Begun.{AreInitial, BeginsWith, IsBeginning, cell_laid_at, cell_memory_laid, cell_segment_laid, cells_laid_in}
+use Rattle.interp.specs.inside.Begun.{AreInitial, AreInitialBytes, BeginsWith, IsBeginning, cell_laid_at, cell_memory_laid, cell_segment_laid, cells_laid_in}
 use Rattle.interp.specs.inside.Cells.{cell_of, cells_place, in_width, zero_cells}
 use Rattle.interp.specs.inside.Fits.{AreFit, IsFit}
+use Rattle.interp.specs.inside.Kept.{laid_over, marks, masked}
 use Rattle.interp.specs.inside.Place.{Place, Standing, at, running}
 use Rattle.interp.proofs.Beginnings.{after, after_all, after_one}
 use Rattle.interp.proofs.Cells.{zeros_follow}
 use Rattle.interp.proofs.Ending.{comes_here}
 use Rattle.interp.proofs.Fits.{fit-append, zeros_fit}
+use Rattle.interp.proofs.Kept.{laid_masked, length-masked}
 use Rattle.interp.proofs.Values.{some_is}
 
 -- ---- answers
@@ -87,61 +91,80 @@ constant_both P gs hs f n (code.block t inner is) = n
 constant_both P gs hs f n (code.loop t inner is) = n
 constant_both P gs hs f n (code.choice t inner other is) = n
 
--- where a segment lies at a value, it does at its cell
+-- where a segment lies at a value, what is kept of it does at its cell
 abbrev Lies : Option Value → Option Value → Type 0
-Lies o u = (segment bytes r : List ℕ) → laid_at o segment bytes ≡ Some r → cell_laid_at u segment bytes ≡ Some r
+Lies o u =
+    (ms : List Bool) (segment bytes r : List ℕ) → laid_at o segment bytes ≡ Some r → cell_laid_at u segment (masked ms bytes) ≡ Some (masked ms r)
+
+lies_at : (n : ℕ) (ms : List Bool) (segment bytes r : List ℕ) → laid n segment bytes ≡ Some r → cell_laid_at (Some (I64 n)) segment (masked ms bytes) ≡ Some (masked ms r)
+lies_at n ms segment bytes r e = by_place (nat_le (n + length segment) (length bytes)) refl
+  where
+    by_place : (b : Bool) → nat_le (n + length segment) (length bytes) ≡ b → cell_laid_at (Some (I64 n)) segment (masked ms bytes) ≡ Some (masked ms r)
+    by_place true h =
+        let there : Some (take n bytes ++ segment ++ drop (n + length segment) bytes) ≡ Some r = sym (ap (λ (b : Bool). if b then Some (take n bytes ++ segment ++ drop (n + length segment) bytes) else None) h) ∙ e in
+        ap (λ (k : ℕ). if nat_le (n + length segment) k then Some (laid_over n segment (masked ms bytes)) else None) (length-masked ms bytes)
+        ∙ ap (λ (b : Bool). if b then Some (laid_over n segment (masked ms bytes)) else None) h
+        ∙ ap (λ (l : List ℕ). Some l) (laid_masked n segment bytes ms (leb-true (n + length segment) (length bytes) h))
+        ∙ ap (λ (l : List ℕ). Some (masked ms l)) (some_is (take n bytes ++ segment ++ drop (n + length segment) bytes) r there)
+    by_place false h =
+        let none : None ≡ Some r = sym (ap (λ (b : Bool). if b then Some (take n bytes ++ segment ++ drop (n + length segment) bytes) else None) h) ∙ e in absurd cc
 
 no_place : Lies None None
-no_place segment bytes r e = absurd cc
+no_place ms segment bytes r e = absurd cc
 
 got : (o : Option Value) → Lies o (option_map cell_of o)
-got None segment bytes r e = absurd cc
-got (Some (I32 n)) segment bytes r e = e
-got (Some (I64 n)) segment bytes r e = absurd cc
+got None ms segment bytes r e = absurd cc
+got (Some (I32 n)) ms segment bytes r e = lies_at n ms segment bytes r e
+got (Some (I64 n)) ms segment bytes r e = absurd cc
 
 at_variable : (gs : List Value) (x : ℕ) → Lies (slice_get gs x) (slice_get (map cell_of gs) x)
 at_variable gs x = subst (λ (o : Option Value). Lies (slice_get gs x) o) (sym (slice_get-map cell_of gs x)) (got (slice_get gs x))
 
 at_plain : (gs : List Value) (p : Plain) → Lies (constant_plain gs p) (constant_plain (map cell_of gs) p)
-at_plain gs (plain.Const (I32 n)) segment bytes r e = e
-at_plain gs (plain.Const (I64 n)) segment bytes r e = absurd cc
-at_plain gs (plain.Variable (variable.GlobalGet x)) segment bytes r e = at_variable gs x segment bytes r e
-at_plain gs (plain.Variable (variable.LocalGet x)) segment bytes r e = absurd cc
-at_plain gs (plain.Variable (variable.LocalSet x)) segment bytes r e = absurd cc
-at_plain gs (plain.Variable (variable.LocalTee x)) segment bytes r e = absurd cc
-at_plain gs (plain.Variable (variable.GlobalSet x)) segment bytes r e = absurd cc
-at_plain gs plain.Nop segment bytes r e = absurd cc
-at_plain gs plain.Drop segment bytes r e = absurd cc
-at_plain gs plain.Select segment bytes r e = absurd cc
-at_plain gs (plain.Numeric op) segment bytes r e = absurd cc
-at_plain gs (plain.Memory op) segment bytes r e = absurd cc
+at_plain gs (plain.Const (I32 n)) ms segment bytes r e = lies_at n ms segment bytes r e
+at_plain gs (plain.Const (I64 n)) ms segment bytes r e = absurd cc
+at_plain gs (plain.Variable (variable.GlobalGet x)) ms segment bytes r e = at_variable gs x ms segment bytes r e
+at_plain gs (plain.Variable (variable.LocalGet x)) ms segment bytes r e = absurd cc
+at_plain gs (plain.Variable (variable.LocalSet x)) ms segment bytes r e = absurd cc
+at_plain gs (plain.Variable (variable.LocalTee x)) ms segment bytes r e = absurd cc
+at_plain gs (plain.Variable (variable.GlobalSet x)) ms segment bytes r e = absurd cc
+at_plain gs plain.Nop ms segment bytes r e = absurd cc
+at_plain gs plain.Drop ms segment bytes r e = absurd cc
+at_plain gs plain.Select ms segment bytes r e = absurd cc
+at_plain gs (plain.Numeric op) ms segment bytes r e = absurd cc
+at_plain gs (plain.Memory op) ms segment bytes r e = absurd cc
 
-segment_lies : (gs : List Value) (d : Data) (bytes r : List ℕ) → segment_laid gs d bytes ≡ Some r → cell_segment_laid (map cell_of gs) d bytes ≡ Some r
-segment_lies gs d bytes r e = constant_both Lies gs (map cell_of gs) (at_plain gs) no_place d.offset d.bytes bytes r e
+module _ (ms : List Bool) (gs : List Value) where
+  segment_lies : (d : Data) (bytes r : List ℕ) → segment_laid gs d bytes ≡ Some r → cell_segment_laid (map cell_of gs) d (masked ms bytes) ≡ Some (masked ms r)
+  segment_lies d bytes r e = constant_both Lies gs (map cell_of gs) (at_plain gs) no_place d.offset ms d.bytes bytes r e
 
-others_lie : (gs : List Value) (d : Data) (ds : List Data) (bytes r : List ℕ) (o : Option (List ℕ)) → ((b : List ℕ) → laid_in gs ds b ≡ Some r → cells_laid_in (map cell_of gs) ds b ≡ Some r) → segment_laid gs d bytes ≡ o → option_and_then (λ laid. laid_in gs ds laid) o ≡ Some r → cells_laid_in (map cell_of gs) (d ∷ ds) bytes ≡ Some r
-others_lie gs d ds bytes r None others s e = absurd cc
-others_lie gs d ds bytes r (Some b) others s e =
-    ap (λ (o : Option (List ℕ)). option_and_then (λ laid. cells_laid_in (map cell_of gs) ds laid) o) (segment_lies gs d bytes b s) ∙ others b e
+  others_lie : (d : Data) (ds : List Data) (bytes r : List ℕ) (o : Option (List ℕ)) → ((b : List ℕ) → laid_in gs ds b ≡ Some r → cells_laid_in (map cell_of gs) ds (masked ms b) ≡ Some (masked ms r)) → segment_laid gs d bytes ≡ o → option_and_then (λ laid. laid_in gs ds laid) o ≡ Some r → cells_laid_in (map cell_of gs) (d ∷ ds) (masked ms bytes) ≡ Some (masked ms r)
+  others_lie d ds bytes r None others s e = absurd cc
+  others_lie d ds bytes r (Some b) others s e =
+      ap (λ (o : Option (List ℕ)). option_and_then (λ laid. cells_laid_in (map cell_of gs) ds laid) o) (segment_lies d bytes b s) ∙ others b e
 
-segments_lie : (gs : List Value) (ds : List Data) (bytes r : List ℕ) → laid_in gs ds bytes ≡ Some r → cells_laid_in (map cell_of gs) ds bytes ≡ Some r
-segments_lie gs [] bytes r e = e
-segments_lie gs (d ∷ ds) bytes r e = others_lie gs d ds bytes r (segment_laid gs d bytes) (λ b. segments_lie gs ds b r) refl e
+  segments_lie : (ds : List Data) (bytes r : List ℕ) → laid_in gs ds bytes ≡ Some r → cells_laid_in (map cell_of gs) ds (masked ms bytes) ≡ Some (masked ms r)
+  segments_lie [] bytes r e = ap (λ (o : Option (List ℕ)). option_map (masked ms) o) e
+  segments_lie (d ∷ ds) bytes r e = others_lie d ds bytes r (segment_laid gs d bytes) (λ b. segments_lie ds b r) refl e
 
 module _ (m : Module) (f : Function) (begins : BeginsWith m f) (cells : List Value) (a : AreInitial m.globals cells) where
   same_values : a.values ≡ begins.globals
   same_values = some_is a.values begins.globals (sym a.initial ∙ begins.begins.initial_values)
 
-  memory_lies : cell_memory_laid cells m ≡ Some begins.bytes
+  memory_lies : cell_memory_laid cells m ≡ Some (masked (marks m) begins.bytes)
   memory_lies =
       ap (λ (l : List Value). cell_memory_laid l m) (sym a.are) ∙ ap (λ (vs : List Value). cell_memory_laid (map cell_of vs) m) same_values
-      ∙ segments_lie begins.globals m.data (replicate (memory_bytes m) 0) begins.bytes begins.begins.initial_bytes
+      ∙ segments_lie (marks m) begins.globals m.data (replicate (memory_bytes m) 0) begins.bytes begins.begins.initial_bytes
 
   pub memory_there : IsSome (cell_memory_laid cells m)
   memory_there = subst (λ (o : Option (List ℕ)). IsSome o) (sym memory_lies) refl
 
-  pub memory_is : (bytes : List ℕ) → cell_memory_laid cells m ≡ Some bytes → initial_memory a.values m ≡ Some bytes
-  memory_is bytes e = ap (λ (vs : List Value). initial_memory vs m) same_values ∙ begins.begins.initial_bytes ∙ sym memory_lies ∙ e
+  pub memory_is : (bytes : List ℕ) → cell_memory_laid cells m ≡ Some bytes → AreInitialBytes m a.values bytes
+  memory_is bytes e = record {
+    whole = begins.bytes;
+    initial = ap (λ (vs : List Value). initial_memory vs m) same_values ∙ begins.begins.initial_bytes;
+    are = some_is (masked (marks m) begins.bytes) bytes (sym memory_lies ∙ e);
+  }
 
 -- ---- the first configuration
 
@@ -164,17 +187,18 @@ module _ (m : Module) (f : Function) (input : CallInput) (begins : BeginsWith m 
         is = refl;
       }
 
-  pub begins_as_cells : (s : Standing) (a : AreInitial m.globals s.globals) → initial_memory a.values m ≡ Some s.memory → s.values ≡ [] → s.layers ≡ [] → s.locals ≡ zero_cells f.locals → s.host ≡ host_of input → IsBeginning m f.body input s
+  pub begins_as_cells : (s : Standing) (a : AreInitial m.globals s.globals) → AreInitialBytes m a.values s.memory → s.values ≡ [] → s.layers ≡ [] → s.locals ≡ zero_cells f.locals → s.host ≡ host_of input → IsBeginning m f.body input s
   begins_as_cells s a bytes no_values no_layers locals host =
-      let first = first_place a.values s.memory in
-      let is : cells_place first ≡ at s f.body 0 =
-      ap (λ (l : List Value). place_with f.body [] [] l (map cell_of a.values) s.memory (host_of input)) (sym (zeros_follow f.locals) ∙ sym locals)
+      let first = first_place a.values bytes.whole in
+      let is : cells_place (marks m) first ≡ at s f.body 0 =
+      ap (λ (l : List ℕ). place_with f.body [] [] (map cell_of (map zero_of f.locals)) (map cell_of a.values) l (host_of input)) bytes.are
+      ∙ ap (λ (l : List Value). place_with f.body [] [] l (map cell_of a.values) s.memory (host_of input)) (sym (zeros_follow f.locals) ∙ sym locals)
       ∙ ap (λ (l : List Value). place_with f.body [] [] s.locals l s.memory (host_of input)) a.are
       ∙ ap (λ (h : Host). place_with f.body [] [] s.locals s.globals s.memory h) (sym host)
       ∙ ap (λ (l : List Value). place_with f.body l [] s.locals s.globals s.memory s.host) (sym no_values)
       ∙ ap (λ (l : List Layer). place_with f.body s.values l s.locals s.globals s.memory s.host) (sym no_layers) in
       record {
         from = running first;
-        starts = starts a.values s.memory a.initial bytes;
+        starts = starts a.values bytes.whole a.initial bytes.initial;
         follows = record { place = first; comes = comes_here m (running first); fits = (tt, (tt, (zeros_fit f.locals, a.fit))); is = is };
       }

@@ -94,7 +94,7 @@ module _ (m : Module) (ls : List ValType) (o : Option ValType) (labels : List (O
       let d = length-append gs c.0 in
       omega (arith, a, b, d)
 
-  numeric_length : (op : Numeric) → length (numeric_wants (context m ls o labels) op) ≡ length (numeric_takes op)
+  pub numeric_length : (op : Numeric) → length (numeric_wants (context m ls o labels) op) ≡ length (numeric_takes op)
   numeric_length (numeric.Eqz t) = refl
   numeric_length (numeric.Comparison t op) = refl
   numeric_length (numeric.Unary t op) = refl

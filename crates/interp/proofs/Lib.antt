@@ -15,6 +15,8 @@ pub mod Plains
 pub mod Hosts
 pub mod Callees
 pub mod Lengths
+pub mod Covering
+pub mod Kept
 pub mod Reach
 pub mod Calling
 pub mod Loops
@@ -38,3 +40,6 @@ pub mod Fits
 pub mod Stored
 pub mod Following
 pub mod Laying
+pub mod Piles
+pub mod Lent
+pub mod Passing

@@ -126,7 +126,7 @@ cost_also a S u b k = omega arith
 cost_none : (u s a S : ℕ) → u + s ≤ S → a + u ≤ a + S * (1 + 0)
 cost_none u s a S h = omega arith
 
-module _ (m : Module) (H F : ℕ) (c : Context) (f l : ℕ) (rest : Code) (call : HostCall) (takes_item : TakesItem (Some call)) (called : slice_get (functions_of m) f ≡ Some (host (Some call))) (t : Option ValType) (label : slice_get c.labels (suc l) ≡ Some t) (top : IsTop t None) (mid to : List Kind) (empty : HasKinds [] mid) (s h r S h0 : ℕ) (good : GoodCode m H F c s h r rest mid to) (sized : opening_units m f (suc l) + s ≤ S) (one : 1 ≤ h0) (high : h ≤ h0) (frame : 1 ≤ r) where
+module _ (m : Module) (H F : ℕ) (R : ℕ → ℕ → Type 0) (c : Context) (f l : ℕ) (rest : Code) (call : HostCall) (takes_item : TakesItem (Some call)) (called : slice_get (functions_of m) f ≡ Some (host (Some call))) (t : Option ValType) (label : slice_get c.labels (suc l) ≡ Some t) (top : IsTop t None) (mid to : List Kind) (empty : HasKinds [] mid) (s h r S h0 : ℕ) (good : GoodCode m H F R c s h r rest mid to) (sized : opening_units m f (suc l) + s ≤ S) (one : 1 ≤ h0) (high : h ≤ h0) (frame : 1 ≤ r) where
   module _ (ls : List Layer) (st : State) (low : beneath ls + h0 ≤ H) (shallow : callers ls + r ≤ F) where
     -- the call, and the instructions after it, where it gives this number
     called_gives : (b : ℕ) (after : State) → call_effect call [] (tick (call_units m f) st) ≡ Gives (I32 b ∷ []) after → advance m (Running [] (opening f (suc l) rest) ls st) ≡ Running (I32 b ∷ []) (code.plain (plain.Numeric (numeric.Eqz val_type.I32)) (code.branch (branch.BrIf (suc l)) rest)) ls after
@@ -137,15 +137,15 @@ module _ (m : Module) (H F : ℕ) (c : Context) (f l : ℕ) (rest : Code) (call 
     three : (b : ℕ) (after : State) (z : Machine) (x : Value) → call_effect call [] (tick (call_units m f) st) ≡ Gives (I32 b ∷ []) after
         → advance m (Running (I32 b ∷ []) (code.plain (plain.Numeric (numeric.Eqz val_type.I32)) (code.branch (branch.BrIf (suc l)) rest)) ls after) ≡ Running (x ∷ []) (code.branch (branch.BrIf (suc l)) rest) ls (tick (plain_units (plain.Numeric (numeric.Eqz val_type.I32))) after)
         → advance m (Running (x ∷ []) (code.branch (branch.BrIf (suc l)) rest) ls (tick (plain_units (plain.Numeric (numeric.Eqz val_type.I32))) after)) ≡ z
-        → Comes m H F (1 + (1 + 1)) (Running [] (opening f (suc l) rest) ls st) z
+        → Comes m H F R (1 + (1 + 1)) (Running [] (opening f (suc l) rest) ls st) z
     three b after z x e g k =
-        comes_on m H F 1 (1 + 1) (Running [] (opening f (suc l) rest) ls st) (Running (I32 b ∷ []) (code.plain (plain.Numeric (numeric.Eqz val_type.I32)) (code.branch (branch.BrIf (suc l)) rest)) ls after) z
-        (comes_one m H F _ _ (omega (arith, low), omega (arith, shallow, frame)) (called_gives b after e))
-        (comes_on m H F 1 1 (Running (I32 b ∷ []) (code.plain (plain.Numeric (numeric.Eqz val_type.I32)) (code.branch (branch.BrIf (suc l)) rest)) ls after) (Running (x ∷ []) (code.branch (branch.BrIf (suc l)) rest) ls (tick (plain_units (plain.Numeric (numeric.Eqz val_type.I32))) after)) z
-        (comes_one m H F _ _ (omega (arith, low, one), omega (arith, shallow, frame)) g)
-        (comes_one m H F _ _ (omega (arith, low, one), omega (arith, shallow, frame)) k))
+        comes_on m H F R 1 (1 + 1) (Running [] (opening f (suc l) rest) ls st) (Running (I32 b ∷ []) (code.plain (plain.Numeric (numeric.Eqz val_type.I32)) (code.branch (branch.BrIf (suc l)) rest)) ls after) z
+        (comes_one m H F R _ _ (omega (arith, low), omega (arith, shallow, frame), tt) (called_gives b after e))
+        (comes_on m H F R 1 1 (Running (I32 b ∷ []) (code.plain (plain.Numeric (numeric.Eqz val_type.I32)) (code.branch (branch.BrIf (suc l)) rest)) ls after) (Running (x ∷ []) (code.branch (branch.BrIf (suc l)) rest) ls (tick (plain_units (plain.Numeric (numeric.Eqz val_type.I32))) after)) z
+        (comes_one m H F R _ _ (omega (arith, low, one), omega (arith, shallow, frame), tt) g)
+        (comes_one m H F R _ _ (omega (arith, low, one), omega (arith, shallow, frame), tt) k))
 
-    leaves : Sound m c.locals st → call_effect call [] (tick (call_units m f) st) ≡ Gives (I32 0 ∷ []) (tick (call_units m f) st) → Turned m H F c (Named (opening f (suc l) rest)) S (Running [] (opening f (suc l) rest) ls st) ls st to
+    leaves : Sound m c.locals st → call_effect call [] (tick (call_units m f) st) ≡ Gives (I32 0 ∷ []) (tick (call_units m f) st) → Turned m H F R c (Named (opening f (suc l) rest)) S (Running [] (opening f (suc l) rest) ls st) ls st to
     leaves sound e =
         let n = cost_none (opening_units m f (suc l)) s st.count S sized in (
           Branches (suc l) None,
@@ -164,7 +164,7 @@ module _ (m : Module) (H F : ℕ) (c : Context) (f l : ℕ) (rest : Code) (call 
           tt,
         )
 
-    goes_on : Took m c.locals call [] (tick (call_units m f) st) → Turned m H F c (Named (opening f (suc l) rest)) S (Running [] (opening f (suc l) rest) ls st) ls st to
+    goes_on : Took m c.locals call [] (tick (call_units m f) st) → Turned m H F R c (Named (opening f (suc l) rest)) S (Running [] (opening f (suc l) rest) ls st) ls st to
     goes_on k =
         let on = tick (branch_units (branch.BrIf (suc l))) (tick (plain_units (plain.Numeric (numeric.Eqz val_type.I32))) k.after) in
         let p = good [] ls on empty (ticked m c.locals _ _ (ticked m c.locals _ k.after k.sound)) (omega (arith, low, high)) shallow in
@@ -176,9 +176,9 @@ module _ (m : Module) (H F : ℕ) (c : Context) (f l : ℕ) (rest : Code) (call 
           record {
             final = q.final;
             steps = 1 + (1 + 1) + q.steps;
-            by = comes_on m H F (1 + (1 + 1)) q.steps (Running [] (opening f (suc l) rest) ls st) (Running [] rest ls on) _ (three 1 k.after (Running [] rest ls on) (I32 0) k.gives refl refl) q.by;
+            by = comes_on m H F R (1 + (1 + 1)) q.steps (Running [] (opening f (suc l) rest) ls st) (Running [] rest ls on) _ (three 1 k.after (Running [] rest ls on) (I32 0) k.gives refl refl) q.by;
             fits = q.fits;
-            named = renamed m H F (Named rest) (Named (opening f (suc l) rest)) (λ n k w. k w.1) p.0 q.named;
+            named = renamed m H F R (Named rest) (Named (opening f (suc l) rest)) (λ n k w. k w.1) p.0 q.named;
             sound = q.sound;
             taken = 1 + q.taken;
             items = n;
@@ -188,7 +188,7 @@ module _ (m : Module) (H F : ℕ) (c : Context) (f l : ℕ) (rest : Code) (call 
           goes S st.count q.final.count (1 + q.taken) p.0 (omega arith) d,
         )
 
-  pub opened : GoodTurn m H F c S h0 r (opening f (suc l) rest) to
+  pub opened : GoodTurn m H F R c S h0 r (opening f (suc l) rest) to
   opened ls st sound low shallow =
       elim (item_or_none m c.locals [] (tick (call_units m f) st) (ticked m c.locals (call_units m f) st sound) call takes_item) [
         | inl e ↦ leaves ls st low shallow sound e

@@ -93,9 +93,3 @@ shed_is n k xs ys s e h g cut =
     let below : reverse (take n ys) ≡ reverse (take n xs) =
     ap (λ (l : List Value). reverse (take n l)) cut' ∙ ap (λ (l : List Value). reverse l) (take-take n (n + j) xs (omega arith)) in
     subst P e (ap (λ (l : List Value). p l (reverse (take n ys))) here ∙ ap (λ (l : List Value). p (drop k (reverse (drop n xs))) l) below)
-
-pub topmost_slice : (n k m : ℕ) (xs ys : List Value) (s : Split) → parts n xs ≡ s → n ≤ length xs → k ≤ length xs - n → ys ≡ xs → m ≡ length xs → take (length ys - (m - k)) (drop (m - k) ys) ≡ reverse (take k s.here)
-topmost_slice n k m xs ys s e h g same l =
-    let a : length ys - (m - k) ≡ length (drop (m - k) ys) = sym (length-drop (m - k) ys) in
-    ap (λ (i : ℕ). take i (drop (m - k) ys)) a ∙ take-length (drop (m - k) ys)
-    ∙ ap (λ (l : List Value). drop (m - k) l) same ∙ ap (λ (i : ℕ). drop (i - k) xs) l ∙ topmost_is n k xs s e h g

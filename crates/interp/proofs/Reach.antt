@@ -12,21 +12,23 @@ use Rattle.bounded_profile.specs.Shapes.{NamesNot}
 use Rattle.interp.specs.Configuration.{State, tick}
 use Rattle.interp.specs.Machine.{Layer, Label, Machine, Running, jump, back, landed, has_result, advance, run}
 use Rattle.interp.specs.Heights.{beneath, operands, callers, frames}
+use Rattle.interp.specs.inside.Kept.{Touches}
 use Rattle.interp.proofs.Values.{HasKinds, IsTop, kinds_length, kinds-append, carried, some_is}
 use Rattle.interp.proofs.Sound.{Sound, items_left}
 
-abbrev pub IsLow : ℕ → ℕ → Machine → Type 0
-IsLow H F x = (operands x ≤ H) × (frames x ≤ F)
+-- not too many operands or frames stand, and R holds of the place and the width that the next instruction loads or stores
+abbrev pub IsLow : ℕ → ℕ → (ℕ → ℕ → Type 0) → Machine → Type 0
+IsLow H F R x = (operands x ≤ H) × (frames x ≤ F) × Touches R x
 
--- at none of these steps do too many operands or frames stand
-abbrev pub AllLow : Module → ℕ → ℕ → ℕ → Machine → Type 0
-AllLow m H F zero x = IsLow H F x
-AllLow m H F (suc n) x = IsLow H F x × AllLow m H F n (advance m x)
+-- so it is at each of these steps
+abbrev pub AllLow : Module → ℕ → ℕ → (ℕ → ℕ → Type 0) → ℕ → Machine → Type 0
+AllLow m H F R zero x = IsLow H F R x
+AllLow m H F R (suc n) x = IsLow H F R x × AllLow m H F R n (advance m x)
 
 -- the machine comes from one configuration to another in at most n steps, and stays low
-abbrev pub Comes : Module → ℕ → ℕ → ℕ → Machine → Machine → Type 0
-Comes m H F n x y =
-    (k : ℕ) → AllLow m H F k y → (j : ℕ) × (j ≤ k + n) × (run m j x ≡ run m k y) × AllLow m H F j x
+abbrev pub Comes : Module → ℕ → ℕ → (ℕ → ℕ → Type 0) → ℕ → Machine → Machine → Type 0
+Comes m H F R n x y =
+    (k : ℕ) → AllLow m H F R k y → (j : ℕ) × (j ≤ k + n) × (run m j x ≡ run m k y) × AllLow m H F R j x
 
 -- how code is left: at its end, by a branch, or by a return, with the operand on top
 pub data Exit : Type 0 where
@@ -61,10 +63,10 @@ below_one l body w = let e : l + 1 ≡ suc l = omega arith in subst (λ (n : ℕ
 
 -- from x, where the state is st, the exit is reached, and its cost is at most s times one more than the items taken;
 -- where it is a branch, it goes to one of the labels N
-pub record Reach (m : Module) (H F : ℕ) (c : Context) (N : ℕ → Type 0) (s : ℕ) (x : Machine) (is : Code) (ls : List Layer) (st : State) (to : List Kind) (e : Exit) : Type 0 where
+pub record Reach (m : Module) (H F : ℕ) (R : ℕ → ℕ → Type 0) (c : Context) (N : ℕ → Type 0) (s : ℕ) (x : Machine) (is : Code) (ls : List Layer) (st : State) (to : List Kind) (e : Exit) : Type 0 where
   pub final : State
   pub steps : ℕ
-  pub by : Comes m H F steps x (arrives e is ls final)
+  pub by : Comes m H F R steps x (arrives e is ls final)
   pub fits : Fits c to e
   pub named : Names N e
   pub sound : Sound m c.locals final
@@ -73,19 +75,19 @@ pub record Reach (m : Module) (H F : ℕ) (c : Context) (N : ℕ → Type 0) (s 
   pub cost : final.count ≤ st.count + s * (1 + taken)
   pub short : steps + 2 * st.count ≤ 2 * final.count
 
-abbrev pub Reaches : Module → ℕ → ℕ → Context → (ℕ → Type 0) → ℕ → Machine → Code → List Layer → State → List Kind → Type 0
-Reaches m H F c N s x is ls st to = (e : Exit) × Reach m H F c N s x is ls st to e
+abbrev pub Reaches : Module → ℕ → ℕ → (ℕ → ℕ → Type 0) → Context → (ℕ → Type 0) → ℕ → Machine → Code → List Layer → State → List Kind → Type 0
+Reaches m H F R c N s x is ls st to = (e : Exit) × Reach m H F R c N s x is ls st to e
 
 -- Code of these operands, this size s and this height h reaches an exit, whatever lies round it. So many frames, r, may
 -- stand in the function that runs.
-abbrev pub GoodCode : Module → ℕ → ℕ → Context → ℕ → ℕ → ℕ → Code → List Kind → List Kind → Type 0
-GoodCode m H F c s h r is from to =
-    (vs : List Value) (ls : List Layer) (st : State) → HasKinds vs from → Sound m c.locals st → beneath ls + h ≤ H → callers ls + r ≤ F → Reaches m H F c (Named is) s (Running vs is ls st) code.end ls st to
+abbrev pub GoodCode : Module → ℕ → ℕ → (ℕ → ℕ → Type 0) → Context → ℕ → ℕ → ℕ → Code → List Kind → List Kind → Type 0
+GoodCode m H F R c s h r is from to =
+    (vs : List Value) (ls : List Layer) (st : State) → HasKinds vs from → Sound m c.locals st → beneath ls + h ≤ H → callers ls + r ≤ F → Reaches m H F R c (Named is) s (Running vs is ls st) code.end ls st to
 
 -- the first instruction of a code reaches the code after it, with labels N, so many units and this height
-abbrev pub GoodStep : Module → ℕ → ℕ → Context → (ℕ → Type 0) → ℕ → ℕ → ℕ → Code → Code → List Kind → List Kind → Type 0
-GoodStep m H F c N u h r whole rest from mid =
-    (vs : List Value) (ls : List Layer) (st : State) → HasKinds vs from → Sound m c.locals st → beneath ls + h ≤ H → callers ls + r ≤ F → Reaches m H F c N u (Running vs whole ls st) rest ls st mid
+abbrev pub GoodStep : Module → ℕ → ℕ → (ℕ → ℕ → Type 0) → Context → (ℕ → Type 0) → ℕ → ℕ → ℕ → Code → Code → List Kind → List Kind → Type 0
+GoodStep m H F R c N u h r whole rest from mid =
+    (vs : List Value) (ls : List Layer) (st : State) → HasKinds vs from → Sound m c.locals st → beneath ls + h ≤ H → callers ls + r ≤ F → Reaches m H F R c N u (Running vs whole ls st) rest ls st mid
 
 -- arithmetic on costs
 pub cost_more : (s s' a b t : ℕ) → s ≤ s' → b ≤ a + s * (1 + t) → b ≤ a + s' * (1 + t)
@@ -104,25 +106,25 @@ times u (suc t) h = omega arith
 pub cost_turn : (u s a b d t v : ℕ) → 1 ≤ t → b ≤ a + u + s * t → d ≤ b + (u + s) * (1 + v) → d ≤ a + (u + s) * (1 + (t + v))
 cost_turn u s a b d t v h k m = let g = times u t h in omega (arith, g)
 
-module _ (m : Module) (H F : ℕ) where
+module _ (m : Module) (H F : ℕ) (R : ℕ → ℕ → Type 0) where
   -- ---- steps
 
-  pub comes_on : (n o : ℕ) (x y z : Machine) → Comes m H F n x y → Comes m H F o y z → Comes m H F (n + o) x z
+  pub comes_on : (n o : ℕ) (x y z : Machine) → Comes m H F R n x y → Comes m H F R o y z → Comes m H F R (n + o) x z
   comes_on n o x y z f g k p = let b = g k p in let a = f b.0 b.3 in (a.0, omega (arith, a.1, b.1), a.2 ∙ b.2, a.3)
 
-  pub comes_first : (n : ℕ) (x z : Machine) → IsLow H F x → Comes m H F n (advance m x) z → Comes m H F (1 + n) x z
+  pub comes_first : (n : ℕ) (x z : Machine) → IsLow H F R x → Comes m H F R n (advance m x) z → Comes m H F R (1 + n) x z
   comes_first n x z low f k p = let a = f k p in (suc a.0, omega (arith, a.1), a.2, (low, a.3))
 
   -- at the end of a way, one step more
-  pub comes_last : (n : ℕ) (x y z : Machine) → Comes m H F n x y → IsLow H F y → advance m y ≡ z → Comes m H F (n + 1) x z
-  comes_last n x y z f low e k p = let a = f (suc k) (low, subst (AllLow m H F k) (sym e) p) in (a.0, omega (arith, a.1), a.2 ∙ ap (run m k) e, a.3)
+  pub comes_last : (n : ℕ) (x y z : Machine) → Comes m H F R n x y → IsLow H F R y → advance m y ≡ z → Comes m H F R (n + 1) x z
+  comes_last n x y z f low e k p = let a = f (suc k) (low, subst (AllLow m H F R k) (sym e) p) in (a.0, omega (arith, a.1), a.2 ∙ ap (run m k) e, a.3)
 
-  pub comes_to : (n : ℕ) (x y z : Machine) → Comes m H F n x y → y ≡ z → Comes m H F n x z
-  comes_to n x y z f e k p = let a = f k (subst (AllLow m H F k) (sym e) p) in (a.0, a.1, a.2 ∙ ap (run m k) e, a.3)
+  pub comes_to : (n : ℕ) (x y z : Machine) → Comes m H F R n x y → y ≡ z → Comes m H F R n x z
+  comes_to n x y z f e k p = let a = f k (subst (AllLow m H F R k) (sym e) p) in (a.0, a.1, a.2 ∙ ap (run m k) e, a.3)
 
   -- one step
-  pub comes_one : (x z : Machine) → IsLow H F x → advance m x ≡ z → Comes m H F 1 x z
-  comes_one x z low e k p = (suc k, omega arith, ap (run m k) e, (low, subst (AllLow m H F k) (sym e) p))
+  pub comes_one : (x z : Machine) → IsLow H F R x → advance m x ≡ z → Comes m H F R 1 x z
+  comes_one x z low e k p = (suc k, omega arith, ap (run m k) e, (low, subst (AllLow m H F R k) (sym e) p))
 
   -- ---- ways
 
@@ -131,26 +133,26 @@ module _ (m : Module) (H F : ℕ) where
   renamed N M up (Branches l top) n = up l n
   renamed N M up (Returns top) n = tt
 
-  pub larger : (c : Context) (N M : ℕ → Type 0) → ((l : ℕ) → N l → M l) → (s s' : ℕ) (x : Machine) (is : Code) (ls : List Layer) (st : State) (to : List Kind) → s ≤ s' → Reaches m H F c N s x is ls st to → Reaches m H F c M s' x is ls st to
+  pub larger : (c : Context) (N M : ℕ → Type 0) → ((l : ℕ) → N l → M l) → (s s' : ℕ) (x : Machine) (is : Code) (ls : List Layer) (st : State) (to : List Kind) → s ≤ s' → Reaches m H F R c N s x is ls st to → Reaches m H F R c M s' x is ls st to
   larger c N M up s s' x is ls st to h r =
       let q = r.1 in
       (r.0, record { final = q.final; steps = q.steps; by = q.by; fits = q.fits; named = renamed N M up r.0 q.named; sound = q.sound; taken = q.taken; items = q.items; cost = cost_more s s' st.count q.final.count q.taken h q.cost; short = q.short })
 
   -- from the end of one code on to the next
-  pub join : (c : Context) (N1 N2 N : ℕ → Type 0) → ((l : ℕ) → N2 l → N l) → (s1 s2 : ℕ) (x : Machine) (is1 is : Code) (ls : List Layer) (st : State) (mid to : List Kind) (vs : List Value) (r : Reach m H F c N1 s1 x is1 ls st mid (Falls vs)) → Reaches m H F c N2 s2 (Running vs is1 ls r.final) is ls r.final to → Reaches m H F c N (s1 + s2) x is ls st to
+  pub join : (c : Context) (N1 N2 N : ℕ → Type 0) → ((l : ℕ) → N2 l → N l) → (s1 s2 : ℕ) (x : Machine) (is1 is : Code) (ls : List Layer) (st : State) (mid to : List Kind) (vs : List Value) (r : Reach m H F R c N1 s1 x is1 ls st mid (Falls vs)) → Reaches m H F R c N2 s2 (Running vs is1 ls r.final) is ls r.final to → Reaches m H F R c N (s1 + s2) x is ls st to
   join c N1 N2 N up s1 s2 x is1 is ls st mid to vs r p =
       let q = p.1 in
       (p.0, record { final = q.final; steps = r.steps + q.steps; by = comes_on r.steps q.steps x _ _ r.by q.by; fits = q.fits; named = renamed N2 N up p.0 q.named; sound = q.sound; taken = r.taken + q.taken; items = omega (arith, r.items, q.items); cost = cost_seq s1 s2 _ _ _ r.taken q.taken r.cost q.cost; short = omega (arith, r.short, q.short) })
 
   -- an instruction, and the code after it
-  pub sequence : (c : Context) (N1 N : ℕ → Type 0) (s1 s2 h d : ℕ) (x : Machine) (is : Code) (ls : List Layer) (st : State) (mid to : List Kind) (e : Exit) → ((l : ℕ) → N1 l → N l) → ((l : ℕ) → Named is l → N l) → Reach m H F c N1 s1 x is ls st mid e → GoodCode m H F c s2 h d is mid to → beneath ls + h ≤ H → callers ls + d ≤ F → Reaches m H F c N (s1 + s2) x code.end ls st to
+  pub sequence : (c : Context) (N1 N : ℕ → Type 0) (s1 s2 h d : ℕ) (x : Machine) (is : Code) (ls : List Layer) (st : State) (mid to : List Kind) (e : Exit) → ((l : ℕ) → N1 l → N l) → ((l : ℕ) → Named is l → N l) → Reach m H F R c N1 s1 x is ls st mid e → GoodCode m H F R c s2 h d is mid to → beneath ls + h ≤ H → callers ls + d ≤ F → Reaches m H F R c N (s1 + s2) x code.end ls st to
   sequence c N1 N s1 s2 h d x is ls st mid to (Falls vs) up1 up2 r g low shallow = join c N1 (Named is) N up2 s1 s2 x is code.end ls st mid to vs r (g vs ls r.final r.fits r.sound low shallow)
   sequence c N1 N s1 s2 h d x is ls st mid to (Branches l top) up1 up2 r g low shallow =
       (Branches l top, record { final = r.final; steps = r.steps; by = r.by; fits = r.fits; named = up1 l r.named; sound = r.sound; taken = r.taken; items = r.items; cost = cost_more s1 (s1 + s2) _ _ r.taken (omega arith) r.cost; short = r.short })
   sequence c N1 N s1 s2 h d x is ls st mid to (Returns top) up1 up2 r g low shallow =
       (Returns top, record { final = r.final; steps = r.steps; by = r.by; fits = r.fits; named = r.named; sound = r.sound; taken = r.taken; items = r.items; cost = cost_more s1 (s1 + s2) _ _ r.taken (omega arith) r.cost; short = r.short })
 
-  pub after_step : (c : Context) (N : ℕ → Type 0) (u s h h2 r : ℕ) (whole rest : Code) (from mid to : List Kind) → ((l : ℕ) → N l → Named whole l) → ((l : ℕ) → Named rest l → Named whole l) → h2 ≤ h → GoodStep m H F c N u h r whole rest from mid → GoodCode m H F c s h2 r rest mid to → GoodCode m H F c (u + s) h r whole from to
+  pub after_step : (c : Context) (N : ℕ → Type 0) (u s h h2 r : ℕ) (whole rest : Code) (from mid to : List Kind) → ((l : ℕ) → N l → Named whole l) → ((l : ℕ) → Named rest l → Named whole l) → h2 ≤ h → GoodStep m H F R c N u h r whole rest from mid → GoodCode m H F R c s h2 r rest mid to → GoodCode m H F R c (u + s) h r whole from to
   after_step c N u s h h2 r whole rest from mid to up1 up2 less step good vs ls st k sound low shallow =
       let p = step vs ls st k sound low shallow in
       sequence c N (Named whole) u s h2 r (Running vs whole ls st) rest ls st mid to p.0 up1 up2 p.1 good (omega (arith, low, less)) shallow
@@ -158,9 +160,9 @@ module _ (m : Module) (H F : ℕ) where
   -- ---- blocks
 
   -- a block, from its inside
-  pub block : (u : ℕ) → 1 ≤ u → (c : Context) (N M : ℕ → Type 0) → ((l : ℕ) → N (suc l) → M l) → (t : Option ValType) (s : ℕ) (x : Machine) (vs : List Value) (is : Code) (ls : List Layer) (st : State) (from : List Kind) (e : Exit) → Reach m H F (with_label t c) N s (advance m x) code.end (Label (has_result t) vs is is ∷ ls) (tick u st) (kinds t) e → HasKinds vs from → IsLow H F x → length (kinds t) + (length vs + beneath ls) ≤ H → 1 + callers ls ≤ F → Reaches m H F c M (u + s) x is ls st (kinds t ++ from)
+  pub block : (u : ℕ) → 1 ≤ u → (c : Context) (N M : ℕ → Type 0) → ((l : ℕ) → N (suc l) → M l) → (t : Option ValType) (s : ℕ) (x : Machine) (vs : List Value) (is : Code) (ls : List Layer) (st : State) (from : List Kind) (e : Exit) → Reach m H F R (with_label t c) N s (advance m x) code.end (Label (has_result t) vs is is ∷ ls) (tick u st) (kinds t) e → HasKinds vs from → IsLow H F R x → length (kinds t) + (length vs + beneath ls) ≤ H → 1 + callers ls ≤ F → Reaches m H F R c M (u + s) x is ls st (kinds t ++ from)
   block u one c N M up t s x vs is ls st from (Falls ws) q h low room shallow =
-      (Falls (ws ++ vs), record { final = q.final; steps = 1 + (q.steps + 1); by = comes_first (q.steps + 1) x _ low (comes_last q.steps (advance m x) _ _ q.by (omega (arith, kinds_length ws (kinds t) q.fits), shallow) refl); fits = kinds-append ws vs (kinds t) from q.fits h; named = tt; sound = q.sound; taken = q.taken; items = q.items; cost = cost_tick u s st.count q.final.count q.taken q.cost; short = omega (arith, q.short, one) })
+      (Falls (ws ++ vs), record { final = q.final; steps = 1 + (q.steps + 1); by = comes_first (q.steps + 1) x _ low (comes_last q.steps (advance m x) _ _ q.by (omega (arith, kinds_length ws (kinds t) q.fits), shallow, tt) refl); fits = kinds-append ws vs (kinds t) from q.fits h; named = tt; sound = q.sound; taken = q.taken; items = q.items; cost = cost_tick u s st.count q.final.count q.taken q.cost; short = omega (arith, q.short, one) })
   block u one c N M up t s x vs is ls st from (Branches zero top) q h low room shallow =
       let same : q.fits.0 ≡ t = sym (some_is t q.fits.0 q.fits.1) in
       let us = carried t top vs from (subst (λ (u : Option ValType). IsTop u top) same q.fits.2) h in

@@ -1,5 +1,5 @@
 -- What a call of a module in the bounded profile begins with, and what it comes to.
-use Rattle.std.proofs.Common.{◌≡◌, ℕ, ◌+◌, ◌*◌, ◌≤◌, Result, Ok, Err, sym, ap, ◌∙◌, subst}
+use Rattle.std.proofs.Common.{◌≡◌, ℕ, ◌+◌, ◌*◌, ◌≤◌, Bool, List, Result, Ok, Err, sym, ap, ◌∙◌, subst}
 use Rattle.std.specs.Prelude.{IfOk, Some, slice_get}
 use Rattle.wasm_ast.specs.declared.module.Function.{Function}
 use Rattle.wasm_ast.specs.declared.module.Module.{Module}
@@ -18,15 +18,16 @@ use Rattle.interp.specs.Call.{IsOutcome, outcome_of, shown}
 use Rattle.interp.specs.Configuration.{State}
 use Rattle.interp.specs.Machine.{Machine, defined, functions_of, run}
 use Rattle.interp.specs.Start.{Starts}
+use Rattle.interp.specs.inside.Kept.{AreMarked, Touches, marks}
 use Rattle.interp.specs.inside.Place.{Place, Standing, at}
 use Rattle.interp.specs.inside.Walk.{Concludes, EndsWithin, Leads}
 use Rattle.interp.proofs.Faults.{no_fault, never_fails}
-use Rattle.interp.proofs.Fixed.{depths_there, heights_there}
+use Rattle.interp.proofs.Fixed.{depths_there, heights_there, sizes_there}
 use Rattle.interp.proofs.OneEnd.{one_start}
 use Rattle.interp.proofs.Starting.{exported_number}
 use Rattle.interp.proofs.Told.{always_ends}
 use Rattle.interp.proofs.Values.{some_is}
-use Rattle.interp.proofs.Whole.{calls_end}
+use Rattle.interp.proofs.Whole.{all_reached, calls_end}
 
 module _ (m : Module) (typed : IsTyped m) (bounded : IsBounded m) where
   pub begins_at : (n : ℕ) → IsComputeNumber m n → CallInput → BeginsAt m n
@@ -44,6 +45,14 @@ module _ (m : Module) (typed : IsTyped m) (bounded : IsBounded m) where
     pub fails_never : NeverFails m input
     fails_never = let e = always_ends m typed bounded input in never_fails m input e.0 e.1 e.2 e.3
 
+    touches : (x : Machine) → Starts m input x → (n : ℕ) → Touches (AreMarked (marks m)) (run m n x)
+    touches x s n =
+        let z = sizes_there m bounded.acyclic in
+        let h = heights_there m bounded.acyclic in
+        let d = depths_there m bounded.acyclic in
+        let e = all_reached m typed bounded z.0 h.0 d.0 z.1 h.1 d.1 input in
+        subst (λ (y : Machine). Touches (AreMarked (marks m)) (run m n y)) (sym (one_start m input x e.0 s e.1)) (e.2 n)
+
     module _ (size : ℕ) (told : IsSizeOfCompute m size) where
       sized : (operands : ℕ) × (frames : ℕ) × Ends m input (size * (1 + items_of input)) operands frames
       sized =
@@ -56,7 +65,13 @@ module _ (m : Module) (typed : IsTyped m) (bounded : IsBounded m) where
       pub ends_within : (x : Machine) → Starts m input x → EndsWithin m x (size * (1 + items_of input))
       ends_within x s =
           let e = sized.2 in
-          record { steps = e.steps; final = e.final; done = ap (λ (y : Machine). run m e.steps y) (one_start m input x e.first s e.starts) ∙ e.done; within = e.within }
+          record {
+            steps = e.steps;
+            final = e.final;
+            done = ap (λ (y : Machine). run m e.steps y) (one_start m input x e.first s e.starts) ∙ e.done;
+            within = e.within;
+            touches = touches x s;
+          }
 
       within : (outcome : CallOutcome) → IsOutcome m input outcome → outcome.units ≤ size * (1 + items_of input)
       within outcome is = let e = sized in (no_fault m input (size * (1 + items_of input)) e.0 e.1 e.2).outcome outcome is
@@ -114,15 +129,15 @@ along (Err e) go h = h
 pub outcome_told : {E : Type 0} (r : Result CallOutcome E) (n m : Module) (input : CallInput) (s : Standing) (k : Code) (most : ℕ) → n ≡ m → ((x : Machine) → Starts n input x → EndsWithin n x most) → IsBeginning n k input s → IfOk r (EndsFrom n (at s k 0) most) → IfOk r (IsOutcome m input)
 outcome_told r n m input s k most same ends b = subst (λ (m : Module). IfOk r (EndsFrom n (at s k 0) most) → IfOk r (IsOutcome m input)) same (along r (λ outcome c. comes_to n input b.from outcome b.starts (c b.from b.follows (ends b.from b.starts))))
 
-left_as_cells : (st final : State) (outcome : CallOutcome) → cells_state st ≡ final → Leaves outcome final.host final.count → Leaves outcome st.host st.count
-left_as_cells st final outcome e l = subst (λ (s : State). Leaves outcome s.host s.count) (sym e) l
+left_as_cells : (ms : List Bool) (st final : State) (outcome : CallOutcome) → cells_state ms st ≡ final → Leaves outcome final.host final.count → Leaves outcome st.host st.count
+left_as_cells ms st final outcome e l = subst (λ (s : State). Leaves outcome s.host s.count) (sym e) l
 
 -- the run was concluded, and the outcome is what it left
 pub concluded : (m : Module) (here : Place) (most : ℕ) (outcome : CallOutcome) (final : State) → Concludes m here most final → Leaves outcome final.host final.count → EndsFrom m here most outcome
 concluded m here most outcome final c l =
     λ from follows ends.
     let d = c from follows ends in
-    (d.0, d.1, left_as_cells d.0 final outcome d.2 l)
+    (d.0, d.1, left_as_cells (marks m) d.0 final outcome d.2 l)
 
 pub bound_told : {E : Type 0} (r : Result CallOutcome E) (m : Module) → IsTyped m → IsBounded m → (input : CallInput) → IfOk r (IsOutcome m input) → IfOk r (IsWithinBound m input)
 bound_told r m typed bounded input = along r (λ outcome is. within_bound m typed bounded input outcome is)

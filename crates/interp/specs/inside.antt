@@ -1,7 +1,8 @@
 -- Words that mirror the code for its proof. No contract of a public function cites them.
 
--- operands and locals in two parts, and where a run is
+-- operands and locals in two parts, operands in a list with room, and where a run is
 pub mod Split
+pub mod Pile
 pub mod Place
 -- what the walk's lists mean
 pub mod Meaning
@@ -9,8 +10,11 @@ pub mod Meaning
 pub mod Acts
 pub mod Going
 pub mod Walk
+pub mod Straight
 -- how a call begins and ends
 pub mod Begun
 -- the machine over cells, and values that fit their type
 pub mod Cells
 pub mod Fits
+-- what is kept of a memory
+pub mod Kept

@@ -1,6 +1,6 @@
-//! Calls of the host (Core 1.0, 4.4.7) on the operands as cells.
+//! Calls of the host (Core 1.0, 4.4.7) on operands in a list with room for one more. Each answers how many there are then.
 
-ghost use Rattle.std.specs.Prelude.{◌≡◌, nat_lt, true};
+ghost use Rattle.std.specs.Prelude.{◌≡◌, ◌<◌, ◌≤◌, length, nat_lt, true, IfOk};
 ghost use Rattle.wasm_ast.specs.declared.types.ValType.TheVariants.{I32 as i32_type};
 ghost use Rattle.wasm_ast.specs.declared.types.Value.TheVariants.{I64};
 ghost use Rattle.host_calls.specs.declared.call.TheConstants.{SLOTS};
@@ -9,96 +9,108 @@ ghost use Rattle.host_calls.specs.Effects.{signed};
 ghost use Rattle.interp.specs.inside.Acts.{ActsOnHost};
 ghost use Rattle.interp.specs.inside.Cells.{cell_call, in_width};
 ghost use Rattle.interp.specs.inside.Going.{call_asks, has_tops, of_next, of_top};
+ghost use Rattle.interp.specs.inside.Pile.{pile};
 
 use crate::cell::{as_i32, of_i32};
-use crate::operands::Operands;
+use crate::pile::{pop, push};
 use host_calls::{CallState, HostCall};
 use std::alloc::AllocError;
 
 /// Takes the arguments of a call off the operands, gives its results, and changes the vertex as it says. The arguments are
 /// there, and a slot among them is none past the last.
-#[inline]
+#[inline(always)]
 pub fn call_host(
     call: HostCall,
-    operands: &mut Operands,
+    cells: &mut [u64],
+    top: usize,
     vertex: &mut CallState,
-) -> Result<(), AllocError>
-    requires { call_asks call operands.old.here ≡ true }
-    ensures acts { ActsOnHost result (cell_call in_width call)
-        operands.old operands.new vertex.old vertex.new }
-    ensures below { operands.new.below ≡ operands.old.below }
+) -> Result<usize, AllocError>
+    requires room { top < length cells.old }
+    requires asks { call_asks call (pile cells.old top) ≡ true }
+    ensures acts { IfOk result (λ now. ActsOnHost (cell_call in_width call)
+        (pile cells.old top) (pile cells.new now) vertex.old vertex.new) }
+    ensures within { IfOk result (λ now. now ≤ length cells.new) }
 {
     match call {
-        HostCall::VertexId => operands.push(signed(vertex.vertex_id())),
-        HostCall::Superstep => operands.push(signed(vertex.superstep())),
-        HostCall::NumVertices => operands.push(signed(vertex.num_vertices())),
-        HostCall::GetValue => operands.push(signed(vertex.get_value())),
-        HostCall::SetValue => set_value(operands, vertex),
-        HostCall::NextMessage => operands.push(of_i32(u32::from(vertex.next_message()))),
-        HostCall::MessageValue => operands.push(signed(vertex.message_value())),
-        HostCall::NextEdge => operands.push(of_i32(u32::from(vertex.next_edge()))),
-        HostCall::EdgeTarget => operands.push(signed(vertex.edge_target())),
-        HostCall::EdgeValue => operands.push(signed(vertex.edge_value())),
-        HostCall::Send => send(operands, vertex),
-        HostCall::Aggregate => aggregate(operands, vertex),
-        HostCall::Aggregated => aggregated(operands, vertex),
+        HostCall::VertexId => Ok(push(cells, top, signed(vertex.vertex_id()))),
+        HostCall::Superstep => Ok(push(cells, top, signed(vertex.superstep()))),
+        HostCall::NumVertices => Ok(push(cells, top, signed(vertex.num_vertices()))),
+        HostCall::GetValue => Ok(push(cells, top, signed(vertex.get_value()))),
+        HostCall::SetValue => Ok(set_value(cells, top, vertex)),
+        HostCall::NextMessage => { Ok(push(cells, top, of_i32(u32::from(vertex.next_message())))) }
+        HostCall::MessageValue => Ok(push(cells, top, signed(vertex.message_value()))),
+        HostCall::NextEdge => Ok(push(cells, top, of_i32(u32::from(vertex.next_edge())))),
+        HostCall::EdgeTarget => Ok(push(cells, top, signed(vertex.edge_target()))),
+        HostCall::EdgeValue => Ok(push(cells, top, signed(vertex.edge_value()))),
+        HostCall::Send => send(cells, top, vertex),
+        HostCall::Aggregate => aggregate(cells, top, vertex),
+        HostCall::Aggregated => Ok(aggregated(cells, top, vertex)),
         HostCall::VoteToHalt => {
             vertex.vote_to_halt();
-            Ok(())
+            Ok(top)
         }
     }
 }
 
 // The cell of a signed number.
-#[inline]
+#[inline(always)]
 fn signed(number: i64) -> u64
     ensures { I64 result ≡ signed number }
 {
     number.cast_unsigned()
 }
 
-fn set_value(operands: &mut Operands, vertex: &mut CallState) -> Result<(), AllocError>
-    requires { has_tops 1 operands.old.here ≡ true }
-    ensures acts { ActsOnHost result (cell_call in_width calls.SetValue)
-        operands.old operands.new vertex.old vertex.new }
-    ensures below { operands.new.below ≡ operands.old.below }
+#[inline(always)]
+fn set_value(cells: &[u64], top: usize, vertex: &mut CallState) -> usize
+    requires within { top ≤ length cells.now }
+    requires tops { has_tops 1 (pile cells.now top) ≡ true }
+    ensures acts { ActsOnHost (cell_call in_width calls.SetValue)
+        (pile cells.now top) (pile cells.now result) vertex.old vertex.new }
+    ensures within { result ≤ length cells.now }
 {
-    vertex.set_value(operands.pop().cast_signed());
-    Ok(())
+    let (value, below) = pop(cells, top);
+    vertex.set_value(value.cast_signed());
+    below
 }
 
-fn send(operands: &mut Operands, vertex: &mut CallState) -> Result<(), AllocError>
-    requires { has_tops 2 operands.old.here ≡ true }
-    ensures acts { ActsOnHost result (cell_call in_width calls.Send)
-        operands.old operands.new vertex.old vertex.new }
-    ensures below { operands.new.below ≡ operands.old.below }
+#[inline(always)]
+fn send(cells: &[u64], top: usize, vertex: &mut CallState) -> Result<usize, AllocError>
+    requires within { top ≤ length cells.now }
+    requires tops { has_tops 2 (pile cells.now top) ≡ true }
+    ensures acts { IfOk result (λ now. ActsOnHost (cell_call in_width calls.Send)
+        (pile cells.now top) (pile cells.now now) vertex.old vertex.new) }
+    ensures within { IfOk result (λ now. now ≤ length cells.now) }
 {
-    let value = operands.pop().cast_signed();
-    let target = operands.pop().cast_signed();
-    vertex.send(target, value)?;
-    Ok(())
+    let (value, under) = pop(cells, top);
+    let (target, below) = pop(cells, under);
+    vertex.send(target.cast_signed(), value.cast_signed())?;
+    Ok(below)
 }
 
-fn aggregate(operands: &mut Operands, vertex: &mut CallState) -> Result<(), AllocError>
-    requires tops { has_tops 2 operands.old.here ≡ true }
-    requires slot { of_next i32_type (λ slot. nat_lt slot SLOTS) operands.old.here ≡ true }
-    ensures acts { ActsOnHost result (cell_call in_width calls.Aggregate)
-        operands.old operands.new vertex.old vertex.new }
-    ensures below { operands.new.below ≡ operands.old.below }
+#[inline(always)]
+fn aggregate(cells: &[u64], top: usize, vertex: &mut CallState) -> Result<usize, AllocError>
+    requires within { top ≤ length cells.now }
+    requires tops { has_tops 2 (pile cells.now top) ≡ true }
+    requires slot { of_next i32_type (λ slot. nat_lt slot SLOTS) (pile cells.now top) ≡ true }
+    ensures acts { IfOk result (λ now. ActsOnHost (cell_call in_width calls.Aggregate)
+        (pile cells.now top) (pile cells.now now) vertex.old vertex.new) }
+    ensures within { IfOk result (λ now. now ≤ length cells.now) }
 {
-    let value = operands.pop().cast_signed();
-    let slot = as_i32(operands.pop());
-    vertex.aggregate(slot, value)?;
-    Ok(())
+    let (value, under) = pop(cells, top);
+    let (slot, below) = pop(cells, under);
+    vertex.aggregate(as_i32(slot), value.cast_signed())?;
+    Ok(below)
 }
 
-fn aggregated(operands: &mut Operands, vertex: &mut CallState) -> Result<(), AllocError>
-    requires top { has_tops 1 operands.old.here ≡ true }
-    requires slot { of_top i32_type (λ slot. nat_lt slot SLOTS) operands.old.here ≡ true }
-    ensures acts { ActsOnHost result (cell_call in_width calls.Aggregated)
-        operands.old operands.new vertex.old vertex.new }
-    ensures below { operands.new.below ≡ operands.old.below }
+#[inline(always)]
+fn aggregated(cells: &mut [u64], top: usize, vertex: &CallState) -> usize
+    requires within { top ≤ length cells.old }
+    requires tops { has_tops 1 (pile cells.old top) ≡ true }
+    requires slot { of_top i32_type (λ slot. nat_lt slot SLOTS) (pile cells.old top) ≡ true }
+    ensures acts { ActsOnHost (cell_call in_width calls.Aggregated)
+        (pile cells.old top) (pile cells.new result) vertex.now vertex.now }
+    ensures within { result ≤ length cells.new }
 {
-    let slot = as_i32(operands.pop());
-    operands.push(signed(vertex.aggregated(slot)))
+    let (slot, below) = pop(cells, top);
+    push(cells, below, signed(vertex.aggregated(as_i32(slot))))
 }

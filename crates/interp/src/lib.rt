@@ -10,12 +10,14 @@ mod locals;
 mod memory;
 mod numeric;
 mod operands;
+mod pile;
 mod plain;
 mod program;
 mod rooms;
 mod runs;
 mod scratch;
 mod start;
+mod straight;
 mod walk;
 
 pub use host_calls::{CallInput, CallOutcome};

@@ -12,8 +12,8 @@ use wasm_ast::ValType;
 /// and those below.
 #[derive(Drop)]
 pub struct Locals {
-    cells: Vec<u64>,
-    base: usize,
+    pub(crate) cells: Vec<u64>,
+    pub(crate) base: usize,
 }
 
 impl Model for Locals {
@@ -49,40 +49,6 @@ impl Locals {
     {
         self.cells.clear();
         self.base = 0;
-    }
-
-    /// A local of the frame.
-    #[inline]
-    pub fn get(&self, number: u32) -> u64
-        requires { IsSome (slice_get self.now.here number) }
-        ensures { slice_get self.now.here number ≡ Some (I64 result) }
-    {
-        self.find(number).unwrap()
-    }
-
-    // The local, if the frame has one with this number.
-    #[inline]
-    fn find(&self, number: u32) -> Option<u64>
-        ensures { option_map I64 result ≡ slice_get self.now.here number }
-    {
-        let here = &self.cells[self.base..];
-        here.get(number as usize).copied()
-    }
-
-    /// Sets a local of the frame.
-    #[inline]
-    pub fn set(&mut self, number: u32, cell: u64)
-        requires { number < length self.old.here }
-        ensures here { self.new.here ≡ slice_set self.old.here number (I64 cell) }
-        ensures below { self.new.below ≡ self.old.below }
-    {
-        let number = number as usize;
-        if number < self.cells.len() - self.base {
-            let at = self.base + number;
-            self.cells[at] = cell;
-        } else {
-            unreachable!()
-        }
     }
 
     /// Where the innermost frame's begin.
@@ -138,4 +104,22 @@ fn add_zeros(cells: &mut Vec<u64>, types: &[ValType]) -> Result<(), AllocError>
         cells.push(0)?;
     }
     Ok(())
+}
+
+/// A local of a frame that has these.
+#[inline(always)]
+pub fn local(cells: &[u64], number: u32) -> u64
+    requires { IsSome (slice_get (map I64 cells.now) number) }
+    ensures { slice_get (map I64 cells.now) number ≡ Some (I64 result) }
+{
+    cells[number as usize]
+}
+
+/// Sets a local of a frame that has these.
+#[inline(always)]
+pub fn set_local(cells: &mut [u64], number: u32, cell: u64)
+    requires { number < length (map I64 cells.old) }
+    ensures { map I64 cells.new ≡ slice_set (map I64 cells.old) number (I64 cell) }
+{
+    cells[number as usize] = cell;
 }

@@ -1,80 +1,96 @@
 //! The memory of a call (Core 1.0, 4.2.8).
 
-ghost use Rattle.std.specs.Prelude.{◌≡◌, ◌+◌, ◌*◌, ◌/◌, ◌<◌, ◌≤◌, ℕ, [], Some, length, replicate, option_map, take, drop, true, OnOk, OnErr};
+ghost use Rattle.std.specs.Prelude.{◌≡◌, ◌++◌, ◌+◌, ◌*◌, ◌/◌, ◌<◌, ◌≤◌, Some, length, replicate, option_map, take, drop, true, OnOk};
 ghost use Rattle.wasm_ast.specs.Widths.{load_type, load_width, store_width};
-ghost use Rattle.bounded_profile.specs.Memory.{page, max_minimum};
+ghost use Rattle.bounded_profile.specs.Memory.{bytes_of, max_minimum, memory_bytes, page};
 ghost use Rattle.interp.specs.Effects.{value};
+ghost use Rattle.interp.specs.Memory.{number_of_bytes, sign_extended, loaded};
 ghost use Rattle.interp.specs.inside.Cells.{in_width};
-ghost use Rattle.interp.specs.Memory.{number_of_bytes, sign_extended, loaded, read, laid, write};
+ghost use Rattle.interp.specs.inside.Kept.{is_kept, kept_laid, kept_read, kept_write, laid_over, marked_before, marks, masked};
 
 use crate::cell::of_i32;
+use bounded_profile::Verified;
 use std::alloc::{AllocError, Global};
 use std::marker::Model;
-use wasm_ast::{Load, Store, i64_extend_i32_s};
+use wasm_ast::{Limits, Load, Store, i64_extend_i32_s};
 
-/// Bytes of a page (Core 1.0, 4.2.8).
-const PAGE: usize = 65_536;
-
-/// The bytes of the memory, which contracts see as their list.
+/// The bytes of the memory that loads and stores of the module reach, and where each lies. Contracts see it as a list of
+/// all bytes, in which those that are not kept are marked.
 #[derive(Drop)]
-pub struct Memory {
+pub struct Memory<'a> {
+    verified: &'a Verified,
     bytes: Vec<u8>,
 }
 
-impl Model for Memory {
-    ghost use Rattle.std.specs.Prelude.{ℕ, List, ◌*◌, ◌≤◌, length};
-    ghost use Rattle.bounded_profile.specs.Memory.{page, max_minimum};
+impl<'a> Model for Memory<'a> {
+    ghost use Rattle.std.specs.Prelude.{ℕ, List};
+    ghost use Rattle.interp.specs.inside.Kept.{marks, spread};
 
     ghost Value = { List ℕ };
 
-    ghost view = { λ a. a.bytes.items };
-
-    ghost invariant = { λ a. length a.bytes.items ≤ page * max_minimum };
+    ghost view = { λ a. spread (marks a.verified.now) a.bytes.items };
 }
 
-impl Memory {
-    /// None; it takes no memory.
-    pub fn new(alloc: Global) -> Memory
-        ensures { result ≡ [] }
-    {
+impl<'a> Memory<'a> {
+    /// Keeps nothing; it takes no memory.
+    pub fn new(alloc: Global, verified: &'a Verified) -> Memory<'a> {
         Memory {
+            verified,
             bytes: Vec::new(alloc),
         }
     }
 
-    /// So many pages of zeros, in the room that it has. After an `Err` there are none.
-    pub fn renew(&mut self, pages: u32) -> Result<(), AllocError>
-        requires { pages ≤ max_minimum }
-        ensures ok { OnOk result (self.new ≡ replicate (page * pages) 0) }
-        ensures err { OnErr result (self.new ≡ []) }
+    /// Keeps a 0 for each byte that the module reaches, in the room that it has.
+    pub fn renew(&mut self, verified: &'a Verified) -> Result<(), AllocError>
+        ensures { OnOk result (self.new
+            ≡ masked (marks verified.now) (replicate (memory_bytes verified.now) 0)) }
     {
-        self.bytes.clear();
-        self.bytes.resize(PAGE * pages as usize, 0)?;
-        Ok(())
+        self.verified = verified;
+        clear_to_zeros(&mut self.bytes, verified.reach() as usize)
     }
 
     /// How many pages there are (Core 1.0, 4.4.4, memory.size).
     pub fn size(&self) -> u32
         ensures { result ≡ length self.now / page }
     {
-        (self.bytes.len() / PAGE) as u32
+        page_count(self.verified.module().memories.as_slice())
     }
 
-    /// Writes these bytes in the stead of those from a place on, which are all there.
-    #[inline]
+    /// Writes others in the stead of the bytes from a place on, those of them that are kept. It looks at halves where some
+    /// are, so it takes time by how many are kept and how they are scattered.
     pub fn lay(&mut self, place: u64, others: &[u8])
         requires { place + length others.now ≤ length self.old }
-        ensures { laid place others.now self.old ≡ Some self.new }
+        ensures { laid_over place others.now self.old ≡ self.new }
     {
-        let start = place as usize;
-        self.bytes[start..start + others.len()].copy_from_slice(others);
+        let start = kept_place(self.verified, place);
+        let count = kept_place(self.verified, place + others.len() as u64) - start;
+        if 0 < count && start < self.bytes.len() {
+            if count == others.len() && start + count <= self.bytes.len() {
+                self.write(place, others);
+            } else {
+                let (first, rest) = others.split_at(others.len() / 2);
+                self.lay(place, first);
+                self.lay(place + first.len() as u64, rest);
+            }
+        }
     }
 
-    /// What a load gives from a place where all its bytes are there, as a cell.
+    // Writes others in the stead of the bytes from a place on, which are all kept.
+    #[inline]
+    fn write(&mut self, place: u64, others: &[u8])
+        requires kept { is_kept place (length others.now) self.old ≡ true }
+        requires some { 0 < length others.now }
+        ensures { kept_laid place others.now self.old ≡ Some self.new }
+    {
+        let start = kept_place(self.verified, place);
+        write_at(&mut self.bytes, start, others);
+    }
+
+    /// What a load gives from a place where all its bytes are kept, as a cell.
     #[inline]
     pub fn load(&self, op: Load, place: u64) -> u64
-        requires { place + load_width op ≤ length self.now }
-        ensures number { option_map (loaded op) (read place (load_width op) self.now)
+        requires { is_kept place (load_width op) self.now ≡ true }
+        ensures number { option_map (loaded op) (kept_read place (load_width op) self.now)
             ≡ Some result }
         ensures fits { in_width (value (load_type op) result) ≡ true }
     {
@@ -94,52 +110,102 @@ impl Memory {
         }
     }
 
-    /// Writes the lowest bytes of a number at a place where as many as the store writes are there.
+    /// Writes the lowest bytes of a number at a place where as many as the store writes are kept.
     #[inline]
     pub fn store(&mut self, op: Store, place: u64, number: u64)
-        requires { place + store_width op ≤ length self.old }
-        ensures { write place (store_width op) number self.old ≡ Some self.new }
+        requires { is_kept place (store_width op) self.old ≡ true }
+        ensures { kept_write place (store_width op) number self.old ≡ Some self.new }
     {
         let bytes = number.to_le_bytes();
         match op {
-            Store::I32To8 | Store::I64To8 => self.lay(place, &bytes[..1]),
-            Store::I32To16 | Store::I64To16 => self.lay(place, &bytes[..2]),
-            Store::I32 | Store::I64To32 => self.lay(place, &bytes[..4]),
-            Store::I64 => self.lay(place, &bytes),
+            Store::I32To8 | Store::I64To8 => self.write(place, &bytes[..1]),
+            Store::I32To16 | Store::I64To16 => self.write(place, &bytes[..2]),
+            Store::I32 | Store::I64To32 => self.write(place, &bytes[..4]),
+            Store::I64 => self.write(place, &bytes),
         }
     }
 
     #[inline]
     fn read_1(&self, place: u64) -> u8
-        requires { place + 1 ≤ length self.now }
-        ensures { read place 1 self.now ≡ Some result }
+        requires { is_kept place 1 self.now ≡ true }
+        ensures { kept_read place 1 self.now ≡ Some result }
     {
-        self.bytes[place as usize]
+        number_1(self.bytes.as_slice(), kept_place(self.verified, place))
     }
 
     #[inline]
     fn read_2(&self, place: u64) -> u16
-        requires { place + 2 ≤ length self.now }
-        ensures { read place 2 self.now ≡ Some result }
+        requires { is_kept place 2 self.now ≡ true }
+        ensures { kept_read place 2 self.now ≡ Some result }
     {
-        number_2(self.bytes.as_slice(), place as usize)
+        number_2(self.bytes.as_slice(), kept_place(self.verified, place))
     }
 
     #[inline]
     fn read_4(&self, place: u64) -> u32
-        requires { place + 4 ≤ length self.now }
-        ensures { read place 4 self.now ≡ Some result }
+        requires { is_kept place 4 self.now ≡ true }
+        ensures { kept_read place 4 self.now ≡ Some result }
     {
-        number_4(self.bytes.as_slice(), place as usize)
+        number_4(self.bytes.as_slice(), kept_place(self.verified, place))
     }
 
     #[inline]
     fn read_8(&self, place: u64) -> u64
-        requires { place + 8 ≤ length self.now }
-        ensures { read place 8 self.now ≡ Some result }
+        requires { is_kept place 8 self.now ≡ true }
+        ensures { kept_read place 8 self.now ≡ Some result }
     {
-        number_8(self.bytes.as_slice(), place as usize)
+        number_8(self.bytes.as_slice(), kept_place(self.verified, place))
     }
+}
+
+// How many kept bytes lie before this one.
+#[inline]
+fn kept_place(verified: &Verified, byte: u64) -> usize
+    requires { byte ≤ memory_bytes verified.now }
+    ensures place { result ≡ marked_before (marks verified.now) byte }
+    ensures small { memory_bytes verified.now ≤ page * max_minimum }
+{
+    // It is in the profile, so its memory is small.
+    let _module = verified.module();
+    verified.place(byte as u32) as usize
+}
+
+// Zeros alone, so many, in the stead of all bytes.
+fn clear_to_zeros(bytes: &mut Vec<u8>, count: usize) -> Result<(), AllocError>
+    ensures { OnOk result (bytes.new.items ≡ replicate count 0) }
+{
+    bytes.clear();
+    bytes.resize(count, 0)
+}
+
+// Others in the stead of the bytes from an index on.
+#[inline]
+fn write_at(bytes: &mut [u8], start: usize, others: &[u8])
+    requires { start + length others.now ≤ length bytes.old }
+    ensures value { bytes.new
+        ≡ take start bytes.old ++ others.now ++ drop (start + length others.now) bytes.old }
+    ensures len { length bytes.new ≡ length bytes.old }
+{
+    bytes[start..start + others.len()].copy_from_slice(others);
+}
+
+// The pages of the one memory, if there is one.
+fn page_count(memories: &[Limits]) -> u32
+    ensures { page * result ≡ bytes_of memories.now }
+{
+    match memories.first() {
+        Some(limits) => limits.minimum,
+        None => 0,
+    }
+}
+
+// The number in 1 byte at an index.
+#[inline]
+fn number_1(bytes: &[u8], at: usize) -> u8
+    requires { at + 1 ≤ length bytes.now }
+    ensures { result ≡ number_of_bytes (take 1 (drop at bytes.now)) }
+{
+    u8::from_le_bytes([bytes[at]])
 }
 
 // The number in 2 bytes from an index on.

@@ -1,152 +1,164 @@
-//! Numeric instructions (Core 1.0, 4.4.1) on the operands as cells.
+//! Numeric instructions (Core 1.0, 4.4.1) on the operands as cells. Each answers how many operands there are then.
 
-ghost use Rattle.std.specs.Prelude.{◌≡◌, true};
+ghost use Rattle.std.specs.Prelude.{◌≡◌, ◌≤◌, length, true};
 ghost use Rattle.interp.specs.inside.Acts.{ActsAlone};
 ghost use Rattle.interp.specs.inside.Cells.{cell_numeric, in_width};
 ghost use Rattle.interp.specs.inside.Going.{divides, has_tops, numeric_asks};
+ghost use Rattle.interp.specs.inside.Pile.{pile};
 ghost use Rattle.wasm_ast.specs.declared.numeric.Numeric.TheVariants as numeric;
 ghost use Rattle.wasm_ast.specs.declared.types.ValType.TheVariants.{I32 as i32_type, I64 as i64_type};
 
 use crate::cell::{as_i32, of_i32};
-use crate::operands::Operands;
-use std::alloc::AllocError;
+use crate::pile::{pop, push};
 use wasm_ast::{
     Binary, Comparison, Conversion, Division, Numeric, Unary, ValType, i32_eqz, i32_wrap_i64,
     i64_eqz, i64_extend_i32_s, i64_extend_i32_u,
 };
 
 /// Takes the operands of a numeric instruction and gives its result, which there is.
-#[inline]
-pub fn act_numeric(op: Numeric, operands: &mut Operands) -> Result<(), AllocError>
-    requires { numeric_asks op operands.old.here ≡ true }
-    ensures acts { ActsAlone result (cell_numeric in_width op) operands.old operands.new }
-    ensures below { operands.new.below ≡ operands.old.below }
+#[inline(always)]
+pub fn act_numeric(op: Numeric, cells: &mut [u64], top: usize) -> usize
+    requires within { top ≤ length cells.old }
+    requires asks { numeric_asks op (pile cells.old top) ≡ true }
+    ensures acts { ActsAlone (cell_numeric in_width op) (pile cells.old top) (pile cells.new result) }
+    ensures within { result ≤ length cells.new }
 {
     match op {
-        Numeric::Eqz(of) => act_eqz(of, operands),
-        Numeric::Comparison(of, comparison) => act_comparison(of, comparison, operands),
-        Numeric::Unary(of, unary) => act_unary(of, unary, operands),
-        Numeric::Binary(of, binary) => act_binary(of, binary, operands),
-        Numeric::Division(of, division) => act_division(of, division, operands),
-        Numeric::Conversion(conversion) => act_conversion(conversion, operands),
+        Numeric::Eqz(of) => act_eqz(of, cells, top),
+        Numeric::Comparison(of, comparison) => act_comparison(of, comparison, cells, top),
+        Numeric::Unary(of, unary) => act_unary(of, unary, cells, top),
+        Numeric::Binary(of, binary) => act_binary(of, binary, cells, top),
+        Numeric::Division(of, division) => act_division(of, division, cells, top),
+        Numeric::Conversion(conversion) => act_conversion(conversion, cells, top),
     }
 }
 
-fn act_eqz(of: ValType, operands: &mut Operands) -> Result<(), AllocError>
-    requires { has_tops 1 operands.old.here ≡ true }
-    ensures acts { ActsAlone result (cell_numeric in_width (numeric.Eqz of))
-        operands.old operands.new }
-    ensures below { operands.new.below ≡ operands.old.below }
+#[inline(always)]
+fn act_eqz(of: ValType, cells: &mut [u64], top: usize) -> usize
+    requires within { top ≤ length cells.old }
+    requires tops { has_tops 1 (pile cells.old top) ≡ true }
+    ensures acts { ActsAlone (cell_numeric in_width (numeric.Eqz of))
+        (pile cells.old top) (pile cells.new result) }
+    ensures within { result ≤ length cells.new }
 {
+    let (cell, below) = pop(cells, top);
     let answer = match of {
-        ValType::I32 => i32_eqz(as_i32(operands.pop())),
-        ValType::I64 => i64_eqz(operands.pop()),
+        ValType::I32 => i32_eqz(as_i32(cell)),
+        ValType::I64 => i64_eqz(cell),
     };
-    operands.push(of_i32(answer))
+    push(cells, below, of_i32(answer))
 }
 
-fn act_comparison(
-    of: ValType,
-    comparison: Comparison,
-    operands: &mut Operands,
-) -> Result<(), AllocError>
-    requires { has_tops 2 operands.old.here ≡ true }
-    ensures acts { ActsAlone result (cell_numeric in_width (numeric.Comparison of comparison))
-        operands.old operands.new }
-    ensures below { operands.new.below ≡ operands.old.below }
+#[inline(always)]
+fn act_comparison(of: ValType, comparison: Comparison, cells: &mut [u64], top: usize) -> usize
+    requires within { top ≤ length cells.old }
+    requires tops { has_tops 2 (pile cells.old top) ≡ true }
+    ensures acts { ActsAlone (cell_numeric in_width (numeric.Comparison of comparison))
+        (pile cells.old top) (pile cells.new result) }
+    ensures within { result ≤ length cells.new }
 {
+    let (second, under) = pop(cells, top);
+    let (first, below) = pop(cells, under);
     let holds = match of {
-        ValType::I32 => {
-            let second = as_i32(operands.pop());
-            comparison.holds_i32(as_i32(operands.pop()), second)
-        }
-        ValType::I64 => {
-            let second = operands.pop();
-            comparison.holds_i64(operands.pop(), second)
-        }
+        ValType::I32 => comparison.holds_i32(as_i32(first), as_i32(second)),
+        ValType::I64 => comparison.holds_i64(first, second),
     };
-    operands.push(of_i32(u32::from(holds)))
+    push(cells, below, of_i32(u32::from(holds)))
 }
 
-fn act_unary(of: ValType, unary: Unary, operands: &mut Operands) -> Result<(), AllocError>
-    requires { has_tops 1 operands.old.here ≡ true }
-    ensures acts { ActsAlone result (cell_numeric in_width (numeric.Unary of unary))
-        operands.old operands.new }
-    ensures below { operands.new.below ≡ operands.old.below }
+#[inline(always)]
+fn act_unary(of: ValType, unary: Unary, cells: &mut [u64], top: usize) -> usize
+    requires within { top ≤ length cells.old }
+    requires tops { has_tops 1 (pile cells.old top) ≡ true }
+    ensures acts { ActsAlone (cell_numeric in_width (numeric.Unary of unary))
+        (pile cells.old top) (pile cells.new result) }
+    ensures within { result ≤ length cells.new }
 {
-    let cell = match of {
-        ValType::I32 => of_i32(unary.apply_i32(as_i32(operands.pop()))),
-        ValType::I64 => unary.apply_i64(operands.pop()),
+    let (cell, below) = pop(cells, top);
+    let answer = match of {
+        ValType::I32 => of_i32(unary.apply_i32(as_i32(cell))),
+        ValType::I64 => unary.apply_i64(cell),
     };
-    operands.push(cell)
+    push(cells, below, answer)
 }
 
-fn act_binary(of: ValType, binary: Binary, operands: &mut Operands) -> Result<(), AllocError>
-    requires { has_tops 2 operands.old.here ≡ true }
-    ensures acts { ActsAlone result (cell_numeric in_width (numeric.Binary of binary))
-        operands.old operands.new }
-    ensures below { operands.new.below ≡ operands.old.below }
+#[inline(always)]
+fn act_binary(of: ValType, binary: Binary, cells: &mut [u64], top: usize) -> usize
+    requires within { top ≤ length cells.old }
+    requires tops { has_tops 2 (pile cells.old top) ≡ true }
+    ensures acts { ActsAlone (cell_numeric in_width (numeric.Binary of binary))
+        (pile cells.old top) (pile cells.new result) }
+    ensures within { result ≤ length cells.new }
 {
-    let cell = match of {
-        ValType::I32 => {
-            let second = as_i32(operands.pop());
-            of_i32(binary.apply_i32(as_i32(operands.pop()), second))
-        }
-        ValType::I64 => {
-            let second = operands.pop();
-            binary.apply_i64(operands.pop(), second)
-        }
+    let (second, under) = pop(cells, top);
+    let (first, below) = pop(cells, under);
+    let answer = match of {
+        ValType::I32 => of_i32(binary.apply_i32(as_i32(first), as_i32(second))),
+        ValType::I64 => binary.apply_i64(first, second),
     };
-    operands.push(cell)
+    push(cells, below, answer)
 }
 
-fn act_division(of: ValType, division: Division, operands: &mut Operands) -> Result<(), AllocError>
-    requires tops { has_tops 2 operands.old.here ≡ true }
-    requires divisor { divides of division operands.old.here ≡ true }
-    ensures acts { ActsAlone result (cell_numeric in_width (numeric.Division of division))
-        operands.old operands.new }
-    ensures below { operands.new.below ≡ operands.old.below }
+#[inline(always)]
+fn act_division(of: ValType, division: Division, cells: &mut [u64], top: usize) -> usize
+    requires within { top ≤ length cells.old }
+    requires tops { has_tops 2 (pile cells.old top) ≡ true }
+    requires divisor { divides of division (pile cells.old top) ≡ true }
+    ensures acts { ActsAlone (cell_numeric in_width (numeric.Division of division))
+        (pile cells.old top) (pile cells.new result) }
+    ensures within { result ≤ length cells.new }
 {
     match of {
-        ValType::I32 => divide_i32(division, operands),
-        ValType::I64 => divide_i64(division, operands),
+        ValType::I32 => divide_i32(division, cells, top),
+        ValType::I64 => divide_i64(division, cells, top),
     }
 }
 
-fn divide_i32(division: Division, operands: &mut Operands) -> Result<(), AllocError>
-    requires tops { has_tops 2 operands.old.here ≡ true }
-    requires divisor { divides i32_type division operands.old.here ≡ true }
-    ensures acts { ActsAlone result (cell_numeric in_width (numeric.Division i32_type division))
-        operands.old operands.new }
-    ensures below { operands.new.below ≡ operands.old.below }
+#[inline(always)]
+fn divide_i32(division: Division, cells: &mut [u64], top: usize) -> usize
+    requires within { top ≤ length cells.old }
+    requires tops { has_tops 2 (pile cells.old top) ≡ true }
+    requires divisor { divides i32_type division (pile cells.old top) ≡ true }
+    ensures acts { ActsAlone (cell_numeric in_width (numeric.Division i32_type division))
+        (pile cells.old top) (pile cells.new result) }
+    ensures within { result ≤ length cells.new }
 {
-    let second = as_i32(operands.pop());
-    let first = as_i32(operands.pop());
-    operands.push(of_i32(division.apply_i32(first, second)))
+    let (second, under) = pop(cells, top);
+    let (first, below) = pop(cells, under);
+    push(
+        cells,
+        below,
+        of_i32(division.apply_i32(as_i32(first), as_i32(second))),
+    )
 }
 
-fn divide_i64(division: Division, operands: &mut Operands) -> Result<(), AllocError>
-    requires tops { has_tops 2 operands.old.here ≡ true }
-    requires divisor { divides i64_type division operands.old.here ≡ true }
-    ensures acts { ActsAlone result (cell_numeric in_width (numeric.Division i64_type division))
-        operands.old operands.new }
-    ensures below { operands.new.below ≡ operands.old.below }
+#[inline(always)]
+fn divide_i64(division: Division, cells: &mut [u64], top: usize) -> usize
+    requires within { top ≤ length cells.old }
+    requires tops { has_tops 2 (pile cells.old top) ≡ true }
+    requires divisor { divides i64_type division (pile cells.old top) ≡ true }
+    ensures acts { ActsAlone (cell_numeric in_width (numeric.Division i64_type division))
+        (pile cells.old top) (pile cells.new result) }
+    ensures within { result ≤ length cells.new }
 {
-    let second = operands.pop();
-    let first = operands.pop();
-    operands.push(division.apply_i64(first, second))
+    let (second, under) = pop(cells, top);
+    let (first, below) = pop(cells, under);
+    push(cells, below, division.apply_i64(first, second))
 }
 
-fn act_conversion(conversion: Conversion, operands: &mut Operands) -> Result<(), AllocError>
-    requires { has_tops 1 operands.old.here ≡ true }
-    ensures acts { ActsAlone result (cell_numeric in_width (numeric.Conversion conversion))
-        operands.old operands.new }
-    ensures below { operands.new.below ≡ operands.old.below }
+#[inline(always)]
+fn act_conversion(conversion: Conversion, cells: &mut [u64], top: usize) -> usize
+    requires within { top ≤ length cells.old }
+    requires tops { has_tops 1 (pile cells.old top) ≡ true }
+    ensures acts { ActsAlone (cell_numeric in_width (numeric.Conversion conversion))
+        (pile cells.old top) (pile cells.new result) }
+    ensures within { result ≤ length cells.new }
 {
-    let cell = match conversion {
-        Conversion::Wrap => of_i32(i32_wrap_i64(operands.pop())),
-        Conversion::ExtendS => i64_extend_i32_s(as_i32(operands.pop())),
-        Conversion::ExtendU => i64_extend_i32_u(as_i32(operands.pop())),
+    let (cell, below) = pop(cells, top);
+    let answer = match conversion {
+        Conversion::Wrap => of_i32(i32_wrap_i64(cell)),
+        Conversion::ExtendS => i64_extend_i32_s(as_i32(cell)),
+        Conversion::ExtendU => i64_extend_i32_u(as_i32(cell)),
     };
-    operands.push(cell)
+    push(cells, below, answer)
 }

@@ -1,18 +1,22 @@
 //! Operands in one list, of which the topmost belong to the innermost layer.
 
-ghost use Rattle.std.specs.Prelude.{◌≡◌, ◌∷◌, ◌++◌, ◌-◌, ◌≤◌, [], Some, length, map, take, drop, reverse, option_map, IsSome, OnOk};
+ghost use Rattle.std.specs.Prelude.{◌≡◌, ◌∷◌, ◌++◌, ◌-◌, ◌<◌, ◌≤◌, [], Some, length, map, take, drop, reverse, option_map, IsSome, OnOk};
 ghost use Rattle.wasm_ast.specs.declared.types.Value.TheVariants.{I64};
 ghost use Rattle.interp.specs.Machine.{first, carry};
 
 use std::alloc::{AllocError, Global};
 use std::marker::Model;
 
+/// How many cells are added where there is no room.
+const ROOM: usize = 64;
+
 /// Operands as cells, which contracts see as the i64 of their numbers in two parts with the topmost first: those of the
-/// innermost layer, and those below.
+/// innermost layer, and those below. The list is as long as there is room; its cells from the top on say nothing.
 #[derive(Drop)]
 pub struct Operands {
-    cells: Vec<u64>,
-    floor: usize,
+    pub(crate) cells: Vec<u64>,
+    pub(crate) top: usize,
+    pub(crate) floor: usize,
 }
 
 impl Model for Operands {
@@ -23,11 +27,11 @@ impl Model for Operands {
     ghost Value = { Split };
 
     ghost view = { λ a. record {
-      here = reverse (drop a.floor (map I64 a.cells.items));
-      below = reverse (take a.floor (map I64 a.cells.items));
+      here = reverse (drop a.floor (map I64 (take a.top a.cells.items)));
+      below = reverse (take a.floor (map I64 (take a.top a.cells.items)));
     } };
 
-    ghost invariant = { λ a. a.floor ≤ length a.cells.items };
+    ghost invariant = { λ a. (a.floor ≤ a.top) × (a.top ≤ length a.cells.items) };
 }
 
 impl Operands {
@@ -38,6 +42,7 @@ impl Operands {
     {
         Operands {
             cells: Vec::new(alloc),
+            top: 0,
             floor: 0,
         }
     }
@@ -46,7 +51,7 @@ impl Operands {
     pub fn clear(&mut self)
         ensures { self.new ≡ record { here = []; below = [] } }
     {
-        self.cells.clear();
+        self.top = 0;
         self.floor = 0;
     }
 
@@ -56,7 +61,9 @@ impl Operands {
         ensures here { OnOk result (self.new.here ≡ I64 cell ∷ self.old.here) }
         ensures below { self.new.below ≡ self.old.below }
     {
-        self.cells.push(cell)?;
+        make_room(&mut self.cells, self.top)?;
+        self.cells[self.top] = cell;
+        self.top += 1;
         Ok(())
     }
 
@@ -66,7 +73,9 @@ impl Operands {
         requires { 1 ≤ length self.old.here }
         ensures { self.old ≡ record { here = I64 result ∷ self.new.here; below = self.new.below } }
     {
-        self.cells.pop().unwrap()
+        let below = self.top - 1;
+        self.top = below;
+        self.cells[below]
     }
 
     /// The topmost cell, where the layer has one.
@@ -74,7 +83,7 @@ impl Operands {
     pub fn top(&self) -> Option<u64>
         ensures { option_map I64 result ≡ first self.now.here }
     {
-        let here = &self.cells[self.floor..];
+        let here = &self.cells[self.floor..self.top];
         here.last().copied()
     }
 
@@ -104,7 +113,7 @@ impl Operands {
         requires { count ≤ length self.now.here }
         ensures { map I64 result.now ≡ reverse (take count self.now.here) }
     {
-        &self.cells[self.cells.len() - count..]
+        &self.cells[self.top - count..self.top]
     }
 
     /// Drops so many of the topmost cells.
@@ -113,8 +122,7 @@ impl Operands {
         requires { count ≤ length self.old.here }
         ensures { self.new ≡ record { here = drop count self.old.here; below = self.old.below } }
     {
-        let left = self.cells.len() - count;
-        self.cells.truncate(left);
+        self.top -= count;
     }
 
     /// How many lie below the innermost layer.
@@ -130,7 +138,7 @@ impl Operands {
     pub fn open(&mut self)
         ensures { self.new ≡ record { here = []; below = self.old.here ++ self.old.below } }
     {
-        self.floor = self.cells.len();
+        self.floor = self.top;
     }
 
     /// Joins the innermost layer to the next one, which begins at a floor.
@@ -151,7 +159,35 @@ impl Operands {
         ensures here { self.new.here ≡ take (length self.old.below - floor) self.old.below }
         ensures below { self.new.below ≡ drop (length self.old.below - floor) self.old.below }
     {
-        self.cells.truncate(self.floor);
+        self.top = self.floor;
         self.floor = floor;
     }
+}
+
+/// Room for one more cell at the top, in the list or in a longer one.
+#[inline]
+pub fn make_room(cells: &mut Vec<u64>, top: usize) -> Result<(), AllocError>
+    requires { top ≤ length cells.old.items }
+    ensures room { OnOk result (top < length cells.new.items) }
+    ensures within { top ≤ length cells.new.items }
+    ensures kept { take top cells.new.items ≡ take top cells.old.items }
+{
+    if top < cells.len() {
+        Ok(())
+    } else {
+        add_room(cells, top)
+    }
+}
+
+#[cold]
+fn add_room(cells: &mut Vec<u64>, top: usize) -> Result<(), AllocError>
+    requires { top ≤ length cells.old.items }
+    ensures room { OnOk result (top < length cells.new.items) }
+    ensures within { top ≤ length cells.new.items }
+    ensures kept { take top cells.new.items ≡ take top cells.old.items }
+{
+    for _ in 0..ROOM {
+        cells.push(0)?;
+    }
+    Ok(())
 }

@@ -5,6 +5,7 @@ use crate::layers::Layer;
 use crate::locals::Locals;
 use crate::memory::Memory;
 use crate::operands::Operands;
+use bounded_profile::Verified;
 use std::alloc::Global;
 
 /// The lists of a call. What they hold as it begins says nothing: it begins by clearing them.
@@ -14,18 +15,18 @@ pub struct Rooms<'a> {
     pub operands: Operands,
     pub locals: Locals,
     pub globals: Globals,
-    pub memory: Memory,
+    pub memory: Memory<'a>,
 }
 
 impl<'a> Rooms<'a> {
     /// Lists that hold nothing and have no room; it takes no memory.
-    pub fn new(alloc: Global) -> Rooms<'a> {
+    pub fn new(alloc: Global, verified: &'a Verified) -> Rooms<'a> {
         Rooms {
             layers: Vec::new(alloc),
             operands: Operands::new(alloc),
             locals: Locals::new(alloc),
             globals: Globals::new(alloc),
-            memory: Memory::new(alloc),
+            memory: Memory::new(alloc, verified),
         }
     }
 }

@@ -42,8 +42,9 @@ pub fn run(
     let program = scratch.program_for(verified);
     let most = most_units(verified.size(), input);
     let function = program.defined(verified.compute());
+    let own = scratch.verified();
     let mut rooms = scratch.take_rooms(alloc);
-    lay(alloc, program.module, function, &mut rooms)?;
+    lay(alloc, own, program.module, function, &mut rooms)?;
     let walk = begin(alloc, program.module, function, input, rooms);
     let (ended, rooms) = finish(walk, program, function.body.as_slice(), most);
     scratch.keep_rooms(rooms);

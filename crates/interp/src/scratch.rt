@@ -38,7 +38,7 @@ impl<'a> Scratch<'a> {
     {
         Ok(Scratch {
             verified,
-            rooms: Rooms::new(alloc),
+            rooms: Rooms::new(alloc, verified),
         })
     }
 
@@ -47,6 +47,13 @@ impl<'a> Scratch<'a> {
         ensures { IsTrue result ↔ (self.now ≡ verified.now) }
     {
         *self.verified.module() == *verified.module()
+    }
+
+    // The module that it was made for.
+    pub(crate) fn verified(&self) -> &'a Verified
+        ensures { result.now ≡ self.now }
+    {
+        self.verified
     }
 
     // The functions of the module that it was made for, which is that of `verified`.
@@ -64,7 +71,8 @@ impl<'a> Scratch<'a> {
     pub(crate) fn take_rooms(&mut self, alloc: Global) -> Rooms<'a>
         ensures { self.new ≡ self.old }
     {
-        replace(&mut self.rooms, Rooms::new(alloc))
+        let rooms = Rooms::new(alloc, self.verified);
+        replace(&mut self.rooms, rooms)
     }
 
     // Keeps the lists for the next call.

@@ -1,34 +1,35 @@
 //! The start of a compute call (Core 1.0, 4.5.4 and 4.5.5).
 
-ghost use Rattle.std.specs.Prelude.{OnOk};
-ghost use Rattle.bounded_profile.specs.Memory.{MinimumsWithin};
+ghost use Rattle.std.specs.Prelude.{◌≡◌, OnOk};
 ghost use Rattle.interp.specs.inside.Begun.{AreLaid, BeginsWith, IsBeginning};
 
 mod initial;
 
 use crate::rooms::Rooms;
 use crate::walk::Walk;
+use bounded_profile::Verified;
 use host_calls::{CallInput, CallState};
 use initial::{lay_globals, lay_memory};
 use std::alloc::{AllocError, Global};
 use wasm_ast::{Function, Module};
 
 /// Lays into the lists what a call of the function begins with.
-pub fn lay(
+pub fn lay<'a>(
     alloc: Global,
+    verified: &'a Verified,
     module: &Module,
     function: &Function,
-    rooms: &mut Rooms,
+    rooms: &mut Rooms<'a>,
 ) -> Result<(), AllocError>
+    requires own { verified.now ≡ «module».now }
     requires begins { BeginsWith «module».now function.now }
-    requires minimums { MinimumsWithin «module».now }
     ensures { OnOk result (AreLaid «module».now function.now rooms.new) }
 {
     rooms.layers.clear();
     rooms.operands.clear();
     rooms.globals.clear();
     lay_globals(alloc, module.globals.as_slice(), &mut rooms.globals)?;
-    lay_memory(module, &rooms.globals, &mut rooms.memory)?;
+    lay_memory(verified, module, &rooms.globals, &mut rooms.memory)?;
     rooms.locals.clear();
     rooms.locals.add(function.locals.as_slice())
 }

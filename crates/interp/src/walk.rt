@@ -1,26 +1,25 @@
 //! The walk over nested code, which is the machine's run (Core 1.0, 4.4).
 
-ghost use Rattle.std.specs.Prelude.{◌≡◌, ◌+◌, ◌^◌, ◌<◌, true, IfOk};
+ghost use Rattle.std.specs.Prelude.{◌≡◌, ◌+◌, ◌^◌, ◌<◌, ◌≤◌, true, IfOk};
 ghost use Rattle.wasm_ast.specs.View.{code_of, then_code};
 ghost use Rattle.cost.specs.Weights.{units_of};
 ghost use Rattle.interp.specs.inside.Cells.{cell_advance, cell_call, cell_effect, in_width, of_any_width};
 ghost use Rattle.interp.specs.inside.Going.{goes_on, is_going};
 ghost use Rattle.interp.specs.inside.Meaning.{AreImports};
 ghost use Rattle.interp.specs.inside.Place.{at, running, state_of};
-ghost use Rattle.interp.specs.inside.Walk.{Turned, Turns, Concludes, Leads, HasRoom, affected, taken};
+ghost use Rattle.interp.specs.inside.Walk.{Arrives, Concludes, HasRoom, Leads, Turned, Turns, affected, left_of, taken};
 
 mod branches;
 mod calls;
 mod labels;
 
 use crate::globals::Globals;
-use crate::host::call_host;
 use crate::layers::Layer;
 use crate::locals::Locals;
 use crate::memory::Memory;
 use crate::operands::Operands;
-use crate::plain::act_plain;
 use crate::program::Program;
+use crate::straight::{Stop, act, act_call, go_straight};
 use cost::{branch_units, plain_units};
 use host_calls::{CallState, HostCall};
 use std::alloc::AllocError;
@@ -41,7 +40,7 @@ pub struct Walk<'a, 'b> {
     pub operands: Operands,
     pub locals: Locals,
     pub globals: Globals,
-    pub memory: Memory,
+    pub memory: Memory<'a>,
     pub host: CallState<'b>,
 }
 
@@ -74,7 +73,8 @@ impl<'a, 'b> Walk<'a, 'b> {
         let mut rest = code;
         let mut count = 0;
         'turns: loop {
-            match self.turn(program, rest, count)? {
+            let stop = self.go_on(program, rest, count, most)?;
+            match self.turn(program, stop.code, stop.count)? {
                 Turn::Next {
                     code: next,
                     count: counted,
@@ -85,6 +85,38 @@ impl<'a, 'b> Walk<'a, 'b> {
                 Turn::Finished { count: counted } => return Ok(counted),
             }
         }
+    }
+
+    /// Straight on, as far as there is room.
+    #[inline]
+    fn go_on(
+        &mut self,
+        program: Program<'a>,
+        code: &'a [Instr],
+        count: u128,
+        most: u128,
+    ) -> Result<Stop<'a>, AllocError>
+        requires calls { AreImports program.calls.now program.«module».now }
+        requires leads { Leads program.«module».now (at self.old (code_of code.now) count) most }
+        ensures passes { IfOk result (λ stop. Arrives program.entry.«module».now most
+            (at self.old (code_of code.entry.now) count)
+            (at self.new (code_of stop.code.now) stop.count)) }
+        ensures closer { IfOk result (λ stop.
+            left_of most (at self.new (code_of stop.code.now) stop.count)
+            ≤ left_of most (at self.old (code_of code.entry.now) count)) }
+    {
+        let stop = go_straight(
+            program,
+            code,
+            count,
+            most,
+            &mut self.operands,
+            &mut self.locals,
+            &mut self.globals,
+            &mut self.memory,
+            &mut self.host,
+        )?;
+        Ok(stop)
     }
 
     /// One step, which there is.
@@ -156,7 +188,7 @@ impl<'a, 'b> Walk<'a, 'b> {
         ensures { Turns result (affected (cell_effect in_width plain)) (code_of code.now) count
             self.old self.new }
     {
-        act_plain(
+        act(
             plain,
             &mut self.operands,
             &mut self.locals,
@@ -177,7 +209,7 @@ impl<'a, 'b> Walk<'a, 'b> {
         ensures { Turns result (affected (cell_call in_width call)) (code_of code.now) count
             self.old self.new }
     {
-        call_host(call, &mut self.operands, &mut self.host)?;
+        act_call(call, &mut self.operands, &mut self.host)?;
         Ok(Turn::Next { code, count })
     }
 }

@@ -1,35 +1,36 @@
--- What an operation on the operands and the parts of the state did, in the machine's terms.
-use Rattle.std.specs.Prelude.{◌≡◌, ℕ, List, Result, Ok, Err}
+-- What an instruction on the operands, topmost first, and the parts of the state did, in the machine's terms.
+use Rattle.std.specs.Prelude.{◌≡◌, ℕ, List}
 use Rattle.wasm_ast.specs.declared.types.Value.{Value}
 use Rattle.host_calls.specs.Host.{Host}
 use Rattle.interp.specs.Configuration.{State, Effect, Gives}
-use Rattle.interp.specs.inside.Split.{Split}
 
 abbrev pub state : List Value → List Value → List ℕ → Host → ℕ → State
 state locals globals bytes host count =
     record { locals = locals; globals = globals; memory = bytes; host = host; count = count }
 
--- it has this effect, unless memory runs out
-abbrev pub Acts : {T E : Type 0} → Result T E → Effect → List Value → State → Type 0
-Acts (Ok _) e values st = e ≡ Gives values st
-Acts (Err _) e values st = Unit {0}
+-- the state stays as it is, whatever it is
+abbrev pub ActsAlone : (List Value → State → Effect) → (old new : List Value) → Type 0
+ActsAlone e old new = (st : State) → e old st ≡ Gives new st
 
--- the same where the state stays as it is, whatever it is
-abbrev pub ActsAlone : {T E : Type 0} → Result T E → (List Value → State → Effect) → (old new : Split) → Type 0
-ActsAlone r e old new = (st : State) → Acts r (e old.here st) new.here st
-
--- the same where the rest of the state stays as it is: on the locals and the globals, the bytes, and the host
-abbrev pub ActsOnVariables : {T E : Type 0} → Result T E → (List Value → State → Effect) → (old new locals locals_after : Split) → (globals globals_after : List Value) → Type 0
-ActsOnVariables r e old new locals locals_after globals globals_after =
+-- the rest of the state stays as it is: on the locals and the globals, and the bytes
+abbrev pub ActsOnVariables : (List Value → State → Effect) → (old new locals locals_after globals globals_after : List Value) → Type 0
+ActsOnVariables e old new locals locals_after globals globals_after =
     (bytes : List ℕ) (host : Host) (count : ℕ)
-    → Acts r (e old.here (state locals.here globals bytes host count)) new.here (state locals_after.here globals_after bytes host count)
+    → e old (state locals globals bytes host count) ≡ Gives new (state locals_after globals_after bytes host count)
 
-abbrev pub ActsOnBytes : {T E : Type 0} → Result T E → (List Value → State → Effect) → (old new : Split) → (bytes bytes_after : List ℕ) → Type 0
-ActsOnBytes r e old new bytes bytes_after =
+abbrev pub ActsOnBytes : (List Value → State → Effect) → (old new : List Value) → (bytes bytes_after : List ℕ) → Type 0
+ActsOnBytes e old new bytes bytes_after =
     (locals globals : List Value) (host : Host) (count : ℕ)
-    → Acts r (e old.here (state locals globals bytes host count)) new.here (state locals globals bytes_after host count)
+    → e old (state locals globals bytes host count) ≡ Gives new (state locals globals bytes_after host count)
 
-abbrev pub ActsOnHost : {T E : Type 0} → Result T E → (List Value → State → Effect) → (old new : Split) → (host host_after : Host) → Type 0
-ActsOnHost r e old new host host_after =
+-- on all but the host
+abbrev pub ActsOn : (List Value → State → Effect) → (old new locals locals_after globals globals_after : List Value) → (bytes bytes_after : List ℕ) → Type 0
+ActsOn e old new locals locals_after globals globals_after bytes bytes_after =
+    (host : Host) (count : ℕ)
+    → e old (state locals globals bytes host count) ≡ Gives new (state locals_after globals_after bytes_after host count)
+
+-- on the host
+abbrev pub ActsOnHost : (List Value → State → Effect) → (old new : List Value) → (host host_after : Host) → Type 0
+ActsOnHost e old new host host_after =
     (locals globals : List Value) (bytes : List ℕ) (count : ℕ)
-    → Acts r (e old.here (state locals globals bytes host count)) new.here (state locals globals bytes host_after count)
+    → e old (state locals globals bytes host count) ≡ Gives new (state locals globals bytes host_after count)

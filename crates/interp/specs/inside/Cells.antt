@@ -1,7 +1,8 @@
 -- The machine over cells, which know no type: a cell stands here as the i64 of its number. An instruction sees the operands
 -- that it takes as it wants them, an i32 in the lowest 32 bits, and its result is a cell. There is no step to a result that a
--- test refuses: a step is asked for with results of any width, and told with those within theirs.
-use Rattle.std.specs.Prelude.{List, [], ◌∷◌, ◌%◌, ◌^◌, ℕ, map, slice_get, nat_lt, Bool, true, Option, Some, None, false, if◌then◌else◌}
+-- test refuses: a step is asked for with results of any width, and told with those within theirs. The memory stands as it is
+-- kept, and a load or a store of bytes that are not kept traps.
+use Rattle.std.specs.Prelude.{List, [], ◌∷◌, ◌+◌, ◌%◌, ◌^◌, ℕ, map, slice_get, nat_lt, Bool, true, Option, Some, None, false, if◌then◌else◌}
 use Rattle.wasm_ast.specs.declared.types.ValType.{ValType}
 use Rattle.wasm_ast.specs.declared.types.ValType.TheVariants as val_type
 use Rattle.wasm_ast.specs.declared.types.Value.{Value}
@@ -19,12 +20,13 @@ use Rattle.wasm_ast.specs.Code.{Code}
 use Rattle.wasm_ast.specs.Code as code
 use Rattle.wasm_ast.specs.NumericTypes.{numeric_takes}
 use Rattle.wasm_ast.specs.Values.{zero_of}
-use Rattle.wasm_ast.specs.Widths.{store_type}
+use Rattle.wasm_ast.specs.Widths.{load_width, store_type, store_width}
 use Rattle.host_calls.specs.declared.imports.HostCall.{HostCall}
 use Rattle.host_calls.specs.declared.imports.HostCall.TheVariants as call
 use Rattle.bounded_profile.specs.Memory.{number_of}
 use Rattle.interp.specs.Configuration.{State, Effect, Gives, Traps, Misses, tick}
-use Rattle.interp.specs.Effects.{value, effect, numeric_effect, variable_effect, memory_effect, call_effect}
+use Rattle.interp.specs.Effects.{value, effect, load_effect, numeric_effect, popped, store_effect, variable_effect, memory_effect, call_effect}
+use Rattle.interp.specs.inside.Kept.{kept_read, kept_write, masked}
 use Rattle.interp.specs.inside.Place.{Place}
 use Rattle.interp.specs.Machine.{Machine, Running, Done, Trapped, Stuck, Layer, Label, Frame, Callee, host, defined, functions_of, after_effect, arm, enter, has_result, leave, next_units, take_branch, taking}
 
@@ -34,22 +36,24 @@ abbrev pub cell_of : Value → Value
 cell_of (I32 n) = I64 n
 cell_of (I64 n) = I64 n
 
-abbrev pub cells_state : State → State
-cells_state st = record st { locals = map cell_of st.locals; globals = map cell_of st.globals }
+-- the memory of which these bytes are kept
+abbrev pub cells_state : List Bool → State → State
+cells_state ms st =
+    record st { locals = map cell_of st.locals; globals = map cell_of st.globals; memory = masked ms st.memory }
 
 abbrev pub cells_layer : Layer → Layer
 cells_layer (Label keeps vs target after) = Label keeps (map cell_of vs) target after
 cells_layer (Frame keeps locals vs after) = Frame keeps (map cell_of locals) (map cell_of vs) after
 
-abbrev pub cells : Machine → Machine
-cells (Running vs is ls st) = Running (map cell_of vs) is (map cells_layer ls) (cells_state st)
-cells (Done st) = Done (cells_state st)
-cells (Trapped count) = Trapped count
-cells (Stuck count) = Stuck count
+abbrev pub cells : List Bool → Machine → Machine
+cells ms (Running vs is ls st) = Running (map cell_of vs) is (map cells_layer ls) (cells_state ms st)
+cells ms (Done st) = Done (cells_state ms st)
+cells ms (Trapped count) = Trapped count
+cells ms (Stuck count) = Stuck count
 
-abbrev pub cells_place : Place → Place
-cells_place p =
-    record { values = map cell_of p.values; code = p.code; layers = map cells_layer p.layers; state = cells_state p.state }
+abbrev pub cells_place : List Bool → Place → Place
+cells_place ms p =
+    record { values = map cell_of p.values; code = p.code; layers = map cells_layer p.layers; state = cells_state ms p.state }
 
 -- ---- what instructions do to cells
 
@@ -82,9 +86,18 @@ topped may Misses = Misses
 abbrev pub cell_numeric : (Value → Bool) → Numeric → List Value → State → Effect
 cell_numeric may op vs st = topped may (numeric_effect op (seen (numeric_takes op) vs) st)
 
+-- on a memory as it is kept
+abbrev pub kept_effect : Memory → List Value → State → Effect
+kept_effect (memory.Load op a) vs st =
+    popped val_type.I32 vs (λ i us. load_effect op (kept_read (i + a.offset) (load_width op) st.memory) us st)
+kept_effect (memory.Store op a) vs st =
+    popped (store_type op) vs (λ n us. popped val_type.I32 us (λ i ws.
+    store_effect (kept_write (i + a.offset) (store_width op) n st.memory) ws st))
+kept_effect op vs st = memory_effect op vs st
+
 abbrev pub cell_memory : (Value → Bool) → Memory → List Value → State → Effect
-cell_memory may (memory.Load op a) vs st = topped may (memory_effect (memory.Load op a) (seen (val_type.I32 ∷ []) vs) st)
-cell_memory may (memory.Store op a) vs st = memory_effect (memory.Store op a) (seen (store_type op ∷ val_type.I32 ∷ []) vs) st
+cell_memory may (memory.Load op a) vs st = topped may (kept_effect (memory.Load op a) (seen (val_type.I32 ∷ []) vs) st)
+cell_memory may (memory.Store op a) vs st = kept_effect (memory.Store op a) (seen (store_type op ∷ val_type.I32 ∷ []) vs) st
 cell_memory may memory.Size vs st = topped may (memory_effect memory.Size vs st)
 cell_memory may memory.Grow vs st = Misses
 

@@ -1,5 +1,5 @@
 -- That a step is there and does not trap, and what its parts ask for that.
-use Rattle.std.specs.Prelude.{ℕ, zero, suc, ◌+◌, List, [], ◌∷◌, length, Bool, true, false, ◌&&◌, not, nat_lt, nat_le, slice_get}
+use Rattle.std.specs.Prelude.{ℕ, zero, suc, ◌+◌, List, [], ◌∷◌, length, Bool, true, false, ◌&&◌, not, nat_lt, slice_get}
 use Rattle.std.specs.Option.{is_some}
 use Rattle.wasm_ast.specs.declared.types.ValType.{ValType}
 use Rattle.wasm_ast.specs.declared.types.ValType.TheVariants as val_type
@@ -23,6 +23,7 @@ use Rattle.bounded_profile.specs.Memory.{number_of}
 use Rattle.interp.specs.Configuration.{State}
 use Rattle.interp.specs.Machine.{Machine, Running, Done, Trapped, Stuck, Layer, Label, Frame}
 use Rattle.interp.specs.inside.Cells.{narrowed}
+use Rattle.interp.specs.inside.Kept.{is_kept}
 use Rattle.interp.specs.inside.Place.{Standing, state_of}
 
 -- the machine runs or is done
@@ -82,9 +83,9 @@ variable_asks (variable.LocalTee x) vs locals globals = nat_lt 0 (length vs) && 
 variable_asks (variable.GlobalGet x) vs locals globals = is_some (slice_get globals x)
 variable_asks (variable.GlobalSet x) vs locals globals = nat_lt 0 (length vs) && nat_lt x (length globals)
 
--- the bytes of an access are there, at an address
+-- the bytes of an access are there and kept, at an address
 abbrev pub reaches : (offset width : ℕ) → (bytes : List ℕ) → ℕ → Bool
-reaches offset width bytes i = nat_le (i + offset + width) (length bytes)
+reaches offset width bytes i = is_kept (i + offset) width bytes
 
 abbrev pub memory_asks : Memory → List Value → (bytes : List ℕ) → Bool
 memory_asks (memory.Load op a) vs bytes =

@@ -12,6 +12,7 @@ use Rattle.interp.specs.Configuration.{State, Effect}
 use Rattle.interp.specs.Machine.{Machine, Running, Done, Layer, Label, after_effect, arm, arrive, back, enter, functions_of, jump, next_units, run, taking}
 use Rattle.interp.specs.inside.Cells.{cell_next, cell_take_call, celled, cells_place, cells_state, seen}
 use Rattle.interp.specs.inside.Fits.{MachineFits}
+use Rattle.interp.specs.inside.Kept.{AreMarked, Touches, marks}
 use Rattle.interp.specs.inside.Place.{Place, Standing, at, running, state_of}
 
 -- the machine is this: it runs at the place that is answered, or is done, unless memory runs out
@@ -73,12 +74,13 @@ pub record Comes (m : Module) (from to : Machine) : Type 0 where
   pub steps : ℕ
   pub there : run m steps from ≡ to
 
--- The run from here comes to its end within so many units.
+-- The run from here comes to its end within so many units, and loads and stores only what is reached.
 pub record EndsWithin (m : Module) (from : Machine) (most : ℕ) : Type 0 where
   pub steps : ℕ
   pub final : State
   pub done : run m steps from ≡ Done final
   pub within : final.count ≤ most
+  pub touches : (n : ℕ) → Touches (AreMarked (marks m)) (run m n from)
 
 -- ---- runs over values
 
@@ -87,7 +89,7 @@ pub record Follows (m : Module) (from : Machine) (here : Place) : Type 0 where
   pub place : Place
   pub comes : Comes m from (running place)
   pub fits : MachineFits (running place)
-  pub is : cells_place place ≡ here
+  pub is : cells_place (marks m) place ≡ here
 
 -- a run over values that begins here comes to its end within so many units
 pub record Leads (m : Module) (here : Place) (most : ℕ) : Type 0 where
@@ -95,10 +97,14 @@ pub record Leads (m : Module) (here : Place) (most : ℕ) : Type 0 where
   pub follows : Follows m from here
   pub ends : EndsWithin m from most
 
+-- each run over values that comes by the one place comes by the other, where it ends within so many units
+abbrev pub Arrives : Module → (most : ℕ) → (here there : Place) → Type 0
+Arrives m most here there = (from : Machine) → Follows m from here → EndsWithin m from most → Follows m from there
+
 -- each run over values that comes by here is done in this state, as cells
 abbrev pub Concludes : Module → Place → (most : ℕ) → State → Type 0
 Concludes m here most final =
-    (from : Machine) → Follows m from here → EndsWithin m from most → (st : State) × Finishes m from st × (cells_state st ≡ final)
+    (from : Machine) → Follows m from here → EndsWithin m from most → (st : State) × Finishes m from st × (cells_state (marks m) st ≡ final)
 
 -- how many steps may be left
 abbrev pub left_of : ℕ → Place → ℕ

@@ -1,19 +1,15 @@
 //! Globals and memory as a call begins (Core 1.0, 4.5.4).
 
-ghost use Rattle.std.specs.Prelude.{◌≡◌, ◌≤◌, ◌*◌, [], Some, IsSome, OnOk};
-ghost use Rattle.std.specs.List.{AllByRecursion};
-ghost use Rattle.wasm_ast.specs.declared.types.Limits.{Limits as AnyLimits};
-ghost use Rattle.bounded_profile.specs.Memory.{MinimumsWithin, bytes_of, max_minimum, page};
+ghost use Rattle.std.specs.Prelude.{◌≡◌, [], Some, IsSome, OnOk};
 ghost use Rattle.interp.specs.Start.{constant_value, constant_plain, initial_globals};
 ghost use Rattle.interp.specs.inside.Begun.{AreInitial, cells_laid_in, cell_memory_laid, cell_segment_laid};
 
 use crate::cell::of_value;
 use crate::globals::Globals;
 use crate::memory::Memory;
+use bounded_profile::Verified;
 use std::alloc::{AllocError, Global};
-use wasm_ast::{
-    Body, Data, Global as GlobalDefinition, Instr, Limits, Module, Plain, Value, Variable,
-};
+use wasm_ast::{Body, Data, Global as GlobalDefinition, Instr, Module, Plain, Value, Variable};
 
 /// The initial value of each global, as a cell.
 pub fn lay_globals(
@@ -35,13 +31,18 @@ pub fn lay_globals(
     Ok(())
 }
 
-/// Zeros, and the data segments in order.
-pub fn lay_memory(module: &Module, globals: &Globals, memory: &mut Memory) -> Result<(), AllocError>
-    requires minimums { MinimumsWithin «module».now }
+/// Zeros, and the data segments in order, where they are kept.
+pub fn lay_memory<'a>(
+    verified: &'a Verified,
+    module: &Module,
+    globals: &Globals,
+    memory: &mut Memory<'a>,
+) -> Result<(), AllocError>
+    requires own { verified.now ≡ «module».now }
     requires there { IsSome (cell_memory_laid globals.now «module».now) }
     ensures { OnOk result (cell_memory_laid globals.now «module».now ≡ Some memory.new) }
 {
-    memory.renew(page_count(module.memories.as_slice()))?;
+    memory.renew(verified)?;
     lay_segments(module.data.as_slice(), globals, memory);
     Ok(())
 }
@@ -62,18 +63,6 @@ fn lay_segment(segment: &Data, globals: &Globals, memory: &mut Memory)
     match constant_value(globals, &segment.offset) {
         Some(place) => memory.lay(of_value(place), segment.bytes.as_slice()),
         None => unreachable!(),
-    }
-}
-
-// The pages of the one memory, if there is one.
-fn page_count(memories: &[Limits]) -> u32
-    requires { AllByRecursion (λ (limits : AnyLimits). limits.minimum ≤ max_minimum) memories.now }
-    ensures few { result ≤ max_minimum }
-    ensures bytes { page * result ≡ bytes_of memories.now }
-{
-    match memories.first() {
-        Some(limits) => limits.minimum,
-        None => 0,
     }
 }
 

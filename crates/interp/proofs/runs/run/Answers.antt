@@ -1,7 +1,6 @@
 use Rattle.std.proofs.Common.{sym, subst}
 use Rattle.wasm_ast.specs.declared.module.Module.{Module}
 use Rattle.wasm_ast.specs.View.{code_of}
-use Rattle.bounded_profile.specs.Memory.{MinimumsWithin}
 use Rattle.interp.specs.inside.Begun.{BeginsAt, IsDefinedAt}
 use Rattle.interp.proofs.Running.{beginning_at, begins_at, begins_with, bound_told, defined_at, ends_at, fails_never, leads, outcome_told}
 use Rattle.interp.proofs.runs.run.Goals as goal
@@ -17,11 +16,6 @@ lay-requires-clause-begins c =
     let told = c.program_for-program.ensures in
     let b = begins_at c.args.verified.now told.typed told.bounded c.compute.result c.compute.ensures c.args.input.now in
     begins_with c.program_for-program.result.module.now c.compute.result c.defined-function.result.now (subst (λ (m : Module). BeginsAt m c.compute.result) (sym told.same) b) c.defined-function.ensures
-
-pub lay-requires-clause-minimums : goal.lay-requires-clause-minimums
-lay-requires-clause-minimums c =
-    let told = c.program_for-program.ensures in
-    subst (λ (m : Module). MinimumsWithin m) (sym told.same) told.bounded.addresses.minimums
 
 pub begin-walk-requires-clause-begins : goal.begin-walk-requires-clause-begins
 begin-walk-requires-clause-begins c =

@@ -1,15 +1,21 @@
-use Rattle.interp.proofs.Parts.{fall_here, fall_below}
-use Rattle.interp.proofs.Stored.{stored, stored_long, stored_take}
+use Rattle.std.proofs.Common.{arith}
+use Rattle.interp.proofs.Parts.{fall_below, fall_here, floor_below}
+use Rattle.interp.proofs.Piles.{floor_held, held, held_cut}
 use Rattle.interp.proofs.operands.Operands.fall.Goals as goal
+
+pub invariant_of-self : goal.invariant_of-self
+invariant_of-self c =
+    let a = c.self.inside in
+    (floor_below a.floor c.args.floor (held a.top a.cells.items) c.args.self.now c.self.view_is (floor_held a.floor a.top a.cells.items c.self.invariant.0 c.self.invariant.1) c.requires, omega (arith, c.self.invariant.0, c.self.invariant.1))
 
 pub returns-clause-here : goal.returns-clause-here
 returns-clause-here c =
-    let cells = c.self.inside.cells.items in
-    fall_here c.self.inside.floor c.args.floor (stored cells) (stored c.truncate.new.self.items) c.args.self.now c.self.view_is (stored_long c.self.inside.floor cells c.self.invariant) c.requires
-    (stored_take c.self.inside.floor cells c.truncate.new.self.items c.truncate.ensures.items)
+    let a = c.self.inside in
+    fall_here a.floor c.args.floor (held a.top a.cells.items) (held a.floor a.cells.items) c.args.self.now c.self.view_is (floor_held a.floor a.top a.cells.items c.self.invariant.0 c.self.invariant.1) c.requires
+    (held_cut a.floor a.top a.cells.items c.self.invariant.0)
 
 pub returns-clause-below : goal.returns-clause-below
 returns-clause-below c =
-    let cells = c.self.inside.cells.items in
-    fall_below c.self.inside.floor c.args.floor (stored cells) (stored c.truncate.new.self.items) c.args.self.now c.self.view_is (stored_long c.self.inside.floor cells c.self.invariant) c.requires
-    (stored_take c.self.inside.floor cells c.truncate.new.self.items c.truncate.ensures.items)
+    let a = c.self.inside in
+    fall_below a.floor c.args.floor (held a.top a.cells.items) (held a.floor a.cells.items) c.args.self.now c.self.view_is (floor_held a.floor a.top a.cells.items c.self.invariant.0 c.self.invariant.1) c.requires
+    (held_cut a.floor a.top a.cells.items c.self.invariant.0)

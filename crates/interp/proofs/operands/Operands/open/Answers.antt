@@ -1,12 +1,9 @@
-use Rattle.std.proofs.Common.{◌≡◌, length, sym, ◌∙◌, rules}
-use Rattle.std.proofs.lemmas.List.{length-map}
-use Rattle.wasm_ast.specs.declared.types.Value.TheVariants.{I64}
+use Rattle.std.proofs.Common.{sym}
 use Rattle.interp.proofs.Parts.{opened}
-use Rattle.interp.proofs.Stored.{stored}
+use Rattle.interp.proofs.Piles.{held, held_long}
 use Rattle.interp.proofs.operands.Operands.open.Goals as goal
 
 pub returns : goal.returns
 returns c =
-    let cells = c.self.inside.cells.items in
-    let l : c.len-self-inside.result ≡ length cells = search rules in
-    opened c.self.inside.floor c.len-self-inside.result (stored cells) c.args.self.now c.self.view_is (l ∙ sym (length-map cells I64))
+    let a = c.self.inside in
+    opened a.floor a.top (held a.top a.cells.items) c.args.self.now c.self.view_is (sym (held_long a.top a.cells.items c.self.invariant.1))

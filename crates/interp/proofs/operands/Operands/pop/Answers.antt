@@ -1,25 +1,30 @@
-use Rattle.std.proofs.Common.{◌≡◌, ◌≤◌, ◌∷◌, [], ◌++◌, length, ap, ◌∙◌, arith, length-append}
-use Rattle.std.specs.Option.{option_to_list}
-use Rattle.std.proofs.lemmas.List.{length-map, map-append}
+use Rattle.std.proofs.Common.{◌≡◌, ◌+◌, ◌-◌, ◌≤◌, get_or, length, ap, ◌∙◌, arith}
 use Rattle.wasm_ast.specs.declared.types.Value.TheVariants.{I64}
 use Rattle.interp.proofs.Parts.{here_long, popped_is}
-use Rattle.interp.proofs.Stored.{stored, stored_long}
+use Rattle.interp.proofs.Piles.{floor_held, held, held_long, held_top}
 use Rattle.interp.proofs.operands.Operands.pop.Goals as goal
 
-pub unwrap-requires : goal.unwrap-requires
-unwrap-requires c =
-    let l = here_long c.self.inside.floor (stored c.self.inside.cells.items) c.args.self.now c.self.view_is in
-    c.pop.ensures.variant.1 (omega (arith, l, length-map c.self.inside.cells.items I64, c.requires, c.self.inside.cells.ok.0))
+pub overflow_sub-below : goal.overflow_sub-below
+overflow_sub-below c =
+    let a = c.self.inside in
+    omega (arith, here_long a.floor (held a.top a.cells.items) c.args.self.now c.self.view_is, held_long a.top a.cells.items c.self.invariant.1, c.requires)
 
 pub invariant_of-self : goal.invariant_of-self
 invariant_of-self c =
-    let l = here_long c.self.inside.floor (stored c.self.inside.cells.items) c.args.self.now c.self.view_is in
-    let e : c.self.inside.cells.items ≡ c.pop.new.self.items ++ c.unwrap.result ∷ [] = c.pop.ensures.items ∙ ap (λ o. c.pop.new.self.items ++ option_to_list o) c.unwrap.ensures in
-    omega (arith, l, length-map c.self.inside.cells.items I64, c.requires, ap length e, length-append c.pop.new.self.items (c.unwrap.result ∷ []))
+    let a = c.self.inside in
+    let l = here_long a.floor (held a.top a.cells.items) c.args.self.now c.self.view_is in
+    let h = held_long a.top a.cells.items c.self.invariant.1 in
+    (omega (arith, l, h, c.requires), omega (arith, c.self.invariant.1))
 
 pub returns : goal.returns
 returns c =
-    let l = here_long c.self.inside.floor (stored c.self.inside.cells.items) c.args.self.now c.self.view_is in
-    let e : c.self.inside.cells.items ≡ c.pop.new.self.items ++ c.unwrap.result ∷ [] = c.pop.ensures.items ∙ ap (λ o. c.pop.new.self.items ++ option_to_list o) c.unwrap.ensures in
-    let n : c.self.inside.floor ≤ length c.pop.new.self.items = omega (arith, l, length-map c.self.inside.cells.items I64, c.requires, ap length e, length-append c.pop.new.self.items (c.unwrap.result ∷ [])) in
-    popped_is c.self.inside.floor (stored c.self.inside.cells.items) (stored c.pop.new.self.items) (I64 c.unwrap.result) c.args.self.now c.self.view_is (stored_long c.self.inside.floor c.pop.new.self.items n) (ap stored e ∙ map-append I64 c.pop.new.self.items (c.unwrap.result ∷ []))
+    let a = c.self.inside in
+    let cells = a.cells.items in
+    let l = here_long a.floor (held a.top cells) c.args.self.now c.self.view_is in
+    let h = held_long a.top cells c.self.invariant.1 in
+    let e : a.top ≡ a.top - 1 + 1 = omega (arith, l, h, c.requires) in
+    let f : a.floor ≤ a.top - 1 = omega (arith, l, h, c.requires) in
+    let g : a.top - 1 ≤ length cells = omega (arith, c.self.invariant.1) in
+    let v : c.index.result.now ≡ get_or cells (a.top - 1) c.index.result.now = c.index.ensures in
+    popped_is a.floor (held a.top cells) (held (a.top - 1) cells) (I64 c.index.result.now) c.args.self.now c.self.view_is (floor_held a.floor (a.top - 1) cells f g)
+    (ap (λ k. held k cells) e ∙ held_top (a.top - 1) cells c.index.result.now (omega (arith, l, h, c.requires, c.self.invariant.1)) v)

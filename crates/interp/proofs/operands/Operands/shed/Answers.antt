@@ -1,15 +1,13 @@
-use Rattle.std.proofs.Common.{◌≡◌, ◌-◌, length, take, sym, ap, ◌∙◌, rules}
-use Rattle.std.proofs.lemmas.List.{length-map}
-use Rattle.wasm_ast.specs.declared.types.Value.TheVariants.{I64}
+use Rattle.std.proofs.Common.{◌-◌, take, sym, ap, ◌∙◌, arith}
 use Rattle.interp.proofs.Parts.{shed_is, top_fits}
-use Rattle.interp.proofs.Stored.{stored, stored_long, stored_take}
+use Rattle.interp.proofs.Piles.{floor_held, held, held_cut, held_long}
 use Rattle.interp.proofs.operands.Operands.shed.Goals as goal
 
 pub returns : goal.returns
 returns c =
-    let cells = c.self.inside.cells.items in
-    let xs = stored cells in
-    let l : c.len.result ≡ length cells = search rules in
-    let m : c.len.result ≡ length xs = l ∙ sym (length-map cells I64) in
-    shed_is c.self.inside.floor c.args.count xs (stored c.truncate.new.self.items) c.args.self.now c.self.view_is (stored_long c.self.inside.floor cells c.self.invariant) (top_fits c.self.inside.floor c.args.count xs c.args.self.now c.self.view_is c.requires)
-    (stored_take (c.len.result - c.args.count) cells c.truncate.new.self.items c.truncate.ensures.items ∙ ap (λ n. take (n - c.args.count) xs) m)
+    let a = c.self.inside in
+    let cells = a.cells.items in
+    let xs = held a.top cells in
+    let h = held_long a.top cells c.self.invariant.1 in
+    shed_is a.floor c.args.count xs (held (a.top - c.args.count) cells) c.args.self.now c.self.view_is (floor_held a.floor a.top cells c.self.invariant.0 c.self.invariant.1) (top_fits a.floor c.args.count xs c.args.self.now c.self.view_is c.requires)
+    (held_cut (a.top - c.args.count) a.top cells (omega arith) ∙ ap (λ n. take (n - c.args.count) xs) (sym h))

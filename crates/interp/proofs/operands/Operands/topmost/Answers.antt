@@ -1,16 +1,16 @@
-use Rattle.std.proofs.Common.{◌≡◌, ◌-◌, length, sym, ap, ◌∙◌, rules}
-use Rattle.std.proofs.lemmas.List.{length-map}
+use Rattle.std.proofs.Common.{◌-◌, ◌≤◌, map, take, drop, ap, ◌∙◌, arith}
 use Rattle.wasm_ast.specs.declared.types.Value.TheVariants.{I64}
-use Rattle.interp.proofs.Parts.{topmost_slice, top_fits}
-use Rattle.interp.proofs.Stored.{stored, stored_long, stored_rest}
+use Rattle.interp.proofs.Parts.{top_fits, topmost_is}
+use Rattle.interp.proofs.Piles.{floor_held, held, held_long, held_topmost}
 use Rattle.interp.proofs.operands.Operands.topmost.Goals as goal
 
 pub returns : goal.returns
 returns c =
-    let cells = c.self.inside.cells.items in
-    let xs = stored cells in
-    let f = c.self.inside.floor in
-    let l : c.len.result ≡ length cells = search rules in
-    let fits = top_fits f c.args.count xs c.args.self.now c.self.view_is c.requires in
-    stored_rest (c.len.result - c.args.count) c.deref.result.now
-    ∙ topmost_slice f c.args.count c.len.result xs (stored c.deref.result.now) c.args.self.now c.self.view_is (stored_long f cells c.self.invariant) fits (ap stored c.deref.ensures.value) (l ∙ sym (length-map cells I64))
+    let a = c.self.inside in
+    let cells = a.cells.items in
+    let k = c.args.count in
+    let fits = top_fits a.floor k (held a.top cells) c.args.self.now c.self.view_is c.requires in
+    let within : k ≤ a.top = omega (arith, fits, held_long a.top cells c.self.invariant.1) in
+    ap (λ l. map I64 (take (a.top - (a.top - k)) (drop (a.top - k) l))) c.deref.ensures.value
+    ∙ held_topmost k a.top cells within c.self.invariant.1
+    ∙ topmost_is a.floor k (held a.top cells) c.args.self.now c.self.view_is (floor_held a.floor a.top cells c.self.invariant.0 c.self.invariant.1) fits

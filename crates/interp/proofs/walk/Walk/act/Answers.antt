@@ -8,7 +8,7 @@ use Rattle.interp.specs.inside.Walk.{affected}
 use Rattle.interp.proofs.Asking.{plain_asked}
 use Rattle.interp.proofs.walk.Walk.act.Goals as goal
 
-pub act_plain-requires : goal.act_plain-requires
-act_plain-requires c =
+pub act-requires : goal.act-requires
+act-requires c =
     let s = standing_of c.self.inside in
     plain_asked of_any_width c.args.plain s.values (code_of c.args.code.now) s.layers (state_of s c.args.count) (ap (goes_on (affected (cell_effect of_any_width c.args.plain)) (code_of c.args.code.now) c.args.count) c.self.view_is ∙ c.requires)

@@ -1,0 +1,96 @@
+-- Straight code: one instruction more.
+use Rattle.std.proofs.Common.{◌≡◌, ℕ, ◌+◌, ◌≤◌, Bool, true, List, Option, Some, slice_get, sym, ap, ◌∙◌, subst}
+use Rattle.wasm_ast.specs.declared.types.Value.{Value}
+use Rattle.wasm_ast.specs.declared.module.Module.{Module}
+use Rattle.wasm_ast.specs.declared.plain.Plain.{Plain}
+use Rattle.wasm_ast.specs.declared.body.Instr.{Instr}
+use Rattle.wasm_ast.specs.declared.body.Instr.TheVariants as instr
+use Rattle.wasm_ast.specs.Code.{Code}
+use Rattle.wasm_ast.specs.Code as code
+use Rattle.wasm_ast.specs.View.{then_code}
+use Rattle.cost.specs.Weights.{call_units, plain_units}
+use Rattle.host_calls.specs.Host.{Host}
+use Rattle.host_calls.specs.declared.imports.HostCall.{HostCall}
+use Rattle.interp.specs.Configuration.{State, Effect, Gives, tick}
+use Rattle.interp.specs.Machine.{Machine, Running, Layer, Callee, host, after_effect, functions_of, next_units}
+use Rattle.interp.specs.declared.straight.Straight.{Straight}
+use Rattle.interp.specs.declared.straight.Straight.TheVariants as straight
+use Rattle.interp.specs.inside.Cells.{cell_advance, cell_call, cell_effect, cell_take_call, in_width, of_any_width}
+use Rattle.interp.specs.inside.Going.{is_going}
+use Rattle.interp.specs.inside.Place.{running}
+use Rattle.interp.specs.inside.Straight.{GoesStraight, LeadsAmid, Passes, Spot, amid, spot, straight_asks, straight_effect}
+use Rattle.interp.proofs.Asking.{call_asked, plain_asked}
+use Rattle.interp.proofs.Following.{cell_goes, cell_room, follows_on}
+
+straight_asked : (may : Value → Bool) (what : Straight) (vs : List Value) (is : Code) (ls : List Layer) (st : State) → is_going (after_effect (straight_effect may what vs st) is ls st.count) ≡ true → straight_asks what vs st.locals st.globals st.memory ≡ true
+straight_asked may (straight.Plain p) vs is ls st g = plain_asked may p vs is ls st g
+straight_asked may (straight.Host c) vs is ls st g = call_asked may c vs is ls st g
+
+-- ---- which instructions go straight on
+
+module _ (m : Module) (whole rest : Code) (first : Instr) (begins : whole ≡ then_code first rest) (units : ℕ) where
+  pub goes_plain : (p : Plain) → first ≡ instr.Plain p → units ≡ plain_units p → GoesStraight m whole (straight.Plain p) units rest
+  goes_plain p is counted =
+      let e : whole ≡ code.plain p rest = begins ∙ ap (λ (i : Instr). then_code i rest) is in
+      record {
+        counts = ap (λ (k : Code). next_units m k) e ∙ sym counted;
+        steps = λ may vs ls st.
+            ap (λ (k : Code). cell_advance may m (Running vs k ls st)) e
+            ∙ ap (λ (n : ℕ). after_effect (cell_effect may p vs (tick n st)) rest ls (st.count + n)) (sym counted);
+      }
+
+  pub goes_host : (f : ℕ) (c : HostCall) → first ≡ instr.Call f → Some (host (Some c)) ≡ slice_get (functions_of m) f → units ≡ call_units m f → GoesStraight m whole (straight.Host c) units rest
+  goes_host f c is found counted =
+      let e : whole ≡ code.call f rest = begins ∙ ap (λ (i : Instr). then_code i rest) is in
+      record {
+        counts = ap (λ (k : Code). next_units m k) e ∙ sym counted;
+        steps = λ may vs ls st.
+            ap (λ (k : Code). cell_advance may m (Running vs k ls st)) e
+            ∙ ap (λ (o : Option Callee). cell_take_call may m o vs rest ls (tick (call_units m f) st)) (sym found)
+            ∙ ap (λ (n : ℕ). after_effect (cell_call may c vs (tick n st)) rest ls (st.count + n)) (sym counted);
+      }
+
+-- ---- runs of them
+
+module _ (m : Module) (most : ℕ) where
+  pub leads_on : (s t : Spot) → LeadsAmid m s most → Passes m most s t → LeadsAmid m t most
+  leads_on s t l on =
+      let d = l.1 in
+      (l.0, record { from = d.from; follows = on l.0 d.from d.follows d.ends; ends = d.ends })
+
+  pub passes_on : (s t u : Spot) → Passes m most s t → ((ls : List Layer) → cell_advance in_width m (running (amid t ls)) ≡ running (amid u ls)) → Passes m most s u
+  passes_on s t u on step = λ ls from follows ends. follows_on m from (amid t ls) (on ls from follows ends) most ends (amid u ls) (step ls)
+
+  pub room_amid : (s : Spot) → LeadsAmid m s most → s.state.count + next_units m s.code ≤ most
+  room_amid s l = let d = l.1 in cell_room m d.from (amid s l.0) d.follows most d.ends
+
+  goes_amid : (s : Spot) (l : LeadsAmid m s most) → is_going (cell_advance of_any_width m (running (amid s l.0))) ≡ true
+  goes_amid s l = let d = l.1 in cell_goes m d.from (amid s l.0) d.follows most d.ends
+
+  module _ (s : Spot) (what : Straight) (units : ℕ) (rest : Code) (g : GoesStraight m s.code what units rest) where
+    pub straight_room : LeadsAmid m s most → s.state.count + units ≤ most
+    straight_room l = subst (λ (n : ℕ). s.state.count + n ≤ most) g.counts (room_amid s l)
+
+    pub straight_asked_amid : LeadsAmid m s most → straight_asks what s.values s.state.locals s.state.globals s.state.memory ≡ true
+    straight_asked_amid l =
+        straight_asked of_any_width what s.values rest l.0 (tick units s.state)
+        (ap (λ (x : Machine). is_going x) (sym (g.steps of_any_width s.values l.0 s.state)) ∙ goes_amid s l)
+
+    pub straight_step : (t : Spot) → straight_effect in_width what s.values (tick units s.state) ≡ Gives t.values t.state → rest ≡ t.code → (ls : List Layer) → cell_advance in_width m (running (amid s ls)) ≡ running (amid t ls)
+    straight_step t gives same ls =
+        g.steps in_width s.values ls s.state
+        ∙ ap (λ (x : Effect). after_effect x rest ls (s.state.count + units)) gives
+        ∙ ap (λ (k : Code). Running t.values k ls t.state) same
+
+-- the same in other words
+module _ (m : Module) (most : ℕ) (k j : Code) (vs us ls ms : List Value) (v : vs ≡ us) (l : ls ≡ ms) (gs : List Value) (bs : List ℕ) (h h' : Host) (n : ℕ) where
+  pub leads_same : LeadsAmid m (spot us k ms gs bs h n) most → LeadsAmid m (spot vs k ls gs bs h n) most
+  leads_same a =
+      subst (λ (x : List Value). LeadsAmid m (spot x k ls gs bs h n) most) (sym v) (subst (λ (x : List Value). LeadsAmid m (spot us k x gs bs h n) most) (sym l) a)
+
+  pub passes_same : (vs' us' ls' ms' : List Value) → vs' ≡ us' → ls' ≡ ms' → (gs' : List Value) (bs' : List ℕ) (n' : ℕ) → Passes m most (spot vs k ls gs bs h n) (spot us' j ms' gs' bs' h' n') → Passes m most (spot us k ms gs bs h n) (spot vs' j ls' gs' bs' h' n')
+  passes_same vs' us' ls' ms' v' l' gs' bs' n' a =
+      let a1 = subst (λ (x : List Value). Passes m most (spot x k ls gs bs h n) (spot us' j ms' gs' bs' h' n')) v a in
+      let a2 = subst (λ (x : List Value). Passes m most (spot us k x gs bs h n) (spot us' j ms' gs' bs' h' n')) l a1 in
+      let a3 = subst (λ (x : List Value). Passes m most (spot us k ms gs bs h n) (spot x j ms' gs' bs' h' n')) (sym v') a2 in
+      subst (λ (x : List Value). Passes m most (spot us k ms gs bs h n) (spot vs' j x gs' bs' h' n')) (sym l') a3

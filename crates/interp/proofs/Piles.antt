@@ -1,0 +1,88 @@
+-- Operands in a list of cells with room above them.
+use Rattle.std.proofs.Common.{◌≡◌, ℕ, ◌+◌, ◌-◌, ◌<◌, ◌≤◌, List, [], ◌∷◌, ◌++◌, map, length, take, drop, reverse, get_or, refl, sym, ap, ◌∙◌, arith, add-one}
+use Rattle.std.specs.Prelude.{slice_set}
+use Rattle.std.specs.List.{drop-map, take-map}
+use Rattle.std.proofs.lemmas.List.{length-map, length-reverse, length-take-le, map-append, reverse-append}
+use Rattle.std.proofs.Math.Seq.{take-suc, take-suc-set}
+use Rattle.wasm_ast.specs.declared.types.Value.{Value}
+use Rattle.wasm_ast.specs.declared.types.Value.TheVariants.{I64}
+use Rattle.interp.specs.inside.Pile.{pile}
+use Rattle.interp.specs.inside.Split.{Split}
+use Rattle.interp.proofs.Lists.{drop-take, take-take}
+use Rattle.interp.proofs.Parts.{parts, popped_is}
+
+abbrev shown : List ℕ → List Value
+shown cells = reverse (map I64 cells)
+
+shown_on : (cells : List ℕ) (cell : ℕ) → shown (cells ++ cell ∷ []) ≡ I64 cell ∷ shown cells
+shown_on cells cell = ap (λ (l : List Value). reverse l) (map-append I64 cells (cell ∷ [])) ∙ reverse-append (map I64 cells) (I64 cell ∷ [])
+
+pub pile_long : (cells : List ℕ) (n : ℕ) → n ≤ length cells → length (pile cells n) ≡ n
+unfolding pile
+pile_long cells n h = length-reverse (map I64 (take n cells)) ∙ length-map (take n cells) I64 ∙ length-take-le n cells h
+
+pub pile_top : (cells : List ℕ) (n : ℕ) → n < length cells → pile cells (n + 1) ≡ I64 (get_or cells n 0) ∷ pile cells n
+unfolding pile
+pile_top cells n h =
+    ap (λ (k : ℕ). shown (take k cells)) (add-one n) ∙ ap (λ (l : List ℕ). shown l) (take-suc cells n 0 h) ∙ shown_on (take n cells) (get_or cells n 0)
+
+pub pile_on : (cells : List ℕ) (n cell : ℕ) → n < length cells → pile (slice_set cells n cell) (n + 1) ≡ I64 cell ∷ pile cells n
+unfolding pile
+pile_on cells n cell h =
+    ap (λ (k : ℕ). shown (take k (slice_set cells n cell))) (add-one n) ∙ ap (λ (l : List ℕ). shown l) (take-suc-set cells n cell h) ∙ shown_on (take n cells) cell
+
+-- the operands of the innermost layer
+pub pile_here : (floor top : ℕ) (cells : List ℕ) → floor ≤ top → pile (drop floor cells) (top - floor) ≡ reverse (drop floor (map I64 (take top cells)))
+unfolding pile
+pile_here floor top cells h =
+    let e : floor + (top - floor) ≡ top = omega arith in
+    ap (λ (l : List ℕ). shown l) (sym (drop-take floor (top - floor) cells) ∙ ap (λ (k : ℕ). drop floor (take k cells)) e)
+    ∙ ap (λ (l : List Value). reverse l) (sym (drop-map I64 floor (take top cells)))
+
+-- ---- the operands of all layers
+
+abbrev pub held : ℕ → List ℕ → List Value
+held top cells = map I64 (take top cells)
+
+pub held_long : (top : ℕ) (cells : List ℕ) → top ≤ length cells → length (held top cells) ≡ top
+held_long top cells h = length-map (take top cells) I64 ∙ length-take-le top cells h
+
+pub floor_held : (floor top : ℕ) (cells : List ℕ) → floor ≤ top → top ≤ length cells → floor ≤ length (held top cells)
+floor_held floor top cells g h = omega (arith, held_long top cells h, g)
+
+pub held_cut : (n top : ℕ) (cells : List ℕ) → n ≤ top → held n cells ≡ take n (held top cells)
+held_cut n top cells h = ap (λ (l : List ℕ). map I64 l) (sym (take-take n top cells h)) ∙ sym (take-map I64 n (take top cells))
+
+pub held_top : (n : ℕ) (cells : List ℕ) (cell : ℕ) → n < length cells → cell ≡ get_or cells n cell → held (n + 1) cells ≡ held n cells ++ I64 cell ∷ []
+held_top n cells cell h e =
+    ap (λ (k : ℕ). held k cells) (add-one n) ∙ ap (λ (l : List ℕ). map I64 l) (take-suc cells n cell h)
+    ∙ map-append I64 (take n cells) (get_or cells n cell ∷ []) ∙ ap (λ (x : ℕ). held n cells ++ I64 x ∷ []) (sym e)
+
+held_on : (n cell : ℕ) (old new : List ℕ) → take n new ≡ take n old → n < length new → held (n + 1) (slice_set new n cell) ≡ held n old ++ I64 cell ∷ []
+held_on n cell old new e h =
+    ap (λ (k : ℕ). held k (slice_set new n cell)) (add-one n) ∙ ap (λ (l : List ℕ). map I64 l) (take-suc-set new n cell h ∙ ap (λ (l : List ℕ). l ++ cell ∷ []) e) ∙ map-append I64 (take n old) (cell ∷ [])
+
+pub held_topmost : (k top : ℕ) (cells : List ℕ) → k ≤ top → top ≤ length cells → map I64 (take (top - (top - k)) (drop (top - k) cells)) ≡ drop (length (held top cells) - k) (held top cells)
+held_topmost k top cells h g =
+    let n : ℕ = top - k in
+    let a : top - (top - k) ≡ k = omega arith in
+    let b : (top - k) + k ≡ top = omega arith in
+    ap (λ (j : ℕ). map I64 (take j (drop n cells))) a
+    ∙ ap (λ (l : List ℕ). map I64 l) (sym (drop-take n k cells) ∙ ap (λ (j : ℕ). drop n (take j cells)) b)
+    ∙ sym (drop-map I64 n (take top cells))
+    ∙ ap (λ (j : ℕ). drop (j - k) (held top cells)) (sym (held_long top cells g))
+
+module _ (floor top : ℕ) (s : Split) where
+  -- a cell is put on top, in a list that may have grown
+  pub pushed_here : (cell : ℕ) (old new : List ℕ) → parts floor (held top old) ≡ s → floor ≤ top → top ≤ length old → take top new ≡ take top old → top < length new → reverse (drop floor (held (top + 1) (slice_set new top cell))) ≡ I64 cell ∷ s.here
+  pushed_here cell old new view f h kept room =
+      ap (λ (t : Split). t.here) (popped_is floor (held (top + 1) (slice_set new top cell)) (held top old) (I64 cell) (parts floor (held (top + 1) (slice_set new top cell))) refl (floor_held floor top old f h) (held_on top cell old new kept room))
+      ∙ ap (λ (t : Split). I64 cell ∷ t.here) view
+
+  pub pushed_below : (cell : ℕ) (old new : List ℕ) → parts floor (held top old) ≡ s → floor ≤ top → top ≤ length old → take top new ≡ take top old → top < length new → reverse (take floor (held (top + 1) (slice_set new top cell))) ≡ s.below
+  pushed_below cell old new view f h kept room =
+      ap (λ (t : Split). t.below) (popped_is floor (held (top + 1) (slice_set new top cell)) (held top old) (I64 cell) (parts floor (held (top + 1) (slice_set new top cell))) refl (floor_held floor top old f h) (held_on top cell old new kept room))
+      ∙ ap (λ (t : Split). t.below) view
+
+  pub kept_below : (old new : List ℕ) → parts floor (held top old) ≡ s → take top new ≡ take top old → reverse (take floor (held top new)) ≡ s.below
+  kept_below old new view kept = ap (λ (l : List ℕ). reverse (take floor (map I64 l))) kept ∙ ap (λ (t : Split). t.below) view

@@ -1,0 +1,100 @@
+use Rattle.std.proofs.Common.{◌≡◌, ◌+◌, ◌-◌, map, drop, length, reverse, ap, ◌∙◌, arith}
+use Rattle.wasm_ast.specs.declared.types.Value.TheVariants.{I64}
+use Rattle.wasm_ast.specs.View.{code_of}
+use Rattle.interp.specs.inside.Pile.{pile}
+use Rattle.interp.proofs.Lent.{IsLent, back_below, back_cells, back_here, back_under, given_back, lent, lent_cells, lent_here}
+use Rattle.interp.proofs.Passing.{leads_same, passes_same}
+use Rattle.interp.proofs.Piles.{held}
+use Rattle.interp.proofs.straight.go_straight.Goals as goal
+
+pub run_straight-requires-clause-leads : goal.run_straight-requires-clause-leads
+run_straight-requires-clause-leads c =
+    let o = c.operands.inside in
+    let l = c.locals.inside in
+    let whole = c.deref_mut.result.now in
+    let others = c.deref_mut-2.result.now in
+    let here : pile (lent o.floor whole) (o.top - o.floor) ≡ c.args.operands.now.here =
+    lent_here o.floor whole o.cells.items c.deref_mut.ensures.value o.top c.operands.invariant.0 ∙ ap (λ s. s.here) c.operands.view_is in
+    let cells : map I64 (lent l.base others) ≡ c.args.locals.now.here =
+    lent_cells l.base others l.cells.items c.deref_mut-2.ensures.value ∙ ap (λ s. s.here) c.locals.view_is in
+    leads_same c.args.program.module.now c.args.most (code_of c.args.code.now) (code_of c.args.code.now) (pile (lent o.floor whole) (o.top - o.floor)) c.args.operands.now.here (map I64 (lent l.base others)) c.args.locals.now.here here cells c.args.globals.now c.args.bytes.now c.args.host.now c.args.host.now c.args.count c.requires.leads
+
+pub returns-clause-passes : goal.returns-clause-passes
+returns-clause-passes c =
+    let o = c.operands.inside in
+    let l = c.locals.inside in
+    let r = c.run_straight in
+    let stop = c.in_ok-stop.stop in
+    let whole = c.deref_mut.result.now in
+    let others = c.deref_mut-2.result.now in
+    let here : pile (lent o.floor whole) (o.top - o.floor) ≡ c.args.operands.now.here =
+    lent_here o.floor whole o.cells.items c.deref_mut.ensures.value o.top c.operands.invariant.0 ∙ ap (λ s. s.here) c.operands.view_is in
+    let cells : map I64 (lent l.base others) ≡ c.args.locals.now.here =
+    lent_cells l.base others l.cells.items c.deref_mut-2.ensures.value ∙ ap (λ s. s.here) c.locals.view_is in
+    let h : IsLent o.floor o.cells.len whole r.new.cells o.cells.items = record {
+      same = c.deref_mut.ensures.value;
+      all = omega (arith, c.deref_mut.ensures.len);
+      within = omega (arith, ap (λ k. length k) c.deref_mut.ensures.value, c.operands.invariant.0, c.operands.invariant.1);
+      kept = omega (arith, r.auto.cells);
+    } in
+    let g : IsLent l.base l.cells.len others r.new.locals l.cells.items = record {
+      same = c.deref_mut-2.ensures.value;
+      all = omega (arith, c.deref_mut-2.ensures.len);
+      within = omega (arith, ap (λ k. length k) c.deref_mut-2.ensures.value, c.locals.invariant);
+      kept = omega (arith, r.auto.locals);
+    } in
+    passes_same c.args.program.module.now c.args.most (code_of c.args.code.now) (code_of stop.code.now) (pile (lent o.floor whole) (o.top - o.floor)) c.args.operands.now.here (map I64 (lent l.base others)) c.args.locals.now.here here cells c.args.globals.now c.args.bytes.now c.args.host.now r.new.host c.args.count
+    (reverse (drop o.floor (held (o.floor + stop.top) (given_back o.floor o.cells.len whole r.new.cells o.cells.items)))) (pile r.new.cells stop.top) (drop l.base (map I64 (given_back l.base l.cells.len others r.new.locals l.cells.items))) (map I64 r.new.locals)
+    (back_here o.floor o.cells.len whole r.new.cells o.cells.items h stop.top) (back_cells l.base l.cells.len others r.new.locals l.cells.items g) r.new.globals r.new.bytes stop.count c.in_ok-stop.ensures.passes
+
+pub returns-clause-below : goal.returns-clause-below
+returns-clause-below c =
+    let o = c.operands.inside in
+    let r = c.run_straight in
+    let whole = c.deref_mut.result.now in
+    let h : IsLent o.floor o.cells.len whole r.new.cells o.cells.items = record {
+      same = c.deref_mut.ensures.value;
+      all = omega (arith, c.deref_mut.ensures.len);
+      within = omega (arith, ap (λ k. length k) c.deref_mut.ensures.value, c.operands.invariant.0, c.operands.invariant.1);
+      kept = omega (arith, r.auto.cells);
+    } in
+    back_below o.floor o.cells.len whole r.new.cells o.cells.items h (o.floor + c.in_ok-stop.stop.top) o.top (omega arith) c.operands.invariant.0 ∙ ap (λ s. s.below) c.operands.view_is
+
+pub returns-clause-locals_below : goal.returns-clause-locals_below
+returns-clause-locals_below c =
+    let l = c.locals.inside in
+    let r = c.run_straight in
+    let others = c.deref_mut-2.result.now in
+    let g : IsLent l.base l.cells.len others r.new.locals l.cells.items = record {
+      same = c.deref_mut-2.ensures.value;
+      all = omega (arith, c.deref_mut-2.ensures.len);
+      within = omega (arith, ap (λ k. length k) c.deref_mut-2.ensures.value, c.locals.invariant);
+      kept = omega (arith, r.auto.locals);
+    } in
+    back_under l.base l.cells.len others r.new.locals l.cells.items g ∙ ap (λ s. s.below) c.locals.view_is
+
+pub returns-in_err-stop-clause-below : goal.returns-in_err-stop-clause-below
+returns-in_err-stop-clause-below c =
+    let o = c.operands.inside in
+    let r = c.run_straight in
+    let whole = c.deref_mut.result.now in
+    let h : IsLent o.floor o.cells.len whole r.new.cells o.cells.items = record {
+      same = c.deref_mut.ensures.value;
+      all = omega (arith, c.deref_mut.ensures.len);
+      within = omega (arith, ap (λ k. length k) c.deref_mut.ensures.value, c.operands.invariant.0, c.operands.invariant.1);
+      kept = omega (arith, r.auto.cells);
+    } in
+    back_below o.floor o.cells.len whole r.new.cells o.cells.items h o.top o.top c.operands.invariant.0 c.operands.invariant.0 ∙ ap (λ s. s.below) c.operands.view_is
+
+pub returns-in_err-stop-clause-locals_below : goal.returns-in_err-stop-clause-locals_below
+returns-in_err-stop-clause-locals_below c =
+    let l = c.locals.inside in
+    let r = c.run_straight in
+    let others = c.deref_mut-2.result.now in
+    let g : IsLent l.base l.cells.len others r.new.locals l.cells.items = record {
+      same = c.deref_mut-2.ensures.value;
+      all = omega (arith, c.deref_mut-2.ensures.len);
+      within = omega (arith, ap (λ k. length k) c.deref_mut-2.ensures.value, c.locals.invariant);
+      kept = omega (arith, r.auto.locals);
+    } in
+    back_under l.base l.cells.len others r.new.locals l.cells.items g ∙ ap (λ s. s.below) c.locals.view_is

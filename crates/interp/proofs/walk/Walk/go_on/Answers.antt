@@ -1,0 +1,35 @@
+use Rattle.std.proofs.Common.{◌≡◌, length, reverse, sym, ap, ◌∙◌, subst, arith}
+use Rattle.wasm_ast.specs.View.{code_of}
+use Rattle.interp.specs.inside.Meaning.{layers_of, standing_of}
+use Rattle.interp.specs.inside.Place.{at}
+use Rattle.interp.specs.inside.Straight.{amid, spot}
+use Rattle.interp.specs.inside.Walk.{Follows, Leads}
+use Rattle.interp.proofs.walk.Walk.go_on.Goals as goal
+
+pub go_straight-requires-clause-leads : goal.go_straight-requires-clause-leads
+go_straight-requires-clause-leads c =
+    let s = standing_of c.self.inside in
+    (s.layers, subst (λ t. Leads c.args.program.module.now (at t (code_of c.args.code.now) c.args.count) c.args.most) (sym c.self.view_is) c.requires.leads)
+
+pub returns-clause-passes : goal.returns-clause-passes
+returns-clause-passes c =
+    let m = c.args.program.module.now in
+    let a = c.self.inside in
+    let g = c.go_straight in
+    let stop = c.in_ok-stop.stop in
+    let rs = reverse a.layers.items in
+    let ls : layers_of rs a.operands.below a.locals.below ≡ layers_of rs g.new.operands.below g.new.locals.below =
+    ap (λ b. layers_of rs b a.locals.below) (sym c.in_ok-stop.ensures.below) ∙ ap (λ b. layers_of rs g.new.operands.below b) (sym c.in_ok-stop.ensures.locals_below) in
+    λ from follows ends.
+    let here = subst (λ t. Follows m from (at t (code_of c.args.code.now) c.args.count)) (sym c.self.view_is) follows in
+    subst (λ l. Follows m from (amid (spot g.new.operands.here (code_of stop.code.now) g.new.locals.here g.new.globals g.new.bytes g.new.host stop.count) l)) ls (c.in_ok-stop.ensures.passes (standing_of a).layers from here ends)
+
+pub returns-clause-closer : goal.returns-clause-closer
+returns-clause-closer c =
+    let a = c.self.inside in
+    let g = c.go_straight in
+    let stop = c.in_ok-stop.stop in
+    let rs = reverse a.layers.items in
+    let ls : layers_of rs a.operands.below a.locals.below ≡ layers_of rs g.new.operands.below g.new.locals.below =
+    ap (λ b. layers_of rs b a.locals.below) (sym c.in_ok-stop.ensures.below) ∙ ap (λ b. layers_of rs g.new.operands.below b) (sym c.in_ok-stop.ensures.locals_below) in
+    omega (arith, ap (λ l. length l) ls, ap (λ s. length s.layers) c.self.view_is, c.in_ok-stop.ensures.more)

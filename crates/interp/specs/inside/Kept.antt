@@ -1,0 +1,107 @@
+-- What the walk keeps of a memory: the bytes that some load or store of the module reaches. A memory so kept stands here as
+-- a number for each byte, 0 where the byte is not kept, and else one more than the byte.
+use Rattle.std.specs.Prelude.{◌≡◌, ℕ, zero, suc, ◌+◌, ◌<◌, List, [], ◌∷◌, length, map, take, drop, get_or, nat_le, Bool, true, false, ◌&&◌, Option, Some, None, if◌then◌else◌}
+use Rattle.wasm_ast.specs.declared.types.Value.{Value}
+use Rattle.wasm_ast.specs.declared.plain.Memory.{Memory}
+use Rattle.wasm_ast.specs.declared.plain.Memory.TheVariants as memory
+use Rattle.wasm_ast.specs.declared.plain.Plain.{Plain}
+use Rattle.wasm_ast.specs.declared.plain.Plain.TheVariants as plain
+use Rattle.wasm_ast.specs.declared.module.Module.{Module}
+use Rattle.wasm_ast.specs.Code as code
+use Rattle.wasm_ast.specs.Widths.{load_width, store_width}
+use Rattle.bounded_profile.specs.Memory.{memory_bytes, number_of}
+use Rattle.bounded_profile.specs.Reached.{is_reached}
+use Rattle.interp.specs.Machine.{Machine, Running}
+use Rattle.interp.specs.Memory.{bytes_of_number, number_of_bytes}
+
+-- ---- which bytes are kept
+
+-- whether each of so many bytes is reached, from one on
+abbrev pub marks_from : Module → (byte count : ℕ) → List Bool
+marks_from m byte zero = []
+marks_from m byte (suc count) = is_reached m byte ∷ marks_from m (suc byte) count
+
+abbrev pub marks : Module → List Bool
+marks m = marks_from m 0 (memory_bytes m)
+
+-- so many bytes from a place on are all marked
+abbrev pub AreMarked : List Bool → (place width : ℕ) → Type 0
+AreMarked ms place width = (k : ℕ) → k < width → get_or ms (place + k) false ≡ true
+
+-- a rule holds of the place and the width that an instruction loads or stores
+abbrev pub MemoryTouches : ((place width : ℕ) → Type 0) → Memory → List Value → Type 0
+MemoryTouches R (memory.Load op a) (v ∷ vs) = R (number_of v + a.offset) (load_width op)
+MemoryTouches R (memory.Store op a) (n ∷ v ∷ vs) = R (number_of v + a.offset) (store_width op)
+MemoryTouches R _ vs = Unit {0}
+
+abbrev pub PlainTouches : ((place width : ℕ) → Type 0) → Plain → List Value → Type 0
+PlainTouches R (plain.Memory op) vs = MemoryTouches R op vs
+PlainTouches R _ vs = Unit {0}
+
+-- the next instruction
+abbrev pub Touches : ((place width : ℕ) → Type 0) → Machine → Type 0
+Touches R (Running vs (code.plain p is) ls st) = PlainTouches R p vs
+Touches R _ = Unit {0}
+
+-- ---- what is kept
+
+-- how many of the marked bytes lie before this one
+abbrev pub marked_before : List Bool → ℕ → ℕ
+marked_before ms zero = 0
+marked_before [] (suc byte) = 0
+marked_before (true ∷ ms) (suc byte) = suc (marked_before ms byte)
+marked_before (false ∷ ms) (suc byte) = marked_before ms byte
+
+-- what is kept of a whole memory
+abbrev pub masked : List Bool → List ℕ → List ℕ
+masked ms [] = []
+masked [] (b ∷ bs) = 0 ∷ masked [] bs
+masked (true ∷ ms) (b ∷ bs) = suc b ∷ masked ms bs
+masked (false ∷ ms) (b ∷ bs) = 0 ∷ masked ms bs
+
+-- bytes that lie together, each at the next place that is marked
+abbrev pub spread : List Bool → List ℕ → List ℕ
+spread [] bs = []
+spread (false ∷ ms) bs = 0 ∷ spread ms bs
+spread (true ∷ ms) [] = 0 ∷ spread ms []
+spread (true ∷ ms) (b ∷ bs) = suc b ∷ spread ms bs
+
+abbrev pub are_kept : List ℕ → Bool
+are_kept [] = true
+are_kept (zero ∷ bs) = false
+are_kept (suc b ∷ bs) = are_kept bs
+
+-- so many bytes from a place on are there, and all are kept
+abbrev pub is_kept : (place width : ℕ) → List ℕ → Bool
+is_kept place width bytes = nat_le (place + width) (length bytes) && are_kept (take width (drop place bytes))
+
+abbrev pub byte_of : ℕ → ℕ
+byte_of zero = 0
+byte_of (suc b) = b
+
+-- the number in so many bytes from a place on, if all of them are kept
+abbrev pub kept_read : (place width : ℕ) → List ℕ → Option ℕ
+kept_read place width bytes =
+    if is_kept place width bytes then Some (number_of_bytes (map byte_of (take width (drop place bytes)))) else None
+
+-- others in the stead of the first bytes that are kept
+abbrev pub over : (others bytes : List ℕ) → List ℕ
+over [] bs = bs
+over (o ∷ os) [] = []
+over (o ∷ os) (zero ∷ bs) = zero ∷ over os bs
+over (o ∷ os) (suc b ∷ bs) = suc o ∷ over os bs
+
+-- the same from a place on
+abbrev pub laid_over : (place : ℕ) (others bytes : List ℕ) → List ℕ
+laid_over zero others bytes = over others bytes
+laid_over (suc place) others [] = []
+laid_over (suc place) others (b ∷ bytes) = b ∷ laid_over place others bytes
+
+-- others in the stead of the bytes from a place on, if all of those are kept
+abbrev pub kept_laid : (place : ℕ) (others bytes : List ℕ) → Option (List ℕ)
+kept_laid place others bytes =
+    if is_kept place (length others) bytes then Some (laid_over place others bytes) else None
+
+-- the lowest bytes of a number in the stead of so many
+abbrev pub kept_write : (place width n : ℕ) → List ℕ → Option (List ℕ)
+kept_write place width n bytes = kept_laid place (bytes_of_number width n) bytes

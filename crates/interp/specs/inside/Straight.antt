@@ -1,0 +1,50 @@
+-- Instructions that go straight on: the layers stay, whatever they are.
+use Rattle.std.specs.Prelude.{◌≡◌, ℕ, ◌+◌, List, Bool}
+use Rattle.wasm_ast.specs.declared.types.Value.{Value}
+use Rattle.wasm_ast.specs.declared.module.Module.{Module}
+use Rattle.wasm_ast.specs.Code.{Code}
+use Rattle.host_calls.specs.Host.{Host}
+use Rattle.interp.specs.Configuration.{State, Effect, tick}
+use Rattle.interp.specs.Machine.{Running, Layer, after_effect, next_units}
+use Rattle.interp.specs.declared.straight.Straight.{Straight}
+use Rattle.interp.specs.declared.straight.Straight.TheVariants as straight
+use Rattle.interp.specs.inside.Acts.{state}
+use Rattle.interp.specs.inside.Cells.{cell_advance, cell_call, cell_effect}
+use Rattle.interp.specs.inside.Going.{call_asks, plain_asks}
+use Rattle.interp.specs.inside.Place.{Place}
+use Rattle.interp.specs.inside.Walk.{Arrives, Leads}
+
+-- a place but for its layers
+pub record Spot : Type 0 where
+  pub values : List Value
+  pub code : Code
+  pub state : State
+
+abbrev pub spot : (values : List Value) → Code → (locals globals : List Value) → (bytes : List ℕ) → Host → (count : ℕ) → Spot
+spot values code locals globals bytes host count =
+    record { values = values; code = code; state = state locals globals bytes host count }
+
+abbrev pub amid : Spot → List Layer → Place
+amid s ls = record { values = s.values; code = s.code; layers = ls; state = s.state }
+
+-- a run over values leads along here, amid some layers
+abbrev pub LeadsAmid : Module → Spot → (most : ℕ) → Type 0
+LeadsAmid m s most = (ls : List Layer) × Leads m (amid s ls) most
+
+-- each run over values that comes by the one comes by the other, amid any layers, where it ends within so many units
+abbrev pub Passes : Module → (most : ℕ) → (s t : Spot) → Type 0
+Passes m most s t = (ls : List Layer) → Arrives m most (amid s ls) (amid t ls)
+
+-- what an instruction that goes straight on does, and what it asks
+abbrev pub straight_effect : (Value → Bool) → Straight → List Value → State → Effect
+straight_effect may (straight.Plain p) vs st = cell_effect may p vs st
+straight_effect may (straight.Host c) vs st = cell_call may c vs st
+
+abbrev pub straight_asks : Straight → (values locals globals : List Value) → (bytes : List ℕ) → Bool
+straight_asks (straight.Plain p) vs locals globals bytes = plain_asks p vs locals globals bytes
+straight_asks (straight.Host c) vs locals globals bytes = call_asks c vs
+
+-- the code begins with such an instruction, which counts so many units
+pub record GoesStraight (m : Module) (whole : Code) (what : Straight) (units : ℕ) (rest : Code) : Type 0 where
+  pub counts : next_units m whole ≡ units
+  pub steps : (may : Value → Bool) (vs : List Value) (ls : List Layer) (st : State) → cell_advance may m (Running vs whole ls st) ≡ after_effect (straight_effect may what vs (tick units st)) rest ls (st.count + units)

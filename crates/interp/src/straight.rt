@@ -1,0 +1,241 @@
+//! Runs of straight code: of instructions that neither branch nor call what the module defines, so that the layers stay. The
+//! operands lie in a list with room, and their number, the code and the count are passed by value.
+
+ghost use Rattle.std.specs.Prelude.{◌≡◌, ◌<◌, ◌≤◌, ℕ, length, map, true, IfOk, IfSome, OnOk};
+ghost use Rattle.wasm_ast.specs.declared.types.Value.TheVariants.{I64};
+ghost use Rattle.wasm_ast.specs.View.{code_of};
+ghost use Rattle.interp.specs.Configuration.{Gives};
+ghost use Rattle.interp.specs.inside.Acts.{ActsOn, ActsOnHost, state};
+ghost use Rattle.interp.specs.inside.Cells.{cell_call, cell_effect, in_width};
+ghost use Rattle.interp.specs.inside.Going.{call_asks, plain_asks};
+ghost use Rattle.interp.specs.inside.Pile.{pile};
+ghost use Rattle.interp.specs.inside.Meaning.{AreImports};
+ghost use Rattle.interp.specs.inside.Straight.{GoesStraight, LeadsAmid, Passes, spot, straight_asks, straight_effect};
+
+use crate::globals::Globals;
+use crate::host::call_host;
+use crate::locals::Locals;
+use crate::memory::Memory;
+use crate::operands::{Operands, make_room};
+use crate::plain::act_plain;
+use crate::program::{Callee, Program};
+use cost::plain_units;
+use host_calls::{CallState, HostCall};
+use std::alloc::AllocError;
+use wasm_ast::{Instr, Plain};
+
+/// Where straight code stops: the code that is left, the units that were taken, and how many operands there are.
+#[derive(Clone, Copy)]
+pub struct Stop<'a> {
+    pub code: &'a [Instr],
+    pub count: u128,
+    pub top: usize,
+}
+
+/// What an instruction that goes straight on does.
+#[derive(Clone, Copy)]
+pub enum Straight {
+    Plain(Plain),
+    Host(HostCall),
+}
+
+/// An instruction that goes straight on, the units that it counts, and the code after it.
+#[derive(Clone, Copy)]
+struct Next<'a> {
+    what: Straight,
+    units: u32,
+    code: &'a [Instr],
+}
+
+/// Goes on as far as the code is straight and there is room for one more operand.
+#[inline]
+pub fn go_straight<'a>(
+    program: Program<'a>,
+    code: &'a [Instr],
+    count: u128,
+    most: u128,
+    operands: &mut Operands,
+    locals: &mut Locals,
+    globals: &mut Globals,
+    bytes: &mut Memory,
+    host: &mut CallState,
+) -> Result<Stop<'a>, AllocError>
+    requires calls { AreImports program.calls.now program.«module».now }
+    requires leads { LeadsAmid program.«module».now (spot operands.old.here (code_of code.now)
+        locals.old.here globals.old bytes.old host.old count) most }
+    ensures passes { IfOk result (λ stop. Passes program.entry.«module».now most
+        (spot operands.old.here (code_of code.entry.now)
+        locals.old.here globals.old bytes.old host.old count)
+        (spot operands.new.here (code_of stop.code.now)
+        locals.new.here globals.new bytes.new host.new stop.count)) }
+    ensures more { IfOk result (λ stop. count ≤ stop.count) }
+    ensures below { operands.new.below ≡ operands.old.below }
+    ensures locals_below { locals.new.below ≡ locals.old.below }
+{
+    let floor = operands.floor;
+    let base = locals.base;
+    let top = operands.top - floor;
+    let stop = run_straight(
+        program,
+        code,
+        count,
+        most,
+        &mut operands.cells[floor..],
+        top,
+        &mut locals.cells[base..],
+        globals,
+        bytes,
+        host,
+    )?;
+    operands.top = floor + stop.top;
+    Ok(stop)
+}
+
+/// The same over the operands and the locals of what runs alone.
+fn run_straight<'a>(
+    program: Program<'a>,
+    code: &'a [Instr],
+    count: u128,
+    most: u128,
+    cells: &mut [u64],
+    top: usize,
+    locals: &mut [u64],
+    globals: &mut Globals,
+    bytes: &mut Memory,
+    host: &mut CallState,
+) -> Result<Stop<'a>, AllocError>
+    requires calls { AreImports program.calls.now program.«module».now }
+    requires within { top ≤ length cells.old }
+    requires leads { LeadsAmid program.«module».now (spot (pile cells.old top) (code_of code.now)
+        (map I64 locals.old) globals.old bytes.old host.old count) most }
+    ensures passes { IfOk result (λ stop. Passes program.entry.«module».now most
+        (spot (pile cells.old top) (code_of code.entry.now)
+        (map I64 locals.old) globals.old bytes.old host.old count)
+        (spot (pile cells.new stop.top) (code_of stop.code.now)
+        (map I64 locals.new) globals.new bytes.new host.new stop.count)) }
+    ensures more { IfOk result (λ stop. count ≤ stop.count) }
+    ensures within { IfOk result (λ stop. stop.top ≤ length cells.new) }
+{
+    let mut at = Stop { code, count, top };
+    'run: while at.top < cells.len() {
+        match next_straight(program, at.code) {
+            None => return Ok(at),
+            Some(next) => {
+                let count = at.count + u128::from(next.units);
+                let top = act_straight(next.what, cells, at.top, locals, globals, bytes, host)?;
+                at = Stop {
+                    code: next.code,
+                    count,
+                    top,
+                };
+            }
+        }
+    }
+    Ok(at)
+}
+
+/// The next instruction, if it goes straight on.
+#[inline(always)]
+fn next_straight<'a>(program: Program<'a>, code: &'a [Instr]) -> Option<Next<'a>>
+    requires { AreImports program.calls.now program.«module».now }
+    ensures is { IfSome result (λ next. GoesStraight program.entry.«module».now
+        (code_of code.entry.now) next.what next.units (code_of next.code.now)) }
+    ensures shorter { IfSome result (λ next. length next.code.now < length code.entry.now) }
+{
+    match code.split_first() {
+        None => None,
+        Some((first, rest)) => match first {
+            Instr::Plain(plain) => Some(Next {
+                what: Straight::Plain(*plain),
+                units: plain_units(*plain),
+                code: rest,
+            }),
+            Instr::Call(number) => match program.callee(*number) {
+                Some(Callee::Host(call)) => Some(Next {
+                    what: Straight::Host(call),
+                    units: program.call_units(*number),
+                    code: rest,
+                }),
+                _ => None,
+            },
+            _ => None,
+        },
+    }
+}
+
+#[inline(always)]
+fn act_straight(
+    what: Straight,
+    cells: &mut [u64],
+    top: usize,
+    locals: &mut [u64],
+    globals: &mut Globals,
+    bytes: &mut Memory,
+    host: &mut CallState,
+) -> Result<usize, AllocError>
+    requires room { top < length cells.old }
+    requires asks { straight_asks what
+        (pile cells.old top) (map I64 locals.old) globals.old bytes.old ≡ true }
+    ensures acts { IfOk result (λ now. (units : ℕ) → straight_effect in_width what
+        (pile cells.old top) (state (map I64 locals.old) globals.old bytes.old host.old units)
+        ≡ Gives (pile cells.new now)
+        (state (map I64 locals.new) globals.new bytes.new host.new units)) }
+    ensures within { IfOk result (λ now. now ≤ length cells.new) }
+{
+    match what {
+        Straight::Plain(plain) => Ok(act_plain(plain, cells, top, locals, globals, bytes)),
+        Straight::Host(call) => call_host(call, cells, top, host),
+    }
+}
+
+/// One instruction, for which room is made.
+#[inline(never)]
+pub fn act(
+    instruction: Plain,
+    operands: &mut Operands,
+    locals: &mut Locals,
+    globals: &mut Globals,
+    bytes: &mut Memory,
+) -> Result<(), AllocError>
+    requires { plain_asks instruction
+        operands.old.here locals.old.here globals.old bytes.old ≡ true }
+    ensures acts { OnOk result (ActsOn (cell_effect in_width instruction)
+        operands.old.here operands.new.here
+        locals.old.here locals.new.here globals.old globals.new bytes.old bytes.new) }
+    ensures below { operands.new.below ≡ operands.old.below }
+    ensures locals_below { locals.new.below ≡ locals.old.below }
+{
+    make_room(&mut operands.cells, operands.top)?;
+    let floor = operands.floor;
+    let base = locals.base;
+    let top = act_plain(
+        instruction,
+        &mut operands.cells[floor..],
+        operands.top - floor,
+        &mut locals.cells[base..],
+        globals,
+        bytes,
+    );
+    operands.top = floor + top;
+    Ok(())
+}
+
+/// One call of the host, for which room is made.
+#[inline]
+pub fn act_call(
+    call: HostCall,
+    operands: &mut Operands,
+    host: &mut CallState,
+) -> Result<(), AllocError>
+    requires { call_asks call operands.old.here ≡ true }
+    ensures acts { OnOk result (ActsOnHost (cell_call in_width call)
+        operands.old.here operands.new.here host.old host.new) }
+    ensures below { operands.new.below ≡ operands.old.below }
+{
+    make_room(&mut operands.cells, operands.top)?;
+    let floor = operands.floor;
+    let top = operands.top - floor;
+    let now = call_host(call, &mut operands.cells[floor..], top, host)?;
+    operands.top = floor + now;
+    Ok(())
+}

@@ -20,7 +20,11 @@ static SETTINGS: [(&str, &str, &str); 5] = [
         "1",
         "How many parts the graph is cut into, from 1 to 256",
     ),
-    ("workers", "1", "How many workers there are, from 1 to 64"),
+    (
+        "workers",
+        "1",
+        "How many workers there are, from 1 to 64; more than there are parts have nothing to do",
+    ),
     (
         "every",
         "10",
@@ -34,7 +38,7 @@ static SETTINGS: [(&str, &str, &str); 5] = [
     (
         "lease",
         "1000",
-        "How many ticks a worker may take for a task, from 1 to 1,000,000",
+        "How many ticks a worker may take for a task, from 1 to 1,000,000; in `run` no tick comes",
     ),
 ];
 
@@ -261,7 +265,7 @@ fn run<'a>(alloc: Global) -> Result<Command<'a>, AllocError>
         alloc,
         "keep",
         "DIR",
-        "Keeps saved states in files of this folder, and not in memory",
+        "Keeps saved states in files of this folder, which has to be there, and not in memory; a save that fails is not told",
     );
     let lose = option(
         alloc,
@@ -269,7 +273,11 @@ fn run<'a>(alloc: Global) -> Result<Command<'a>, AllocError>
         "W:S",
         "Loses worker W once, with its first task in superstep S or later",
     );
-    let again = flag(alloc, "again", "Has the worker that is lost join again");
+    let again = flag(
+        alloc,
+        "again",
+        "Has the worker that `--lose` names join again",
+    );
     let command = of_job(alloc, "run")?
         .about("Runs a module's job over a graph, and prints the vertices' values")
         .arg(keep)?
@@ -376,9 +384,13 @@ fn verify<'a>(alloc: Global) -> Result<Command<'a>, AllocError>
 fn console<'a>(alloc: Global) -> Command<'a>
     ensures { IsLeaf console result }
 {
-    Command::new(alloc, "console").about(
-        "Serves a session of named modules, graphs and jobs: lines of commands in, replies out",
-    )
+    Command::new(alloc, "console")
+        .about(
+            "Serves a session of named modules, graphs and jobs: lines of commands in, replies out",
+        )
+        .after_help(
+            "Commands: `module NAME PATH`, `graph NAME PATH`, `job NAME MODULE GRAPH PARTS WORKERS EVERY LIMIT`, `run NAME`, `status NAME`, `values NAME`, `drop module NAME` (also `graph`, `job`), `quit`.",
+        )
 }
 
 // The module of a command.

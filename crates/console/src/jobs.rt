@@ -2,8 +2,8 @@
 
 ghost use Rattle.std.specs.Prelude.{◌≡◌, true, IfOk, IfErr, MatchResult, OnOk, string_bytes};
 ghost use Rattle.graph.specs.Print.{value_lines};
-ghost use Rattle.superstep.specs.Ending.{answer_of};
-ghost use Rattle.console.specs.Lines.{Gains, IfTold, end_line, ended_lines, numbered_line, numbered_lines};
+ghost use Rattle.superstep.specs.Ending.{answer_of, is_finished};
+ghost use Rattle.console.specs.Lines.{Gains, IfTold, end_line, end_word, ended_lines, numbered_line, numbered_lines};
 ghost use Rattle.console.specs.Jobs.{AreEndLines, AreJobLines, IsFaultOfRun, IsJobOf, RefusesSettings};
 ghost use Rattle.console.specs.inside.Answering.{opening_fault};
 
@@ -89,7 +89,8 @@ pub fn push_ended(text: &mut String, ended: &Ended, tells_units: bool) -> Result
     Ok(())
 }
 
-fn push_values(text: &mut String, values: &[(u64, i64)]) -> Result<(), AllocError>
+/// Puts a line `v ID VALUE` behind a text for each of these values.
+pub fn push_values(text: &mut String, values: &[(u64, i64)]) -> Result<(), AllocError>
     ensures { OnOk result (Gains text.old text.new (value_lines values.now)) }
 {
     for (id, value) in values {
@@ -101,15 +102,22 @@ fn push_values(text: &mut String, values: &[(u64, i64)]) -> Result<(), AllocErro
 fn push_end(text: &mut String, ended: &Ended) -> Result<(), AllocError>
     ensures { OnOk result (Gains text.old text.new (end_line (answer_of ended.now))) }
 {
-    let how = match ended.how {
-        How::Finished => "finished",
-        How::Limit => "limit",
-    };
+    let how = how_word(ended.how);
     let (superstep, units, dropped) = (ended.superstep, ended.units, ended.dropped);
     writeln!(
         text,
         "end {how} supersteps {superstep} units {units} dropped {dropped}"
     )
+}
+
+/// How a job ended, in a word.
+pub fn how_word(how: How) -> &'static str
+    ensures { result.now ≡ end_word (is_finished how) }
+{
+    match how {
+        How::Finished => "finished",
+        How::Limit => "limit",
+    }
 }
 
 /// Puts a line `WORD N UNITS` behind a text for each of these units, N being this number at the first and one more at each.

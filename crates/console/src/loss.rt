@@ -10,7 +10,9 @@ use workers::{Gate, Turn};
 /// A worker that is lost once, with the first task that it begins in this superstep or a later one.
 #[derive(Clone, Copy)]
 pub struct Loss {
+    /// The worker, numbered from 0.
     pub worker: u32,
+    /// The first superstep whose task it may be lost with, numbered from 0.
     pub superstep: u32,
 }
 
@@ -44,6 +46,7 @@ pub struct LossGate {
 }
 
 impl LossGate {
+    /// The gate of a run in which nobody was lost yet: this worker is to be, or none, and joins again where `again` says so.
     pub fn new(loss: Option<Loss>, again: bool) -> LossGate
         ensures loss { result.loss ≡ loss }
         ensures again { result.again ≡ again }

@@ -38,20 +38,21 @@ use wat_asm::print;
 
 /// Does what is asked for, and writes the answer or, as one line, its refusal.
 ///
-/// It answers the status for the process: 0 where there is an answer, 1 where the module, the input, the call, the graph,
-/// a setting or the steps were refused, 3 where a job ended by a fault, and 4 where a file cannot be read or written, which
-/// `no file PATH` tells. A module's file whose path ends in
-/// `.wat` is text, any other is binary; text that is not in UTF-8 cannot be read. It fails only where the writer failed,
-/// and then a beginning of what was to be told was written.
+/// It answers the status for the process: 0 where there is an answer, 1 where the module, the input, the call, the graph, a
+/// setting, the steps, the text of the lost worker or a checkpoint was refused, or memory ran out, 3 where a job ended by a
+/// fault, and 4 where a file cannot be read or written, which `no file PATH` tells. A module's file whose path ends in `.wat`
+/// is text, any other is binary; text that is not in UTF-8 cannot be read. It fails only where the writer failed, and then a
+/// beginning of what was to be told was written.
 ///
-/// `call` answers with the outcome's lines; the module is looked at before it is told that the input's file cannot be
-/// read. `run` answers with the values of a job's vertices and how it ended; the text of the worker that is lost is looked at
-/// first, then the module, the graph, and the settings. Where it keeps its states in a folder, their files are the system's, not
-/// `files`. `replay` answers with a line for each of the steps and where they lead, and looks at the steps after
-/// the settings. `verify` answers `ok size S operands M frames F`. `upgrade` reads a checkpoint of any version, writes it to the other file as one of version 2, and answers `ok LENGTH`. `asm` writes the module's canonical spelling to the other file,
-/// and answers `ok LENGTH`. `print` answers with the module's text. These two do not ask that the module is valid, and the
-/// others ask that it is and that it is in the bounded profile. A refusal is one of the module's and the input's own, or
-/// want of memory.
+/// `call` answers with the outcome's lines; the module is looked at before it is told that the input's file cannot be read.
+/// `run` answers with the values of a job's vertices and how it ended; the text of the worker that is lost is looked at first,
+/// then the module, the graph, and the settings. Where it keeps its states in a folder, their files are the system's, not
+/// `files`. `replay` answers with a line for each of the steps and where they lead, and looks at the steps after the settings.
+/// `verify` answers `ok size S operands M frames F`. `upgrade` reads a checkpoint of any version, writes it to the other file
+/// as one of version 2, and answers `ok LENGTH`. `asm` writes the module's canonical spelling to the other file, and answers
+/// `ok LENGTH`. `print` answers with the module's text. `asm` and `print` do not ask that the module is valid; `call`, `run`,
+/// `replay` and `verify` ask that it is and that it is in the bounded profile. A refusal is one of the module's and the
+/// input's own, or want of memory.
 pub fn command<F: Files, O: Output>(
     rt: &(impl Wait + Threads + Sync + std::rt::Files + AllocGlobal),
     alloc: Global,
@@ -63,7 +64,7 @@ pub fn command<F: Files, O: Output>(
         × Told (F.disk files.old) (F.disk files.new) request.entry status told
         × IsTold (O.contents out.old) (O.contents out.new) status told result }
     ensures failed { OnErr result (O.has_failed out.new) }
-    // No command but `asm` writes a file.
+    // No command but `asm` and `upgrade` writes a file.
     ensures kept { writes_file request.entry ≡ false → Stays (F.disk files.old) (F.disk files.new) }
 {
     match carry_out(rt, alloc, request, files) {

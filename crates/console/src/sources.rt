@@ -38,8 +38,9 @@ pub fn read_source<'a, F: Files>(
     }
 }
 
+/// Whether the file of a module has its text: where its path ends in `.wat`.
 #[tactic(auto, using(std::proofs::lemmas::Str::Pattern::ends_text))]
-fn is_text_path(path: &str) -> bool
+pub fn is_text_path(path: &str) -> bool
     ensures { result ≡ is_text_path path.now }
 {
     path.ends_with(".wat")

@@ -368,8 +368,8 @@ impl<'a, J: Origin> Book<'a, J> {
 
     /// What becomes of an event. The Keep is to have what the book counts as saved.
     ///
-    /// It wants memory only where it closes a superstep or rolls back. A fault ends the job, and each later event is answered
-    /// by it.
+    /// It wants memory only where it closes a superstep or rolls back. The faults are `NoWorkers`, and `OutOfMemory` of `Merge`,
+    /// `Save`, `Load`, `Slice` or the place of a `Failed`. A fault ends the job, and each later event is answered by it.
     pub fn accept<K: Keep, R: Threads + Sync + Files + AllocGlobal>(
         &mut self,
         rt: &R,

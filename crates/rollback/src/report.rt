@@ -18,7 +18,7 @@ pub struct Status {
     pub epoch: u64,
     /// How many states the device failed to save.
     pub missed: u64,
-    /// How often all began with superstep 0 since the last state could not be had.
+    /// How often all began again with superstep 0 because the last state could not be had.
     pub restarts: u64,
     pub end: End,
 }
@@ -27,8 +27,11 @@ pub struct Status {
 #[derive(Drop)]
 pub struct Report {
     pub ended: Ended,
+    /// It grew with each loss, and where workers that joined began.
     pub epoch: u64,
+    /// How many states the device failed to save.
     pub missed: u64,
+    /// How often all began again with superstep 0 because the last state could not be had.
     pub restarts: u64,
     /// The units of each worker. They stop at the greatest number of 128 bits.
     pub spent: Vec<u128>,

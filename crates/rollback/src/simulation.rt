@@ -64,7 +64,9 @@ pub enum Outcome {
 /// What became of each step, and where they lead.
 #[derive(Drop)]
 pub struct Trace {
+    /// What was answered to each step, in their order.
     pub answers: Vec<StepAnswer>,
+    /// Where they lead.
     pub outcome: Outcome,
 }
 

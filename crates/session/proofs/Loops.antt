@@ -13,19 +13,13 @@ use Rattle.session.specs.declared.serving.ServeFault.TheVariants as fault
 use Rattle.session.specs.Lines.{lines_from, rest_from}
 use Rattle.session.specs.Commands.{Asked, asked_in, asked_of, is_quit}
 use Rattle.session.specs.Maps.{Maps}
-use Rattle.session.specs.Runs.{KeepsRuns, Runs}
+use Rattle.session.specs.Runs.{Runs}
 use Rattle.session.specs.Serving.{Serves}
 use Rattle.session.specs.Transcript.{Answers, Tells}
 use Rattle.session.specs.inside.Cutting.{BeginsWithLine, HasNoLine}
 use Rattle.session.specs.inside.Underway.{AnswersLine, BreaksAt, GetsSome, GoesOn, HasBroken, HasTold, IsUnderway, Quits, asked_from}
 use Rattle.session.proofs.Cuts.{asked_from-kept, asked_of-kept, lines_from-append, rest_from-append, rest_from-kept}
 use Rattle.session.proofs.Telling.{answers_before, broken_again, broken_next, told_again, told_all, told_quit, underway_again, underway_next, underway_none}
-
-pub keeps_same : (runs : Runs) → KeepsRuns runs runs
-keeps_same runs = record { ends = λ work end may. may }
-
-pub keeps_again : (before middle after : Runs) → KeepsRuns before middle → KeepsRuns middle after → KeepsRuns before after
-keeps_again before middle after first then = record { ends = λ work end may. first.ends work end (then.ends work end may) }
 
 any_middle : (done : List Asked) (asked : Asked) (more : List Asked) → is_quit asked ≡ true → list_any is_quit (done ++ asked ∷ more) ≡ true
 any_middle [] asked more quits = ap (λ b. b || list_any is_quit more) quits
@@ -44,26 +38,24 @@ any_later (first ∷ done) more quits = elim (is_quit first) as (λ b. (b || lis
 -- ---- lines in some bytes
 
 -- So many of the commands were answered, and this is left of the bytes, behind what is kept of a line.
-pub record IsAt (disk late : Disk) (runs later : Runs) (maps now : Maps) (kept bytes line rest : List ℕ) (old new : Option (List ℕ)) : Type 0 where
+pub record IsAt (disk late : Disk) (runs : Runs) (maps now : Maps) (kept bytes line rest : List ℕ) (old new : Option (List ℕ)) : Type 0 where
   pub done : List Asked
   pub asked : asked_from kept bytes ≡ done ++ asked_from line rest
   pub left : rest_from kept bytes ≡ rest_from line rest
   pub underway : IsUnderway disk runs maps done old new now
   pub stays : Stays disk late
-  pub keeps : KeepsRuns runs later
 
-pub at_start : (disk : Disk) (runs : Runs) (maps : Maps) (kept bytes : List ℕ) (known : Option (List ℕ)) → IsAt disk disk runs runs maps maps kept bytes kept bytes known known
+pub at_start : (disk : Disk) (runs : Runs) (maps : Maps) (kept bytes : List ℕ) (known : Option (List ℕ)) → IsAt disk disk runs maps maps kept bytes kept bytes known known
 at_start disk runs maps kept bytes known = record {
   done = [];
   asked = refl;
   left = refl;
   underway = underway_none disk runs maps known;
   stays = stays_same disk;
-  keeps = keeps_same runs;
 }
 
-module _ (disk late : Disk) (runs later : Runs) (maps now : Maps) (kept bytes line rest : List ℕ) (old middle : Option (List ℕ))
-    (at : IsAt disk late runs later maps now kept bytes line rest old middle) where
+module _ (disk late : Disk) (runs : Runs) (maps now : Maps) (kept bytes line rest : List ℕ) (old middle : Option (List ℕ))
+    (at : IsAt disk late runs maps now kept bytes line rest old middle) where
   -- the next command, and those behind it
   asked_next : (front others : List ℕ) → BeginsWithLine rest front others → asked_from kept bytes ≡ at.done ++ asked_of (line ++ front) ∷ asked_from [] others
   asked_next front others cut = at.asked ∙ ap (λ lines. at.done ++ map asked_of lines) (cut.first line)
@@ -73,44 +65,43 @@ module _ (disk late : Disk) (runs later : Runs) (maps now : Maps) (kept bytes li
   asks_so front full is = ap asked_of is ∙ asked_of-kept (line ++ front)
 
   module _ (front others full : List ℕ) (cut : BeginsWithLine rest front others) (is : full ≡ take 4097 (line ++ front)) (after : Maps) (new : Option (List ℕ)) where
-    pub at_next : (last : Disk) (latest : Runs) → AnswersLine late later now (asked_of full) middle new after (Ok false) → Stays late last → KeepsRuns later latest
-        → IsAt disk last runs latest maps after kept bytes [] others old new
-    at_next last latest answers stays keeps =
+    pub at_next : (last : Disk) → AnswersLine late runs now (asked_of full) middle new after (Ok false) → Stays late last
+        → IsAt disk last runs maps after kept bytes [] others old new
+    at_next last answers stays =
         let same = asks_so front full is in
         record {
           done = at.done ++ asked_of (line ++ front) ∷ [];
           asked = asked_next front others cut ∙ sym (append_assoc at.done (asked_of (line ++ front) ∷ []) (asked_from [] others));
           left = at.left ∙ cut.rest line;
           underway = underway_next disk runs maps at.done old middle new now (asked_of (line ++ front)) answers.reply after at.underway
-              (answers_before disk late runs later now answers.reply after at.stays at.keeps (asked_of (line ++ front))
-              (subst (λ asked. Answers late later now asked answers.reply after) same answers.answers))
+              (answers_before disk late runs now answers.reply after at.stays (asked_of (line ++ front))
+              (subst (λ asked. Answers late runs now asked answers.reply after) same answers.answers))
               (sym (answers.written.1 ∙ ap is_quit same)) answers.written.0;
           stays = stays_again disk late last at.stays stays;
-          keeps = keeps_again runs later latest at.keeps keeps;
         }
 
-    pub at_quit : AnswersLine late later now (asked_of full) middle new after (Ok true) → Quits disk runs maps kept bytes old new
+    pub at_quit : AnswersLine late runs now (asked_of full) middle new after (Ok true) → Quits disk runs maps kept bytes old new
     at_quit answers =
         let same = asks_so front full is in
         let quits : is_quit (asked_of (line ++ front)) ≡ true = sym (answers.written.1 ∙ ap is_quit same) in
         record {
           told = subst (λ asked. HasTold disk runs maps asked old new) (sym (asked_next front others cut))
               (told_quit disk runs maps at.done old middle new now (asked_of (line ++ front)) answers.reply after (asked_from [] others) at.underway
-              (answers_before disk late runs later now answers.reply after at.stays at.keeps (asked_of (line ++ front))
-              (subst (λ asked. Answers late later now asked answers.reply after) same answers.answers))
+              (answers_before disk late runs now answers.reply after at.stays (asked_of (line ++ front))
+              (subst (λ asked. Answers late runs now asked answers.reply after) same answers.answers))
               quits answers.written.0);
           quits = ap (list_any is_quit) (asked_next front others cut) ∙ any_middle at.done (asked_of (line ++ front)) (asked_from [] others) quits;
         }
 
-    pub at_break : (told : ServeFault) → AnswersLine late later now (asked_of full) middle new after (Err told)
+    pub at_break : (told : ServeFault) → AnswersLine late runs now (asked_of full) middle new after (Err told)
         → (count : ℕ) × BreaksAt disk runs maps (take count (asked_from kept bytes)) old new told
     at_break told answers =
         let same = asks_so front full is in
         let asked : List Asked = at.done ++ asked_of (line ++ front) ∷ [] in
         let broken : HasBroken disk runs maps asked old new =
         broken_next disk runs maps at.done old middle new now (asked_of (line ++ front)) answers.reply after at.underway
-        (answers_before disk late runs later now answers.reply after at.stays at.keeps (asked_of (line ++ front))
-        (subst (λ asked. Answers late later now asked answers.reply after) same answers.answers))
+        (answers_before disk late runs now answers.reply after at.stays (asked_of (line ++ front))
+        (subst (λ asked. Answers late runs now asked answers.reply after) same answers.answers))
         answers.written.1 in (
           length asked,
           subst (λ told. BreaksAt disk runs maps (take (length asked) (asked_from kept bytes)) old new told) (sym answers.written.0)
@@ -139,23 +130,21 @@ module _ (disk late : Disk) (runs later : Runs) (maps now : Maps) (kept bytes li
 -- ---- bytes, piece by piece
 
 -- So many bytes were read and answered.
-pub record IsServing (disk late : Disk) (runs later : Runs) (maps now : Maps) (unread left old new : Option (List ℕ)) (line : List ℕ) : Type 0 where
+pub record IsServing (disk late : Disk) (runs : Runs) (maps now : Maps) (unread left old new : Option (List ℕ)) (line : List ℕ) : Type 0 where
   pub read : List ℕ
   pub consumed : Consumes unread left read
   pub underway : IsUnderway disk runs maps (asked_in read) old new now
   pub kept : line ≡ take 4097 (rest_from [] read)
   pub stays : Stays disk late
-  pub keeps : KeepsRuns runs later
 
 pub serving_start : (disk : Disk) (runs : Runs) (maps : Maps) (unread known : Option (List ℕ)) (line : List ℕ) → line ≡ []
-    → IsServing disk disk runs runs maps maps unread unread known known line
+    → IsServing disk disk runs maps maps unread unread known known line
 serving_start disk runs maps unread known line empty = record {
   read = [];
   consumed = Consumes-nil unread;
   underway = underway_none disk runs maps known;
   kept = empty;
   stays = stays_same disk;
-  keeps = keeps_same runs;
 }
 
 -- there was no memory to begin with
@@ -172,16 +161,15 @@ served_none disk runs maps unread known = record {
   ended = tt;
 }
 
-module _ (disk late : Disk) (runs later : Runs) (maps now : Maps) (unread left old middle : Option (List ℕ)) (line : List ℕ)
-    (serving : IsServing disk late runs later maps now unread left old middle line) where
-  pub serving_interrupted : (rest : Option (List ℕ)) → Keeps left rest → IsServing disk late runs later maps now unread rest old middle line
+module _ (disk late : Disk) (runs : Runs) (maps now : Maps) (unread left old middle : Option (List ℕ)) (line : List ℕ)
+    (serving : IsServing disk late runs maps now unread left old middle line) where
+  pub serving_interrupted : (rest : Option (List ℕ)) → Keeps left rest → IsServing disk late runs maps now unread rest old middle line
   serving_interrupted rest keeps = record {
     read = serving.read;
     consumed = Consumes-kept unread left rest serving.read serving.consumed keeps;
     underway = serving.underway;
     kept = serving.kept;
     stays = serving.stays;
-    keeps = serving.keeps;
   }
 
   -- what was read before and now
@@ -230,21 +218,20 @@ module _ (disk late : Disk) (runs later : Runs) (maps now : Maps) (unread left o
       }
 
   module _ (bytes : List ℕ) (rest : Option (List ℕ)) (consumes : Consumes left rest bytes) (after : Maps) (new : Option (List ℕ)) (next : List ℕ) where
-    pub serving_more : (last : Disk) (latest : Runs) → GoesOn late later now line bytes middle new after next → Stays late last → KeepsRuns later latest
-        → IsServing disk last runs latest maps after unread rest old new next
-    serving_more last latest goes stays keeps = record {
+    pub serving_more : (last : Disk) → GoesOn late runs now line bytes middle new after next → Stays late last
+        → IsServing disk last runs maps after unread rest old new next
+    serving_more last goes stays = record {
       read = serving.read ++ bytes;
       consumed = Consumes-trans unread left rest serving.read bytes serving.consumed consumes;
       underway = subst (λ asked. IsUnderway disk runs maps asked old new after) (sym (asked_both bytes))
-          (underway_again disk late runs later serving.stays serving.keeps maps (asked_in serving.read) old middle new now (asked_from line bytes) serving.underway after goes.underway);
+          (underway_again disk late runs serving.stays maps (asked_in serving.read) old middle new now (asked_from line bytes) serving.underway after goes.underway);
       kept = goes.keeps ∙ kept_both bytes;
       stays = stays_again disk late last serving.stays stays;
-      keeps = keeps_again runs later latest serving.keeps keeps;
     }
 
-    pub served_quit : Quits late later now line bytes middle new → Serves {A = Unit {0}} disk runs maps unread rest old new (Ok tt)
+    pub served_quit : Quits late runs now line bytes middle new → Serves {A = Unit {0}} disk runs maps unread rest old new (Ok tt)
     served_quit quits =
-        let told = told_again disk late runs later serving.stays serving.keeps maps (asked_in serving.read) old middle new now (asked_from line bytes) serving.underway quits.told in
+        let told = told_again disk late runs serving.stays maps (asked_in serving.read) old middle new now (asked_from line bytes) serving.underway quits.told in
         let asked : List Asked = asked_in (serving.read ++ bytes) in
         record {
           read = serving.read ++ bytes;
@@ -263,11 +250,11 @@ module _ (disk late : Disk) (runs later : Runs) (maps now : Maps) (unread left o
         ap (take (length (asked_in serving.read) + count)) (asked_both bytes)
         ∙ take-append-add (asked_in serving.read) (asked_from line bytes) count
 
-    pub served_break : (told : ServeFault) (count : ℕ) → BreaksAt late later now (take count (asked_from line bytes)) middle new told
+    pub served_break : (told : ServeFault) (count : ℕ) → BreaksAt late runs now (take count (asked_from line bytes)) middle new told
         → Serves {A = Unit {0}} disk runs maps unread rest old new (Err told)
     served_break fault.Read count breaks = absurd breaks
     served_break fault.Write count breaks =
-        let told = broken_again disk late runs later serving.stays serving.keeps maps (asked_in serving.read) old middle new now (take count (asked_from line bytes)) serving.underway breaks in
+        let told = broken_again disk late runs serving.stays maps (asked_in serving.read) old middle new now (take count (asked_from line bytes)) serving.underway breaks in
         record {
           read = serving.read ++ bytes;
           consumed = Consumes-trans unread left rest serving.read bytes serving.consumed consumes;
@@ -279,7 +266,7 @@ module _ (disk late : Disk) (runs later : Runs) (maps now : Maps) (unread left o
           ended = tt;
         }
     served_break fault.OutOfMemory count breaks =
-        let told = told_again disk late runs later serving.stays serving.keeps maps (asked_in serving.read) old middle new now (take count (asked_from line bytes)) serving.underway breaks in
+        let told = told_again disk late runs serving.stays maps (asked_in serving.read) old middle new now (take count (asked_from line bytes)) serving.underway breaks in
         record {
           read = serving.read ++ bytes;
           consumed = Consumes-trans unread left rest serving.read bytes serving.consumed consumes;

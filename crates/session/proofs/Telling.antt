@@ -13,11 +13,11 @@ use Rattle.console.specs.Program.{IsRefusedAt}
 use Rattle.console.proofs.Disks.{holds_before, no_graph_before, unread_before}
 use Rattle.session.specs.Commands.{Asked, add_module, add_graph, add_job, run, status, values, drop, quit, unknown, is_quit}
 use Rattle.session.specs.Maps.{Maps}
-use Rattle.session.specs.Runs.{KeepsRuns, Runs}
+use Rattle.session.specs.Runs.{Runs}
 use Rattle.session.specs.Transcript.{Answers, Begins, Reaches, Tells}
 use Rattle.session.specs.inside.Underway.{HasBroken, HasTold, IsUnderway}
 
--- ---- what is answered after reads and runs could be answered before
+-- ---- what is answered after reads could be answered before
 
 refused_before : (before after : Disk) (path : List ℕ) → Stays before after → (fault : CommandFault)
     → IsRefusedAt after path RefusesLoad fault → IsRefusedAt before path RefusesLoad fault
@@ -25,9 +25,9 @@ refused_before before after path stays fault (inl unread) = inl (unread_before (
 refused_before before after path stays fault (inr held) =
     inr (holds_before before after path (λ content. RefusesLoad (is_text_path path) content fault) stays held)
 
-pub answers_before : (before after : Disk) (runs later : Runs) (maps : Maps) (reply : List ℕ) (now : Maps) → Stays before after → KeepsRuns runs later
-    → (asked : Asked) → Answers after later maps asked reply now → Answers before runs maps asked reply now
-answers_before before after runs later maps reply now stays keeps (add_module name path) (inl adds) = inl (record {
+pub answers_before : (before after : Disk) (runs : Runs) (maps : Maps) (reply : List ℕ) (now : Maps) → Stays before after
+    → (asked : Asked) → Answers after runs maps asked reply now → Answers before runs maps asked reply now
+answers_before before after runs maps reply now stays (add_module name path) (inl adds) = inl (record {
   free = adds.free;
   m = adds.m;
   loaded = holds_before before after path (λ content. Loads (is_text_path path) content adds.m) stays adds.loaded;
@@ -36,53 +36,28 @@ answers_before before after runs later maps reply now stays keeps (add_module na
   told = adds.told;
   added = adds.added;
 })
-answers_before before after runs later maps reply now stays keeps (add_module name path) (inr (same, inl (inl taken))) = inr (same, inl (inl taken))
-answers_before before after runs later maps reply now stays keeps (add_module name path) (inr (same, inl (inr (free, tells)))) =
+answers_before before after runs maps reply now stays (add_module name path) (inr (same, inl (inl taken))) = inr (same, inl (inl taken))
+answers_before before after runs maps reply now stays (add_module name path) (inr (same, inl (inr (free, tells)))) =
     inr (same, inl (inr (free, record { fault = tells.fault; because = refused_before before after path stays tells.fault tells.because; told = tells.told })))
-answers_before before after runs later maps reply now stays keeps (add_module name path) (inr (same, inr memory)) = inr (same, inr memory)
-answers_before before after runs later maps reply now stays keeps (add_graph name path) (inl adds) = inl (record {
+answers_before before after runs maps reply now stays (add_module name path) (inr (same, inr memory)) = inr (same, inr memory)
+answers_before before after runs maps reply now stays (add_graph name path) (inl adds) = inl (record {
   free = adds.free;
   graph = adds.graph;
   read = holds_before before after path (λ text. IsGraphIn text adds.graph) stays adds.read;
   told = adds.told;
   added = adds.added;
 })
-answers_before before after runs later maps reply now stays keeps (add_graph name path) (inr (same, inl (inl taken))) = inr (same, inl (inl taken))
-answers_before before after runs later maps reply now stays keeps (add_graph name path) (inr (same, inl (inr (free, tells)))) =
+answers_before before after runs maps reply now stays (add_graph name path) (inr (same, inl (inl taken))) = inr (same, inl (inl taken))
+answers_before before after runs maps reply now stays (add_graph name path) (inr (same, inl (inr (free, tells)))) =
     inr (same, inl (inr (free, record { fault = tells.fault; because = no_graph_before before after path stays tells.fault tells.because; told = tells.told })))
-answers_before before after runs later maps reply now stays keeps (add_graph name path) (inr (same, inr memory)) = inr (same, inr memory)
-answers_before before after runs later maps reply now stays keeps (add_job name module_name graph_name settings) answers = answers
-answers_before before after runs later maps reply now stays keeps (run name) (inl (inl ends)) = inl (inl (record {
-  held = ends.held;
-  is_held = ends.is_held;
-  waits = ends.waits;
-  report = ends.report;
-  may_end = keeps.ends ends.held.job (Ok ends.report) ends.may_end;
-  ends = ends.ends;
-  told = ends.told;
-  next = ends.next;
-  same = ends.same;
-  ended = ends.ended;
-  kept = ends.kept;
-}))
-answers_before before after runs later maps reply now stays keeps (run name) (inl (inr fails)) = inl (inr (record {
-  held = fails.held;
-  is_held = fails.is_held;
-  waits = fails.waits;
-  fault = fails.fault;
-  may_end = keeps.ends fails.held.job (Err fails.fault) fails.may_end;
-  told = fails.told;
-  next = fails.next;
-  same = fails.same;
-  ended = fails.ended;
-  kept = fails.kept;
-}))
-answers_before before after runs later maps reply now stays keeps (run name) (inr refused) = inr refused
-answers_before before after runs later maps reply now stays keeps (status name) answers = answers
-answers_before before after runs later maps reply now stays keeps (values name) answers = answers
-answers_before before after runs later maps reply now stays keeps (drop kind name) answers = answers
-answers_before before after runs later maps reply now stays keeps quit answers = answers
-answers_before before after runs later maps reply now stays keeps unknown answers = answers
+answers_before before after runs maps reply now stays (add_graph name path) (inr (same, inr memory)) = inr (same, inr memory)
+answers_before before after runs maps reply now stays (add_job name module_name graph_name settings) answers = answers
+answers_before before after runs maps reply now stays (run name) answers = answers
+answers_before before after runs maps reply now stays (status name) answers = answers
+answers_before before after runs maps reply now stays (values name) answers = answers
+answers_before before after runs maps reply now stays (drop kind name) answers = answers
+answers_before before after runs maps reply now stays quit answers = answers
+answers_before before after runs maps reply now stays unknown answers = answers
 
 -- ---- one command more
 
@@ -201,32 +176,32 @@ broken_next disk runs maps done old middle new now asked reply after underway an
 -- ---- two stretches
 
 -- each command of the later one could be answered before
-reaches_before : (before after : Disk) (runs later : Runs) → Stays before after → KeepsRuns runs later → (asked : List Asked) (maps : Maps) (told : List ℕ) (now : Maps)
-    → Reaches after later maps asked told now → Reaches before runs maps asked told now
-reaches_before before after runs later stays keeps [] maps told now reaches = reaches
-reaches_before before after runs later stays keeps (first ∷ asked) maps told now begins = record {
+reaches_before : (before after : Disk) (runs : Runs) → Stays before after → (asked : List Asked) (maps : Maps) (told : List ℕ) (now : Maps)
+    → Reaches after runs maps asked told now → Reaches before runs maps asked told now
+reaches_before before after runs stays [] maps told now reaches = reaches
+reaches_before before after runs stays (first ∷ asked) maps told now begins = record {
   reply = begins.reply;
   after = begins.after;
-  answers = answers_before before after runs later maps begins.reply begins.after stays keeps first begins.answers;
+  answers = answers_before before after runs maps begins.reply begins.after stays first begins.answers;
   rest = begins.rest;
   begins = begins.begins;
-  goes = (begins.goes.0, reaches_before before after runs later stays keeps asked begins.after begins.rest now begins.goes.1);
+  goes = (begins.goes.0, reaches_before before after runs stays asked begins.after begins.rest now begins.goes.1);
 }
 
 goes_before : (b : Bool) (P Q Q' : Type 0) → (Q → Q') → MatchBool b P Q → MatchBool b P Q'
 goes_before true P Q Q' along holds = holds
 goes_before false P Q Q' along holds = along holds
 
-tells_before : (before after : Disk) (runs later : Runs) → Stays before after → KeepsRuns runs later → (asked : List Asked) (maps : Maps) (told : List ℕ)
-    → Tells after later maps asked told → Tells before runs maps asked told
-tells_before before after runs later stays keeps [] maps told tells = tells
-tells_before before after runs later stays keeps (first ∷ asked) maps told begins = record {
+tells_before : (before after : Disk) (runs : Runs) → Stays before after → (asked : List Asked) (maps : Maps) (told : List ℕ)
+    → Tells after runs maps asked told → Tells before runs maps asked told
+tells_before before after runs stays [] maps told tells = tells
+tells_before before after runs stays (first ∷ asked) maps told begins = record {
   reply = begins.reply;
   after = begins.after;
-  answers = answers_before before after runs later maps begins.reply begins.after stays keeps first begins.answers;
+  answers = answers_before before after runs maps begins.reply begins.after stays first begins.answers;
   rest = begins.rest;
   begins = begins.begins;
-  goes = goes_before (is_quit first) (begins.rest ≡ []) _ _ (tells_before before after runs later stays keeps asked begins.after begins.rest) begins.goes;
+  goes = goes_before (is_quit first) (begins.rest ≡ []) _ _ (tells_before before after runs stays asked begins.after begins.rest) begins.goes;
 }
 
 reaches_again : (disk : Disk) (runs : Runs) (done : List Asked) (maps : Maps) (told : List ℕ) (now : Maps) (more : List Asked) (rest : List ℕ) (after : Maps)
@@ -243,29 +218,29 @@ reaches_again disk runs (first ∷ done) maps told now more rest after begins re
   goes = (begins.goes.0, reaches_again disk runs done begins.after begins.rest now more rest after begins.goes.1 reaches);
 }
 
-module _ (before after : Disk) (runs later : Runs) (stays : Stays before after) (keeps : KeepsRuns runs later) (maps : Maps) (done : List Asked)
+module _ (before after : Disk) (runs : Runs) (stays : Stays before after) (maps : Maps) (done : List Asked)
     (old middle new : Option (List ℕ)) (now : Maps) (more : List Asked) (underway : IsUnderway before runs maps done old middle now) where
-  pub underway_again : (last : Maps) → IsUnderway after later now more middle new last → IsUnderway before runs maps (done ++ more) old new last
+  pub underway_again : (last : Maps) → IsUnderway after runs now more middle new last → IsUnderway before runs maps (done ++ more) old new last
   underway_again last next = record {
     told = underway.told ++ next.told;
     reaches = reaches_again before runs done maps underway.told now more next.told last underway.reaches
-        (reaches_before before after runs later stays keeps more now next.told last next.reaches);
+        (reaches_before before after runs stays more now next.told last next.reaches);
     appends = appends_more old middle new underway.told next.told underway.appends next.appends;
   }
 
-  pub told_again : HasTold after later now more middle new → HasTold before runs maps (done ++ more) old new
+  pub told_again : HasTold after runs now more middle new → HasTold before runs maps (done ++ more) old new
   told_again next = record {
     told = underway.told ++ next.told;
     tells = tells_then before runs done maps underway.told now more next.told underway.reaches
-        (tells_before before after runs later stays keeps more now next.told next.tells);
+        (tells_before before after runs stays more now next.told next.tells);
     appends = appends_more old middle new underway.told next.told underway.appends next.appends;
   }
 
-  pub broken_again : HasBroken after later now more middle new → HasBroken before runs maps (done ++ more) old new
+  pub broken_again : HasBroken after runs now more middle new → HasBroken before runs maps (done ++ more) old new
   broken_again next = record {
     told = underway.told ++ next.told;
     tells = tells_then before runs done maps underway.told now more next.told underway.reaches
-        (tells_before before after runs later stays keeps more now next.told next.tells);
+        (tells_before before after runs stays more now next.told next.tells);
     begun = begun_piece old middle new underway.told next.told [] (underway.told ++ next.told) underway.appends next.begun
         (sym (append-nil (underway.told ++ next.told)));
   }

@@ -1,5 +1,5 @@
 -- What may be said of how jobs run.
-use Rattle.std.specs.Prelude.{◌≡◌, ⊤, [], Result, Ok, Err}
+use Rattle.std.specs.Prelude.{◌≡◌, [], Result, Ok, Err}
 use Rattle.superstep.specs.declared.fault.JobFault.{JobFault}
 use Rattle.superstep.specs.declared.fault.JobFault.TheVariants as job_fault
 use Rattle.superstep.specs.Ending.{IsEndOf}
@@ -12,14 +12,6 @@ use Rattle.session.specs.declared.runner.JobRunner.TheVariants as way
 -- how the run of a job may end
 pub record Runs : Type 1 where
   pub may_end : Work → Result Report JobFault → Type 0
-
--- of which anything may be true
-abbrev pub unknown : Runs
-unknown = record { may_end = λ _ _. ⊤ }
-
--- after a run: what may come could come before
-pub record KeepsRuns (before after : Runs) : Type 0 where
-  pub ends : (work : Work) (end : Result Report JobFault) → after.may_end work end → before.may_end work end
 
 -- ---- runs on one machine
 

@@ -7,7 +7,7 @@ ghost use Rattle.session.specs.Commands.{asked_alone, asked_by, asked_job, asked
 ghost use Rattle.session.specs.inside.Seen.{asked};
 
 use crate::word::{first_word, is_name};
-use graph::id_of;
+use console::small_of;
 use superstep::Settings;
 
 /// How many bytes a line may have, without its line feed.
@@ -190,18 +190,10 @@ fn settings_by(parts: &str, workers: &str, every: &str, limit: &str) -> Option<S
         (small_of limit.now) }
 {
     Some(Settings {
-        parts: number_of(parts)?,
-        workers: number_of(workers)?,
-        every: number_of(every)?,
-        limit: number_of(limit)?,
+        parts: small_of(parts.as_bytes())?,
+        workers: small_of(workers.as_bytes())?,
+        every: small_of(every.as_bytes())?,
+        limit: small_of(limit.as_bytes())?,
         lease: LEASE,
     })
-}
-
-// The number of 32 bits that decimal digits write.
-fn number_of(word: &str) -> Option<u32>
-    ensures { result ≡ small_of word.now }
-{
-    let number = id_of(word.as_bytes())?;
-    u32::try_from(number).ok()
 }

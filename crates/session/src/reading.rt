@@ -4,14 +4,14 @@ ghost use Rattle.std.specs.Prelude.{◌≡◌, MatchOption, MatchResult};
 ghost use Rattle.console.specs.Disk.{Stays};
 ghost use Rattle.console.specs.Engine.{RefusesLoad, content, is_text};
 ghost use Rattle.console.specs.Jobs.{IsGraphIn, RefusesGraph};
-ghost use Rattle.console.specs.Modules.{Loads, is_text_path};
+ghost use Rattle.console.specs.Modules.{Loads};
 ghost use Rattle.console.specs.Program.{IsLoadedAt, IsNoGraphAt, IsReadAt, IsRefusedAt};
 ghost use Rattle.session.specs.inside.Seen.{IsGraphFound, IsModuleFound, IsNoText, IsSourceOf, IsToldOf, reply_text, unread_text};
 
 use crate::refusals::refusal;
 use crate::reply::Reply;
 use bounded_profile::Verified;
-use console::{CommandFault, FileFault, Files, Source, load};
+use console::{CommandFault, FileFault, Files, Source, is_text_path, load};
 use graph::Graph;
 use std::alloc::Global;
 
@@ -51,13 +51,6 @@ fn source_of(path: &str, bytes: Vec<u8>) -> Option<Source>
         Ok(text) => Some(Source::Text(text)),
         Err(_) => None,
     }
-}
-
-#[tactic(auto, using(std::proofs::lemmas::Str::Pattern::ends_text))]
-fn is_text_path(path: &str) -> bool
-    ensures { result ≡ is_text_path path.now }
-{
-    path.ends_with(".wat")
 }
 
 fn module_in(alloc: Global, source: &Source) -> Result<Verified, Reply>

@@ -6,7 +6,8 @@ ghost use Rattle.serde_json.specs.View.{view};
 ghost use Rattle.session.specs.Replies.{fault_data, numbers_of, state_word, status_data, status_line};
 
 use crate::held::Ending;
-use crate::texts::{fault_word, how_word};
+use crate::texts::fault_word;
+use console::how_word;
 use serde_json::{Value, json};
 use std::alloc::{AllocError, Global};
 

@@ -1,19 +1,18 @@
 //! The texts of replies.
 
-ghost use Rattle.std.specs.Prelude.{◌≡◌, ◌≤◌, IfOk, OnOk, length, string_bytes};
+ghost use Rattle.std.specs.Prelude.{◌≡◌, ◌≤◌, IfOk, length, string_bytes};
 ghost use Rattle.bounded_profile.specs.Facts.{IsSizeOfCompute};
 ghost use Rattle.graph.specs.Entry.{edge_count, entries_of};
-ghost use Rattle.graph.specs.Print.{value_lines};
-ghost use Rattle.superstep.specs.Ending.{is_finished};
-ghost use Rattle.console.specs.Lines.{Gains, IfTold, end_word};
+ghost use Rattle.console.specs.Lines.{IfTold};
 ghost use Rattle.session.specs.Replies.{fault_word, failed_line, graph_line, job_line, module_line, run_line, values_text};
 ghost use Rattle.session.specs.inside.Seen.{IsModuleLine, end_line};
 
 use bounded_profile::Verified;
+use console::{how_word, push_values};
 use graph::{Graph, MAX_EDGES, Vertex};
 use rollback::Report;
 use std::alloc::{AllocError, Global};
-use superstep::{Ended, How, JobFault};
+use superstep::{Ended, JobFault};
 
 /// `ok module NAME S`, with the size of the module.
 pub fn module_text(alloc: Global, name: &str, verified: &Verified) -> Result<String, AllocError>
@@ -97,16 +96,6 @@ fn run_text(alloc: Global, name: &str, ended: &Ended) -> Result<String, AllocErr
     Ok(text)
 }
 
-/// How a job ended, in a word.
-pub fn how_word(how: How) -> &'static str
-    ensures { result.now ≡ end_word (is_finished how) }
-{
-    match how {
-        How::Finished => "finished",
-        How::Limit => "limit",
-    }
-}
-
 fn failed_text(alloc: Global, fault: JobFault) -> Result<String, AllocError>
     ensures { IfOk result (λ text. string_bytes text ≡ failed_line fault) }
 {
@@ -137,13 +126,4 @@ pub fn values_text(alloc: Global, ended: &Ended) -> Result<String, AllocError>
     push_values(&mut text, &ended.values)?;
     writeln!(text, ".")?;
     Ok(text)
-}
-
-fn push_values(text: &mut String, values: &[(u64, i64)]) -> Result<(), AllocError>
-    ensures { OnOk result (Gains text.old text.new (value_lines values.now)) }
-{
-    for (id, value) in values {
-        writeln!(text, "v {id} {value}")?;
-    }
-    Ok(())
 }

@@ -48,7 +48,8 @@ impl<J: Origin> Coordinator<J> {
         }
     }
 
-    /// Sends a task to a worker. It waits where the worker's channel is full. What was handed to the others stays.
+    /// Sends a task to a worker. It waits where the worker's channel is full. What was handed to the others stays. `Closed`: the
+    /// worker's end is gone, or it was stopped.
     pub fn offer<R: Wait>(&mut self, rt: &R, worker: u32, task: Task<J>) -> Result<(), JobFault>
         requires { worker < staff self.old }
         ensures handed { OnOk result
@@ -67,7 +68,7 @@ impl<J: Origin> Coordinator<J> {
         }
     }
 
-    /// The next message, which is of a sender that there is. It waits for it.
+    /// The next message, which is of a sender that there is. It waits for it. `Closed`: every sender's end is gone.
     pub fn take_event<R: Wait>(&mut self, rt: &R) -> Result<Message<J>, JobFault>
         ensures received { IfOk result (λ message.
             received self.new ≡ received self.old ++ message ∷ []) }
@@ -86,7 +87,8 @@ impl<J: Origin> Coordinator<J> {
         }
     }
 
-    /// Stops the ticker and all workers, also those behind a channel that is closed. A worker is stopped once.
+    /// Stops the ticker and all workers, also those behind a channel that is closed. A worker is stopped once. `Closed`: the end
+    /// of one of them is gone.
     pub fn stop<R: Wait>(&mut self, rt: &R) -> Result<(), JobFault>
         ensures stopped { OnOk result ((w : ℕ) → w < staff self.new → IsStopped self.new w) }
         ensures tasks { (w : ℕ)

@@ -14,7 +14,7 @@ pub trait Gate {
     /// What the worker does with the task of this part. It is asked before each task.
     fn before(&self, worker: u32, superstep: u32, part: u32) -> Turn;
 
-    /// Whether a worker that is lost joins again.
+    /// Whether a worker that is lost joins again. It is asked right after each `Lose`.
     fn again(&self, worker: u32) -> bool;
 
     /// Whether the tick of this number comes; they are numbered from 1. It is asked before each tick.

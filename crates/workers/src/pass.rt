@@ -62,7 +62,7 @@ impl<J: Origin> WorkerPass<J> {
         self.worker
     }
 
-    /// The next task, or none where the coordinator stopped this worker. It waits for it.
+    /// The next task, or none where the coordinator stopped this worker. It waits for it. `Closed`: the coordinator is gone.
     pub fn take<R: Wait>(&mut self, rt: &R) -> Result<Option<Task<J>>, JobFault>
         ensures taken { IfOk result (λ task.
             taken self.new ≡ taken self.old ++ order_of task ∷ []) }
@@ -78,7 +78,7 @@ impl<J: Origin> WorkerPass<J> {
         }
     }
 
-    /// Hands in an event of this worker. It waits where the channel is full.
+    /// Hands in an event of this worker. It waits where the channel is full. `Closed`: the coordinator is gone.
     pub fn hand_in<R: Wait>(&mut self, rt: &R, event: Event<J>) -> Result<(), JobFault>
         requires { event_sender event ≡ worker_of self.old + 1 }
         ensures handed_in { OnOk result
@@ -94,7 +94,7 @@ impl<J: Origin> WorkerPass<J> {
         }
     }
 
-    /// Says bye: the worker hands in nothing more.
+    /// Says bye: the worker hands in nothing more. `Closed`: the coordinator is gone.
     pub fn bye<R: Wait>(self, rt: &R) -> Result<WorkerReceipt<J>, JobFault>
         ensures handed_in { IfOk result (λ receipt.
             handed_in_by receipt ≡ handed_in self ++ Bye (Worker (worker_of self)) ∷ []) }
@@ -126,7 +126,7 @@ impl<J: Origin> TickPass<J> {
         self.stopped.load(Ordering::SeqCst)
     }
 
-    /// Lets one tick pass. It waits where the channel is full.
+    /// Lets one tick pass. It waits where the channel is full. `Closed`: the coordinator is gone.
     pub fn tick<R: Wait>(&mut self, rt: &R) -> Result<(), JobFault>
         ensures ticked { OnOk result (ticked self.new ≡ ticked self.old ++ Happened Tick ∷ []) }
         ensures refused { IfErr result (λ fault. fault ≡ Closed) }
@@ -139,7 +139,7 @@ impl<J: Origin> TickPass<J> {
         }
     }
 
-    /// Says bye: the ticker hands in nothing more.
+    /// Says bye: the ticker hands in nothing more. `Closed`: the coordinator is gone.
     pub fn bye<R: Wait>(self, rt: &R) -> Result<TickReceipt<J>, JobFault>
         ensures ticked { IfOk result (λ receipt.
             ticked_by receipt ≡ ticked self ++ Bye Ticker ∷ []) }

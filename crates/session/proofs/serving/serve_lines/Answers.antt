@@ -2,31 +2,30 @@ use Rattle.std.proofs.Common.{◌∙◌, Err, ap, arith}
 use Rattle.console.proofs.Faults.{is_fault}
 use Rattle.graph.proofs.Writing.{keeps}
 use Rattle.session.specs.inside.Seen.{maps_of}
-use Rattle.session.proofs.Loops.{keeps_same, bytes_so, gets_none, gets_some, served_break, served_end, served_quit, served_read, serving_more}
-use Rattle.session.specs.Runs.{runs_of}
+use Rattle.session.proofs.Loops.{bytes_so, gets_none, gets_some, served_break, served_end, served_quit, served_read, serving_more}
 use Rattle.session.proofs.serving.serve_lines.Goals as goal
 
 pub returns-in_err-count-clause-served : goal.returns-in_err-count-clause-served
 returns-in_err-count-clause-served g c =
     rw (is_fault _ _ c.from_residual.ensures.1 ∙ ap Err c.in_err-count.ensures.0)
-    (served_read _ _ _ _ _ _ _ _ _ _ _ c.reads.invariant.serving (g.R.Read.remaining c.read_some.new.reader) c.in_err-count.ensures.1)
+    (served_read _ _ _ _ _ _ _ _ _ _ c.reads.invariant.serving (g.R.Read.remaining c.read_some.new.reader) c.in_err-count.ensures.1)
 
 pub returns-then-count-eq0-clause-served : goal.returns-then-count-eq0-clause-served
 returns-then-count-eq0-clause-served g c =
     let end = gets_none _ _ _ _ c.in-Some.count c.in-Some.is c.if-count-eq0.true (omega (arith, c.read_some.auto.chunk)) c.in_ok-count.ensures in
-    served_end _ _ _ _ _ _ _ _ _ _ _ c.reads.invariant.serving (g.R.Read.remaining c.read_some.new.reader) end.0 end.1
+    served_end _ _ _ _ _ _ _ _ _ _ c.reads.invariant.serving (g.R.Read.remaining c.read_some.new.reader) end.0 end.1
 
 pub returns-in_err-answer_bytes-clause-served : goal.returns-in_err-answer_bytes-clause-served
 returns-in_err-answer_bytes-clause-served g c =
     rw (is_fault _ _ c.from_residual-in_err-answer_bytes.ensures.1)
-    (served_break _ _ _ _ _ _ _ _ _ _ _ c.reads.invariant.serving _ (g.R.Read.remaining c.read_some.new.reader)
+    (served_break _ _ _ _ _ _ _ _ _ _ c.reads.invariant.serving _ (g.R.Read.remaining c.read_some.new.reader)
     (gets_some _ _ _ _ c.in-Some.count c.in-Some.is c.in_ok-count.ensures) (maps_of c.answer_bytes.new.session)
     (g.W.Write.contents c.answer_bytes.new.writer) c.answer_bytes.new.line.items c.in_err-answer_bytes.field-0.0
     c.in_err-answer_bytes.ensures.answered.0 c.in_err-answer_bytes.ensures.answered.1)
 
 pub returns-then-branch-clause-served : goal.returns-then-branch-clause-served
 returns-then-branch-clause-served g c =
-    served_quit _ _ _ _ _ _ _ _ _ _ _ c.reads.invariant.serving _ (g.R.Read.remaining c.read_some.new.reader)
+    served_quit _ _ _ _ _ _ _ _ _ _ c.reads.invariant.serving _ (g.R.Read.remaining c.read_some.new.reader)
     (gets_some _ _ _ _ c.in-Some.count c.in-Some.is c.in_ok-count.ensures) (maps_of c.answer_bytes.new.session)
     (g.W.Write.contents c.answer_bytes.new.writer) c.answer_bytes.new.line.items
     (bytes_so _ _ _ _ c.if-branch.true c.in_ok-answer_bytes.ensures.answered)
@@ -34,13 +33,13 @@ returns-then-branch-clause-served g c =
 pub reads-preserved : goal.reads-preserved
 reads-preserved g c = record {
   room = c.in_ok-answer_bytes.ensures.room;
-  serving = serving_more _ _ _ _ _ _ _ _ _ _ _ c.reads.invariant.serving _ (g.R.Read.remaining c.read_some.new.reader)
+  serving = serving_more _ _ _ _ _ _ _ _ _ _ c.reads.invariant.serving _ (g.R.Read.remaining c.read_some.new.reader)
       (gets_some _ _ _ _ c.in-Some.count c.in-Some.is c.in_ok-count.ensures) (maps_of c.answer_bytes.new.session)
       (g.W.Write.contents c.answer_bytes.new.writer) c.answer_bytes.new.line.items (g.F.Files.disk c.answer_bytes.new.files)
-      (runs_of c.args.runner.now) (bytes_so _ _ _ _ c.if-branch.false c.in_ok-answer_bytes.ensures.answered)
-      c.in_ok-answer_bytes.ensures.files (keeps_same _);
+      (bytes_so _ _ _ _ c.if-branch.false c.in_ok-answer_bytes.ensures.answered)
+      c.in_ok-answer_bytes.ensures.files;
 }
 
 pub returns-clause-served : goal.returns-clause-served
 returns-clause-served g c =
-    served_read _ _ _ _ _ _ _ _ _ _ _ c.reads.invariant.serving (g.R.Read.remaining c.reads.reader) (keeps (g.R.Read.remaining c.reads.reader))
+    served_read _ _ _ _ _ _ _ _ _ _ c.reads.invariant.serving (g.R.Read.remaining c.reads.reader) (keeps (g.R.Read.remaining c.reads.reader))

@@ -1,6 +1,7 @@
 //! Command lines as they are typed after `pregel`, over lent files: the status and what is told, and then each file that
-//! was written; or why the words are refused. A line that ends in ` into N` tells a writer that has room for N bytes,
-//! and shows what it took where it failed.
+//! was written; or why the words are refused. A session reads the lines of `SESSION`. A line that ends in ` into N` tells a
+//! writer that has room for N bytes, and shows what it took where it failed. A line that ends in ` keeps FILE` is carried out
+//! in a folder whose FILE is empty, and shows what FILE is then.
 //!
 //! `body BODY` is `verify` of the module that has the body in the frame of `frame.wat`, and `engine MODULE INPUT` is what a
 //! call of a module's bytes with an input's text tells, or how it is refused.
@@ -10,13 +11,24 @@ pub mod lent_files;
 use crate::cases::{is_case, one_line};
 use anyhow::Result;
 use clap::error::ErrorKind;
-use console::{Options, Request, Source, call, command, options, refusal_line};
+use console::{Options, Source, call, options, refusal_line};
 use lent_files::{LentFiles, lent_files};
+use session::carry_out;
 use std::alloc::{AllocError, Global};
 use std::rt::Files;
 use std::sync::Wait;
 use std::thread::Threads;
 use std::{fs, iter, str};
+
+// What a session reads.
+const SESSION: &str = "\
+module m max.wat
+graph g line.txt
+job j m g 3 2 2 1000
+run j
+values j
+quit
+";
 
 pub fn show(rt: &(impl Files + Print + AllocGlobal + Threads + Wait + Sync)) -> Result<()> {
     let mut files = lent_files(rt)?;
@@ -48,8 +60,26 @@ fn answer(
     if let Some(names) = case.strip_prefix("engine ") {
         return called(alloc, names, files);
     }
+    if let Some((line, file)) = case.split_once(" keeps ") {
+        return kept(rt, alloc, line, file, files);
+    }
     let (line, room) = case.split_once(" into ").unwrap_or((case, ""));
     carried_out(rt, alloc, line, room, files)
+}
+
+// What a file has where it was empty before.
+fn kept(
+    rt: &(impl Files + AllocGlobal + Threads + Wait + Sync),
+    alloc: Global,
+    line: &str,
+    file: &str,
+    files: &mut LentFiles,
+) -> Result<String> {
+    fs::write(rt, file, b"".as_slice())?;
+    let mut told = carried_out(rt, alloc, line, "", files)?;
+    let bytes = fs::read(rt, file)?;
+    files.tell_file(file, bytes.as_slice(), &mut told)?;
+    Ok(told)
 }
 
 fn carried_out(
@@ -73,9 +103,8 @@ fn read_and_carried_out(
     files: &mut LentFiles,
 ) -> Result<String> {
     match options(alloc, words) {
-        Ok(Options::Session) => Ok(String::from_str(alloc, "a session")?),
-        Ok(Options::Command(request)) if room.is_empty() => told(rt, alloc, request, files),
-        Ok(Options::Command(request)) => told_in(rt, alloc, request, files, room.parse::<usize>()?),
+        Ok(options) if room.is_empty() => told(rt, alloc, options, files),
+        Ok(options) => told_in(rt, alloc, options, files, room.parse::<usize>()?),
         Err(error) => Ok(String::from_str(alloc, refused(error.kind()))?),
     }
 }
@@ -94,12 +123,13 @@ fn refused(kind: ErrorKind) -> &'static str {
 fn told(
     rt: &(impl Files + AllocGlobal + Threads + Wait + Sync),
     alloc: Global,
-    request: Request,
+    options: Options,
     files: &mut LentFiles,
 ) -> Result<String> {
     files.forget_written();
     let mut out = Vec::new(alloc);
-    let status = command(rt, alloc, request, files, &mut out)?;
+    let mut lines = SESSION.as_bytes();
+    let status = carry_out(rt, alloc, options, files, &mut lines, &mut out)?;
     shown(alloc, status, out.as_slice(), files)
 }
 
@@ -113,12 +143,20 @@ fn shown(alloc: Global, status: u8, out: &[u8], files: &LentFiles) -> Result<Str
 fn told_in(
     rt: &(impl Files + AllocGlobal + Threads + Wait + Sync),
     alloc: Global,
-    request: Request,
+    options: Options,
     files: &mut LentFiles,
     room: usize,
 ) -> Result<String> {
     let mut room = vec![in alloc; 0u8; room]?;
-    match command(rt, alloc, request, files, &mut room.as_mut_slice()) {
+    let mut lines = SESSION.as_bytes();
+    match carry_out(
+        rt,
+        alloc,
+        options,
+        files,
+        &mut lines,
+        &mut room.as_mut_slice(),
+    ) {
         Ok(status) => Ok(format!(in alloc; "{status}")?),
         Err(fault) => {
             let begun = str::from_utf8(room.as_slice())?;

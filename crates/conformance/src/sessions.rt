@@ -65,12 +65,7 @@ fn held(
 ) -> Result<String> {
     let gate = PlannedGate::new(Plan::Holds);
     let told = served(rt, "whole", lines, files, &JobRunner::new(&gate))?;
-    let met = if gate.has_met() {
-        "both at once"
-    } else {
-        "one after another"
-    };
-    Ok(format!(in rt.alloc(); "{told} {met}")?)
+    Ok(format!(in rt.alloc(); "{told} {}", gate.how_met())?)
 }
 
 fn content(alloc: Global, way: &str, lines: &str) -> Result<Vec<u8>, AllocError> {

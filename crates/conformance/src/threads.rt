@@ -1,9 +1,10 @@
 //! Jobs in threads: `NAME: GATE; PARTS WORKERS EVERY LIMIT LEASE; MODULE; GRAPH` prints how the job ends, beside the run on one
 //! machine.
 //!
-//! GATE is `lets`; or `W:S` where worker W is lost in superstep S, and `W:S again` where it joins again; or `holds` where part 0
-//! is held until part 1 has begun; or `ticks`; or `losses`, where worker 1 is lost with each part in each superstep, and a
-//! device fails at each call in turn. `N times GATE` runs the job so often.
+//! GATE is `lets`; or `W:S` where worker W is lost in superstep S, and `W:S again` where it joins again; or `watched W:S` and
+//! `watched W:S again`, where it is told besides whether that worker has begun a task since; or `holds` where part 0 is held until
+//! part 1 has begun; or `ticks`; or `losses`, where whoever takes a part in a superstep is lost with it, for each part in each
+//! superstep, and a device fails at each call in turn. `N times GATE` runs the job so often.
 
 pub mod gates;
 
@@ -14,7 +15,7 @@ use crate::simulations::sweeps::are_alike;
 use anyhow::Result;
 use checkpoint::MemoryKeep;
 use console::{Loss, LossGate};
-use gates::{Plan, PlannedGate};
+use gates::{Plan, PlannedGate, WatchedGate};
 use rollback::Report;
 use std::alloc::Global;
 use std::fs;
@@ -58,6 +59,9 @@ fn ran<R: Files + AllocGlobal + Threads + Wait + Sync>(
     if let Some((times, gate)) = gate.split_once(" times ") {
         return repeated(rt, alloc, job, gate, times.parse::<u32>()?, &plain);
     }
+    if let Some(words) = gate.strip_prefix("watched ") {
+        return watched(rt, alloc, job, words, &plain);
+    }
     match gate {
         "holds" => held(rt, alloc, job, &plain),
         "ticks" => ticked(rt, alloc, job, &plain),
@@ -86,11 +90,18 @@ fn ended_by<R: Files + AllocGlobal + Threads + Wait + Sync>(
     job: &Job,
     words: &str,
 ) -> Result<Report, JobFault> {
-    let (loss, again) = words.split_once(' ').unwrap_or((words, ""));
-    match Loss::read(loss) {
-        Some(loss) => run(rt, alloc, job, &LossGate::new(Some(loss), again == "again")),
-        None => run(rt, alloc, job, &NoLoss),
+    let gate = gate_of(words);
+    if gate.loss.is_some() {
+        run(rt, alloc, job, &gate)
+    } else {
+        run(rt, alloc, job, &NoLoss)
     }
+}
+
+// The gate that the words name; nobody is lost where they name no worker.
+fn gate_of(words: &str) -> LossGate {
+    let (loss, again) = words.split_once(' ').unwrap_or((words, ""));
+    LossGate::new(Loss::read(loss), again == "again")
 }
 
 // How a job ended, beside the run on one machine.
@@ -141,12 +152,25 @@ fn held<R: Files + AllocGlobal + Threads + Wait + Sync>(
 ) -> Result<String> {
     let gate = PlannedGate::new(Plan::Holds);
     let end = run(rt, alloc, job, &gate);
-    let met = if gate.has_met() {
-        "both at once"
+    Ok(format!(in alloc; "{}, {}", gate.how_met(), told(&end, plain))?)
+}
+
+// Whether a worker that is lost has come back.
+fn watched<R: Files + AllocGlobal + Threads + Wait + Sync>(
+    rt: &R,
+    alloc: Global,
+    job: &Job,
+    words: &str,
+    plain: &Ended,
+) -> Result<String> {
+    let gate = WatchedGate::new(gate_of(words));
+    let end = run(rt, alloc, job, &gate);
+    let came = if gate.has_come_back() {
+        "back again"
     } else {
-        "one after another"
+        "gone for good"
     };
-    Ok(format!(in alloc; "{met}, {}", told(&end, plain))?)
+    Ok(format!(in alloc; "{came}, {}", told(&end, plain))?)
 }
 
 // Whether a job ends alike, with no save missed, or without workers.
@@ -173,7 +197,7 @@ fn may_tick(end: &Result<Report, JobFault>, plain: &Ended) -> bool {
     }
 }
 
-// Where worker 1 is lost with each part in each superstep.
+// Where whoever takes a part in a superstep is lost with it, for each part in each superstep.
 fn lost_in_turn<R: Files + AllocGlobal + Threads + Wait + Sync>(
     rt: &R,
     alloc: Global,

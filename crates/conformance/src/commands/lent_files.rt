@@ -59,11 +59,15 @@ impl LentFiles {
     /// Tells of each file that was written which lent file it equals.
     pub fn tell_written(&self, text: &mut String) -> Result<(), AllocError> {
         for file in self.written.as_slice() {
-            let (name, length) = (file.name.as_str(), file.bytes.len());
-            let equal = self.name_of(file.bytes.as_slice());
-            write!(text, " {name} is {equal} of {length} bytes")?;
+            self.tell_file(file.name.as_str(), file.bytes.as_slice(), text)?;
         }
         Ok(())
+    }
+
+    /// Tells of a file that has these bytes which lent file it equals.
+    pub fn tell_file(&self, name: &str, bytes: &[u8], text: &mut String) -> Result<(), AllocError> {
+        let (equal, length) = (self.name_of(bytes), bytes.len());
+        write!(text, " {name} is {equal} of {length} bytes")
     }
 
     // The name of the first lent file that has these bytes.

@@ -1,11 +1,15 @@
 //! Gates that do what a case asks for.
 
+use console::LossGate;
 use std::sync::atomic::{AtomicBool, Ordering};
 use std::thread::yield_now;
 use workers::{Gate, Turn};
 
 // How often part 0 lets others go on while it is held.
 const YIELDS: u32 = 100_000;
+
+// How often a task lets others go on while a lost worker is waited for.
+const YIELDS_A_TASK: u32 = 1_000;
 
 /// What a gate does.
 #[derive(Clone, Copy)]
@@ -14,7 +18,7 @@ pub enum Plan {
     Holds,
     /// Time passes.
     Ticks,
-    /// Worker 1 is lost with its first task of this part in this superstep.
+    /// The first worker with a task of this part in this superstep is lost with it.
     Loses { superstep: u32, part: u32 },
 }
 
@@ -22,7 +26,7 @@ pub enum Plan {
 #[derive(Drop)]
 pub struct PlannedGate {
     plan: Plan,
-    /// Whether part 1 has begun, or the worker was lost.
+    /// Whether part 1 has begun, or a worker was lost.
     has_come: AtomicBool,
     /// Whether part 1 has begun while part 0 was held.
     has_met: AtomicBool,
@@ -37,8 +41,13 @@ impl PlannedGate {
         }
     }
 
-    pub fn has_met(&self) -> bool {
-        self.has_met.load(Ordering::SeqCst)
+    /// Whether part 1 has begun while part 0 was held, in words.
+    pub fn how_met(&self) -> &'static str {
+        if self.has_met.load(Ordering::SeqCst) {
+            "both at once"
+        } else {
+            "one after another"
+        }
     }
 
     // Holds part 0 until part 1 has begun.
@@ -58,7 +67,7 @@ impl PlannedGate {
 }
 
 impl Gate for PlannedGate {
-    fn before(&self, worker: u32, superstep: u32, part: u32) -> Turn {
+    fn before(&self, _worker: u32, superstep: u32, part: u32) -> Turn {
         match self.plan {
             Plan::Holds => self.hold(part),
             Plan::Ticks => yield_now(),
@@ -66,7 +75,7 @@ impl Gate for PlannedGate {
                 superstep: s,
                 part: p,
             } => {
-                let is_due = worker == 1 && superstep == s && part == p;
+                let is_due = superstep == s && part == p;
                 if is_due && !self.has_come.swap(true, Ordering::SeqCst) {
                     return Turn::Lose;
                 }
@@ -81,5 +90,70 @@ impl Gate for PlannedGate {
 
     fn tick(&self, _n: u64) -> bool {
         matches!(self.plan, Plan::Ticks)
+    }
+}
+
+/// A gate that loses a worker, and whether that worker has come back. Where it is to join again, the others let it.
+#[derive(Drop)]
+pub struct WatchedGate {
+    gate: LossGate,
+    /// Whether the worker was lost.
+    has_gone: AtomicBool,
+    /// Whether it has begun a task since.
+    has_come_back: AtomicBool,
+}
+
+impl WatchedGate {
+    pub fn new(gate: LossGate) -> WatchedGate {
+        WatchedGate {
+            gate,
+            has_gone: AtomicBool::new(false),
+            has_come_back: AtomicBool::new(false),
+        }
+    }
+
+    pub fn has_come_back(&self) -> bool {
+        self.has_come_back.load(Ordering::SeqCst)
+    }
+
+    fn is_lossy(&self, worker: u32) -> bool {
+        match self.gate.loss {
+            Some(loss) => loss.worker == worker,
+            None => false,
+        }
+    }
+
+    // Lets the worker that is lost join again.
+    fn wait(&self) {
+        for _ in 0..YIELDS_A_TASK {
+            if self.has_come_back() {
+                return;
+            }
+            yield_now();
+        }
+    }
+}
+
+impl Gate for WatchedGate {
+    fn before(&self, worker: u32, superstep: u32, part: u32) -> Turn {
+        let turn = self.gate.before(worker, superstep, part);
+        if matches!(turn, Turn::Lose) {
+            self.has_gone.store(true, Ordering::SeqCst);
+        } else if self.has_gone.load(Ordering::SeqCst) {
+            if self.is_lossy(worker) {
+                self.has_come_back.store(true, Ordering::SeqCst);
+            } else if self.gate.again {
+                self.wait();
+            }
+        }
+        turn
+    }
+
+    fn again(&self, worker: u32) -> bool {
+        self.gate.again(worker)
+    }
+
+    fn tick(&self, n: u64) -> bool {
+        self.gate.tick(n)
     }
 }

@@ -1,6 +1,7 @@
 //! Modules in the bounded profile.
 
 ghost use Rattle.std.specs.Prelude.{◌≡◌, min, IfOk, IfErr, OnOk, IsOkUnless};
+ghost use Rattle.wasm_ast.specs.Limits.{IsWithinLimits};
 ghost use Rattle.validate.specs.Modules.{IsTyped};
 ghost use Rattle.bounded_profile.specs.Cells.{IsDefined, MayRun, locals_at, own_height, most_told};
 ghost use Rattle.bounded_profile.specs.Compute.{IsComputeNumber};
@@ -63,6 +64,7 @@ impl Verified {
     pub fn module(&self) -> &Module
         ensures value { result.now ≡ self.now }
         ensures typed { IsTyped self.now }
+        ensures within { IsWithinLimits self.now }
         ensures bounded { IsBounded self.now }
     {
         self.valid.module()

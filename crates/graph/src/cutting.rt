@@ -33,7 +33,9 @@ pub fn cut_by_id<T: Identified>(
     requires { 0 < parts }
     ensures { IfOk result (λ cut. map vec_items cut.items ≡ parts_by T.id parts elements.items) }
 {
-    let mut cut = empty_parts(alloc, parts)?;
+    // As many places in each as there are on average.
+    let room = elements.len() / parts as usize;
+    let mut cut = empty_parts(alloc, parts, room)?;
     for element in elements {
         let part = part_of(element.id(), parts) as usize;
         cut[part].push(element)?;
@@ -41,13 +43,17 @@ pub fn cut_by_id<T: Identified>(
     Ok(cut)
 }
 
-// So many parts with no elements.
-fn empty_parts<T: Identified>(alloc: Global, count: u32) -> Result<Vec<Vec<T>>, AllocError>
+// So many parts with no elements, each with room for so many.
+fn empty_parts<T: Identified>(
+    alloc: Global,
+    count: u32,
+    room: usize,
+) -> Result<Vec<Vec<T>>, AllocError>
     ensures { IfOk result (λ parts. map vec_items parts.items ≡ parts_by T.id count []) }
 {
     let mut parts = Vec::with_capacity(alloc, count as usize)?;
     for part in 0..count {
-        parts.push(Vec::new(alloc))?;
+        parts.push(Vec::with_capacity(alloc, room)?)?;
     }
     Ok(parts)
 }

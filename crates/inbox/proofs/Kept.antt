@@ -1,15 +1,17 @@
--- The letters to one id are the same ones, in the same order, in a list by target and in one by source.
-use Rattle.std.proofs.Common.{◌≡◌, ℕ, Bool, true, false, List, [], ◌∷◌, Contains, filter, map, arith, inl, inr, refl, ap}
-use Rattle.std.proofs.lemmas.Bool.Decides.{nat_tests}
+-- The letters to one id are the same ones, in the same order, among those of its span by target and among all by source.
+use Rattle.std.proofs.Common.{◌≡◌, ℕ, pos, Bool, true, false, List, [], ◌∷◌, Contains, filter, arith, inl, inr, refl}
+use Rattle.std.proofs.lemmas.Bool.Decides.{Decides-int_eq, nat_tests}
 use Rattle.std.proofs.lemmas.Int.{ints}
 use Rattle.std.proofs.lemmas.List.Elements.{All-contains, All-contains_itself, All-filter, filter_passes, recursion_from_All, Contains-append_right}
 use Rattle.std.proofs.lemmas.List.Kept.{IsStrictlySortedBy-filter}
-use Rattle.std.proofs.lemmas.List.Sorted.{Contains-permutation, IsPermutation-sym, IsPermutation-trans}
+use Rattle.std.proofs.lemmas.List.Sorted.{Contains-permutation, IsPermutation-sym}
 use Rattle.std.specs.List.{AllByRecursion}
-use Rattle.std.specs.List.Sorted.{IsPermutation, IsStrictlySortedBy}
+use Rattle.std.specs.List.Sorted.{IsStrictlySortedBy}
 use Rattle.std.specs.declared.cmp.Ordering.TheVariants.{Less}
 use Rattle.inbox.specs.declared.letters.Letter.{Letter}
-use Rattle.inbox.specs.Merging.{IsBySource, goes_to, inbox_of, inboxes_of, source_cmp}
+use Rattle.inbox.specs.declared.pieces.Span.{Span}
+use Rattle.inbox.specs.Merging.{IsBySource, goes_to, source_cmp}
+use Rattle.inbox.specs.inside.Pieces.{lies_in, goes_into}
 use Rattle.inbox.specs.inside.Targets.{IsByTarget, target_cmp}
 use Rattle.inbox.proofs.OneOrder.{contained, head_inside, same_sorted}
 use Rattle.inbox.proofs.Order.{source_total}
@@ -32,9 +34,11 @@ module _ {X : Type 0} (p : X → Bool) where
       more true e inside = rw e (Contains-append_right (y ∷ []) (filter p ys) x inside)
       more false e inside = rw e inside
 
-  -- a list and its permutation keep the same elements
-  filter_alike : (xs ys : List X) (x : X) → IsPermutation xs ys → Contains (filter p xs) x → Contains (filter p ys) x
-  filter_alike xs ys x moved h = into_filter ys x (Contains-permutation xs ys x moved (from_filter xs x h)) (passes xs x h)
+-- a letter to an id goes into a span in which the id lies
+goes_inside : (span : Span) (id : ℕ) (letter : Letter) → lies_in span (pos id) ≡ true → goes_to letter id ≡ true → goes_into span letter ≡ true
+goes_inside span id letter inside goes =
+    let to : letter.to ≡ pos id = (Decides-int_eq letter.to (pos id)).0 goes in
+    rw to inside
 
 -- of two letters to one id
 by_source : (id : ℕ) (a b : Letter) → goes_to a id ≡ true → goes_to b id ≡ true → target_cmp a b ≡ Less → source_cmp a b ≡ Less
@@ -49,17 +53,17 @@ unfolding IsStrictlySortedBy
 all_by_source id [] all up = tt
 all_by_source id (a ∷ letters) all up = (later_by_source id a letters all.0 all.1 up.0, all_by_source id letters all.1 up.1)
 
-same_letters : (letters sorted ordered : List Letter) (id : ℕ) → IsByTarget letters sorted → IsBySource letters ordered → filter (λ letter. goes_to letter id) sorted ≡ filter (λ letter. goes_to letter id) ordered
-same_letters letters sorted ordered id by by' =
+-- the letters to an id, in a span in which it lies and among all
+pub same_letters : (letters sorted ordered : List Letter) (span : Span) (id : ℕ) → lies_in span (pos id) ≡ true → IsByTarget (filter (goes_into span) letters) sorted → IsBySource letters ordered → filter (λ letter. goes_to letter id) sorted ≡ filter (λ letter. goes_to letter id) ordered
+same_letters letters sorted ordered span id inside by by' =
     let mine = λ (letter : Letter). goes_to letter id in
-    let there : IsPermutation sorted ordered = IsPermutation-trans _ _ _ (IsPermutation-sym _ _ by.same) by'.same in
-    let back : IsPermutation ordered sorted = IsPermutation-sym _ _ there in
+    let within = goes_into span in
     let rising : IsStrictlySortedBy source_cmp (filter mine sorted) = all_by_source id (filter mine sorted) (recursion_from_All _ _ (filter_passes mine sorted)) (IsStrictlySortedBy-filter target_cmp mine sorted by.rising) in
-    same_sorted source_total (filter mine sorted) (filter mine ordered) rising (IsStrictlySortedBy-filter source_cmp mine ordered by'.rising)
-    (λ z. filter_alike mine sorted ordered z there) (λ z. filter_alike mine ordered sorted z back)
-
-pub same_inbox : (letters sorted ordered : List Letter) (id : ℕ) → IsByTarget letters sorted → IsBySource letters ordered → inbox_of sorted id ≡ inbox_of ordered id
-same_inbox letters sorted ordered id by by' = ap (map (λ letter. letter.value)) (same_letters letters sorted ordered id by by')
-
-pub same_inboxes : (letters sorted ordered : List Letter) → IsByTarget letters sorted → IsBySource letters ordered → inboxes_of sorted ≡ inboxes_of ordered
-same_inboxes letters sorted ordered by by' = λ i ids. map (λ id. same_inbox letters sorted ordered id by by' i) ids
+    let to = λ (z : Letter) (h : Contains (filter mine sorted) z).
+    let here = Contains-permutation _ _ z (IsPermutation-sym _ _ by.same) (from_filter mine sorted z h) in
+    into_filter mine ordered z (Contains-permutation _ _ z by'.same (from_filter within letters z here)) (passes mine sorted z h) in
+    let from = λ (z : Letter) (h : Contains (filter mine ordered) z).
+    let goes = passes mine ordered z h in
+    let here = into_filter within letters z (Contains-permutation _ _ z (IsPermutation-sym _ _ by'.same) (from_filter mine ordered z h)) (goes_inside span id z inside goes) in
+    into_filter mine sorted z (Contains-permutation _ _ z by.same here) goes in
+    same_sorted source_total (filter mine sorted) (filter mine ordered) rising (IsStrictlySortedBy-filter source_cmp mine ordered by'.rising) to from

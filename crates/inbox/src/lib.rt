@@ -10,6 +10,7 @@ mod laws;
 mod letters;
 mod merging;
 mod parts;
+mod pieces;
 
 pub use inboxes::Inbox;
 pub use laws::{

@@ -1,12 +1,14 @@
-ghost use Rattle.std.specs.Prelude.{◌≡◌, List, map, filter, length, nat_eq, sum_by, vec_items, IfOk};
-ghost use Rattle.std.specs.List.{IsDistinct};
+ghost use Rattle.std.specs.Prelude.{◌≡◌, List, map, filter, length, nat_eq, sum_by, vec_items, vec_len, IfOk};
+ghost use Rattle.std.specs.List.{AllZip, IsDistinct};
 ghost use Rattle.std.specs.List.Sorted.{IsStrictlySortedBy};
 ghost use Rattle.inbox.specs.declared.letters.Letter.{Letter as AnyLetter};
 ghost use Rattle.inbox.specs.Merging.{are_one, goes_to, all_of, IsBySource, inbox_of, inboxes_of, dropped_of};
-ghost use Rattle.inbox.specs.inside.Targets.{IsByTarget, target_cmp};
+ghost use Rattle.inbox.specs.inside.Targets.{target_cmp};
+ghost use Rattle.inbox.specs.inside.Pieces.{HoldsLettersTo, IsInboxFrom};
 
 use crate::inboxes::Inbox;
 use crate::letters::Letter;
+use crate::pieces::{Piece, by_target};
 use rayon::prelude::*;
 use std::alloc::{AllocError, Global};
 use std::thread::Threads;
@@ -18,10 +20,14 @@ use std::thread::Threads;
 /// what [`merge`](crate::merge) puts into it of all letters: the values of those to its id, by
 /// source and in the order of sending.
 ///
-/// It copies the letters once and merges what lies in order in them, in time of the order of n times
-/// the logarithm of how many lists there are, where each is in the letters' order, and n log n at
-/// worst. Inboxes are made in as many threads as there are processors, and each takes no more room
-/// than its messages. An `Err` is want of memory.
+/// Targets are cut into as many spans as there are parts, but 16 at most, which hold about as many
+/// of the first part's ids each, where these rise. Threads share the spans, up to two threads for
+/// each processor: for a span, one goes over all letters, copies those of the span and sorts them.
+/// Then threads look up each id's letters and make its inbox, with no more room than its messages.
+///
+/// So letters are read as often as there are spans, and copied and sorted once, in time of the order
+/// of n times the logarithm of how many lists there are, where each is in the letters' order, and
+/// n log n at worst. An `Err` is want of memory.
 pub fn merge_parts(
     rt: &(impl Threads + Sync),
     alloc: Global,
@@ -38,77 +44,69 @@ pub fn merge_parts(
     ensures dropped { IfOk result (λ merged.
         merged.1 ≡ dropped_of (all_of lists.now) (all_of ids.now)) }
 {
-    let letters = by_target(alloc, lists)?;
-    let mut dropped = letters.len() as u128;
+    let pieces = by_target(rt, alloc, lists, ids)?;
+    let mut dropped = letter_count(lists);
     let mut parts = Vec::with_capacity(alloc, ids.len())?;
     for part in ids {
-        let inboxes = inboxes_at(rt, alloc, &letters, part)?;
+        let inboxes = inboxes_at(rt, alloc, &pieces, part)?;
         dropped -= message_count(&inboxes);
         parts.push(inboxes)?;
     }
     Ok((parts, dropped))
 }
 
-// All letters, by target and then by source.
-fn by_target(alloc: Global, lists: &[Vec<Letter>]) -> Result<Vec<Letter>, AllocError>
-    requires { IsDistinct are_one (all_of lists.now) }
-    ensures { IfOk result (λ letters. IsByTarget (all_of lists.now) letters.items) }
+// How many letters stand in these lists.
+fn letter_count(lists: &[Vec<Letter>]) -> u128
+    ensures { result ≡ sum_by (λ list. vec_len list) lists.now }
 {
-    let mut letters = gathered(alloc, lists)?;
-    letters.sort()?;
-    Ok(letters)
-}
-
-// The letters of all lists, one list after the other.
-fn gathered(alloc: Global, lists: &[Vec<Letter>]) -> Result<Vec<Letter>, AllocError>
-    ensures { IfOk result (λ letters. letters.items ≡ all_of lists.now) }
-{
-    // A count past all memory stops at the largest number, for which there is no memory either.
-    let count = lists
-        .iter()
-        .fold(0usize, |count, list| count.saturating_add(list.len()));
-    let mut letters = Vec::with_capacity(alloc, count)?;
-    for list in lists {
-        letters.extend_from_slice(list)?;
-    }
-    Ok(letters)
+    lists.iter().map(|list| list.len() as u128).sum()
 }
 
 // What stands in the inboxes of these ids.
 fn inboxes_at(
     rt: &(impl Threads + Sync),
     alloc: Global,
-    letters: &[Letter],
+    pieces: &[Piece],
     ids: &[u64],
 ) -> Result<Vec<Inbox>, AllocError>
-    requires { IsStrictlySortedBy target_cmp letters.now }
-    ensures { IfOk result (λ inboxes. inboxes.items ≡ inboxes_of letters.now ids.now) }
+    ensures { IfOk result (λ inboxes. AllZip (IsInboxFrom pieces.now) ids.now inboxes.items) }
 {
     ids.par_iter()
         .map(
             |id: &u64| -> Result<Inbox, AllocError>
-                requires { IsStrictlySortedBy target_cmp letters.now }
-                ensures { IfOk result (λ inbox. inbox ≡ inbox_of letters.entry.now id.now) }
-            { inbox_at(alloc, letters, *id) },
+                ensures { IfOk result (IsInboxFrom pieces.entry.now id.now) }
+            { inbox_at(alloc, pieces, *id) },
         )
         .collect::<Result<Vec<Inbox>, AllocError>>(rt, alloc)?
 }
 
 // What stands in the inbox of this id.
-fn inbox_at(alloc: Global, letters: &[Letter], id: u64) -> Result<Inbox, AllocError>
-    requires { IsStrictlySortedBy target_cmp letters.now }
-    ensures { IfOk result (λ inbox. inbox ≡ inbox_of letters.now id) }
+fn inbox_at(alloc: Global, pieces: &[Piece], id: u64) -> Result<Inbox, AllocError>
+    ensures { IfOk result (IsInboxFrom pieces.now id) }
 {
-    let mine = letters_to(letters, id);
+    let mine = letters_to(pieces, id);
     let mut messages = Vec::with_capacity(alloc, mine.len())?;
     messages.extend(mine.iter().map(|letter| letter.value))?;
     Ok(Inbox::from(messages))
 }
 
-// The letters to this id, which lie side by side.
-fn letters_to(letters: &[Letter], id: u64) -> &[Letter]
-    requires { IsStrictlySortedBy target_cmp letters.now }
-    ensures { result.now ≡ filter (λ letter. goes_to letter id) letters.now }
+// The letters to this id. An id lies in one of the spans.
+fn letters_to(pieces: &[Piece], id: u64) -> &[Letter]
+    ensures { HoldsLettersTo pieces.now id result.now }
+{
+    match pieces
+        .iter()
+        .find(|piece| piece.span.contains(i128::from(id)))
+    {
+        Some(piece) => run_to(&piece.letters, id),
+        None => &[],
+    }
+}
+
+// The letters to this id among those by target, where they lie side by side.
+fn run_to(letters: &[Letter], id: u64) -> &[Letter]
+    ensures { IsStrictlySortedBy target_cmp letters.now
+        → result.now ≡ filter (λ letter. goes_to letter id) letters.now }
 {
     let id = i128::from(id);
     let start = letters.partition_point(|letter| i128::from(letter.to) < id);

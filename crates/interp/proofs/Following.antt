@@ -1,18 +1,22 @@
 -- A walk over cells beside the run over values that it follows.
-use Rattle.std.proofs.Common.{◌≡◌, ℕ, ◌+◌, ◌-◌, ◌*◌, ◌<◌, ◌≤◌, Bool, true, List, refl, sym, ap, ◌∙◌, subst, arith}
+use Rattle.std.proofs.Common.{◌≡◌, ℕ, suc, ◌+◌, ◌-◌, ◌*◌, ◌<◌, ◌≤◌, Bool, List, [], ◌∷◌, length, map, true, refl, sym, ap, ◌∙◌, subst, arith}
 use Rattle.std.proofs.lemmas.List.{length-map}
 use Rattle.wasm_ast.specs.declared.module.Module.{Module}
+use Rattle.wasm_ast.specs.Code.{Code}
 use Rattle.interp.specs.Configuration.{State}
-use Rattle.interp.specs.Machine.{Machine, Running, Done, Trapped, Stuck, advance, next_units}
-use Rattle.interp.specs.inside.Cells.{cell_advance, cells, cells_layer, cells_place, cells_state, in_width, of_any_width}
+use Rattle.interp.specs.Heights.{beneath, held, layers, locals, operands}
+use Rattle.interp.specs.Machine.{Machine, Running, Done, Trapped, Stuck, Layer, Label, Frame, advance, next_units, run}
+use Rattle.interp.specs.inside.Cells.{cell_advance, cell_of, cells, cells_layer, cells_place, cells_state, in_width, of_any_width}
 use Rattle.interp.specs.inside.Fits.{MachineFits}
+use Rattle.interp.specs.inside.Given.{HasGiven}
 use Rattle.interp.specs.inside.Going.{is_going}
 use Rattle.interp.specs.inside.Kept.{AreMarked, Touches, marks}
-use Rattle.interp.specs.inside.Place.{Place, running}
-use Rattle.interp.specs.inside.Walk.{EndsWithin, Finishes, Follows, left_of}
+use Rattle.interp.specs.inside.Place.{HasFrameRoom, Place, Room, Standing, at, running}
+use Rattle.interp.specs.inside.Walk.{EndsWithin, Finishes, Follows, IsWithinRoom, left_of}
 use Rattle.interp.proofs.Cells.{step_follows, step_kept}
 use Rattle.interp.proofs.Counts.{falls}
 use Rattle.interp.proofs.Ending.{comes_on, finishes, goes, room}
+use Rattle.interp.proofs.RunLaws.{run_on}
 
 going_as_cells : (ms : List Bool) (x : Machine) → is_going (cells ms x) ≡ is_going x
 going_as_cells ms (Running vs is ls st) = refl
@@ -104,3 +108,64 @@ module _ (m : Module) (from : Machine) (here : Place) (follows : Follows m from 
       let k = kept (Done final) step refl in
       let d = done_as_cells m follows.place final (advance m (running follows.place)) refl k.0 in
       (d.0, finishes m from follows.place follows.comes d.0 d.1, d.2)
+
+-- ---- what is sent
+
+given_going : (x : Machine) → HasGiven x → is_going x ≡ true
+given_going (Running vs is ls st) g = refl
+given_going (Done st) g = refl
+given_going (Trapped count) g = absurd g
+given_going (Stuck count) g = absurd g
+
+given_values : (ms : List Bool) (x : Machine) → HasGiven (cells ms x) → HasGiven x
+given_values ms (Running vs is ls st) g = g
+given_values ms (Done st) g = g
+given_values ms (Trapped count) g = absurd g
+given_values ms (Stuck count) g = absurd g
+
+-- a step over cells that sends is one over values
+pub gives_on : (m : Module) (from : Machine) (here : Place) → Follows m from here → (most : ℕ) → EndsWithin m from most → HasGiven (cell_advance in_width m (running here)) → (n : ℕ) × HasGiven (run m n from)
+gives_on m from here follows most ends g =
+    let k = kept m from here follows most ends (cell_advance in_width m (running here)) refl (given_going _ g) in
+    let v = given_values (marks m) (advance m (running follows.place)) (subst HasGiven k.0 g) in
+    let there = run_on m follows.comes.steps from (running follows.place) (advance m (running follows.place)) follows.comes.there refl in
+    (suc follows.comes.steps, subst HasGiven (sym there) v)
+
+-- ---- room
+
+held_as_cells : (ls : List Layer) → held (map cells_layer ls) ≡ held ls
+held_as_cells [] = refl
+held_as_cells (Label keeps vs t a ∷ ls) = held_as_cells ls
+held_as_cells (Frame keeps xs vs a ∷ ls) = let l = length-map xs cell_of in let h = held_as_cells ls in omega (arith, l, h)
+
+beneath_as_cells : (ls : List Layer) → beneath (map cells_layer ls) ≡ beneath ls
+beneath_as_cells [] = refl
+beneath_as_cells (Label keeps vs t a ∷ ls) = let l = length-map vs cell_of in let h = beneath_as_cells ls in omega (arith, l, h)
+beneath_as_cells (Frame keeps xs vs a ∷ ls) = let l = length-map vs cell_of in let h = beneath_as_cells ls in omega (arith, l, h)
+
+-- where there is always room for another operand and another frame, there is here
+pub frame_room : (m : Module) (from : Machine) (s : Standing) (k : Code) (count : ℕ) (room : Room) → s.room ≡ room → Follows m from (at s k count) → ((n : ℕ) → IsWithinRoom room (run m n from)) → HasFrameRoom s
+frame_room m from s k count room same follows low =
+    let p = follows.place in
+    let w = low follows.comes.steps in
+    let few = ap (λ (x : Machine). layers x) follows.comes.there in
+    let all = ap (λ (x : Machine). locals x) follows.comes.there in
+    let tall = ap (λ (x : Machine). operands x) follows.comes.there in
+    let v = length-map p.values cell_of in
+    let u = beneath_as_cells p.layers in
+    let v' = ap (λ (q : Place). length q.values) follows.is in
+    let u' = ap (λ (q : Place). beneath q.layers) follows.is in
+    let d = ap (λ (r : Room). r.operands) same in
+    let l = length-map p.layers cells_layer in
+    let n = length-map p.state.locals cell_of in
+    let h = held_as_cells p.layers in
+    let l' = ap (λ (q : Place). length q.layers) follows.is in
+    let n' = ap (λ (q : Place). length q.state.locals) follows.is in
+    let h' = ap (λ (q : Place). held q.layers) follows.is in
+    let a = ap (λ (r : Room). r.layers) same in
+    let b = ap (λ (r : Room). r.locals) same in
+    record {
+      layers = omega (arith, w.few_layers, few, l, l', a);
+      operands = omega (arith, w.few_operands, tall, v, v', u, u', d);
+      locals = omega (arith, w.few_locals, all, n, n', h, h', b);
+    }

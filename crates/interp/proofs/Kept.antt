@@ -1,13 +1,13 @@
 -- A memory as it is kept: beside the whole one, and beside the bytes that lie together.
 use Rattle.std.proofs.Common.{◌≡◌, ℕ, zero, suc, ◌+◌, ◌*◌, ◌<◌, ◌≤◌, Bool, true, false, ◌&&◌, List, [], ◌∷◌, ◌++◌, length, map, take, drop, replicate, get_or, nat_le, Some, None, option_map, cond, if◌then◌else◌, refl, sym, ap, ◌∙◌, subst, arith}
 use Rattle.std.proofs.lemmas.Bool.{and_parts, le-leb, leb-true}
-use Rattle.std.proofs.lemmas.List.{get_or-drop, length-drop, take-append-drop}
+use Rattle.std.proofs.lemmas.List.{get_or-drop, length-drop, length-replicate, take-append-drop}
 use Rattle.wasm_ast.specs.declared.module.Module.{Module}
 use Rattle.bounded_profile.specs.Memory.{max_minimum, memory_bytes, page}
 use Rattle.bounded_profile.specs.Profile.{IsBounded}
 use Rattle.bounded_profile.specs.Reached.{is_reached, reached_below, reached_bytes}
 use Rattle.interp.specs.Memory.{bytes_of_number, number_of_bytes, read, write}
-use Rattle.interp.specs.inside.Kept.{AreMarked, are_kept, byte_of, is_kept, kept_read, kept_write, laid_over, marked_before, marks, marks_from, masked, over, spread}
+use Rattle.interp.specs.inside.Kept.{AreMarked, are_kept, byte_of, count_kept, is_kept, kept_read, kept_write, laid_over, marked_before, marks, marks_from, masked, over, spread}
 use Rattle.bounded_profile.proofs.Marking.{memory_small}
 use Rattle.interp.proofs.Plains.{bytes_length}
 
@@ -291,10 +291,41 @@ past_bytes (true ∷ ms) (b ∷ bs) (suc place) others h = ap (λ (l : List ℕ)
 
 -- ---- the marks of a module
 
-pub spread_zeros : (ms : List Bool) → spread ms (replicate (marked_before ms (length ms)) 0) ≡ masked ms (replicate (length ms) 0)
-spread_zeros [] = refl
-spread_zeros (true ∷ ms) = ap (λ (l : List ℕ). 1 ∷ l) (spread_zeros ms)
-spread_zeros (false ∷ ms) = ap (λ (l : List ℕ). 0 ∷ l) (spread_zeros ms)
+pub spread_zeros : (ms : List Bool) (n : ℕ) → marked_before ms (length ms) ≤ n → spread ms (replicate n 0) ≡ masked ms (replicate (length ms) 0)
+spread_zeros [] n h = refl
+spread_zeros (true ∷ ms) zero h = absurd (omega (arith, h))
+spread_zeros (true ∷ ms) (suc n) h = ap (λ (l : List ℕ). 1 ∷ l) (spread_zeros ms n (omega (arith, h)))
+spread_zeros (false ∷ ms) n h = ap (λ (l : List ℕ). 0 ∷ l) (spread_zeros ms n h)
+
+-- ---- how many are kept
+
+kept-over : (others bs : List ℕ) → count_kept (over others bs) ≡ count_kept bs
+kept-over [] bs = refl
+kept-over (o ∷ os) [] = refl
+kept-over (o ∷ os) (zero ∷ bs) = kept-over os bs
+kept-over (o ∷ os) (suc b ∷ bs) = ap suc (kept-over os bs)
+
+pub kept-laid_over : (place : ℕ) (others bs : List ℕ) → count_kept (laid_over place others bs) ≡ count_kept bs
+kept-laid_over zero others bs = kept-over others bs
+kept-laid_over (suc place) others [] = refl
+kept-laid_over (suc place) others (zero ∷ bs) = kept-laid_over place others bs
+kept-laid_over (suc place) others (suc b ∷ bs) = ap suc (kept-laid_over place others bs)
+
+none_before : (byte : ℕ) → marked_before [] byte ≡ 0
+none_before zero = refl
+none_before (suc byte) = refl
+
+pub kept-masked : (ms : List Bool) (bs : List ℕ) → count_kept (masked ms bs) ≡ marked_before ms (length bs)
+kept-masked ms [] = refl
+kept-masked [] (b ∷ bs) = kept-masked [] bs ∙ none_before (length bs)
+kept-masked (true ∷ ms) (b ∷ bs) = ap suc (kept-masked ms bs)
+kept-masked (false ∷ ms) (b ∷ bs) = kept-masked ms bs
+
+pub kept-spread : (ms : List Bool) (bs : List ℕ) → count_kept (spread ms bs) ≤ length bs
+kept-spread [] bs = omega arith
+kept-spread (false ∷ ms) bs = kept-spread ms bs
+kept-spread (true ∷ ms) [] = kept-spread ms []
+kept-spread (true ∷ ms) (b ∷ bs) = let h = kept-spread ms bs in omega (arith, h)
 
 module _ (m : Module) where
   length-marks_from : (byte count : ℕ) → length (marks_from m byte count) ≡ count
@@ -333,8 +364,17 @@ module _ (m : Module) where
   pub fresh_bytes : spread (marks m) (replicate (reached_bytes m) 0) ≡ masked (marks m) (replicate (memory_bytes m) 0)
   fresh_bytes =
       ap (λ (n : ℕ). spread (marks m) (replicate n 0)) (place_told (memory_bytes m) (omega arith) ∙ ap (marked_before (marks m)) (sym length-marks))
-      ∙ spread_zeros (marks m)
+      ∙ spread_zeros (marks m) _ (omega arith)
       ∙ ap (λ (n : ℕ). masked (marks m) (replicate n 0)) length-marks
+
+  pub kept_fresh : count_kept (masked (marks m) (replicate (memory_bytes m) 0)) ≡ marked_before (marks m) (memory_bytes m)
+  kept_fresh = kept-masked (marks m) (replicate (memory_bytes m) 0) ∙ ap (marked_before (marks m)) (length-replicate {A = ℕ} (memory_bytes m) 0)
+
+  -- the same in as many places as there were bytes that were kept, or more
+  pub fresh_places : (n : ℕ) → marked_before (marks m) (memory_bytes m) ≤ n → spread (marks m) (replicate n 0) ≡ masked (marks m) (replicate (memory_bytes m) 0)
+  fresh_places n h =
+      let e = ap (marked_before (marks m)) length-marks in
+      spread_zeros (marks m) n (omega (arith, h, e)) ∙ ap (λ (k : ℕ). masked (marks m) (replicate k 0)) length-marks
 
   -- what is kept lies in the memory
   pub place_within : (bs : List ℕ) (place width : ℕ) → is_kept place width (spread (marks m) bs) ≡ true → place + width ≤ memory_bytes m

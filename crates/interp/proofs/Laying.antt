@@ -1,10 +1,10 @@
 -- What a call begins with, as cells.
-use Rattle.std.proofs.Common.{◌≡◌, ◌+◌, ◌^◌, ℕ, List, [], ◌∷◌, ◌++◌, Bool, true, false, Option, Some, None, Result, Ok, Err, IsSome, option_map, length, map, take, drop, nat_le, replicate, slice_get, if◌then◌else◌, refl, sym, ap, ◌∙◌, subst}
+use Rattle.std.proofs.Common.{◌≡◌, ◌+◌, ◌^◌, ◌<◌, ℕ, zero, suc, List, [], ◌∷◌, ◌++◌, Bool, true, false, Option, Some, None, Result, Ok, Err, IsSome, option_map, length, map, take, drop, nat_le, replicate, slice_get, if◌then◌else◌, refl, sym, ap, ◌∙◌, subst, arith}
 use Rattle.std.proofs.lemmas.Bool.{leb-true, ltb-true}
 use Rattle.std.proofs.lemmas.List.{map-append}
 use Rattle.std.proofs.lemmas.Option.{slice_get-map}
 use Rattle.std.specs.Option.{option_and_then}
-use Rattle.std.specs.Prelude.{OnOk}
+use Rattle.std.specs.Prelude.{OnOk, slice_set}
 use Rattle.wasm_ast.specs.declared.types.Value.{Value}
 use Rattle.wasm_ast.specs.declared.types.Value.TheVariants.{I32, I64}
 use Rattle.wasm_ast.specs.declared.plain.Plain.{Plain}
@@ -69,6 +69,12 @@ all_laid all left cells e s = record {
   are = s.are;
   fit = s.fit;
 }
+
+-- the next one is set
+pub take-set_next : (n : ℕ) (vs : List Value) (v : Value) → n < length vs → take (suc n) (slice_set vs n v) ≡ take n vs ++ v ∷ []
+take-set_next n [] v h = absurd (omega (arith, h))
+take-set_next zero (w ∷ vs) v h = refl
+take-set_next (suc n) (w ∷ vs) v h = ap (λ (l : List Value). w ∷ l) (take-set_next n vs v (omega (arith, h)))
 
 -- ---- the memory
 

@@ -1,5 +1,5 @@
 -- What a list of cells is after its part from a place on was lent, and written.
-use Rattle.std.proofs.Common.{◌≡◌, ℕ, ◌+◌, ◌-◌, ◌≤◌, List, [], ◌++◌, map, length, take, drop, reverse, sym, ap, ◌∙◌, arith, length-append, length-drop}
+use Rattle.std.proofs.Common.{◌≡◌, ℕ, ◌+◌, ◌-◌, ◌<◌, ◌≤◌, List, [], ◌++◌, map, length, take, drop, reverse, sym, ap, ◌∙◌, arith, length-append, length-drop}
 use Rattle.std.specs.List.{drop-map, take-map}
 use Rattle.std.proofs.lemmas.List.{append-nil, drop_all, length-take-le}
 use Rattle.std.proofs.Math.Seq.{take-length}
@@ -7,7 +7,9 @@ use borrow.Rule.Slice.PartMut.{post_of}
 use Rattle.wasm_ast.specs.declared.types.Value.{Value}
 use Rattle.wasm_ast.specs.declared.types.Value.TheVariants.{I64}
 use Rattle.interp.specs.inside.Pile.{pile}
+use Rattle.interp.specs.inside.Split.{Below}
 use Rattle.interp.proofs.Lists.{drop-length_is, take-length_is}
+use Rattle.interp.proofs.Parts.{below_of}
 use Rattle.interp.proofs.Piles.{held, held_cut, pile_here}
 
 -- the part from `from` on of these cells, of which there are `long`, was lent as a slice of `whole`, and came back as `part`
@@ -35,6 +37,11 @@ module _ (from : ℕ) (whole cells : List ℕ) (same : whole ≡ cells) where
   pub lent_here : (top : ℕ) → from ≤ top → pile (lent from whole) (top - from) ≡ reverse (drop from (held top cells))
   lent_here top h =
       ap (λ (l : List ℕ). pile l (top - from)) (rest_is from whole ∙ ap (λ (l : List ℕ). drop from l) same) ∙ pile_here from top cells h
+
+  -- there is room in it
+  pub lent_room : (top : ℕ) → from ≤ top → top < length cells → top - from < length (lent from whole)
+  lent_room top h less =
+      omega (arith, h, less, ap (λ (l : List ℕ). length l) (rest_is from whole), length-drop from whole, ap (λ (l : List ℕ). length l) same)
 
   pub lent_cells : map I64 (lent from whole) ≡ drop from (map I64 cells)
   lent_cells = ap (λ (l : List ℕ). map I64 l) (rest_is from whole ∙ ap (λ (l : List ℕ). drop from l) same) ∙ sym (drop-map I64 from cells)
@@ -79,7 +86,7 @@ module _ (from long : ℕ) (whole part cells : List ℕ) (h : IsLent from long w
       sym (pile_here from (from + top) (given_back from long whole part cells) (omega arith))
       ∙ ap (λ (l : List ℕ). pile l (from + top - from)) back_part ∙ ap (λ (n : ℕ). pile part n) e
 
-  pub back_below : (now top : ℕ) → from ≤ now → from ≤ top → reverse (take from (held now (given_back from long whole part cells))) ≡ reverse (take from (held top cells))
+  back_below : (now top : ℕ) → from ≤ now → from ≤ top → reverse (take from (held now (given_back from long whole part cells))) ≡ reverse (take from (held top cells))
   back_below now top g k =
       ap (λ (l : List Value). reverse l) (sym (held_cut from now (given_back from long whole part cells) g))
       ∙ ap (λ (l : List ℕ). reverse (map I64 l)) back_front
@@ -90,3 +97,13 @@ module _ (from long : ℕ) (whole part cells : List ℕ) (h : IsLent from long w
 
   pub back_under : take from (map I64 (given_back from long whole part cells)) ≡ take from (map I64 cells)
   back_under = take-map I64 from (given_back from long whole part cells) ∙ ap (λ (l : List ℕ). map I64 l) back_front ∙ sym (take-map I64 from cells)
+
+  back_long : length (given_back from long whole part cells) ≡ length cells
+  back_long =
+      ap (λ (l : List ℕ). length l) back_is ∙ ap (λ (l : List ℕ). length (take from l ++ part)) (sym h.same)
+      ∙ written_long ∙ sym h.all ∙ ap (λ (l : List ℕ). length l) h.same
+
+  pub back_lower : (now top : ℕ) → from ≤ now → from ≤ top → below_of (length (given_back from long whole part cells)) from (held now (given_back from long whole part cells)) ≡ below_of (length cells) from (held top cells)
+  back_lower now top g k =
+      let with_values : List Value → Below = λ (l : List Value). record { values = l; room = length cells } in
+      ap (λ (r : ℕ). below_of r from (held now (given_back from long whole part cells))) back_long ∙ ap with_values (back_below now top g k)

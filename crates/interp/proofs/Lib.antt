@@ -31,10 +31,13 @@ pub mod Whole
 pub mod SequenceCounts
 pub mod Fixed
 pub mod Told
+pub mod Limited
+pub mod Staying
 pub mod Faults
 pub mod Imports
 pub mod Running
 pub mod Outcomes
+pub mod Sending
 pub mod Cells
 pub mod Fits
 pub mod Stored

@@ -38,7 +38,7 @@ not_done (Trapped count) = inl (λ s e. absurd cc)
 not_done (Stuck count) = inl (λ s e. absurd cc)
 
 -- where a run is done first
-record DoneFirst (m : Module) (x : Machine) : Type 0 where
+pub record DoneFirst (m : Module) (x : Machine) : Type 0 where
   pub steps : ℕ
   pub final : State
   pub done : run m steps x ≡ Done final
@@ -51,7 +51,7 @@ later m x none d = record { steps = suc d.steps; final = d.final; done = d.done;
     before zero h st e = none st e
     before (suc n) h st e = d.least n (omega (arith, h)) st e
 
-first : (m : Module) (steps : ℕ) (x : Machine) (final : State) → run m steps x ≡ Done final → DoneFirst m x
+pub first : (m : Module) (steps : ℕ) (x : Machine) (final : State) → run m steps x ≡ Done final → DoneFirst m x
 first m zero x final e = record { steps = zero; final = final; done = e; least = λ n h st g. absurd (omega (arith, h)) }
 first m (suc k) x final e = elim (not_done x) [
   | inl none ↦ later m x none (first m k (advance m x) final e)

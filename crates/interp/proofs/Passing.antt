@@ -1,5 +1,5 @@
 -- Straight code: one instruction more.
-use Rattle.std.proofs.Common.{◌≡◌, ℕ, ◌+◌, ◌≤◌, Bool, true, List, Option, Some, slice_get, sym, ap, ◌∙◌, subst}
+use Rattle.std.proofs.Common.{◌≡◌, ℕ, zero, suc, ◌+◌, ◌≤◌, Bool, true, List, [], ◌∷◌, ◌++◌, map, Option, Some, slice_get, sym, ap, ◌∙◌, subst}
 use Rattle.wasm_ast.specs.declared.types.Value.{Value}
 use Rattle.wasm_ast.specs.declared.module.Module.{Module}
 use Rattle.wasm_ast.specs.declared.plain.Plain.{Plain}
@@ -8,45 +8,61 @@ use Rattle.wasm_ast.specs.declared.body.Instr.TheVariants as instr
 use Rattle.wasm_ast.specs.Code.{Code}
 use Rattle.wasm_ast.specs.Code as code
 use Rattle.wasm_ast.specs.View.{then_code}
-use Rattle.cost.specs.Weights.{call_units, plain_units}
+use Rattle.cost.specs.Weights.{call_units, host_units, plain_units}
 use Rattle.host_calls.specs.Host.{Host}
 use Rattle.host_calls.specs.declared.imports.HostCall.{HostCall}
 use Rattle.interp.specs.Configuration.{State, Effect, Gives, tick}
-use Rattle.interp.specs.Machine.{Machine, Running, Layer, Callee, host, after_effect, functions_of, next_units}
+use Rattle.interp.specs.Machine.{Machine, Running, Layer, Callee, defined, host, after_effect, functions_of, next_units}
 use Rattle.interp.specs.declared.straight.Straight.{Straight}
 use Rattle.interp.specs.declared.straight.Straight.TheVariants as straight
-use Rattle.interp.specs.inside.Cells.{cell_advance, cell_call, cell_effect, cell_take_call, in_width, of_any_width}
+use Rattle.interp.specs.inside.Cells.{cell_advance, cell_call, cell_take_call, in_width, of_any_width}
+use Rattle.interp.specs.inside.Given.{HasGiven}
 use Rattle.interp.specs.inside.Going.{is_going}
+use Rattle.interp.specs.inside.Meaning.{AreImports, host_callee}
 use Rattle.interp.specs.inside.Place.{running}
-use Rattle.interp.specs.inside.Straight.{GoesStraight, LeadsAmid, Passes, Spot, amid, spot, straight_asks, straight_effect}
+use Rattle.interp.specs.inside.Straight.{GoesStraight, LeadsAmid, Passes, SendsAmid, Spot, amid, spot, straight_asks, straight_effect, straight_gives}
 use Rattle.interp.proofs.Asking.{call_asked, plain_asked}
-use Rattle.interp.proofs.Following.{cell_goes, cell_room, follows_on}
+use Rattle.interp.proofs.Following.{cell_goes, cell_room, follows_on, gives_on}
+use Rattle.interp.proofs.Sending.{call_gives}
+use Rattle.interp.proofs.Weighing.{call_counts}
 
 straight_asked : (may : Value → Bool) (what : Straight) (vs : List Value) (is : Code) (ls : List Layer) (st : State) → is_going (after_effect (straight_effect may what vs st) is ls st.count) ≡ true → straight_asks what vs st.locals st.globals st.memory ≡ true
 straight_asked may (straight.Plain p) vs is ls st g = plain_asked may p vs is ls st g
 straight_asked may (straight.Host c) vs is ls st g = call_asked may c vs is ls st g
 
+-- a call that may take memory gives something where it is done
+straight_given : (what : Straight) (vs : List Value) (is : Code) (ls : List Layer) (st : State) (count : ℕ) → straight_gives what ≡ true → is_going (after_effect (straight_effect of_any_width what vs st) is ls count) ≡ true → HasGiven (after_effect (straight_effect in_width what vs st) is ls count)
+straight_given (straight.Plain p) vs is ls st count g e = absurd cc
+straight_given (straight.Host c) vs is ls st count g e = call_gives c vs is ls st count g e
+
 -- ---- which instructions go straight on
 
-module _ (m : Module) (whole rest : Code) (first : Instr) (begins : whole ≡ then_code first rest) (units : ℕ) where
-  pub goes_plain : (p : Plain) → first ≡ instr.Plain p → units ≡ plain_units p → GoesStraight m whole (straight.Plain p) units rest
-  goes_plain p is counted =
+-- an import's function of the host is the machine's
+host_there : (calls : List HostCall) (others : List Callee) (f : ℕ) (c : HostCall) → Some c ≡ slice_get calls f → slice_get (map host_callee calls ++ others) f ≡ Some (host (Some c))
+host_there [] others f c e = absurd cc
+host_there (d ∷ ds) others zero c e = let same : c ≡ d = cc in ap (λ (x : HostCall). Some (host (Some x))) (sym same)
+host_there (d ∷ ds) others (suc f) c e = host_there ds others f c e
+
+module _ (m : Module) (whole rest : Code) (first : Instr) (begins : whole ≡ then_code first rest) where
+  pub goes_plain : (p : Plain) → first ≡ instr.Plain p → GoesStraight m whole (straight.Plain p) (plain_units p) rest
+  goes_plain p is =
       let e : whole ≡ code.plain p rest = begins ∙ ap (λ (i : Instr). then_code i rest) is in
       record {
-        counts = ap (λ (k : Code). next_units m k) e ∙ sym counted;
-        steps = λ may vs ls st.
-            ap (λ (k : Code). cell_advance may m (Running vs k ls st)) e
-            ∙ ap (λ (n : ℕ). after_effect (cell_effect may p vs (tick n st)) rest ls (st.count + n)) (sym counted);
+        counts = ap (λ (k : Code). next_units m k) e;
+        steps = λ may vs ls st. ap (λ (k : Code). cell_advance may m (Running vs k ls st)) e;
       }
 
-  pub goes_host : (f : ℕ) (c : HostCall) → first ≡ instr.Call f → Some (host (Some c)) ≡ slice_get (functions_of m) f → units ≡ call_units m f → GoesStraight m whole (straight.Host c) units rest
-  goes_host f c is found counted =
+  pub goes_host : (calls : List HostCall) → AreImports calls m → (f : ℕ) (c : HostCall) → first ≡ instr.Call f → Some c ≡ slice_get calls f → GoesStraight m whole (straight.Host c) (host_units (Some c)) rest
+  goes_host calls imports f c is found =
       let e : whole ≡ code.call f rest = begins ∙ ap (λ (i : Instr). then_code i rest) is in
+      let counted : host_units (Some c) ≡ call_units m f = ap host_units found ∙ call_counts m calls imports f in
+      let there : slice_get (functions_of m) f ≡ Some (host (Some c)) =
+      ap (λ (cs : List Callee). slice_get (cs ++ map defined m.functions) f) imports ∙ host_there calls (map defined m.functions) f c found in
       record {
         counts = ap (λ (k : Code). next_units m k) e ∙ sym counted;
         steps = λ may vs ls st.
             ap (λ (k : Code). cell_advance may m (Running vs k ls st)) e
-            ∙ ap (λ (o : Option Callee). cell_take_call may m o vs rest ls (tick (call_units m f) st)) (sym found)
+            ∙ ap (λ (o : Option Callee). cell_take_call may m o vs rest ls (tick (call_units m f) st)) there
             ∙ ap (λ (n : ℕ). after_effect (cell_call may c vs (tick n st)) rest ls (st.count + n)) (sym counted);
       }
 
@@ -60,6 +76,9 @@ module _ (m : Module) (most : ℕ) where
 
   pub passes_on : (s t u : Spot) → Passes m most s t → ((ls : List Layer) → cell_advance in_width m (running (amid t ls)) ≡ running (amid u ls)) → Passes m most s u
   passes_on s t u on step = λ ls from follows ends. follows_on m from (amid t ls) (on ls from follows ends) most ends (amid u ls) (step ls)
+
+  pub sends_on : (s t : Spot) → Passes m most s t → SendsAmid m most t → SendsAmid m most s
+  sends_on s t on sends = λ ls from follows ends. sends ls from (on ls from follows ends) ends
 
   pub room_amid : (s : Spot) → LeadsAmid m s most → s.state.count + next_units m s.code ≤ most
   room_amid s l = let d = l.1 in cell_room m d.from (amid s l.0) d.follows most d.ends
@@ -76,6 +95,13 @@ module _ (m : Module) (most : ℕ) where
         straight_asked of_any_width what s.values rest l.0 (tick units s.state)
         (ap (λ (x : Machine). is_going x) (sym (g.steps of_any_width s.values l.0 s.state)) ∙ goes_amid s l)
 
+    -- it sends something, or gives something to a slot
+    pub straight_sends : straight_gives what ≡ true → SendsAmid m most s
+    straight_sends may_take ls from follows ends =
+        let going = ap (λ (x : Machine). is_going x) (sym (g.steps of_any_width s.values ls s.state)) ∙ cell_goes m from (amid s ls) follows most ends in
+        let given = straight_given what s.values rest ls (tick units s.state) (s.state.count + units) may_take going in
+        gives_on m from (amid s ls) follows most ends (subst HasGiven (sym (g.steps in_width s.values ls s.state)) given)
+
     pub straight_step : (t : Spot) → straight_effect in_width what s.values (tick units s.state) ≡ Gives t.values t.state → rest ≡ t.code → (ls : List Layer) → cell_advance in_width m (running (amid s ls)) ≡ running (amid t ls)
     straight_step t gives same ls =
         g.steps in_width s.values ls s.state
@@ -87,6 +113,10 @@ module _ (m : Module) (most : ℕ) (k j : Code) (vs us ls ms : List Value) (v : 
   pub leads_same : LeadsAmid m (spot us k ms gs bs h n) most → LeadsAmid m (spot vs k ls gs bs h n) most
   leads_same a =
       subst (λ (x : List Value). LeadsAmid m (spot x k ls gs bs h n) most) (sym v) (subst (λ (x : List Value). LeadsAmid m (spot us k x gs bs h n) most) (sym l) a)
+
+  pub sends_same : SendsAmid m most (spot vs k ls gs bs h n) → SendsAmid m most (spot us k ms gs bs h n)
+  sends_same a =
+      subst (λ (x : List Value). SendsAmid m most (spot us k x gs bs h n)) l (subst (λ (x : List Value). SendsAmid m most (spot x k ls gs bs h n)) v a)
 
   pub passes_same : (vs' us' ls' ms' : List Value) → vs' ≡ us' → ls' ≡ ms' → (gs' : List Value) (bs' : List ℕ) (n' : ℕ) → Passes m most (spot vs k ls gs bs h n) (spot us' j ms' gs' bs' h' n') → Passes m most (spot us k ms gs bs h n) (spot vs' j ls' gs' bs' h' n')
   passes_same vs' us' ls' ms' v' l' gs' bs' n' a =

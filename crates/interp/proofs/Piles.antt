@@ -1,5 +1,5 @@
 -- Operands in a list of cells with room above them.
-use Rattle.std.proofs.Common.{◌≡◌, ℕ, ◌+◌, ◌-◌, ◌<◌, ◌≤◌, List, [], ◌∷◌, ◌++◌, map, length, take, drop, reverse, get_or, refl, sym, ap, ◌∙◌, arith, add-one}
+use Rattle.std.proofs.Common.{◌≡◌, ℕ, ◌+◌, ◌-◌, ◌<◌, ◌≤◌, List, [], ◌∷◌, ◌++◌, map, length, take, drop, reverse, get_or, refl, sym, ap, ◌∙◌, subst, arith, add-one}
 use Rattle.std.specs.Prelude.{slice_set}
 use Rattle.std.specs.List.{drop-map, take-map}
 use Rattle.std.proofs.lemmas.List.{length-map, length-reverse, length-take-le, map-append, reverse-append}
@@ -7,9 +7,9 @@ use Rattle.std.proofs.Math.Seq.{take-suc, take-suc-set}
 use Rattle.wasm_ast.specs.declared.types.Value.{Value}
 use Rattle.wasm_ast.specs.declared.types.Value.TheVariants.{I64}
 use Rattle.interp.specs.inside.Pile.{pile}
-use Rattle.interp.specs.inside.Split.{Split}
+use Rattle.interp.specs.inside.Split.{HasSpare, Split, all_of}
 use Rattle.interp.proofs.Lists.{drop-take, take-take}
-use Rattle.interp.proofs.Parts.{parts, popped_is}
+use Rattle.interp.proofs.Parts.{all_is, below_of, parts, popped_is}
 
 abbrev shown : List ℕ → List Value
 shown cells = reverse (map I64 cells)
@@ -72,17 +72,28 @@ held_topmost k top cells h g =
     ∙ sym (drop-map I64 n (take top cells))
     ∙ ap (λ (j : ℕ). drop (j - k) (held top cells)) (sym (held_long top cells g))
 
-module _ (floor top : ℕ) (s : Split) where
-  -- a cell is put on top, in a list that may have grown
-  pub pushed_here : (cell : ℕ) (old new : List ℕ) → parts floor (held top old) ≡ s → floor ≤ top → top ≤ length old → take top new ≡ take top old → top < length new → reverse (drop floor (held (top + 1) (slice_set new top cell))) ≡ I64 cell ∷ s.here
-  pushed_here cell old new view f h kept room =
-      ap (λ (t : Split). t.here) (popped_is floor (held (top + 1) (slice_set new top cell)) (held top old) (I64 cell) (parts floor (held (top + 1) (slice_set new top cell))) refl (floor_held floor top old f h) (held_on top cell old new kept room))
+module _ (room floor top : ℕ) (s : Split) (old : List ℕ) (view : parts room floor (held top old) ≡ s) (f : floor ≤ top) (h : top < length old) where
+  -- a cell is put on top
+  pub pushed_here : (cell : ℕ) → reverse (drop floor (held (top + 1) (slice_set old top cell))) ≡ I64 cell ∷ s.here
+  pushed_here cell =
+      ap (λ (t : Split). t.here) (popped_is room floor (held (top + 1) (slice_set old top cell)) (held top old) (I64 cell) (parts room floor (held (top + 1) (slice_set old top cell))) refl (floor_held floor top old f (omega (arith, h))) (held_on top cell old old refl h))
       ∙ ap (λ (t : Split). I64 cell ∷ t.here) view
 
-  pub pushed_below : (cell : ℕ) (old new : List ℕ) → parts floor (held top old) ≡ s → floor ≤ top → top ≤ length old → take top new ≡ take top old → top < length new → reverse (take floor (held (top + 1) (slice_set new top cell))) ≡ s.below
-  pushed_below cell old new view f h kept room =
-      ap (λ (t : Split). t.below) (popped_is floor (held (top + 1) (slice_set new top cell)) (held top old) (I64 cell) (parts floor (held (top + 1) (slice_set new top cell))) refl (floor_held floor top old f h) (held_on top cell old new kept room))
+  pub pushed_below : (cell : ℕ) → below_of room floor (held (top + 1) (slice_set old top cell)) ≡ s.below
+  pushed_below cell =
+      ap (λ (t : Split). t.below) (popped_is room floor (held (top + 1) (slice_set old top cell)) (held top old) (I64 cell) (parts room floor (held (top + 1) (slice_set old top cell))) refl (floor_held floor top old f (omega (arith, h))) (held_on top cell old old refl h))
       ∙ ap (λ (t : Split). t.below) view
 
-  pub kept_below : (old new : List ℕ) → parts floor (held top old) ≡ s → take top new ≡ take top old → reverse (take floor (held top new)) ≡ s.below
-  kept_below old new view kept = ap (λ (l : List ℕ). reverse (take floor (map I64 l))) kept ∙ ap (λ (t : Split). t.below) view
+-- how many there are
+pub all_held : (room floor top : ℕ) (cells : List ℕ) → floor ≤ top → top ≤ length cells → all_of (parts room floor (held top cells)) ≡ top
+all_held room floor top cells f h =
+    all_is room floor (held top cells) (floor_held floor top cells f h) ∙ held_long top cells h
+
+pub spare_of : (room floor top : ℕ) (cells : List ℕ) (s : Split) → parts room floor (held top cells) ≡ s → floor ≤ top → top ≤ length cells → HasSpare s → top < room
+spare_of room floor top cells s view f h spare =
+    let a = all_held room floor top cells f h in
+    let g : HasSpare (parts room floor (held top cells)) = subst HasSpare (sym view) spare in
+    omega (arith, a, g)
+
+pub has_spare : (room floor top : ℕ) (cells : List ℕ) → floor ≤ top → top ≤ length cells → top < room → HasSpare (parts room floor (held top cells))
+has_spare room floor top cells f h g = let a = all_held room floor top cells f h in omega (arith, a, g)

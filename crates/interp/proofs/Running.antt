@@ -1,9 +1,10 @@
 -- What a call of a module in the bounded profile begins with, and what it comes to.
-use Rattle.std.proofs.Common.{◌≡◌, ℕ, ◌+◌, ◌*◌, ◌≤◌, Bool, List, Result, Ok, Err, sym, ap, ◌∙◌, subst}
+use Rattle.std.proofs.Common.{◌≡◌, ℕ, ◌+◌, ◌*◌, ◌≤◌, Bool, List, length, arith, Result, Ok, Err, sym, ap, ◌∙◌, subst}
 use Rattle.std.specs.Prelude.{IfOk, Some, slice_get}
 use Rattle.wasm_ast.specs.declared.module.Function.{Function}
 use Rattle.wasm_ast.specs.declared.module.Module.{Module}
 use Rattle.wasm_ast.specs.Code.{Code}
+use Rattle.wasm_ast.specs.Limits.{IsFunctionWithin, IsWithinLimits, max_locals, parameters_of}
 use Rattle.host_calls.specs.declared.call.CallInput.{CallInput}
 use Rattle.host_calls.specs.declared.call.CallOutcome.{CallOutcome}
 use Rattle.host_calls.specs.Host.{Leaves}
@@ -12,17 +13,18 @@ use Rattle.bounded_profile.specs.Compute.{IsComputeNumber}
 use Rattle.bounded_profile.specs.Facts.{IsSizeOfCompute}
 use Rattle.bounded_profile.specs.Profile.{IsBounded}
 use Rattle.interp.specs.inside.Cells.{cells_state}
-use Rattle.interp.specs.inside.Begun.{BeginsAt, BeginsWith, EndsFrom, EndsWith, IsBeginning, IsDefinedAt}
+use Rattle.interp.specs.inside.Begun.{BeginsAt, BeginsWith, EndsFrom, EndsInRoom, EndsWith, IsBeginning, IsDefinedAt}
 use Rattle.interp.specs.Bounded.{Ends, IsWithinBound, NeverFails, items_of}
 use Rattle.interp.specs.Call.{IsOutcome, outcome_of, shown}
 use Rattle.interp.specs.Configuration.{State}
 use Rattle.interp.specs.Machine.{Machine, defined, functions_of, run}
 use Rattle.interp.specs.Start.{Starts}
 use Rattle.interp.specs.inside.Kept.{AreMarked, Touches, marks}
-use Rattle.interp.specs.inside.Place.{Place, Standing, at}
-use Rattle.interp.specs.inside.Walk.{Concludes, EndsWithin, Leads}
+use Rattle.interp.specs.inside.Place.{Place, Room, Standing, at}
+use Rattle.interp.specs.inside.Walk.{Concludes, EndsWithin, IsWithinRoom, LeadsWithin}
 use Rattle.interp.proofs.Faults.{no_fault, never_fails}
 use Rattle.interp.proofs.Fixed.{depths_there, heights_there, sizes_there}
+use Rattle.interp.proofs.Functions.{of_defined}
 use Rattle.interp.proofs.OneEnd.{one_start}
 use Rattle.interp.proofs.Starting.{exported_number}
 use Rattle.interp.proofs.Told.{always_ends}
@@ -104,8 +106,18 @@ begins_with m n f b e =
 pub beginning_at : (m : Module) (input : CallInput) (s : Standing) (k body : Code) → k ≡ body → IsBeginning m body input s → IsBeginning m k input s
 beginning_at m input s k body e h = subst (λ (j : Code). IsBeginning m j input s) (sym e) h
 
-pub leads : (m : Module) (input : CallInput) (s : Standing) (k : Code) (most : ℕ) → ((x : Machine) → Starts m input x → EndsWithin m x most) → IsBeginning m k input s → Leads m (at s k 0) most
-leads m input s k most ends b = record { from = b.from; follows = b.follows; ends = ends b.from b.starts }
+pub leads_in_room : (m : Module) (input : CallInput) (s : Standing) (k : Code) (most : ℕ) (room : Room) → s.room ≡ room → EndsInRoom m input most room → IsBeginning m k input s → LeadsWithin m s.room (at s k 0) most
+leads_in_room m input s k most room same ends b =
+    let e = ends b.from b.starts in
+    let low : (n : ℕ) → IsWithinRoom s.room (run m n b.from) = λ n. subst (λ (r : Room). IsWithinRoom r (run m n b.from)) (sym same) (e.1 n) in
+    record { leads = record { from = b.from; follows = b.follows; ends = e.0 }; low = low }
+
+-- a function that the module defines has few locals
+pub few_locals : (m : Module) → IsWithinLimits m → (n : ℕ) (f : Function) → slice_get (functions_of m) n ≡ Some (defined f) → parameters_of m.types f.type_number + length f.locals ≤ max_locals
+few_locals m limits n f e = (of_defined m (IsFunctionWithin m.types) limits.functions n f e).0
+
+pub few_of_its_own : (m : Module) → IsWithinLimits m → (n : ℕ) (f : Function) → slice_get (functions_of m) n ≡ Some (defined f) → length f.locals ≤ max_locals
+few_of_its_own m limits n f e = let h = few_locals m limits n f e in omega (arith, h)
 
 left : (outcome : CallOutcome) (st : State) → Leaves outcome st.host st.count → shown outcome ≡ outcome_of st
 left outcome st l =

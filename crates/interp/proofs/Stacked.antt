@@ -1,16 +1,20 @@
 -- The layers, as one is taken off or put on.
-use Rattle.std.proofs.Common.{◌≡◌, ℕ, suc, Option, Some, None, ◌-◌, ◌≤◌, List, [], ◌∷◌, ◌++◌, Bool, true, length, take, drop, refl, sym, ap, ◌∙◌, subst, arith, length-drop, length-append}
-use Rattle.std.proofs.lemmas.List.{length-take-le}
+use Rattle.std.proofs.Common.{◌≡◌, ℕ, suc, Option, Some, None, ◌+◌, ◌-◌, ◌<◌, ◌≤◌, List, [], ◌∷◌, ◌++◌, Bool, true, length, take, drop, refl, sym, ap, ◌∙◌, subst, arith, length-drop, length-append}
+use Rattle.std.proofs.lemmas.List.{length-reverse, length-take-le}
 use Rattle.std.proofs.lemmas.Bool.{false≢true}
 use Rattle.std.specs.Borrow.{Bor}
+use Rattle.std.specs.Prelude.{reverse}
 use Rattle.wasm_ast.specs.declared.types.Value.{Value}
 use Rattle.wasm_ast.specs.declared.body.Instr.{Instr}
 use Rattle.wasm_ast.specs.Code.{Code}
 use Rattle.wasm_ast.specs.View.{code_of}
 use Rattle.interp.specs.Configuration.{State}
+use Rattle.interp.specs.Heights.{beneath, held}
 use Rattle.interp.specs.Machine as machine
 use Rattle.interp.specs.inside.Going.{has_labels}
 use Rattle.interp.specs.inside.Meaning.{layers_of, Ordered, floor_of}
+use Rattle.interp.specs.inside.Place.{HasLayerRoom, Standing}
+use Rattle.interp.specs.inside.Split.{HasSpare, Split}
 use Rattle.interp.specs.declared.layers.Layer.{Layer}
 use Rattle.interp.specs.declared.layers.Layer.TheVariants as layer
 use Rattle.interp.proofs.Lists.{take-length_is, drop-length_is}
@@ -58,12 +62,6 @@ frame_off rs rs' vs vs' ls ls' f b keeps a e o d g =
       ordered = subst (λ (k : ℕ). Ordered rs' (length vs') k) m (subst (λ (k : ℕ). Ordered rs' k b) n here.2);
       layers = ap (λ (r : List Layer). layers_of r vs ls) e ∙ ap (λ (l : List Value). machine.Frame keeps (drop b ls) (take (length vs - f) vs) (code_of a.now) ∷ layers_of rs' l (take b ls)) (sym d) ∙ ap (λ (l : List Value). machine.Frame keeps (drop b ls) (take (length vs - f) vs) (code_of a.now) ∷ layers_of rs' vs' l) (sym g);
     }
-
--- more below changes no order
-pub ordered_on : (rs : List Layer) (n m k l : ℕ) → n ≤ m → k ≤ l → Ordered rs n k → Ordered rs m l
-ordered_on [] n m k l h g o = tt
-ordered_on (layer.Label keeps f t a ∷ rs) n m k l h g o = (omega (arith, o.0, h), ordered_on rs f f k l (omega arith) g o.1)
-ordered_on (layer.Frame keeps f b a ∷ rs) n m k l h g o = (omega (arith, o.0, h), omega (arith, o.1, g), o.2)
 
 -- what a label put on stands over
 pub above_is : (vs us : List Value) → take (length (vs ++ us) - length us) (vs ++ us) ≡ vs
@@ -132,3 +130,58 @@ pub back_arrives : (rs : List Layer) (vs ls : List Value) (top : Option Value) (
 back_arrives [] vs ls top st e = refl
 back_arrives (layer.Label keeps g t a ∷ rs) vs ls top st e = absurd cc
 back_arrives (layer.Frame keeps g b a ∷ rs) vs ls top st e = refl
+
+-- ---- how many there are
+
+pub layers_long : (rs : List Layer) (vs ls : List Value) → length (layers_of rs vs ls) ≡ length rs
+layers_long [] vs ls = refl
+layers_long (layer.Label keeps f t a ∷ rs) vs ls = ap suc (layers_long rs (drop (length vs - f) vs) ls)
+layers_long (layer.Frame keeps f b a ∷ rs) vs ls = ap suc (layers_long rs (drop (length vs - f) vs) (take b ls))
+
+-- there is room for a layer in a list where there is room for one in the walk
+pub room_for_one : (rs : List Layer) (vs ls : List Value) (long capacity : ℕ) (s : Standing) → long ≡ length rs → s.layers ≡ layers_of (reverse rs) vs ls → s.room.layers ≡ capacity → HasLayerRoom s → long < capacity
+room_for_one rs vs ls long capacity s l e r h =
+    let a = layers_long (reverse rs) vs ls in
+    let b = length-reverse rs in
+    let d = ap length e in
+    omega (arith, l, a, b, d, r, h)
+
+-- the locals of the functions that called are those below
+pub held_is : (rs : List Layer) (vs ls : List Value) → Ordered rs (length vs) (length ls) → held (layers_of rs vs ls) ≡ length ls
+held_is [] vs ls o = sym o.1
+held_is (layer.Label keeps f t a ∷ rs) vs ls o =
+    held_is rs (drop (length vs - f) vs) ls (subst (λ (k : ℕ). Ordered rs k (length ls)) (sym (left_of f vs o.0)) o.1)
+held_is (layer.Frame keeps f b a ∷ rs) vs ls o =
+    let l = length-take-le b ls o.1 in
+    let ordered = subst (λ (k : ℕ). Ordered rs (length (drop (length vs - f) vs)) k) (sym l) (subst (λ (k : ℕ). Ordered rs k b) (sym (left_of f vs o.0)) o.2) in
+    let h = held_is rs (drop (length vs - f) vs) (take b ls) ordered in
+    let d = length-drop b ls in
+    omega (arith, h, l, d, o.1)
+
+-- the operands of the layers are those below
+pub beneath_is : (rs : List Layer) (vs ls : List Value) → Ordered rs (length vs) (length ls) → beneath (layers_of rs vs ls) ≡ length vs
+beneath_is [] vs ls o = sym o.0
+beneath_is (layer.Label keeps f t a ∷ rs) vs ls o =
+    let under = drop (length vs - f) vs in
+    let l = left_of f vs o.0 in
+    let h = beneath_is rs under ls (subst (λ (k : ℕ). Ordered rs k (length ls)) (sym l) o.1) in
+    let less : length vs - f ≤ length vs = omega arith in
+    let above = length-take-le (length vs - f) vs less in
+    omega (arith, h, l, above, o.0)
+beneath_is (layer.Frame keeps f b a ∷ rs) vs ls o =
+    let under = drop (length vs - f) vs in
+    let l = left_of f vs o.0 in
+    let cut = length-take-le b ls o.1 in
+    let ordered = subst (λ (k : ℕ). Ordered rs (length under) k) (sym cut) (subst (λ (k : ℕ). Ordered rs k b) (sym l) o.2) in
+    let h = beneath_is rs under (take b ls) ordered in
+    let less : length vs - f ≤ length vs = omega arith in
+    let above = length-take-le (length vs - f) vs less in
+    omega (arith, h, l, above, o.0)
+
+-- there is room for an operand in the list where there is room for one in the walk, and the other way round
+module _ (rs : List Layer) (ops : Split) (ls : List Value) (ordered : Ordered rs (length ops.below.values) (length ls)) where
+  pub spare_in : length ops.here + beneath (layers_of rs ops.below.values ls) < ops.below.room → HasSpare ops
+  spare_in h = let d = beneath_is rs ops.below.values ls ordered in omega (arith, h, d)
+
+  pub spare_out : HasSpare ops → length ops.here + beneath (layers_of rs ops.below.values ls) < ops.below.room
+  spare_out h = let d = beneath_is rs ops.below.values ls ordered in omega (arith, h, d)

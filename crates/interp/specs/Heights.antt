@@ -1,4 +1,4 @@
--- How many operands and frames stand in a configuration.
+-- How many operands, layers and locals stand in a configuration.
 use Rattle.std.specs.Prelude.{ℕ, ◌+◌, List, [], ◌∷◌, length}
 use Rattle.interp.specs.Machine.{Layer, Label, Frame, Machine, Running, Done, Trapped, Stuck}
 
@@ -25,3 +25,23 @@ frames (Running vs is ls st) = 1 + callers ls
 frames (Done st) = 0
 frames (Trapped count) = 0
 frames (Stuck count) = 0
+
+-- the labels, and the frames of the functions that called
+abbrev pub layers : Machine → ℕ
+layers (Running vs is ls st) = length ls
+layers (Done st) = 0
+layers (Trapped count) = 0
+layers (Stuck count) = 0
+
+-- the locals of the functions that called
+abbrev pub held : List Layer → ℕ
+held [] = 0
+held (Label keeps values target after ∷ ls) = held ls
+held (Frame keeps locals values after ∷ ls) = length locals + held ls
+
+-- the locals of all frames
+abbrev pub locals : Machine → ℕ
+locals (Running vs is ls st) = length st.locals + held ls
+locals (Done st) = 0
+locals (Trapped count) = 0
+locals (Stuck count) = 0

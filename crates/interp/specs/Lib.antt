@@ -8,9 +8,10 @@ pub mod Machine
 pub mod Start
 pub mod Call
 pub mod Outcomes
--- how high it gets, and that it ends
+-- how high it gets, that it ends, and how much room it needs
 pub mod Heights
 pub mod Bounded
+pub mod Room
 -- what a sequence counts
 pub mod Typed
 pub mod Sequences

@@ -8,6 +8,7 @@ pub mod Place
 pub mod Meaning
 -- what its parts do, and what they ask
 pub mod Acts
+pub mod Given
 pub mod Going
 pub mod Walk
 pub mod Straight

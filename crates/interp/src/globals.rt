@@ -1,6 +1,6 @@
 //! The globals of a call.
 
-ghost use Rattle.std.specs.Prelude.{◌≡◌, ◌∷◌, ◌++◌, ◌<◌, [], Some, length, map, option_map, slice_get, slice_set, IsSome, OnOk, OnErr};
+ghost use Rattle.std.specs.Prelude.{◌≡◌, ◌<◌, [], Some, length, map, option_map, slice_get, slice_set, IsSome, OnOk};
 ghost use Rattle.wasm_ast.specs.declared.types.Value.TheVariants.{I64};
 
 use std::alloc::{AllocError, Global};
@@ -32,20 +32,20 @@ impl Globals {
         }
     }
 
-    /// Drops all and keeps the room for them.
-    pub fn clear(&mut self)
-        ensures { self.new ≡ [] }
+    /// Makes so many of them.
+    pub fn extend(&mut self, count: usize) -> Result<(), AllocError>
+        ensures { OnOk result (length self.new ≡ count) }
     {
-        self.cells.clear();
+        self.cells.resize(count, 0)?;
+        Ok(())
     }
 
-    /// Adds one after those that are there.
-    pub fn add(&mut self, cell: u64) -> Result<(), AllocError>
-        ensures ok { OnOk result (self.new ≡ self.old ++ I64 cell ∷ []) }
-        ensures err { OnErr result (self.new ≡ self.old) }
+    /// Sets the global at a place.
+    pub fn lay(&mut self, place: usize, cell: u64)
+        requires { place < length self.old }
+        ensures { self.new ≡ slice_set self.old place (I64 cell) }
     {
-        self.cells.push(cell)?;
-        Ok(())
+        self.cells[place] = cell;
     }
 
     /// The global with this number, if there is one.
@@ -68,7 +68,8 @@ impl Globals {
     #[inline]
     pub fn set(&mut self, number: u32, cell: u64)
         requires { number < length self.old }
-        ensures { self.new ≡ slice_set self.old number (I64 cell) }
+        ensures set { self.new ≡ slice_set self.old number (I64 cell) }
+        ensures kept { length self.new ≡ length self.old }
     {
         self.cells[number as usize] = cell;
     }

@@ -1,6 +1,6 @@
 //! Calls of the host (Core 1.0, 4.4.7) on operands in a list with room for one more. Each answers how many there are then.
 
-ghost use Rattle.std.specs.Prelude.{◌≡◌, ◌<◌, ◌≤◌, length, nat_lt, true, IfOk};
+ghost use Rattle.std.specs.Prelude.{◌≡◌, ◌<◌, ◌≤◌, length, nat_lt, true, IfOk, OnErr};
 ghost use Rattle.wasm_ast.specs.declared.types.ValType.TheVariants.{I32 as i32_type};
 ghost use Rattle.wasm_ast.specs.declared.types.Value.TheVariants.{I64};
 ghost use Rattle.host_calls.specs.declared.call.TheConstants.{SLOTS};
@@ -8,6 +8,7 @@ ghost use Rattle.host_calls.specs.declared.imports.HostCall.TheVariants as calls
 ghost use Rattle.host_calls.specs.Effects.{signed};
 ghost use Rattle.interp.specs.inside.Acts.{ActsOnHost};
 ghost use Rattle.interp.specs.inside.Cells.{cell_call, in_width};
+ghost use Rattle.interp.specs.inside.Given.{gives};
 ghost use Rattle.interp.specs.inside.Going.{call_asks, has_tops, of_next, of_top};
 ghost use Rattle.interp.specs.inside.Pile.{pile};
 
@@ -17,7 +18,7 @@ use host_calls::{CallState, HostCall};
 use std::alloc::AllocError;
 
 /// Takes the arguments of a call off the operands, gives its results, and changes the vertex as it says. The arguments are
-/// there, and a slot among them is none past the last.
+/// there, and a slot among them is none past the last. Only `send` and `aggregate` take memory.
 #[inline(always)]
 pub fn call_host(
     call: HostCall,
@@ -30,6 +31,7 @@ pub fn call_host(
     ensures acts { IfOk result (λ now. ActsOnHost (cell_call in_width call)
         (pile cells.old top) (pile cells.new now) vertex.old vertex.new) }
     ensures within { IfOk result (λ now. now ≤ length cells.new) }
+    ensures fails { OnErr result (gives call ≡ true) }
 {
     match call {
         HostCall::VertexId => Ok(push(cells, top, signed(vertex.vertex_id()))),

@@ -10,6 +10,7 @@ ghost use Rattle.interp.specs.Bounded.{CallsEnd, FactsHold, Ends, ComesToItsEnd,
 ghost use Rattle.interp.specs.Call.{IsOutcome, Outcome, SameOutcome, IsTrapped, IsStuck, shown};
 ghost use Rattle.interp.specs.Outcomes.{AreOutcomes, Given, HasOneOutcome, given_of};
 ghost use Rattle.interp.specs.Machine.{Machine, IsOver, run};
+ghost use Rattle.interp.specs.Room.{CallsStayWithin};
 ghost use Rattle.interp.specs.Sequences.{SequencesCount};
 
 /// A run that is over stays over.
@@ -60,4 +61,10 @@ pub fn calls_end()
 /// times one more than the items that it takes, from its first instruction to where it is left.
 pub fn sequences_count()
     ensures { (m : AnyModule) → SequencesCount m }
+{}
+
+/// Never do more labels and locals stand in a call than those of so many frames as there are in the longest chain of calls,
+/// each with the most that a function may have.
+pub fn calls_stay_within()
+    ensures { (m : AnyModule) → CallsStayWithin m }
 {}

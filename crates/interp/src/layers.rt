@@ -1,8 +1,7 @@
 //! What lies round the running sequence.
 
-ghost use Rattle.std.specs.Prelude.{◌≡◌, ◌∷◌, [], reverse, OnOk, OnErr, MatchOption};
+ghost use Rattle.std.specs.Prelude.{◌≡◌, ◌∷◌, ◌<◌, [], reverse, vec_capacity, vec_len, MatchOption};
 
-use std::alloc::AllocError;
 use wasm_ast::Instr;
 
 /// A label or a frame (Core 1.0, 4.2.12), with what goes on after it. Each keeps where the operands, and a frame where
@@ -23,19 +22,22 @@ pub enum Layer<'a> {
     },
 }
 
+/// Puts a layer on, for which there is room.
 #[inline]
-pub fn push_layer<'a>(layers: &mut Vec<Layer<'a>>, layer: Layer<'a>) -> Result<(), AllocError>
-    ensures ok { OnOk result (reverse layers.new.items ≡ layer.entry ∷ reverse layers.old.items) }
-    ensures err { OnErr result (layers.new.items ≡ layers.old.items) }
+pub fn push_layer<'a>(layers: &mut Vec<Layer<'a>>, layer: Layer<'a>)
+    requires { vec_len layers.old < vec_capacity layers.old }
+    ensures put { reverse layers.new.items ≡ layer.entry ∷ reverse layers.old.items }
+    ensures room { vec_capacity layers.new ≡ vec_capacity layers.old }
 {
-    layers.push(layer)?;
-    Ok(())
+    layers.push_reserved(layer);
 }
 
 #[inline]
 pub fn pop_layer<'a>(layers: &mut Vec<Layer<'a>>) -> Option<Layer<'a>>
-    ensures { MatchOption result ((reverse layers.old.items ≡ []) × (reverse layers.new.items ≡ []))
+    ensures taken { MatchOption result
+        ((reverse layers.old.items ≡ []) × (reverse layers.new.items ≡ []))
         (λ layer. reverse layers.old.items ≡ layer ∷ reverse layers.new.items) }
+    ensures room { vec_capacity layers.new ≡ vec_capacity layers.old }
 {
     layers.pop()
 }

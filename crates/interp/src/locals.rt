@@ -1,23 +1,25 @@
 //! The locals of all frames in one list, of which the last belong to the innermost.
 
-ghost use Rattle.std.specs.Prelude.{◌≡◌, ◌++◌, ◌<◌, ◌≤◌, [], Some, length, take, drop, map, option_map, slice_get, slice_set, IsSome, OnOk, OnErr};
+ghost use Rattle.std.specs.Prelude.{◌≡◌, ◌+◌, ◌++◌, ◌<◌, ◌≤◌, [], Some, length, take, drop, map, slice_get, slice_set, vec_capacity, vec_len, IsSome, OnOk};
 ghost use Rattle.wasm_ast.specs.declared.types.Value.TheVariants.{I64};
 ghost use Rattle.interp.specs.inside.Cells.{zero_cells};
+ghost use Rattle.interp.specs.inside.Split.{all_of};
 
 use std::alloc::{AllocError, Global};
 use std::marker::Model;
 use wasm_ast::ValType;
 
 /// Locals as cells, which contracts see as the i64 of their numbers in two parts in order: those of the innermost frame,
-/// and those below.
+/// and those below, with the room for all of them.
 #[derive(Drop)]
 pub struct Locals {
     pub(crate) cells: Vec<u64>,
     pub(crate) base: usize,
+    room: usize,
 }
 
 impl Model for Locals {
-    ghost use Rattle.std.specs.Prelude.{◌≤◌, map, take, drop, length};
+    ghost use Rattle.std.specs.Prelude.{◌≤◌, map, take, drop, length, vec_capacity};
     ghost use Rattle.wasm_ast.specs.declared.types.Value.TheVariants.{I64};
     ghost use Rattle.interp.specs.inside.Split.{Split};
 
@@ -25,27 +27,38 @@ impl Model for Locals {
 
     ghost view = { λ a. record {
       here = drop a.base (map I64 a.cells.items);
-      below = take a.base (map I64 a.cells.items);
+      below = record { values = take a.base (map I64 a.cells.items); room = a.room };
     } };
 
-    ghost invariant = { λ a. a.base ≤ length a.cells.items };
+    ghost invariant = { λ a. (a.base ≤ length a.cells.items) × (a.room ≤ vec_capacity a.cells) };
 }
 
 impl Locals {
     /// None; it takes no memory.
     pub fn new(alloc: Global) -> Locals
         ensures here { result.here ≡ [] }
-        ensures below { result.below ≡ [] }
+        ensures below { result.below ≡ record { values = []; room = 0 } }
     {
         Locals {
             cells: Vec::new(alloc),
             base: 0,
+            room: 0,
         }
+    }
+
+    /// Makes room for so many.
+    pub fn reserve(&mut self, room: usize) -> Result<(), AllocError>
+        ensures { OnOk result (self.new.below.room ≡ room) }
+    {
+        self.cells.reserve(room)?;
+        self.room = room;
+        Ok(())
     }
 
     /// Drops all and keeps the room for them.
     pub fn clear(&mut self)
-        ensures { self.new ≡ record { here = []; below = [] } }
+        ensures { self.new
+            ≡ record { here = []; below = record { values = []; room = self.old.below.room } } }
     {
         self.cells.clear();
         self.base = 0;
@@ -54,56 +67,61 @@ impl Locals {
     /// Where the innermost frame's begin.
     #[inline]
     pub fn base(&self) -> usize
-        ensures { result ≡ length self.now.below }
+        ensures { result ≡ length self.now.below.values }
     {
         self.base
     }
 
     /// Begins a frame with these.
     #[inline]
-    pub fn open(&mut self, arguments: &[u64]) -> Result<(), AllocError>
-        ensures ok { OnOk result
-            (self.new ≡ record {
-              here = map I64 arguments.now;
-              below = self.old.below ++ self.old.here;
-            }) }
-        ensures err { OnErr result (self.new ≡ self.old) }
+    pub fn open(&mut self, arguments: &[u64])
+        requires { all_of self.old + length arguments.now ≤ self.old.below.room }
+        ensures { self.new ≡ record {
+          here = map I64 arguments.now;
+          below = record {
+            values = self.old.below.values ++ self.old.here;
+            room = self.old.below.room;
+          };
+        } }
     {
         let base = self.cells.len();
-        self.cells.extend_from_slice(arguments)?;
-        self.base = base;
-        Ok(())
+        match self.cells.extend_from_slice(arguments) {
+            Ok(()) => self.base = base,
+            Err(AllocError) => unreachable!(),
+        }
     }
 
     /// Adds a local of each type, each 0 (Core 1.0, 4.4.7).
-    pub fn add(&mut self, types: &[ValType]) -> Result<(), AllocError>
-        ensures here { OnOk result (self.new.here ≡ self.old.here ++ zero_cells types.now) }
+    pub fn add(&mut self, types: &[ValType])
+        requires { all_of self.old + length types.now ≤ self.old.below.room }
+        ensures here { self.new.here ≡ self.old.here ++ zero_cells types.now }
         ensures below { self.new.below ≡ self.old.below }
     {
-        add_zeros(&mut self.cells, types)
+        add_zeros(&mut self.cells, types);
     }
 
     /// Ends a frame. The next one's begin at a base.
     #[inline]
     pub fn close(&mut self, base: usize)
-        requires { base ≤ length self.old.below }
-        ensures here { self.new.here ≡ drop base self.old.below }
-        ensures below { self.new.below ≡ take base self.old.below }
+        requires { base ≤ length self.old.below.values }
+        ensures here { self.new.here ≡ drop base self.old.below.values }
+        ensures below { self.new.below
+            ≡ record { values = take base self.old.below.values; room = self.old.below.room } }
     {
         self.cells.truncate(self.base);
         self.base = base;
     }
 }
 
-fn add_zeros(cells: &mut Vec<u64>, types: &[ValType]) -> Result<(), AllocError>
-    ensures ok { OnOk result
-        (map I64 cells.new.items ≡ map I64 cells.old.items ++ zero_cells types.now) }
+fn add_zeros(cells: &mut Vec<u64>, types: &[ValType])
+    requires { vec_len cells.old + length types.now ≤ vec_capacity cells.old }
+    ensures zeros { map I64 cells.new.items ≡ map I64 cells.old.items ++ zero_cells types.now }
     ensures kept { take (length cells.old.items) cells.new.items ≡ cells.old.items }
+    ensures room { vec_capacity cells.new ≡ vec_capacity cells.old }
 {
     for _ in types {
-        cells.push(0)?;
+        cells.push_reserved(0);
     }
-    Ok(())
 }
 
 /// A local of a frame that has these.

@@ -6,7 +6,7 @@ ghost use Rattle.bounded_profile.specs.Memory.{bytes_of, max_minimum, memory_byt
 ghost use Rattle.interp.specs.Effects.{value};
 ghost use Rattle.interp.specs.Memory.{number_of_bytes, sign_extended, loaded};
 ghost use Rattle.interp.specs.inside.Cells.{in_width};
-ghost use Rattle.interp.specs.inside.Kept.{is_kept, kept_laid, kept_read, kept_write, laid_over, marked_before, marks, masked};
+ghost use Rattle.interp.specs.inside.Kept.{count_kept, is_kept, kept_laid, kept_read, kept_write, laid_over, marked_before, marks, masked};
 
 use crate::cell::of_i32;
 use bounded_profile::Verified;
@@ -40,13 +40,25 @@ impl<'a> Memory<'a> {
         }
     }
 
-    /// Keeps a 0 for each byte that the module reaches, in the room that it has.
-    pub fn renew(&mut self, verified: &'a Verified) -> Result<(), AllocError>
-        ensures { OnOk result (self.new
-            ≡ masked (marks verified.now) (replicate (memory_bytes verified.now) 0)) }
+    /// Makes a place for each byte that the module reaches.
+    pub fn extend(&mut self, verified: &'a Verified) -> Result<(), AllocError>
+        ensures { OnOk result (count_kept self.new
+            ≡ marked_before (marks verified.now) (memory_bytes verified.now)) }
     {
         self.verified = verified;
         clear_to_zeros(&mut self.bytes, verified.reach() as usize)
+    }
+
+    /// Keeps a 0 for each byte that the module reaches, for which there are places.
+    pub fn renew(&mut self, verified: &'a Verified)
+        requires { count_kept self.old
+            ≡ marked_before (marks verified.now) (memory_bytes verified.now) }
+        ensures zeros { self.new
+            ≡ masked (marks verified.now) (replicate (memory_bytes verified.now) 0) }
+        ensures kept { count_kept self.new ≡ count_kept self.old }
+    {
+        self.verified = verified;
+        fill_with_zeros(&mut self.bytes);
     }
 
     /// How many pages there are (Core 1.0, 4.4.4, memory.size).
@@ -60,7 +72,8 @@ impl<'a> Memory<'a> {
     /// are, so it takes time by how many are kept and how they are scattered.
     pub fn lay(&mut self, place: u64, others: &[u8])
         requires { place + length others.now ≤ length self.old }
-        ensures { laid_over place others.now self.old ≡ self.new }
+        ensures laid { laid_over place others.now self.old ≡ self.new }
+        ensures kept { count_kept self.new ≡ count_kept self.old }
     {
         let start = kept_place(self.verified, place);
         let count = kept_place(self.verified, place + others.len() as u64) - start;
@@ -80,7 +93,8 @@ impl<'a> Memory<'a> {
     fn write(&mut self, place: u64, others: &[u8])
         requires kept { is_kept place (length others.now) self.old ≡ true }
         requires some { 0 < length others.now }
-        ensures { kept_laid place others.now self.old ≡ Some self.new }
+        ensures laid { kept_laid place others.now self.old ≡ Some self.new }
+        ensures kept { count_kept self.new ≡ count_kept self.old }
     {
         let start = kept_place(self.verified, place);
         write_at(&mut self.bytes, start, others);
@@ -114,7 +128,8 @@ impl<'a> Memory<'a> {
     #[inline]
     pub fn store(&mut self, op: Store, place: u64, number: u64)
         requires { is_kept place (store_width op) self.old ≡ true }
-        ensures { kept_write place (store_width op) number self.old ≡ Some self.new }
+        ensures written { kept_write place (store_width op) number self.old ≡ Some self.new }
+        ensures kept { count_kept self.new ≡ count_kept self.old }
     {
         let bytes = number.to_le_bytes();
         match op {
@@ -176,6 +191,13 @@ fn clear_to_zeros(bytes: &mut Vec<u8>, count: usize) -> Result<(), AllocError>
 {
     bytes.clear();
     bytes.resize(count, 0)
+}
+
+// Zeros in the stead of all bytes.
+fn fill_with_zeros(bytes: &mut Vec<u8>)
+    ensures { bytes.new.items ≡ replicate (length bytes.old.items) 0 }
+{
+    bytes.fill(0);
 }
 
 // Others in the stead of the bytes from an index on.

@@ -1,35 +1,47 @@
-//! Numeric instructions (Core 1.0, 4.4.1) on the operands as cells. Each answers how many operands there are then.
+//! Numeric instructions (Core 1.0, 4.4.1) on the operands as cells. Each answers how many operands there are then, and what it
+//! counts where it is told from others.
 
 ghost use Rattle.std.specs.Prelude.{◌≡◌, ◌≤◌, length, true};
 ghost use Rattle.interp.specs.inside.Acts.{ActsAlone};
 ghost use Rattle.interp.specs.inside.Cells.{cell_numeric, in_width};
 ghost use Rattle.interp.specs.inside.Going.{divides, has_tops, numeric_asks};
 ghost use Rattle.interp.specs.inside.Pile.{pile};
+ghost use Rattle.cost.specs.Weights.{numeric_units};
 ghost use Rattle.wasm_ast.specs.declared.numeric.Numeric.TheVariants as numeric;
 ghost use Rattle.wasm_ast.specs.declared.types.ValType.TheVariants.{I32 as i32_type, I64 as i64_type};
 
 use crate::cell::{as_i32, of_i32};
 use crate::pile::{pop, push};
+use crate::plain::Acted;
 use wasm_ast::{
-    Binary, Comparison, Conversion, Division, Numeric, Unary, ValType, i32_eqz, i32_wrap_i64,
-    i64_eqz, i64_extend_i32_s, i64_extend_i32_u,
+    Binary, Comparison, Conversion, Division, Numeric, Plain, Unary, ValType, i32_eqz,
+    i32_wrap_i64, i64_eqz, i64_extend_i32_s, i64_extend_i32_u,
 };
 
 /// Takes the operands of a numeric instruction and gives its result, which there is.
 #[inline(always)]
-pub fn act_numeric(op: Numeric, cells: &mut [u64], top: usize) -> usize
+pub fn act_numeric(op: Numeric, cells: &mut [u64], top: usize) -> Acted
     requires within { top ≤ length cells.old }
     requires asks { numeric_asks op (pile cells.old top) ≡ true }
-    ensures acts { ActsAlone (cell_numeric in_width op) (pile cells.old top) (pile cells.new result) }
-    ensures within { result ≤ length cells.new }
+    ensures acts { ActsAlone (cell_numeric in_width op)
+        (pile cells.old top) (pile cells.new result.top) }
+    ensures units { result.units ≡ numeric_units op }
+    ensures within { result.top ≤ length cells.new }
 {
+    let plain = Plain::Numeric(op);
     match op {
-        Numeric::Eqz(of) => act_eqz(of, cells, top),
-        Numeric::Comparison(of, comparison) => act_comparison(of, comparison, cells, top),
-        Numeric::Unary(of, unary) => act_unary(of, unary, cells, top),
-        Numeric::Binary(of, binary) => act_binary(of, binary, cells, top),
-        Numeric::Division(of, division) => act_division(of, division, cells, top),
-        Numeric::Conversion(conversion) => act_conversion(conversion, cells, top),
+        Numeric::Eqz(of) => Acted::by(plain, act_eqz(of, cells, top)),
+        Numeric::Comparison(of, comparison) => {
+            Acted::by(plain, act_comparison(of, comparison, cells, top))
+        }
+        Numeric::Unary(of, unary) => Acted::by(plain, act_unary(of, unary, cells, top)),
+        Numeric::Binary(of, binary) => Acted::by(plain, act_binary(of, binary, cells, top)),
+        Numeric::Division(of, division) => {
+            Acted::by(plain, act_division(of, division, cells, top))
+        }
+        Numeric::Conversion(conversion) => {
+            Acted::by(plain, act_conversion(conversion, cells, top))
+        }
     }
 }
 

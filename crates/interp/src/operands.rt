@@ -1,17 +1,16 @@
 //! Operands in one list, of which the topmost belong to the innermost layer.
 
-ghost use Rattle.std.specs.Prelude.{◌≡◌, ◌∷◌, ◌++◌, ◌-◌, ◌<◌, ◌≤◌, [], Some, length, map, take, drop, reverse, option_map, IsSome, OnOk};
+ghost use Rattle.std.specs.Prelude.{◌≡◌, ◌∷◌, ◌++◌, ◌-◌, ◌≤◌, [], Some, length, map, take, drop, reverse, option_map, IsSome, OnOk};
 ghost use Rattle.wasm_ast.specs.declared.types.Value.TheVariants.{I64};
 ghost use Rattle.interp.specs.Machine.{first, carry};
+ghost use Rattle.interp.specs.inside.Split.{HasSpare};
 
 use std::alloc::{AllocError, Global};
 use std::marker::Model;
 
-/// How many cells are added where there is no room.
-const ROOM: usize = 64;
-
 /// Operands as cells, which contracts see as the i64 of their numbers in two parts with the topmost first: those of the
-/// innermost layer, and those below. The list is as long as there is room; its cells from the top on say nothing.
+/// innermost layer, and those below, with the room for all of them. The list is as long as there is room; its cells from the
+/// top on say nothing.
 #[derive(Drop)]
 pub struct Operands {
     pub(crate) cells: Vec<u64>,
@@ -28,7 +27,10 @@ impl Model for Operands {
 
     ghost view = { λ a. record {
       here = reverse (drop a.floor (map I64 (take a.top a.cells.items)));
-      below = reverse (take a.floor (map I64 (take a.top a.cells.items)));
+      below = record {
+        values = reverse (take a.floor (map I64 (take a.top a.cells.items)));
+        room = length a.cells.items;
+      };
     } };
 
     ghost invariant = { λ a. (a.floor ≤ a.top) × (a.top ≤ length a.cells.items) };
@@ -38,7 +40,7 @@ impl Operands {
     /// None; it takes no memory.
     pub fn new(alloc: Global) -> Operands
         ensures here { result.here ≡ [] }
-        ensures below { result.below ≡ [] }
+        ensures below { result.below ≡ record { values = []; room = 0 } }
     {
         Operands {
             cells: Vec::new(alloc),
@@ -47,31 +49,43 @@ impl Operands {
         }
     }
 
+    /// Drops all and makes room for so many.
+    pub fn reserve(&mut self, room: usize) -> Result<(), AllocError>
+        ensures { OnOk result (self.new.below.room ≡ room) }
+    {
+        self.top = 0;
+        self.floor = 0;
+        self.cells.resize(room, 0)?;
+        Ok(())
+    }
+
     /// Drops all and keeps the room for them.
     pub fn clear(&mut self)
-        ensures { self.new ≡ record { here = []; below = [] } }
+        ensures { self.new
+            ≡ record { here = []; below = record { values = []; room = self.old.below.room } } }
     {
         self.top = 0;
         self.floor = 0;
     }
 
-    /// Puts a cell on top.
+    /// Puts a cell on top, for which there is room.
     #[inline]
-    pub fn push(&mut self, cell: u64) -> Result<(), AllocError>
-        ensures here { OnOk result (self.new.here ≡ I64 cell ∷ self.old.here) }
+    pub fn push(&mut self, cell: u64)
+        requires { HasSpare self.old }
+        ensures here { self.new.here ≡ I64 cell ∷ self.old.here }
         ensures below { self.new.below ≡ self.old.below }
     {
-        make_room(&mut self.cells, self.top)?;
         self.cells[self.top] = cell;
         self.top += 1;
-        Ok(())
     }
 
-    /// The topmost cell, which the layer has.
+    /// The topmost cell, which the layer has. There is room for one then.
     #[inline]
     pub fn pop(&mut self) -> u64
         requires { 1 ≤ length self.old.here }
-        ensures { self.old ≡ record { here = I64 result ∷ self.new.here; below = self.new.below } }
+        ensures popped { self.old
+            ≡ record { here = I64 result ∷ self.new.here; below = self.new.below } }
+        ensures spare { HasSpare self.new }
     {
         let below = self.top - 1;
         self.top = below;
@@ -89,20 +103,16 @@ impl Operands {
 
     /// Puts a cell on top where one is wanted, and there is one then.
     #[inline]
-    pub fn carry(&mut self, keeps: bool, top: Option<u64>) -> Result<(), AllocError>
-        requires { IsSome (carry keeps (option_map I64 top) self.old.here) }
-        ensures here { OnOk result
-            (carry keeps (option_map I64 top) self.old.here ≡ Some self.new.here) }
+    pub fn carry(&mut self, keeps: bool, top: Option<u64>)
+        requires there { IsSome (carry keeps (option_map I64 top) self.old.here) }
+        requires spare { HasSpare self.old }
+        ensures here { carry keeps (option_map I64 top) self.old.here ≡ Some self.new.here }
         ensures below { self.new.below ≡ self.old.below }
     {
-        if !keeps {
-            return Ok(());
-        }
-        match top {
-            None => unreachable!(),
-            Some(cell) => {
-                self.push(cell)?;
-                Ok(())
+        if keeps {
+            match top {
+                None => unreachable!(),
+                Some(cell) => self.push(cell),
             }
         }
     }
@@ -128,7 +138,7 @@ impl Operands {
     /// How many lie below the innermost layer.
     #[inline]
     pub fn floor(&self) -> usize
-        ensures { result ≡ length self.now.below }
+        ensures { result ≡ length self.now.below.values }
     {
         self.floor
     }
@@ -136,7 +146,13 @@ impl Operands {
     /// Begins a layer on top.
     #[inline]
     pub fn open(&mut self)
-        ensures { self.new ≡ record { here = []; below = self.old.here ++ self.old.below } }
+        ensures { self.new ≡ record {
+          here = [];
+          below = record {
+            values = self.old.here ++ self.old.below.values;
+            room = self.old.below.room;
+          };
+        } }
     {
         self.floor = self.top;
     }
@@ -144,10 +160,13 @@ impl Operands {
     /// Joins the innermost layer to the next one, which begins at a floor.
     #[inline]
     pub fn join(&mut self, floor: usize)
-        requires { floor ≤ length self.old.below }
-        ensures here { self.new.here
-            ≡ self.old.here ++ take (length self.old.below - floor) self.old.below }
-        ensures below { self.new.below ≡ drop (length self.old.below - floor) self.old.below }
+        requires { floor ≤ length self.old.below.values }
+        ensures here { self.new.here ≡ self.old.here
+            ++ take (length self.old.below.values - floor) self.old.below.values }
+        ensures below { self.new.below ≡ record {
+          values = drop (length self.old.below.values - floor) self.old.below.values;
+          room = self.old.below.room;
+        } }
     {
         self.floor = floor;
     }
@@ -155,39 +174,16 @@ impl Operands {
     /// Drops the innermost layer and opens the next one, which begins at a floor.
     #[inline]
     pub fn fall(&mut self, floor: usize)
-        requires { floor ≤ length self.old.below }
-        ensures here { self.new.here ≡ take (length self.old.below - floor) self.old.below }
-        ensures below { self.new.below ≡ drop (length self.old.below - floor) self.old.below }
+        requires { floor ≤ length self.old.below.values }
+        ensures here { self.new.here
+            ≡ take (length self.old.below.values - floor) self.old.below.values }
+        ensures below { self.new.below ≡ record {
+          values = drop (length self.old.below.values - floor) self.old.below.values;
+          room = self.old.below.room;
+        } }
+        ensures spare { HasSpare self.old → HasSpare self.new }
     {
         self.top = self.floor;
         self.floor = floor;
     }
-}
-
-/// Room for one more cell at the top, in the list or in a longer one.
-#[inline]
-pub fn make_room(cells: &mut Vec<u64>, top: usize) -> Result<(), AllocError>
-    requires { top ≤ length cells.old.items }
-    ensures room { OnOk result (top < length cells.new.items) }
-    ensures within { top ≤ length cells.new.items }
-    ensures kept { take top cells.new.items ≡ take top cells.old.items }
-{
-    if top < cells.len() {
-        Ok(())
-    } else {
-        add_room(cells, top)
-    }
-}
-
-#[cold]
-fn add_room(cells: &mut Vec<u64>, top: usize) -> Result<(), AllocError>
-    requires { top ≤ length cells.old.items }
-    ensures room { OnOk result (top < length cells.new.items) }
-    ensures within { top ≤ length cells.new.items }
-    ensures kept { take top cells.new.items ≡ take top cells.old.items }
-{
-    for _ in 0..ROOM {
-        cells.push(0)?;
-    }
-    Ok(())
 }

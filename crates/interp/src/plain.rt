@@ -1,5 +1,5 @@
 //! Instructions that neither branch nor call (Core 1.0, 4.4.1 to 4.4.4), on operands in a list with room for one more. Each
-//! answers how many operands there are then.
+//! answers how many operands there are then, and what it counts where it is told from others.
 
 ghost use Rattle.std.specs.Prelude.{◌≡◌, ◌<◌, ◌≤◌, length, map, true};
 ghost use Rattle.wasm_ast.specs.declared.types.ValType.TheVariants.{I32 as i32_type};
@@ -7,9 +7,11 @@ ghost use Rattle.wasm_ast.specs.declared.types.Value.TheVariants.{I64};
 ghost use Rattle.wasm_ast.specs.declared.plain.Memory.TheVariants as memory_variant;
 ghost use Rattle.wasm_ast.specs.declared.plain.Plain.TheVariants as plain;
 ghost use Rattle.wasm_ast.specs.Widths.{load_width, store_width};
+ghost use Rattle.cost.specs.Weights.{memory_units, plain_units};
 ghost use Rattle.interp.specs.inside.Acts.{ActsAlone, ActsOn, ActsOnBytes, ActsOnVariables};
 ghost use Rattle.interp.specs.inside.Cells.{cell_effect, cell_memory, in_width};
 ghost use Rattle.interp.specs.inside.Going.{has_tops, memory_asks, of_next, of_top, plain_asks, reaches, variable_asks};
+ghost use Rattle.interp.specs.inside.Kept.{count_kept};
 ghost use Rattle.interp.specs.inside.Pile.{pile};
 ghost use Rattle.interp.specs.Effects.{variable_effect};
 
@@ -19,7 +21,29 @@ use crate::locals::{local, set_local};
 use crate::memory::Memory;
 use crate::numeric::act_numeric;
 use crate::pile::{pop, push};
+use cost::plain_units;
 use wasm_ast::{Load, Memory as MemoryAccess, MemoryArgument, Plain, Store, Variable};
+
+/// How many operands there are after an instruction, and what it counts. The count is asked for where the instruction is told
+/// from others, so that what is known of it there is not looked for twice.
+#[derive(Clone, Copy)]
+pub struct Acted {
+    pub top: usize,
+    pub units: u32,
+}
+
+impl Acted {
+    #[inline(always)]
+    pub fn by(instruction: Plain, top: usize) -> Acted
+        ensures top { result.top ≡ top }
+        ensures units { result.units ≡ plain_units instruction }
+    {
+        Acted {
+            top,
+            units: plain_units(instruction),
+        }
+    }
+}
 
 /// Acts on the operands, the locals, the globals and the memory. The instruction does not trap, and there is a step for it.
 #[inline(always)]
@@ -30,22 +54,28 @@ pub fn act_plain(
     locals: &mut [u64],
     globals: &mut Globals,
     bytes: &mut Memory,
-) -> usize
+) -> Acted
     requires room { top < length cells.old }
     requires asks { plain_asks instruction
         (pile cells.old top) (map I64 locals.old) globals.old bytes.old ≡ true }
     ensures acts { ActsOn (cell_effect in_width instruction)
-        (pile cells.old top) (pile cells.new result)
+        (pile cells.old top) (pile cells.new result.top)
         (map I64 locals.old) (map I64 locals.new) globals.old globals.new bytes.old bytes.new }
-    ensures within { result ≤ length cells.new }
+    ensures units { result.units ≡ plain_units instruction }
+    ensures within { result.top ≤ length cells.new }
+    ensures kept_globals { length globals.new ≡ length globals.old }
+    ensures kept_bytes { count_kept bytes.new ≡ count_kept bytes.old }
 {
     match instruction {
-        Plain::Nop => top,
-        Plain::Drop => pop(cells, top).1,
-        Plain::Select => act_select(cells, top),
-        Plain::Const(value) => push(cells, top, of_value(value)),
+        Plain::Nop => Acted::by(instruction, top),
+        Plain::Drop => Acted::by(instruction, pop(cells, top).1),
+        Plain::Select => Acted::by(instruction, act_select(cells, top)),
+        Plain::Const(value) => Acted::by(instruction, push(cells, top, of_value(value))),
         Plain::Numeric(op) => act_numeric(op, cells, top),
-        Plain::Variable(op) => act_variable(op, cells, top, locals, globals),
+        Plain::Variable(op) => {
+            let top = act_variable(op, cells, top, locals, globals);
+            Acted::by(instruction, top)
+        }
         Plain::Memory(op) => act_memory(op, cells, top, bytes),
     }
 }
@@ -85,6 +115,7 @@ fn act_variable(
         (pile cells.old top) (pile cells.new result)
         (map I64 locals.old) (map I64 locals.new) globals.old globals.new }
     ensures within { result ≤ length cells.new }
+    ensures kept_globals { length globals.new ≡ length globals.old }
 {
     match instruction {
         Variable::LocalGet(number) => push(cells, top, local(locals, number)),
@@ -109,17 +140,24 @@ fn act_variable(
 
 /// Loads, stores and the size of the memory (Core 1.0, 4.4.4). There is no growing.
 #[inline(always)]
-fn act_memory(instruction: MemoryAccess, cells: &mut [u64], top: usize, bytes: &mut Memory) -> usize
+fn act_memory(instruction: MemoryAccess, cells: &mut [u64], top: usize, bytes: &mut Memory) -> Acted
     requires room { top < length cells.old }
     requires asks { memory_asks instruction (pile cells.old top) bytes.old ≡ true }
     ensures acts { ActsOnBytes (cell_memory in_width instruction)
-        (pile cells.old top) (pile cells.new result) bytes.old bytes.new }
-    ensures within { result ≤ length cells.new }
+        (pile cells.old top) (pile cells.new result.top) bytes.old bytes.new }
+    ensures units { result.units ≡ memory_units instruction }
+    ensures within { result.top ≤ length cells.new }
+    ensures kept_bytes { count_kept bytes.new ≡ count_kept bytes.old }
 {
+    let plain = Plain::Memory(instruction);
     match instruction {
-        MemoryAccess::Load(op, argument) => act_load(op, argument, cells, top, bytes),
-        MemoryAccess::Store(op, argument) => act_store(op, argument, cells, top, bytes),
-        MemoryAccess::Size => push(cells, top, of_i32(bytes.size())),
+        MemoryAccess::Load(op, argument) => {
+            Acted::by(plain, act_load(op, argument, cells, top, bytes))
+        }
+        MemoryAccess::Store(op, argument) => {
+            Acted::by(plain, act_store(op, argument, cells, top, bytes))
+        }
+        MemoryAccess::Size => Acted::by(plain, push(cells, top, of_i32(bytes.size()))),
         MemoryAccess::Grow => unreachable!(),
     }
 }
@@ -160,6 +198,7 @@ fn act_store(
     ensures acts { ActsOnBytes (cell_memory in_width (memory_variant.Store op argument))
         (pile cells.now top) (pile cells.now result) bytes.old bytes.new }
     ensures within { result ≤ length cells.now }
+    ensures kept_bytes { count_kept bytes.new ≡ count_kept bytes.old }
 {
     let (cell, under) = pop(cells, top);
     let number = as_number(op.val_type(), cell);

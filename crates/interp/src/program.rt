@@ -1,6 +1,7 @@
 //! The functions of a module by number.
 
 ghost use Rattle.std.specs.Prelude.{◌≡◌, Some, option_map, slice_get};
+ghost use Rattle.wasm_ast.specs.Limits.{IsWithinLimits};
 ghost use Rattle.cost.specs.Weights.{call_units};
 ghost use Rattle.validate.specs.Modules.{IsTyped};
 ghost use Rattle.bounded_profile.specs.Profile.{IsBounded};
@@ -32,6 +33,7 @@ impl<'a> Program<'a> {
     pub fn of(verified: &'a Verified) -> Program<'a>
         ensures same { result.«module».now ≡ verified.now }
         ensures typed { IsTyped verified.now }
+        ensures within { IsWithinLimits verified.now }
         ensures bounded { IsBounded verified.now }
         ensures calls { AreImports result.calls.now result.«module».now }
     {
@@ -86,7 +88,7 @@ impl<'a> Program<'a> {
 
     /// The function of the host with this number, if it is one.
     #[inline]
-    fn host_call(self, number: u32) -> Option<HostCall>
+    pub fn host_call(self, number: u32) -> Option<HostCall>
         ensures { result ≡ slice_get self.entry.calls.now number }
     {
         match self.calls.get(number as usize) {

@@ -1,13 +1,15 @@
 //! Compute calls.
 
-ghost use Rattle.std.specs.Prelude.{◌≡◌, ◌↔◌, ◌+◌, ◌*◌, IfOk, IsTrue};
+ghost use Rattle.std.specs.Prelude.{◌≡◌, ◌↔◌, ◌+◌, ◌*◌, IfOk, IsOk, IsTrue, OnErr};
 ghost use Rattle.wasm_ast.specs.View.{code_of};
-ghost use Rattle.interp.specs.inside.Begun.{EndsFrom};
+ghost use Rattle.wasm_ast.specs.Limits.{IsWithinLimits};
+ghost use Rattle.interp.specs.inside.Begun.{BeginsWith, EndsFrom, EndsInRoom, HasStartRoom, Sends, room_in};
 ghost use Rattle.interp.specs.Bounded.{HasIds, IsWithinBound, NeverFails, items_of};
 ghost use Rattle.interp.specs.Call.{IsOutcome};
+ghost use Rattle.interp.specs.Room.{IsSilent};
 ghost use Rattle.interp.specs.inside.Meaning.{AreImports};
 ghost use Rattle.interp.specs.inside.Place.{at};
-ghost use Rattle.interp.specs.inside.Walk.{Leads};
+ghost use Rattle.interp.specs.inside.Walk.{LeadsWithin, SendsFrom};
 
 use crate::program::Program;
 use crate::rooms::Rooms;
@@ -17,7 +19,8 @@ use crate::walk::Walk;
 use bounded_profile::Verified;
 use host_calls::{CallInput, CallOutcome};
 use std::alloc::{AllocError, Global};
-use wasm_ast::Instr;
+use std::mem::replace;
+use wasm_ast::{Function, Instr};
 
 /// The greatest id.
 const MAX_ID: u64 = 9_223_372_036_854_775_807;
@@ -25,7 +28,7 @@ const MAX_ID: u64 = 9_223_372_036_854_775_807;
 /// A compute call of a vertex: the run of the module's function `compute` over fresh memory and globals (Core 1.0, 4.5.5).
 ///
 /// It comes to its end within a bound that can be told beforehand, and nothing is compared with that bound while it runs.
-/// The only refusal is that there is no memory.
+/// The only refusal is that there is no memory; a call that sends nothing and gives nothing to a slot takes none.
 pub fn run(
     alloc: Global,
     verified: &Verified,
@@ -38,17 +41,12 @@ pub fn run(
     ensures outcome { IfOk result (IsOutcome verified.now input.now) }
     ensures units { IfOk result (IsWithinBound verified.now input.now) }
     ensures fails_never { NeverFails verified.now input.now }
+    ensures reserved { IsSilent verified.now input.now → IsOk result }
 {
     let program = scratch.program_for(verified);
     let most = most_units(verified.size(), input);
     let function = program.defined(verified.compute());
-    let own = scratch.verified();
-    let mut rooms = scratch.take_rooms(alloc);
-    lay(alloc, own, program.module, function, &mut rooms)?;
-    let walk = begin(alloc, program.module, function, input, rooms);
-    let (ended, rooms) = finish(walk, program, function.body.as_slice(), most);
-    scratch.keep_rooms(rooms);
-    ended
+    scratch.call(alloc, program, function, input, most)
 }
 
 /// Whether the id and the targets of the edges are in their range, as `run` asks.
@@ -66,6 +64,34 @@ fn most_units(size: u32, input: &CallInput) -> u128
     u128::from(size) * (1 + items)
 }
 
+/// A call of the function in these lists, which keep their room.
+pub(crate) fn call_in<'a>(
+    alloc: Global,
+    verified: &'a Verified,
+    program: Program<'a>,
+    function: &'a Function,
+    input: &CallInput,
+    most: u128,
+    rooms: &mut Rooms<'a>,
+) -> Result<CallOutcome, AllocError>
+    requires own { verified.now ≡ program.«module».now }
+    requires calls { AreImports program.calls.now program.«module».now }
+    requires begins { BeginsWith program.«module».now function.now }
+    requires within { IsWithinLimits program.«module».now }
+    requires room { HasStartRoom program.«module».now function.now (room_in rooms.old) }
+    requires ends { EndsInRoom program.«module».now input.now most (room_in rooms.old) }
+    ensures room { room_in rooms.new ≡ room_in rooms.old }
+    ensures sends { OnErr result (Sends program.entry.«module».now input.now) }
+    ensures outcome { IfOk result (IsOutcome program.entry.«module».now input.now) }
+{
+    lay(alloc, verified, program.module, function, rooms);
+    let laid = replace(rooms, Rooms::new(alloc, verified));
+    let walk = begin(alloc, program.module, function, input, laid);
+    let (ended, left) = finish(walk, program, function.body.as_slice(), most);
+    *rooms = left;
+    ended
+}
+
 // The walk to its end, and its lists.
 fn finish<'a, 'b>(
     mut walk: Walk<'a, 'b>,
@@ -74,9 +100,14 @@ fn finish<'a, 'b>(
     most: u128,
 ) -> (Result<CallOutcome, AllocError>, Rooms<'a>)
     requires calls { AreImports program.calls.now program.«module».now }
-    requires ends { Leads program.«module».now (at walk (code_of code.now) 0) most }
-    ensures { IfOk result.0 (EndsFrom program.entry.«module».now
+    requires within { IsWithinLimits program.«module».now }
+    requires ends { LeadsWithin program.«module».now walk.room
+        (at walk (code_of code.now) 0) most }
+    ensures ends { IfOk result.0 (EndsFrom program.entry.«module».now
         (at walk.entry (code_of code.now) 0) most) }
+    ensures sends { OnErr result.0 (SendsFrom program.entry.«module».now
+        (at walk.entry (code_of code.now) 0) most) }
+    ensures room { room_in result.1 ≡ walk.entry.room }
 {
     let ended = walk.finish(program, code, most);
     let Walk {

@@ -1,16 +1,22 @@
 //! What the calls of a module have in common.
 
-ghost use Rattle.std.specs.Prelude.{◌≡◌, ◌↔◌, IfOk, IsTrue};
+ghost use Rattle.std.specs.Prelude.{◌≡◌, ◌+◌, ◌*◌, ◌^◌, ◌≤◌, ◌↔◌, length, IfOk, IsTrue, OnErr, OnOk};
+ghost use Rattle.wasm_ast.specs.Limits.{IsWithinLimits, max_locals};
 ghost use Rattle.validate.specs.Modules.{IsTyped};
 ghost use Rattle.bounded_profile.specs.Profile.{IsBounded};
+ghost use Rattle.interp.specs.Call.{IsOutcome};
+ghost use Rattle.interp.specs.Room.{most_layers, most_locals};
+ghost use Rattle.interp.specs.inside.Begun.{BeginsWith, EndsEachWithin, HasRoom, Sends, room_in};
 ghost use Rattle.interp.specs.inside.Meaning.{AreImports};
 
 use crate::program::Program;
 use crate::rooms::Rooms;
+use crate::runs::call_in;
 use bounded_profile::Verified;
+use host_calls::{CallInput, CallOutcome};
 use std::alloc::{AllocError, Global};
 use std::marker::Model;
-use std::mem::replace;
+use wasm_ast::{Function, MAX_LOCALS, MAX_NESTING};
 
 /// What the calls of one module have in common: lists that they take over from one another. Contracts see it as the
 /// module.
@@ -23,23 +29,26 @@ pub struct Scratch<'a> {
 impl<'a> Model for Scratch<'a> {
     ghost use Rattle.wasm_ast.specs.declared.module.Module.{Module as AnyModule};
     ghost use Rattle.wasm_ast.specs.contracts.module.Module as module_type;
+    ghost use Rattle.interp.specs.inside.Begun.{HasRoom, room_in};
 
     ghost Value = { AnyModule };
 
     ghost coded = { module_type.the_row.coded };
 
     ghost view = { λ scratch. scratch.verified.now };
+
+    ghost invariant = { λ scratch. HasRoom scratch.verified.now (room_in scratch.rooms) };
 }
 
 impl<'a> Scratch<'a> {
-    /// Lists for the calls of the module. The only refusal is that there is no memory.
+    /// Lists for the calls of the module, with its globals and memory, and room for all layers, operands and locals that
+    /// may stand at a time. The only refusal is that there is no memory.
     pub fn new(alloc: Global, verified: &'a Verified) -> Result<Scratch<'a>, AllocError>
         ensures { IfOk result (λ scratch. scratch ≡ verified.now) }
     {
-        Ok(Scratch {
-            verified,
-            rooms: Rooms::new(alloc, verified),
-        })
+        let mut rooms = Rooms::new(alloc, verified);
+        make_room(verified, &mut rooms)?;
+        Ok(Scratch { verified, rooms })
     }
 
     /// Whether it was made for this module or for one that is equal to it, as a copy is; it takes no memory.
@@ -49,36 +58,78 @@ impl<'a> Scratch<'a> {
         *self.verified.module() == *verified.module()
     }
 
-    // The module that it was made for.
-    pub(crate) fn verified(&self) -> &'a Verified
-        ensures { result.now ≡ self.now }
-    {
-        self.verified
-    }
-
     // The functions of the module that it was made for, which is that of `verified`.
     pub(crate) fn program_for(&self, verified: &Verified) -> Program<'a>
         requires { self.now ≡ verified.now }
         ensures same { result.«module».now ≡ verified.now }
         ensures typed { IsTyped verified.now }
+        ensures within { IsWithinLimits verified.now }
         ensures bounded { IsBounded verified.now }
         ensures calls { AreImports result.calls.now result.«module».now }
     {
         Program::of(self.verified)
     }
 
-    // Gives the lists of the last call out, and keeps lists without room.
-    pub(crate) fn take_rooms(&mut self, alloc: Global) -> Rooms<'a>
-        ensures { self.new ≡ self.old }
+    // A call of the function in the lists of the last one.
+    pub(crate) fn call(
+        &mut self,
+        alloc: Global,
+        program: Program<'a>,
+        function: &'a Function,
+        input: &CallInput,
+        most: u128,
+    ) -> Result<CallOutcome, AllocError>
+        requires same { program.«module».now ≡ self.old }
+        requires typed { IsTyped self.old }
+        requires bounded { IsBounded self.old }
+        requires within { IsWithinLimits self.old }
+        requires calls { AreImports program.calls.now program.«module».now }
+        requires begins { BeginsWith program.«module».now function.now }
+        requires few { length function.now.locals ≤ max_locals }
+        requires ends { EndsEachWithin program.«module».now input.now most }
+        ensures kept { self.new ≡ self.old }
+        ensures sends { OnErr result (Sends program.entry.«module».now input.now) }
+        ensures outcome { IfOk result (IsOutcome program.entry.«module».now input.now) }
     {
-        let rooms = Rooms::new(alloc, self.verified);
-        replace(&mut self.rooms, rooms)
+        call_in(
+            alloc,
+            self.verified,
+            program,
+            function,
+            input,
+            most,
+            &mut self.rooms,
+        )
     }
+}
 
-    // Keeps the lists for the next call.
-    pub(crate) fn keep_rooms(&mut self, rooms: Rooms<'a>)
-        ensures { self.new ≡ self.old }
-    {
-        self.rooms = rooms;
-    }
+// Room in the lists for all that may stand at a time.
+fn make_room<'a>(verified: &'a Verified, rooms: &mut Rooms<'a>) -> Result<(), AllocError>
+    ensures { OnOk result (HasRoom verified.now (room_in rooms.new)) }
+{
+    let frames = verified.max_frames() as usize;
+    let module = verified.module();
+    rooms.layers.reserve(most_layers(frames) + 1)?;
+    rooms
+        .operands
+        .reserve(verified.max_operands() as usize + 1)?;
+    rooms.locals.reserve(most_locals(frames + 1))?;
+    rooms.globals.extend(module.globals.as_slice().len())?;
+    rooms.memory.extend(verified)
+}
+
+// The layers of so many frames.
+fn most_layers(frames: usize) -> usize
+    requires { frames ≤ 2 ^ 32 }
+    ensures { result ≡ most_layers frames }
+{
+    frames * (1 + MAX_NESTING as usize)
+}
+
+// The locals of so many frames.
+fn most_locals(frames: usize) -> usize
+    requires { frames ≤ 2 ^ 32 }
+    ensures { result ≡ most_locals frames }
+{
+    frames * MAX_LOCALS as usize
 }

@@ -1,7 +1,7 @@
 //! The start of a compute call (Core 1.0, 4.5.4 and 4.5.5).
 
-ghost use Rattle.std.specs.Prelude.{◌≡◌, OnOk};
-ghost use Rattle.interp.specs.inside.Begun.{AreLaid, BeginsWith, IsBeginning};
+ghost use Rattle.std.specs.Prelude.{◌≡◌};
+ghost use Rattle.interp.specs.inside.Begun.{AreLaid, BeginsWith, HasStartRoom, IsBeginning, room_in};
 
 mod initial;
 
@@ -10,7 +10,7 @@ use crate::walk::Walk;
 use bounded_profile::Verified;
 use host_calls::{CallInput, CallState};
 use initial::{lay_globals, lay_memory};
-use std::alloc::{AllocError, Global};
+use std::alloc::Global;
 use wasm_ast::{Function, Module};
 
 /// Lays into the lists what a call of the function begins with.
@@ -20,18 +20,19 @@ pub fn lay<'a>(
     module: &Module,
     function: &Function,
     rooms: &mut Rooms<'a>,
-) -> Result<(), AllocError>
+)
     requires own { verified.now ≡ «module».now }
     requires begins { BeginsWith «module».now function.now }
-    ensures { OnOk result (AreLaid «module».now function.now rooms.new) }
+    requires room { HasStartRoom «module».now function.now (room_in rooms.old) }
+    ensures laid { AreLaid «module».now function.now rooms.new }
+    ensures room { room_in rooms.new ≡ room_in rooms.old }
 {
     rooms.layers.clear();
     rooms.operands.clear();
-    rooms.globals.clear();
-    lay_globals(alloc, module.globals.as_slice(), &mut rooms.globals)?;
-    lay_memory(verified, module, &rooms.globals, &mut rooms.memory)?;
+    lay_globals(alloc, module.globals.as_slice(), &mut rooms.globals);
+    lay_memory(verified, module, &rooms.globals, &mut rooms.memory);
     rooms.locals.clear();
-    rooms.locals.add(function.locals.as_slice())
+    rooms.locals.add(function.locals.as_slice());
 }
 
 /// Where a call of the function begins, of which the lists hold what it begins with.
@@ -44,7 +45,8 @@ pub fn begin<'a, 'b>(
 ) -> Walk<'a, 'b>
     requires begins { BeginsWith «module».now function.now }
     requires laid { AreLaid «module».now function.now rooms }
-    ensures { IsBeginning «module».now function.now.body input.now result }
+    ensures begins { IsBeginning «module».now function.now.body input.now result }
+    ensures room { result.room ≡ room_in rooms.entry }
 {
     let Rooms {
         layers,

@@ -1,25 +1,28 @@
 //! Runs of straight code: of instructions that neither branch nor call what the module defines, so that the layers stay. The
 //! operands lie in a list with room, and their number, the code and the count are passed by value.
 
-ghost use Rattle.std.specs.Prelude.{◌≡◌, ◌<◌, ◌≤◌, ℕ, length, map, true, IfOk, IfSome, OnOk};
+ghost use Rattle.std.specs.Prelude.{◌≡◌, ◌<◌, ◌≤◌, ℕ, length, map, true, IfOk, IfSome, OnErr, OnOk};
 ghost use Rattle.wasm_ast.specs.declared.types.Value.TheVariants.{I64};
 ghost use Rattle.wasm_ast.specs.View.{code_of};
 ghost use Rattle.interp.specs.Configuration.{Gives};
 ghost use Rattle.interp.specs.inside.Acts.{ActsOn, ActsOnHost, state};
 ghost use Rattle.interp.specs.inside.Cells.{cell_call, cell_effect, in_width};
+ghost use Rattle.interp.specs.inside.Given.{gives};
 ghost use Rattle.interp.specs.inside.Going.{call_asks, plain_asks};
+ghost use Rattle.interp.specs.inside.Kept.{count_kept};
 ghost use Rattle.interp.specs.inside.Pile.{pile};
 ghost use Rattle.interp.specs.inside.Meaning.{AreImports};
-ghost use Rattle.interp.specs.inside.Straight.{GoesStraight, LeadsAmid, Passes, spot, straight_asks, straight_effect};
+ghost use Rattle.interp.specs.inside.Split.{HasSpare};
+ghost use Rattle.interp.specs.inside.Straight.{GoesStraight, LeadsAmid, Passes, SendsAmid, spot, straight_asks, straight_effect, straight_gives, straight_units};
 
 use crate::globals::Globals;
 use crate::host::call_host;
 use crate::locals::Locals;
 use crate::memory::Memory;
-use crate::operands::{Operands, make_room};
-use crate::plain::act_plain;
-use crate::program::{Callee, Program};
-use cost::plain_units;
+use crate::operands::Operands;
+use crate::plain::{Acted, act_plain};
+use crate::program::Program;
+use cost::host_units;
 use host_calls::{CallState, HostCall};
 use std::alloc::AllocError;
 use wasm_ast::{Instr, Plain};
@@ -39,11 +42,10 @@ pub enum Straight {
     Host(HostCall),
 }
 
-/// An instruction that goes straight on, the units that it counts, and the code after it.
+/// An instruction that goes straight on, and the code after it.
 #[derive(Clone, Copy)]
 struct Next<'a> {
     what: Straight,
-    units: u32,
     code: &'a [Instr],
 }
 
@@ -68,9 +70,14 @@ pub fn go_straight<'a>(
         locals.old.here globals.old bytes.old host.old count)
         (spot operands.new.here (code_of stop.code.now)
         locals.new.here globals.new bytes.new host.new stop.count)) }
+    ensures sends { OnErr result (SendsAmid program.entry.«module».now most
+        (spot operands.old.here (code_of code.entry.now)
+        locals.old.here globals.old bytes.old host.old count)) }
     ensures more { IfOk result (λ stop. count ≤ stop.count) }
     ensures below { operands.new.below ≡ operands.old.below }
     ensures locals_below { locals.new.below ≡ locals.old.below }
+    ensures kept_globals { length globals.new ≡ length globals.old }
+    ensures kept_bytes { count_kept bytes.new ≡ count_kept bytes.old }
 {
     let floor = operands.floor;
     let base = locals.base;
@@ -113,20 +120,24 @@ fn run_straight<'a>(
         (map I64 locals.old) globals.old bytes.old host.old count)
         (spot (pile cells.new stop.top) (code_of stop.code.now)
         (map I64 locals.new) globals.new bytes.new host.new stop.count)) }
+    ensures sends { OnErr result (SendsAmid program.entry.«module».now most
+        (spot (pile cells.old top) (code_of code.entry.now)
+        (map I64 locals.old) globals.old bytes.old host.old count)) }
     ensures more { IfOk result (λ stop. count ≤ stop.count) }
     ensures within { IfOk result (λ stop. stop.top ≤ length cells.new) }
+    ensures kept_globals { length globals.new ≡ length globals.old }
+    ensures kept_bytes { count_kept bytes.new ≡ count_kept bytes.old }
 {
     let mut at = Stop { code, count, top };
     'run: while at.top < cells.len() {
         match next_straight(program, at.code) {
             None => return Ok(at),
             Some(next) => {
-                let count = at.count + u128::from(next.units);
-                let top = act_straight(next.what, cells, at.top, locals, globals, bytes, host)?;
+                let acted = act_straight(next.what, cells, at.top, locals, globals, bytes, host)?;
                 at = Stop {
                     code: next.code,
-                    count,
-                    top,
+                    count: at.count + u128::from(acted.units),
+                    top: acted.top,
                 };
             }
         }
@@ -139,7 +150,7 @@ fn run_straight<'a>(
 fn next_straight<'a>(program: Program<'a>, code: &'a [Instr]) -> Option<Next<'a>>
     requires { AreImports program.calls.now program.«module».now }
     ensures is { IfSome result (λ next. GoesStraight program.entry.«module».now
-        (code_of code.entry.now) next.what next.units (code_of next.code.now)) }
+        (code_of code.entry.now) next.what (straight_units next.what) (code_of next.code.now)) }
     ensures shorter { IfSome result (λ next. length next.code.now < length code.entry.now) }
 {
     match code.split_first() {
@@ -147,22 +158,21 @@ fn next_straight<'a>(program: Program<'a>, code: &'a [Instr]) -> Option<Next<'a>
         Some((first, rest)) => match first {
             Instr::Plain(plain) => Some(Next {
                 what: Straight::Plain(*plain),
-                units: plain_units(*plain),
                 code: rest,
             }),
-            Instr::Call(number) => match program.callee(*number) {
-                Some(Callee::Host(call)) => Some(Next {
+            Instr::Call(number) => match program.host_call(*number) {
+                Some(call) => Some(Next {
                     what: Straight::Host(call),
-                    units: program.call_units(*number),
                     code: rest,
                 }),
-                _ => None,
+                None => None,
             },
             _ => None,
         },
     }
 }
 
+/// Acts on the operands and on what there is besides.
 #[inline(always)]
 fn act_straight(
     what: Straight,
@@ -172,23 +182,30 @@ fn act_straight(
     globals: &mut Globals,
     bytes: &mut Memory,
     host: &mut CallState,
-) -> Result<usize, AllocError>
+) -> Result<Acted, AllocError>
     requires room { top < length cells.old }
     requires asks { straight_asks what
         (pile cells.old top) (map I64 locals.old) globals.old bytes.old ≡ true }
-    ensures acts { IfOk result (λ now. (units : ℕ) → straight_effect in_width what
-        (pile cells.old top) (state (map I64 locals.old) globals.old bytes.old host.old units)
-        ≡ Gives (pile cells.new now)
-        (state (map I64 locals.new) globals.new bytes.new host.new units)) }
-    ensures within { IfOk result (λ now. now ≤ length cells.new) }
+    ensures acts { IfOk result (λ acted. (count : ℕ) → straight_effect in_width what
+        (pile cells.old top) (state (map I64 locals.old) globals.old bytes.old host.old count)
+        ≡ Gives (pile cells.new acted.top)
+        (state (map I64 locals.new) globals.new bytes.new host.new count)) }
+    ensures units { IfOk result (λ acted. acted.units ≡ straight_units what) }
+    ensures within { IfOk result (λ acted. acted.top ≤ length cells.new) }
+    ensures fails { OnErr result (straight_gives what ≡ true) }
+    ensures kept_globals { length globals.new ≡ length globals.old }
+    ensures kept_bytes { count_kept bytes.new ≡ count_kept bytes.old }
 {
     match what {
         Straight::Plain(plain) => Ok(act_plain(plain, cells, top, locals, globals, bytes)),
-        Straight::Host(call) => call_host(call, cells, top, host),
+        Straight::Host(call) => Ok(Acted {
+            top: call_host(call, cells, top, host)?,
+            units: host_units(Some(call)),
+        }),
     }
 }
 
-/// One instruction, for which room is made.
+/// One instruction, for which there is room.
 #[inline(never)]
 pub fn act(
     instruction: Plain,
@@ -196,19 +213,21 @@ pub fn act(
     locals: &mut Locals,
     globals: &mut Globals,
     bytes: &mut Memory,
-) -> Result<(), AllocError>
-    requires { plain_asks instruction
+)
+    requires spare { HasSpare operands.old }
+    requires asks { plain_asks instruction
         operands.old.here locals.old.here globals.old bytes.old ≡ true }
-    ensures acts { OnOk result (ActsOn (cell_effect in_width instruction)
+    ensures acts { ActsOn (cell_effect in_width instruction)
         operands.old.here operands.new.here
-        locals.old.here locals.new.here globals.old globals.new bytes.old bytes.new) }
+        locals.old.here locals.new.here globals.old globals.new bytes.old bytes.new }
     ensures below { operands.new.below ≡ operands.old.below }
     ensures locals_below { locals.new.below ≡ locals.old.below }
+    ensures kept_globals { length globals.new ≡ length globals.old }
+    ensures kept_bytes { count_kept bytes.new ≡ count_kept bytes.old }
 {
-    make_room(&mut operands.cells, operands.top)?;
     let floor = operands.floor;
     let base = locals.base;
-    let top = act_plain(
+    let acted = act_plain(
         instruction,
         &mut operands.cells[floor..],
         operands.top - floor,
@@ -216,23 +235,23 @@ pub fn act(
         globals,
         bytes,
     );
-    operands.top = floor + top;
-    Ok(())
+    operands.top = floor + acted.top;
 }
 
-/// One call of the host, for which room is made.
+/// One call of the host, for which there is room.
 #[inline]
 pub fn act_call(
     call: HostCall,
     operands: &mut Operands,
     host: &mut CallState,
 ) -> Result<(), AllocError>
-    requires { call_asks call operands.old.here ≡ true }
+    requires spare { HasSpare operands.old }
+    requires asks { call_asks call operands.old.here ≡ true }
     ensures acts { OnOk result (ActsOnHost (cell_call in_width call)
         operands.old.here operands.new.here host.old host.new) }
+    ensures fails { OnErr result (gives call ≡ true) }
     ensures below { operands.new.below ≡ operands.old.below }
 {
-    make_room(&mut operands.cells, operands.top)?;
     let floor = operands.floor;
     let top = operands.top - floor;
     let now = call_host(call, &mut operands.cells[floor..], top, host)?;

@@ -1,13 +1,14 @@
 //! The walk over nested code, which is the machine's run (Core 1.0, 4.4).
 
-ghost use Rattle.std.specs.Prelude.{◌≡◌, ◌+◌, ◌^◌, ◌<◌, ◌≤◌, true, IfOk};
+ghost use Rattle.std.specs.Prelude.{◌≡◌, ◌+◌, ◌^◌, ◌<◌, ◌≤◌, true, IfOk, OnErr};
+ghost use Rattle.wasm_ast.specs.Limits.{IsWithinLimits};
 ghost use Rattle.wasm_ast.specs.View.{code_of, then_code};
 ghost use Rattle.cost.specs.Weights.{units_of};
 ghost use Rattle.interp.specs.inside.Cells.{cell_advance, cell_call, cell_effect, in_width, of_any_width};
 ghost use Rattle.interp.specs.inside.Going.{goes_on, is_going};
 ghost use Rattle.interp.specs.inside.Meaning.{AreImports};
-ghost use Rattle.interp.specs.inside.Place.{at, running, state_of};
-ghost use Rattle.interp.specs.inside.Walk.{Arrives, Concludes, HasRoom, Leads, Turned, Turns, affected, left_of, taken};
+ghost use Rattle.interp.specs.inside.Place.{HasFrameRoom, HasOperandRoom, at, running, state_of};
+ghost use Rattle.interp.specs.inside.Walk.{Arrives, Concludes, HasRoom, Leads, LeadsWithin, SendsFrom, TurnedOrSent, Turns, TurnsOrSends, affected, left_of, taken};
 
 mod branches;
 mod calls;
@@ -66,9 +67,14 @@ impl<'a, 'b> Walk<'a, 'b> {
         most: u128,
     ) -> Result<u128, AllocError>
         requires calls { AreImports program.calls.now program.«module».now }
-        requires ends { Leads program.«module».now (at self.old (code_of code.now) 0) most }
-        ensures { IfOk result (λ count. Concludes program.entry.«module».now
+        requires within { IsWithinLimits program.«module».now }
+        requires ends { LeadsWithin program.«module».now self.old.room
+            (at self.old (code_of code.now) 0) most }
+        ensures sends { OnErr result (SendsFrom program.entry.«module».now
+            (at self.old (code_of code.now) 0) most) }
+        ensures concludes { IfOk result (λ count. Concludes program.entry.«module».now
             (at self.old (code_of code.now) 0) most (state_of self.new count)) }
+        ensures room { self.new.room ≡ self.old.room }
     {
         let mut rest = code;
         let mut count = 0;
@@ -101,9 +107,12 @@ impl<'a, 'b> Walk<'a, 'b> {
         ensures passes { IfOk result (λ stop. Arrives program.entry.«module».now most
             (at self.old (code_of code.entry.now) count)
             (at self.new (code_of stop.code.now) stop.count)) }
+        ensures sends { OnErr result (SendsFrom program.entry.«module».now
+            (at self.old (code_of code.entry.now) count) most) }
         ensures closer { IfOk result (λ stop.
             left_of most (at self.new (code_of stop.code.now) stop.count)
             ≤ left_of most (at self.old (code_of code.entry.now) count)) }
+        ensures room { self.new.room ≡ self.old.room }
     {
         let stop = go_straight(
             program,
@@ -128,14 +137,17 @@ impl<'a, 'b> Walk<'a, 'b> {
         count: u128,
     ) -> Result<Turn<'a>, AllocError>
         requires calls { AreImports program.calls.now program.«module».now }
+        requires within { IsWithinLimits program.«module».now }
         requires fits { HasRoom program.«module».now (at self.old (code_of code.now) count) }
+        requires room { HasFrameRoom self.old }
         requires goes { is_going (cell_advance of_any_width program.«module».now
             (running (at self.old (code_of code.now) count))) ≡ true }
-        ensures { Turned result (cell_advance in_width program.entry.«module».now
+        ensures turned { TurnedOrSent result (cell_advance in_width program.entry.«module».now
             (running (at self.old (code_of code.now) count))) self.new }
+        ensures room { self.new.room ≡ self.old.room }
     {
         match code.split_first() {
-            None => self.leave(count),
+            None => Ok(self.leave(count)),
             Some((first, rest)) => self.take(program, code, first, rest, count),
         }
     }
@@ -151,23 +163,27 @@ impl<'a, 'b> Walk<'a, 'b> {
         count: u128,
     ) -> Result<Turn<'a>, AllocError>
         requires calls { AreImports program.calls.now program.«module».now }
+        requires within { IsWithinLimits program.«module».now }
         requires whole { code_of whole.now ≡ then_code first.now (code_of rest.now) }
         requires fits { count + units_of program.«module».now first.now < 2 ^ 128 }
+        requires room { HasFrameRoom self.old }
         requires goes { goes_on (taken of_any_width program.«module».now (code_of whole.now))
             (code_of rest.now) (count + units_of program.«module».now first.now)
             self.old ≡ true }
-        ensures { Turns result (taken in_width program.entry.«module».now (code_of whole.now))
+        ensures turned { TurnsOrSends result
+            (taken in_width program.entry.«module».now (code_of whole.now))
             (code_of rest.now) (count + units_of program.entry.«module».now first.now)
             self.old self.new }
+        ensures room { self.new.room ≡ self.old.room }
     {
-        match first {
+        let turn = match first {
             Instr::Plain(plain) => self.act(*plain, rest, count + u128::from(plain_units(*plain))),
             Instr::Branch(branch) => {
                 self.branch(branch, rest, count + u128::from(branch_units(branch)))
             }
             Instr::Call(number) => {
                 let count = count + u128::from(program.call_units(*number));
-                self.call(program, *number, rest, count)
+                return self.call(program, *number, rest, count);
             }
             Instr::CallIndirect(_) => unreachable!(),
             Instr::Unreachable => unreachable!(),
@@ -178,15 +194,18 @@ impl<'a, 'b> Walk<'a, 'b> {
             Instr::If(block_type, then_body, else_body) => {
                 self.choose(block_type.is_some(), then_body, else_body, rest, count + 1)
             }
-        }
+        };
+        Ok(turn)
     }
 
     #[inline]
-    fn act(&mut self, plain: Plain, code: &'a [Instr], count: u128) -> Result<Turn<'a>, AllocError>
-        requires { goes_on (affected (cell_effect of_any_width plain)) (code_of code.now) count
+    fn act(&mut self, plain: Plain, code: &'a [Instr], count: u128) -> Turn<'a>
+        requires spare { HasOperandRoom self.old }
+        requires goes { goes_on (affected (cell_effect of_any_width plain)) (code_of code.now) count
             self.old ≡ true }
-        ensures { Turns result (affected (cell_effect in_width plain)) (code_of code.now) count
-            self.old self.new }
+        ensures turned { Turns result (affected (cell_effect in_width plain))
+            (code_of code.now) count self.old self.new }
+        ensures room { self.new.room ≡ self.old.room }
     {
         act(
             plain,
@@ -194,8 +213,8 @@ impl<'a, 'b> Walk<'a, 'b> {
             &mut self.locals,
             &mut self.globals,
             &mut self.memory,
-        )?;
-        Ok(Turn::Next { code, count })
+        );
+        Turn::Next { code, count }
     }
 
     fn act_host(
@@ -204,10 +223,12 @@ impl<'a, 'b> Walk<'a, 'b> {
         code: &'a [Instr],
         count: u128,
     ) -> Result<Turn<'a>, AllocError>
-        requires { goes_on (affected (cell_call of_any_width call)) (code_of code.now) count
+        requires spare { HasOperandRoom self.old }
+        requires goes { goes_on (affected (cell_call of_any_width call)) (code_of code.now) count
             self.old ≡ true }
-        ensures { Turns result (affected (cell_call in_width call)) (code_of code.now) count
-            self.old self.new }
+        ensures turned { TurnsOrSends result (affected (cell_call in_width call))
+            (code_of code.now) count self.old self.new }
+        ensures room { self.new.room ≡ self.old.room }
     {
         act_call(call, &mut self.operands, &mut self.host)?;
         Ok(Turn::Next { code, count })

@@ -1,5 +1,5 @@
 -- How a call begins, and how it ends.
-use Rattle.std.specs.Prelude.{◌≡◌, ℕ, ◌+◌, List, [], ◌∷◌, length, map, nat_le, replicate, slice_get, Option, Some, None, if◌then◌else◌}
+use Rattle.std.specs.Prelude.{◌≡◌, ◌+◌, ◌<◌, ◌≤◌, ℕ, List, [], ◌∷◌, length, map, nat_le, replicate, slice_get, Option, Some, None, if◌then◌else◌}
 use Rattle.std.specs.Option.{option_and_then}
 use Rattle.wasm_ast.specs.declared.types.Value.{Value}
 use Rattle.wasm_ast.specs.declared.module.Function.{Function}
@@ -7,19 +7,25 @@ use Rattle.wasm_ast.specs.declared.module.Module.{Module}
 use Rattle.wasm_ast.specs.declared.module.Data.{Data}
 use Rattle.wasm_ast.specs.declared.module.Global.{Global}
 use Rattle.wasm_ast.specs.Code.{Code}
+use Rattle.wasm_ast.specs.Limits.{max_locals}
+use Rattle.bounded_profile.specs.Facts.{IsDepthAt, IsHeightAt}
 use Rattle.bounded_profile.specs.Memory.{memory_bytes, number_of}
+use Rattle.bounded_profile.specs.Profile.{HasCompute}
 use Rattle.host_calls.specs.declared.call.CallInput.{CallInput}
 use Rattle.host_calls.specs.declared.call.CallOutcome.{CallOutcome}
 use Rattle.host_calls.specs.Host.{Leaves}
 use Rattle.interp.specs.Configuration.{State}
-use Rattle.interp.specs.Machine.{Machine, defined, functions_of}
-use Rattle.interp.specs.inside.Place.{Place, Standing, at}
+use Rattle.interp.specs.Machine.{Machine, defined, functions_of, run}
+use Rattle.interp.specs.inside.Meaning.{room_of}
+use Rattle.interp.specs.inside.Place.{Place, Room, Standing, at}
+use Rattle.interp.specs.Room.{most_layers, most_locals}
 use Rattle.interp.specs.Start.{Begins, Starts, constant_value, initial_globals, initial_memory}
 use Rattle.interp.specs.declared.rooms.Rooms.{Rooms}
 use Rattle.interp.specs.inside.Cells.{cell_of, zero_cells}
+use Rattle.interp.specs.inside.Given.{HasGiven}
 use Rattle.interp.specs.inside.Fits.{AreFit}
-use Rattle.interp.specs.inside.Kept.{laid_over, marks, masked}
-use Rattle.interp.specs.inside.Walk.{EndsWithin, Finishes, Follows}
+use Rattle.interp.specs.inside.Kept.{laid_over, marked_before, marks, masked}
+use Rattle.interp.specs.inside.Walk.{EndsWithin, Finishes, Follows, IsWithinRoom}
 
 -- the module defines the function with this number
 abbrev pub IsDefinedAt : Module → ℕ → Type 0
@@ -74,9 +80,9 @@ pub record AreInitialBytes (m : Module) (globals : List Value) (kept : List ℕ)
 pub record AreLaid (m : Module) (function : Function) (rooms : Rooms) : Type 0 where
   pub layers : rooms.layers.items ≡ []
   pub operands : rooms.operands.here ≡ []
-  pub operands_below : rooms.operands.below ≡ []
+  pub operands_below : rooms.operands.below.values ≡ []
   pub locals : rooms.locals.here ≡ zero_cells function.locals
-  pub locals_below : rooms.locals.below ≡ []
+  pub locals_below : rooms.locals.below.values ≡ []
   pub globals : AreInitial m.globals rooms.globals
   pub bytes : AreInitialBytes m globals.values rooms.memory
 
@@ -85,6 +91,41 @@ pub record IsBeginning (m : Module) (code : Code) (input : CallInput) (s : Stand
   pub from : Machine
   pub starts : Starts m input from
   pub follows : Follows m from (at s code 0)
+
+-- each call comes to its end within so many units
+abbrev pub EndsEachWithin : Module → CallInput → (most : ℕ) → Type 0
+EndsEachWithin m input most = (from : Machine) → Starts m input from → EndsWithin m from most
+
+-- the same, and there is always room for another frame
+abbrev pub EndsInRoom : Module → CallInput → (most : ℕ) → Room → Type 0
+EndsInRoom m input most room =
+    (from : Machine) → Starts m input from → EndsWithin m from most × ((n : ℕ) → IsWithinRoom room (run m n from))
+
+-- the room of the lists
+abbrev pub room_in : Rooms → Room
+room_in rooms = room_of rooms.layers rooms.operands rooms.locals rooms.globals rooms.memory
+
+-- as many globals as the module has and bytes as it reaches, and room for the locals of a function
+pub record HasStartRoom (m : Module) (function : Function) (room : Room) : Type 0 where
+  pub locals : length function.locals ≤ room.locals
+  pub globals : length m.globals ≡ room.globals
+  pub bytes : room.bytes ≡ marked_before (marks m) (memory_bytes m)
+
+-- there is room for all that may stand at a time
+pub record HasRoom (m : Module) (room : Room) : Type 0 where
+  pub frames : ℕ
+  pub told : (compute : HasCompute m) → IsDepthAt m compute.number frames
+  pub few_layers : most_layers frames < room.layers
+  pub height : ℕ
+  pub told_height : (compute : HasCompute m) → IsHeightAt m compute.number height
+  pub few_operands : height < room.operands
+  pub few_locals : most_locals frames + max_locals ≤ room.locals
+  pub globals : length m.globals ≡ room.globals
+  pub bytes : room.bytes ≡ marked_before (marks m) (memory_bytes m)
+
+-- the call sends something, or gives something to a slot
+abbrev pub Sends : Module → CallInput → Type 0
+Sends m input = (from : Machine) × Starts m input from × ((n : ℕ) × HasGiven (run m n from))
 
 -- a run ends with this outcome
 abbrev pub EndsWith : Module → Machine → CallOutcome → Type 0

@@ -71,6 +71,12 @@ are_kept [] = true
 are_kept (zero ∷ bs) = false
 are_kept (suc b ∷ bs) = are_kept bs
 
+-- how many are kept
+abbrev pub count_kept : List ℕ → ℕ
+count_kept [] = 0
+count_kept (zero ∷ bs) = count_kept bs
+count_kept (suc b ∷ bs) = suc (count_kept bs)
+
 -- so many bytes from a place on are there, and all are kept
 abbrev pub is_kept : (place width : ℕ) → List ℕ → Bool
 is_kept place width bytes = nat_le (place + width) (length bytes) && are_kept (take width (drop place bytes))

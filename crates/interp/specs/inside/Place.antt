@@ -1,12 +1,14 @@
 -- Where a run is, and how what it keeps in lists is stored: as the tuple of its parts.
-use Rattle.std.specs.Prelude.{◌≡◌, ℕ, ℤ, Bool, List, ◌⊎◌, refl}
+use Rattle.std.specs.Prelude.{◌≡◌, ◌+◌, ◌<◌, ◌≤◌, length, ℕ, ℤ, Bool, List, ◌⊎◌, refl}
 use Rattle.std.specs.Coded.{Coded, code_by, coded_list, coded_bool, coded_ℕ, coded_ℤ, coded×, coded⊎}
 use mathlib.Core.Logic.{inl, inr}
 use Rattle.wasm_ast.specs.declared.types.Value.{Value}
 use Rattle.wasm_ast.specs.contracts.types.Value as value_type
 use Rattle.wasm_ast.specs.Code.{Code, coded_code}
+use Rattle.wasm_ast.specs.Limits.{max_locals}
 use Rattle.host_calls.specs.Host.{Host}
 use Rattle.interp.specs.Configuration.{State}
+use Rattle.interp.specs.Heights.{beneath, held}
 use Rattle.interp.specs.Machine.{Machine, Running, Layer, Label, Frame}
 
 -- a configuration that runs
@@ -19,6 +21,14 @@ pub record Place : Type 0 where
 abbrev pub running : Place → Machine
 running p = Running p.values p.code p.layers p.state
 
+-- for how many layers, operands and locals the lists have room, and how many globals and kept bytes they hold
+pub record Room : Type 0 where
+  pub layers : ℕ
+  pub operands : ℕ
+  pub locals : ℕ
+  pub globals : ℕ
+  pub bytes : ℕ
+
 -- what a run has besides the code and the count
 pub record Standing : Type 0 where
   pub values : List Value
@@ -27,10 +37,25 @@ pub record Standing : Type 0 where
   pub globals : List Value
   pub memory : List ℕ
   pub host : Host
+  pub room : Room
 
 abbrev pub state_of : Standing → ℕ → State
 state_of s count =
     record { locals = s.locals; globals = s.globals; memory = s.memory; host = s.host; count = count }
+
+-- there is room for one layer more
+abbrev pub HasLayerRoom : Standing → Type 0
+HasLayerRoom s = length s.layers < s.room.layers
+
+-- there is room for one operand more
+abbrev pub HasOperandRoom : Standing → Type 0
+HasOperandRoom s = length s.values + beneath s.layers < s.room.operands
+
+-- there is room for an operand and for a frame more, with the most locals that a function may have
+pub record HasFrameRoom (s : Standing) : Type 0 where
+  pub layers : HasLayerRoom s
+  pub operands : HasOperandRoom s
+  pub locals : length s.locals + held s.layers + max_locals ≤ s.room.locals
 
 abbrev pub at : Standing → Code → ℕ → Place
 at s code count = record { values = s.values; code = code; layers = s.layers; state = state_of s count }
@@ -105,9 +130,16 @@ host_whole p = record {
 abbrev pub host_code : Coded Host
 host_code = code_by (GivenParts × LeftParts) (coded× given_code left_code) (λ h. (given_of h, left_of_host h)) host_whole (λ _. refl)
 
+abbrev pub RoomParts : Type 0
+RoomParts = ℕ × (ℕ × (ℕ × (ℕ × ℕ)))
+
+abbrev pub room_code : Coded Room
+room_code =
+    code_by RoomParts (coded× coded_ℕ (coded× coded_ℕ (coded× coded_ℕ (coded× coded_ℕ coded_ℕ)))) (λ r. (r.layers, (r.operands, (r.locals, (r.globals, r.bytes))))) (λ p. record { layers = p.0; operands = p.1.0; locals = p.1.1.0; globals = p.1.1.1.0; bytes = p.1.1.1.1 }) (λ _. refl)
+
 abbrev pub StandingParts : Type 0
-StandingParts = List Value × (List Layer × (List Value × (List Value × (List ℕ × Host))))
+StandingParts = List Value × (List Layer × (List Value × (List Value × (List ℕ × (Host × Room)))))
 
 abbrev pub standing_code : Coded Standing
 standing_code =
-    code_by StandingParts (coded× values_code (coded× (coded_list layer_code) (coded× values_code (coded× values_code (coded× (coded_list coded_ℕ) host_code))))) (λ s. (s.values, (s.layers, (s.locals, (s.globals, (s.memory, s.host)))))) (λ p. record { values = p.0; layers = p.1.0; locals = p.1.1.0; globals = p.1.1.1.0; memory = p.1.1.1.1.0; host = p.1.1.1.1.1 }) (λ _. refl)
+    code_by StandingParts (coded× values_code (coded× (coded_list layer_code) (coded× values_code (coded× values_code (coded× (coded_list coded_ℕ) (coded× host_code room_code)))))) (λ s. (s.values, (s.layers, (s.locals, (s.globals, (s.memory, (s.host, s.room))))))) (λ p. record { values = p.0; layers = p.1.0; locals = p.1.1.0; globals = p.1.1.1.0; memory = p.1.1.1.1.0; host = p.1.1.1.1.1.0; room = p.1.1.1.1.1.1 }) (λ _. refl)

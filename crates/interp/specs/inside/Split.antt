@@ -1,7 +1,20 @@
--- Operands in two parts, the topmost first: those of the innermost layer, and those below.
-use Rattle.std.specs.Prelude.{List}
+-- Operands and locals in two parts: those of the innermost layer or frame, and what lies below, with the room for all of
+-- them. Operands stand with the topmost first, locals in order.
+use Rattle.std.specs.Prelude.{ℕ, ◌+◌, ◌<◌, List, length}
 use Rattle.wasm_ast.specs.declared.types.Value.{Value}
+
+pub record Below : Type 0 where
+  pub values : List Value
+  pub room : ℕ
 
 pub record Split : Type 0 where
   pub here : List Value
-  pub below : List Value
+  pub below : Below
+
+-- how many there are
+abbrev pub all_of : Split → ℕ
+all_of s = length s.here + length s.below.values
+
+-- there is room for one more
+abbrev pub HasSpare : Split → Type 0
+HasSpare s = all_of s < s.below.room

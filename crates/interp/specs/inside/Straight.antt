@@ -1,8 +1,9 @@
 -- Instructions that go straight on: the layers stay, whatever they are.
-use Rattle.std.specs.Prelude.{◌≡◌, ℕ, ◌+◌, List, Bool}
+use Rattle.std.specs.Prelude.{◌≡◌, ℕ, ◌+◌, List, Bool, false, Some}
 use Rattle.wasm_ast.specs.declared.types.Value.{Value}
 use Rattle.wasm_ast.specs.declared.module.Module.{Module}
 use Rattle.wasm_ast.specs.Code.{Code}
+use Rattle.cost.specs.Weights.{host_units, plain_units}
 use Rattle.host_calls.specs.Host.{Host}
 use Rattle.interp.specs.Configuration.{State, Effect, tick}
 use Rattle.interp.specs.Machine.{Running, Layer, after_effect, next_units}
@@ -10,9 +11,10 @@ use Rattle.interp.specs.declared.straight.Straight.{Straight}
 use Rattle.interp.specs.declared.straight.Straight.TheVariants as straight
 use Rattle.interp.specs.inside.Acts.{state}
 use Rattle.interp.specs.inside.Cells.{cell_advance, cell_call, cell_effect}
+use Rattle.interp.specs.inside.Given.{gives}
 use Rattle.interp.specs.inside.Going.{call_asks, plain_asks}
 use Rattle.interp.specs.inside.Place.{Place}
-use Rattle.interp.specs.inside.Walk.{Arrives, Leads}
+use Rattle.interp.specs.inside.Walk.{Arrives, Leads, SendsFrom}
 
 -- a place but for its layers
 pub record Spot : Type 0 where
@@ -35,7 +37,11 @@ LeadsAmid m s most = (ls : List Layer) × Leads m (amid s ls) most
 abbrev pub Passes : Module → (most : ℕ) → (s t : Spot) → Type 0
 Passes m most s t = (ls : List Layer) → Arrives m most (amid s ls) (amid t ls)
 
--- what an instruction that goes straight on does, and what it asks
+-- each run over values that comes by here sends something, or gives something to a slot, amid any layers
+abbrev pub SendsAmid : Module → (most : ℕ) → Spot → Type 0
+SendsAmid m most s = (ls : List Layer) → SendsFrom m (amid s ls) most
+
+-- what an instruction that goes straight on does, what it asks, and whether it sends something or gives something to a slot
 abbrev pub straight_effect : (Value → Bool) → Straight → List Value → State → Effect
 straight_effect may (straight.Plain p) vs st = cell_effect may p vs st
 straight_effect may (straight.Host c) vs st = cell_call may c vs st
@@ -43,6 +49,15 @@ straight_effect may (straight.Host c) vs st = cell_call may c vs st
 abbrev pub straight_asks : Straight → (values locals globals : List Value) → (bytes : List ℕ) → Bool
 straight_asks (straight.Plain p) vs locals globals bytes = plain_asks p vs locals globals bytes
 straight_asks (straight.Host c) vs locals globals bytes = call_asks c vs
+
+abbrev pub straight_gives : Straight → Bool
+straight_gives (straight.Plain p) = false
+straight_gives (straight.Host c) = gives c
+
+-- what it counts
+abbrev pub straight_units : Straight → ℕ
+straight_units (straight.Plain p) = plain_units p
+straight_units (straight.Host c) = host_units (Some c)
 
 -- the code begins with such an instruction, which counts so many units
 pub record GoesStraight (m : Module) (whole : Code) (what : Straight) (units : ℕ) (rest : Code) : Type 0 where

@@ -9,23 +9,33 @@ use Rattle.wasm_ast.specs.View.{code_of}
 use Rattle.interp.specs.declared.walk.Turn.{Turn}
 use Rattle.interp.specs.declared.walk.Turn.TheVariants as turn
 use Rattle.interp.specs.Configuration.{State, Effect}
+use Rattle.wasm_ast.specs.Limits.{max_locals}
+use Rattle.interp.specs.Heights.{layers, locals, operands}
 use Rattle.interp.specs.Machine.{Machine, Running, Done, Layer, Label, after_effect, arm, arrive, back, enter, functions_of, jump, next_units, run, taking}
 use Rattle.interp.specs.inside.Cells.{cell_next, cell_take_call, celled, cells_place, cells_state, seen}
+use Rattle.interp.specs.inside.Given.{HasGiven}
 use Rattle.interp.specs.inside.Fits.{MachineFits}
 use Rattle.interp.specs.inside.Kept.{AreMarked, Touches, marks}
-use Rattle.interp.specs.inside.Place.{Place, Standing, at, running, state_of}
+use Rattle.interp.specs.inside.Place.{Place, Room, Standing, at, running, state_of}
 
--- the machine is this: it runs at the place that is answered, or is done, unless memory runs out
-abbrev pub Turned : {E : Type 0} → Result Turn E → Machine → Standing → Type 0
-Turned (Ok (turn.Next code count)) x s = x ≡ running (at s (code_of code.now) count)
-Turned (Ok (turn.Finished count)) x s = x ≡ Done (state_of s count)
-Turned (Err _) x s = Unit {0}
+-- the machine is this: it runs at the place that is answered, or is done
+abbrev pub Turned : Turn → Machine → Standing → Type 0
+Turned (turn.Next code count) x s = x ≡ running (at s (code_of code.now) count)
+Turned (turn.Finished count) x s = x ≡ Done (state_of s count)
+
+-- the same, but where memory runs out it would have sent something, or given something to a slot
+abbrev pub TurnedOrSent : {E : Type 0} → Result Turn E → Machine → Standing → Type 0
+TurnedOrSent (Ok t) x s = Turned t x s
+TurnedOrSent (Err _) x s = HasGiven x
 
 -- ---- what the parts of a walk do, by the operands, the code, the layers and the state
 
 -- the walk was turned so from one place to another
-abbrev pub Turns : {E : Type 0} → Result Turn E → (List Value → Code → List Layer → State → Machine) → Code → (count : ℕ) → (old new : Standing) → Type 0
-Turns r step code count old new = Turned r (step old.values code old.layers (state_of old count)) new
+abbrev pub Turns : Turn → (List Value → Code → List Layer → State → Machine) → Code → (count : ℕ) → (old new : Standing) → Type 0
+Turns t step code count old new = Turned t (step old.values code old.layers (state_of old count)) new
+
+abbrev pub TurnsOrSends : {E : Type 0} → Result Turn E → (List Value → Code → List Layer → State → Machine) → Code → (count : ℕ) → (old new : Standing) → Type 0
+TurnsOrSends r step code count old new = TurnedOrSent r (step old.values code old.layers (state_of old count)) new
 
 -- an instruction taken off a whole sequence, of which the rest is the code
 abbrev pub taken : (Value → Bool) → Module → (whole : Code) → List Value → Code → List Layer → State → Machine
@@ -101,10 +111,26 @@ pub record Leads (m : Module) (here : Place) (most : ℕ) : Type 0 where
 abbrev pub Arrives : Module → (most : ℕ) → (here there : Place) → Type 0
 Arrives m most here there = (from : Machine) → Follows m from here → EndsWithin m from most → Follows m from there
 
+-- there is room for another operand and another frame beside those of the machine
+pub record IsWithinRoom (room : Room) (x : Machine) : Type 0 where
+  pub few_layers : layers x < room.layers
+  pub few_operands : operands x < room.operands
+  pub few_locals : locals x + max_locals ≤ room.locals
+
+-- the same, and there is always room for another frame
+pub record LeadsWithin (m : Module) (room : Room) (here : Place) (most : ℕ) : Type 0 where
+  pub leads : Leads m here most
+  pub low : (n : ℕ) → IsWithinRoom room (run m n leads.from)
+
 -- each run over values that comes by here is done in this state, as cells
 abbrev pub Concludes : Module → Place → (most : ℕ) → State → Type 0
 Concludes m here most final =
     (from : Machine) → Follows m from here → EndsWithin m from most → (st : State) × Finishes m from st × (cells_state (marks m) st ≡ final)
+
+-- each run over values that comes by here sends something, or gives something to a slot
+abbrev pub SendsFrom : Module → Place → (most : ℕ) → Type 0
+SendsFrom m here most =
+    (from : Machine) → Follows m from here → EndsWithin m from most → (n : ℕ) × HasGiven (run m n from)
 
 -- how many steps may be left
 abbrev pub left_of : ℕ → Place → ℕ

@@ -1,34 +1,34 @@
 //! Globals and memory as a call begins (Core 1.0, 4.5.4).
 
-ghost use Rattle.std.specs.Prelude.{◌≡◌, [], Some, IsSome, OnOk};
+ghost use Rattle.std.specs.Prelude.{◌≡◌, Some, length, IsSome};
+ghost use Rattle.bounded_profile.specs.Memory.{memory_bytes};
 ghost use Rattle.interp.specs.Start.{constant_value, constant_plain, initial_globals};
 ghost use Rattle.interp.specs.inside.Begun.{AreInitial, cells_laid_in, cell_memory_laid, cell_segment_laid};
+ghost use Rattle.interp.specs.inside.Kept.{count_kept, marked_before, marks};
 
 use crate::cell::of_value;
 use crate::globals::Globals;
 use crate::memory::Memory;
 use bounded_profile::Verified;
-use std::alloc::{AllocError, Global};
+use std::alloc::Global;
 use wasm_ast::{Body, Data, Global as GlobalDefinition, Instr, Module, Plain, Value, Variable};
 
 /// The initial value of each global, as a cell.
-pub fn lay_globals(
-    alloc: Global,
-    definitions: &[GlobalDefinition],
-    globals: &mut Globals,
-) -> Result<(), AllocError>
-    requires empty { globals.old ≡ [] }
+pub fn lay_globals(alloc: Global, definitions: &[GlobalDefinition], globals: &mut Globals)
+    requires long { length definitions.now ≡ length globals.old }
     requires there { IsSome (initial_globals definitions.now) }
-    ensures { OnOk result (AreInitial definitions.now globals.new) }
+    ensures initial { AreInitial definitions.now globals.new }
+    ensures kept { length globals.new ≡ length globals.old }
 {
     let none = Globals::new(alloc);
+    let mut place = 0;
     for definition in definitions {
         match constant_value(&none, &definition.initial) {
-            Some(value) => globals.add(of_value(value))?,
+            Some(value) => globals.lay(place, of_value(value)),
             None => unreachable!(),
         }
+        place += 1;
     }
-    Ok(())
 }
 
 /// Zeros, and the data segments in order, where they are kept.
@@ -37,19 +37,22 @@ pub fn lay_memory<'a>(
     module: &Module,
     globals: &Globals,
     memory: &mut Memory<'a>,
-) -> Result<(), AllocError>
+)
     requires own { verified.now ≡ «module».now }
+    requires room { count_kept memory.old
+        ≡ marked_before (marks «module».now) (memory_bytes «module».now) }
     requires there { IsSome (cell_memory_laid globals.now «module».now) }
-    ensures { OnOk result (cell_memory_laid globals.now «module».now ≡ Some memory.new) }
+    ensures laid { cell_memory_laid globals.now «module».now ≡ Some memory.new }
+    ensures kept { count_kept memory.new ≡ count_kept memory.old }
 {
-    memory.renew(verified)?;
+    memory.renew(verified);
     lay_segments(module.data.as_slice(), globals, memory);
-    Ok(())
 }
 
 fn lay_segments(segments: &[Data], globals: &Globals, memory: &mut Memory)
     requires { IsSome (cells_laid_in globals.now segments.now memory.old) }
-    ensures { cells_laid_in globals.now segments.now memory.old ≡ Some memory.new }
+    ensures laid { cells_laid_in globals.now segments.now memory.old ≡ Some memory.new }
+    ensures kept { count_kept memory.new ≡ count_kept memory.old }
 {
     for segment in segments {
         lay_segment(segment, globals, memory);
@@ -58,7 +61,8 @@ fn lay_segments(segments: &[Data], globals: &Globals, memory: &mut Memory)
 
 fn lay_segment(segment: &Data, globals: &Globals, memory: &mut Memory)
     requires { IsSome (cell_segment_laid globals.now segment.now memory.old) }
-    ensures { cell_segment_laid globals.now segment.now memory.old ≡ Some memory.new }
+    ensures laid { cell_segment_laid globals.now segment.now memory.old ≡ Some memory.new }
+    ensures kept { count_kept memory.new ≡ count_kept memory.old }
 {
     match constant_value(globals, &segment.offset) {
         Some(place) => memory.lay(of_value(place), segment.bytes.as_slice()),

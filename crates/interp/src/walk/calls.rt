@@ -1,12 +1,14 @@
 //! Calls of functions by number (Core 1.0, 4.4.7).
 
-ghost use Rattle.std.specs.Prelude.{◌≡◌, Some, true};
+ghost use Rattle.std.specs.Prelude.{◌≡◌, ◌+◌, ◌≤◌, Some, length, true};
+ghost use Rattle.wasm_ast.specs.Limits.{IsWithinLimits, max_locals, parameters_of};
 ghost use Rattle.wasm_ast.specs.View.{code_of};
 ghost use Rattle.interp.specs.Machine.{enter};
 ghost use Rattle.interp.specs.inside.Cells.{celled, in_width, of_any_width};
 ghost use Rattle.interp.specs.inside.Going.{goes_on};
 ghost use Rattle.interp.specs.inside.Meaning.{AreImports};
-ghost use Rattle.interp.specs.inside.Walk.{Turns, called, entered};
+ghost use Rattle.interp.specs.inside.Place.{HasFrameRoom};
+ghost use Rattle.interp.specs.inside.Walk.{Turns, TurnsOrSends, called, entered};
 
 use crate::layers::{Layer, push_layer};
 use crate::program::{Callee, Program};
@@ -24,15 +26,18 @@ impl<'a, 'b> Walk<'a, 'b> {
         count: u128,
     ) -> Result<Turn<'a>, AllocError>
         requires calls { AreImports program.calls.now program.«module».now }
+        requires within { IsWithinLimits program.«module».now }
+        requires room { HasFrameRoom self.old }
         requires goes { goes_on (called of_any_width program.«module».now number) (code_of code.now)
             count self.old ≡ true }
-        ensures { Turns result (called in_width program.entry.«module».now number)
+        ensures turned { TurnsOrSends result (called in_width program.entry.«module».now number)
             (code_of code.now) count self.old self.new }
+        ensures room { self.new.room ≡ self.old.room }
     {
         match program.callee(number) {
             None => unreachable!(),
             Some(Callee::Host(call)) => self.act_host(call, code, count),
-            Some(Callee::Defined(function)) => self.enter(program, function, code, count),
+            Some(Callee::Defined(function)) => Ok(self.enter(program, function, code, count)),
         }
     }
 
@@ -42,11 +47,15 @@ impl<'a, 'b> Walk<'a, 'b> {
         function: &'a Function,
         code: &'a [Instr],
         count: u128,
-    ) -> Result<Turn<'a>, AllocError>
-        requires { goes_on (entered program.«module».now function.now) (code_of code.now) count
+    ) -> Turn<'a>
+        requires room { HasFrameRoom self.old }
+        requires few { parameters_of program.«module».now.types function.now.type_number
+            + length function.now.locals ≤ max_locals }
+        requires goes { goes_on (entered program.«module».now function.now) (code_of code.now) count
             self.old ≡ true }
-        ensures { Turns result (entered program.entry.«module».now function.now)
+        ensures turned { Turns result (entered program.entry.«module».now function.now)
             (code_of code.now) count self.old self.new }
+        ensures room { self.new.room ≡ self.old.room }
     {
         let types = program.module.types.as_slice();
         match types.get(function.type_number as usize) {
@@ -61,17 +70,20 @@ impl<'a, 'b> Walk<'a, 'b> {
         func_type: &FuncType,
         code: &'a [Instr],
         count: u128,
-    ) -> Result<Turn<'a>, AllocError>
-        requires { goes_on (enter (celled function.now) (Some func_type.now)) (code_of code.now)
-            count self.old ≡ true }
-        ensures { Turns result (enter (celled function.now) (Some func_type.now))
+    ) -> Turn<'a>
+        requires room { HasFrameRoom self.old }
+        requires few { length func_type.now.parameters + length function.now.locals ≤ max_locals }
+        requires goes { goes_on (enter (celled function.now) (Some func_type.now))
+            (code_of code.now) count self.old ≡ true }
+        ensures turned { Turns result (enter (celled function.now) (Some func_type.now))
             (code_of code.now) count self.old self.new }
+        ensures room { self.new.room ≡ self.old.room }
     {
         let arguments = func_type.parameters.as_slice().len();
         let keeps = !func_type.results.as_slice().is_empty();
         let base = self.locals.base();
-        self.locals.open(self.operands.topmost(arguments))?;
-        self.locals.add(function.locals.as_slice())?;
+        self.locals.open(self.operands.topmost(arguments));
+        self.locals.add(function.locals.as_slice());
         self.operands.shed(arguments);
         let floor = self.operands.floor();
         let frame = Layer::Frame {
@@ -80,11 +92,11 @@ impl<'a, 'b> Walk<'a, 'b> {
             base,
             after: code,
         };
-        push_layer(&mut self.layers, frame)?;
+        push_layer(&mut self.layers, frame);
         self.operands.open();
-        Ok(Turn::Next {
+        Turn::Next {
             code: function.body.as_slice(),
             count,
-        })
+        }
     }
 }

@@ -5,26 +5,27 @@ ghost use Rattle.wasm_ast.specs.declared.types.Value.TheVariants.{I64};
 ghost use Rattle.wasm_ast.specs.View.{code_of};
 ghost use Rattle.interp.specs.Machine.{arrive, leave};
 ghost use Rattle.interp.specs.inside.Going.{goes_on, is_going};
-ghost use Rattle.interp.specs.inside.Place.{state_of};
+ghost use Rattle.interp.specs.inside.Place.{HasLayerRoom, HasOperandRoom, state_of};
 ghost use Rattle.interp.specs.inside.Walk.{Turned, Turns, chosen, opened};
 
 use crate::cell::as_i32;
 use crate::layers::{Layer, pop_layer, push_layer};
 use crate::walk::{Turn, Walk};
-use std::alloc::AllocError;
 use wasm_ast::{Body, Instr};
 
 impl<'a, 'b> Walk<'a, 'b> {
     /// Goes on at the innermost label or frame, with an operand.
     #[inline(always)]
-    pub fn arrive(&mut self, top: Option<u64>, count: u128) -> Result<Turn<'a>, AllocError>
-        requires { is_going (arrive (option_map I64 top) self.old.layers
+    pub fn arrive(&mut self, top: Option<u64>, count: u128) -> Turn<'a>
+        requires spare { HasOperandRoom self.old }
+        requires goes { is_going (arrive (option_map I64 top) self.old.layers
             (state_of self.old count)) ≡ true }
-        ensures { Turned result (arrive (option_map I64 top) self.old.layers
+        ensures turned { Turned result (arrive (option_map I64 top) self.old.layers
             (state_of self.old count)) self.new }
+        ensures room { self.new.room ≡ self.old.room }
     {
         match pop_layer(&mut self.layers) {
-            None => Ok(Turn::Finished { count }),
+            None => Turn::Finished { count },
             Some(
                 Layer::Label {
                     keeps,
@@ -34,11 +35,11 @@ impl<'a, 'b> Walk<'a, 'b> {
                 },
             ) => {
                 self.operands.fall(floor);
-                self.operands.carry(keeps, top)?;
-                Ok(Turn::Next {
+                self.operands.carry(keeps, top);
+                Turn::Next {
                     code: target,
                     count,
-                })
+                }
             }
             Some(
                 Layer::Frame {
@@ -50,23 +51,24 @@ impl<'a, 'b> Walk<'a, 'b> {
             ) => {
                 self.operands.fall(floor);
                 self.locals.close(base);
-                self.operands.carry(keeps, top)?;
-                Ok(Turn::Next { code: after, count })
+                self.operands.carry(keeps, top);
+                Turn::Next { code: after, count }
             }
         }
     }
 
     /// Goes on after the innermost label or frame.
     #[inline]
-    pub fn leave(&mut self, count: u128) -> Result<Turn<'a>, AllocError>
-        ensures { Turned result (leave self.old.values self.old.layers (state_of self.old count))
-            self.new }
+    pub fn leave(&mut self, count: u128) -> Turn<'a>
+        ensures turned { Turned result
+            (leave self.old.values self.old.layers (state_of self.old count)) self.new }
+        ensures room { self.new.room ≡ self.old.room }
     {
         match pop_layer(&mut self.layers) {
-            None => Ok(Turn::Finished { count }),
+            None => Turn::Finished { count },
             Some(Layer::Label { floor, after, .. }) => {
                 self.operands.join(floor);
-                Ok(Turn::Next { code: after, count })
+                Turn::Next { code: after, count }
             }
             Some(
                 Layer::Frame {
@@ -78,7 +80,7 @@ impl<'a, 'b> Walk<'a, 'b> {
             ) => {
                 self.operands.join(floor);
                 self.locals.close(base);
-                Ok(Turn::Next { code: after, count })
+                Turn::Next { code: after, count }
             }
         }
     }
@@ -92,9 +94,11 @@ impl<'a, 'b> Walk<'a, 'b> {
         body: &'a Body,
         code: &'a [Instr],
         count: u128,
-    ) -> Result<Turn<'a>, AllocError>
-        ensures { Turns result (opened keeps (code_of target.now) body.now)
+    ) -> Turn<'a>
+        requires { HasLayerRoom self.old }
+        ensures turned { Turns result (opened keeps (code_of target.now) body.now)
             (code_of code.now) count self.old self.new }
+        ensures room { self.new.room ≡ self.old.room }
     {
         let floor = self.operands.floor();
         let label = Layer::Label {
@@ -103,12 +107,12 @@ impl<'a, 'b> Walk<'a, 'b> {
             target,
             after: code,
         };
-        push_layer(&mut self.layers, label)?;
+        push_layer(&mut self.layers, label);
         self.operands.open();
-        Ok(Turn::Next {
+        Turn::Next {
             code: body.as_slice(),
             count,
-        })
+        }
     }
 
     /// Begins one of two sequences.
@@ -120,11 +124,13 @@ impl<'a, 'b> Walk<'a, 'b> {
         else_body: &'a Body,
         code: &'a [Instr],
         count: u128,
-    ) -> Result<Turn<'a>, AllocError>
-        requires { goes_on (chosen keeps then_body.now else_body.now) (code_of code.now) count
+    ) -> Turn<'a>
+        requires room { HasLayerRoom self.old }
+        requires goes { goes_on (chosen keeps then_body.now else_body.now) (code_of code.now) count
             self.old ≡ true }
-        ensures { Turns result (chosen keeps then_body.now else_body.now) (code_of code.now) count
-            self.old self.new }
+        ensures turned { Turns result (chosen keeps then_body.now else_body.now)
+            (code_of code.now) count self.old self.new }
+        ensures room { self.new.room ≡ self.old.room }
     {
         if as_i32(self.operands.pop()) == 0 {
             self.open(keeps, code, else_body, code, count)

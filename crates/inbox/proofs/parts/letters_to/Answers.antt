@@ -1,16 +1,20 @@
-use Rattle.std.proofs.Common.{rules, pos}
-use Rattle.std.proofs.lemmas.List.{take_rest}
-use Rattle.std.proofs.lemmas.List.Sorted.{IsPartitionPoint-from_clause}
-use Rattle.std.specs.Prelude.{int_lt, int_le}
-use Rattle.inbox.proofs.SideBySide.{letters_found, below_partitioned, upto_partitioned}
+use Rattle.std.proofs.Common.{◌^◌, ◌<◌, pos, rules, arith}
+use Rattle.std.proofs.lemmas.Iterator.{YieldsList-from_slice}
+use Rattle.std.proofs.lemmas.Iterator.Search.{find_from_yields_List}
+use Rattle.inbox.specs.inside.Pieces.{lies_in}
+use Rattle.inbox.specs.declared.pieces.Piece.{Piece}
+use Rattle.inbox.proofs.InPieces.{found_letters, found_none}
 use Rattle.inbox.proofs.parts.letters_to.Goals as goal
 
-pub returns : goal.returns
-returns c =
-    let letters = c.args.letters.now in
-    let id = pos c.args.id in
-    let start = c.partition_point-start.result in
-    let rest = take_rest letters start in
-    let first = IsPartitionPoint-from_clause (λ letter. int_lt letter.to id) letters start c.partition_point-start.ensures.partitioned (below_partitioned id letters c.requires) (λ a r q k. search rules) in
-    let second = IsPartitionPoint-from_clause (λ letter. int_le letter.to id) _ c.partition_point-count.result c.partition_point-count.ensures.partitioned (rw rest (upto_partitioned id letters start c.requires)) (λ a r q k. search rules) in
-    rw rest (letters_found c.args.id letters start c.partition_point-count.result c.partition_point-start.ensures.bound (rw rest at c.partition_point-count.ensures.bound) first (rw rest at second))
+pub returns-in-Some : goal.returns-in-Some
+returns-in-Some c = λ letters ordered are by.
+    let test = λ (piece : Piece). lies_in piece.span (pos c.args.id) in
+    let found = find_from_yields_List test _ _ c.find.result c.find.ensures.ran (YieldsList-from_slice c.args.pieces.now cc) (λ x b q k. search rules) in
+    found_letters letters ordered c.args.pieces.now c.args.id are by c.in-Some.piece.now c.run_to.result.now (rw c.in-Some.is at found) (rw c.deref.ensures.value at c.run_to.ensures)
+
+pub returns-in-None : goal.returns-in-None
+returns-in-None c = λ letters ordered are by.
+    let test = λ (piece : Piece). lies_in piece.span (pos c.args.id) in
+    let found = find_from_yields_List test _ _ c.find.result c.find.ensures.ran (YieldsList-from_slice c.args.pieces.now cc) (λ x b q k. search rules) in
+    let small : c.args.id < 2 ^ 64 = omega arith in
+    absurd (found_none letters ordered c.args.pieces.now c.args.id are by small (rw c.in-None.is at found))

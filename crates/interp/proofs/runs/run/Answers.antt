@@ -1,8 +1,13 @@
 use Rattle.std.proofs.Common.{sym, subst}
+use Rattle.std.specs.Prelude.{IfOk}
 use Rattle.wasm_ast.specs.declared.module.Module.{Module}
-use Rattle.wasm_ast.specs.View.{code_of}
+use Rattle.wasm_ast.specs.Limits.{IsWithinLimits}
+use Rattle.validate.specs.Modules.{IsTyped}
+use Rattle.bounded_profile.specs.Profile.{IsBounded}
+use Rattle.interp.specs.Call.{IsOutcome}
 use Rattle.interp.specs.inside.Begun.{BeginsAt, IsDefinedAt}
-use Rattle.interp.proofs.Running.{beginning_at, begins_at, begins_with, bound_told, defined_at, ends_at, fails_never, leads, outcome_told}
+use Rattle.interp.proofs.Running.{begins_at, begins_with, bound_told, defined_at, ends_at, fails_never, few_of_its_own}
+use Rattle.interp.proofs.Sending.{silent_ok}
 use Rattle.interp.proofs.runs.run.Goals as goal
 
 pub defined-function-requires-clause-defined : goal.defined-function-requires-clause-defined
@@ -11,45 +16,45 @@ defined-function-requires-clause-defined c =
     let b = begins_at c.args.verified.now told.typed told.bounded c.compute.result c.compute.ensures c.args.input.now in
     subst (λ (m : Module). IsDefinedAt m c.compute.result) (sym told.same) (defined_at c.args.verified.now c.compute.result b)
 
-pub lay-requires-clause-begins : goal.lay-requires-clause-begins
-lay-requires-clause-begins c =
+pub call-requires-clause-typed : goal.call-requires-clause-typed
+call-requires-clause-typed c = subst IsTyped (sym c.requires.fits) c.program_for-program.ensures.typed
+
+pub call-requires-clause-bounded : goal.call-requires-clause-bounded
+call-requires-clause-bounded c = subst IsBounded (sym c.requires.fits) c.program_for-program.ensures.bounded
+
+pub call-requires-clause-within : goal.call-requires-clause-within
+call-requires-clause-within c = subst IsWithinLimits (sym c.requires.fits) c.program_for-program.ensures.within
+
+pub call-requires-clause-begins : goal.call-requires-clause-begins
+call-requires-clause-begins c =
     let told = c.program_for-program.ensures in
     let b = begins_at c.args.verified.now told.typed told.bounded c.compute.result c.compute.ensures c.args.input.now in
     begins_with c.program_for-program.result.module.now c.compute.result c.defined-function.result.now (subst (λ (m : Module). BeginsAt m c.compute.result) (sym told.same) b) c.defined-function.ensures
 
-pub begin-walk-requires-clause-begins : goal.begin-walk-requires-clause-begins
-begin-walk-requires-clause-begins c =
+pub call-requires-clause-few : goal.call-requires-clause-few
+call-requires-clause-few c =
     let told = c.program_for-program.ensures in
-    let b = begins_at c.args.verified.now told.typed told.bounded c.compute.result c.compute.ensures c.args.input.now in
-    begins_with c.program_for-program.result.module.now c.compute.result c.defined-function.result.now (subst (λ (m : Module). BeginsAt m c.compute.result) (sym told.same) b) c.defined-function.ensures
+    few_of_its_own c.program_for-program.result.module.now (subst IsWithinLimits (sym told.same) told.within) c.compute.result c.defined-function.result.now c.defined-function.ensures
 
-pub finish-ended-requires-clause-ends : goal.finish-ended-requires-clause-ends
-finish-ended-requires-clause-ends c =
+pub call-requires-clause-ends : goal.call-requires-clause-ends
+call-requires-clause-ends c =
     let told = c.program_for-program.ensures in
-    let m = c.program_for-program.result.module.now in
-    let ends = ends_at m c.args.verified.now told.same told.typed told.bounded c.args.input.now c.size.result c.size.ensures c.most_units-most.result c.most_units-most.ensures in
-    let begins = beginning_at m c.args.input.now c.begin-walk.result (code_of c.as_slice.result.now) c.defined-function.result.now.body c.as_slice.ensures c.begin-walk.ensures in
-    leads m c.args.input.now c.begin-walk.result (code_of c.as_slice.result.now) c.most_units-most.result ends begins
+    ends_at c.program_for-program.result.module.now c.args.verified.now told.same told.typed told.bounded c.args.input.now c.size.result c.size.ensures c.most_units-most.result c.most_units-most.ensures
 
 pub returns-clause-outcome : goal.returns-clause-outcome
 returns-clause-outcome c =
-    let told = c.program_for-program.ensures in
-    let m = c.program_for-program.result.module.now in
-    let ends = ends_at m c.args.verified.now told.same told.typed told.bounded c.args.input.now c.size.result c.size.ensures c.most_units-most.result c.most_units-most.ensures in
-    let begins = beginning_at m c.args.input.now c.begin-walk.result (code_of c.as_slice.result.now) c.defined-function.result.now.body c.as_slice.ensures c.begin-walk.ensures in
-    outcome_told c.finish-ended.result.0 m c.args.verified.now c.args.input.now c.begin-walk.result (code_of c.as_slice.result.now) c.most_units-most.result told.same ends begins c.finish-ended.ensures
+    subst (λ (m : Module). IfOk c.call.result (IsOutcome m c.args.input.now)) c.program_for-program.ensures.same c.call.ensures.outcome
 
 pub returns-clause-units : goal.returns-clause-units
 returns-clause-units c =
     let told = c.program_for-program.ensures in
-    let m = c.program_for-program.result.module.now in
-    let ends = ends_at m c.args.verified.now told.same told.typed told.bounded c.args.input.now c.size.result c.size.ensures c.most_units-most.result c.most_units-most.ensures in
-    let begins = beginning_at m c.args.input.now c.begin-walk.result (code_of c.as_slice.result.now) c.defined-function.result.now.body c.as_slice.ensures c.begin-walk.ensures in
-    bound_told c.finish-ended.result.0 c.args.verified.now told.typed told.bounded c.args.input.now
-    (outcome_told c.finish-ended.result.0 m c.args.verified.now c.args.input.now c.begin-walk.result (code_of c.as_slice.result.now) c.most_units-most.result told.same ends begins c.finish-ended.ensures)
+    bound_told c.call.result c.args.verified.now told.typed told.bounded c.args.input.now
+    (subst (λ (m : Module). IfOk c.call.result (IsOutcome m c.args.input.now)) told.same c.call.ensures.outcome)
 
 pub returns-clause-fails_never : goal.returns-clause-fails_never
 returns-clause-fails_never c = let told = c.program_for-program.ensures in fails_never c.args.verified.now told.typed told.bounded c.args.input.now
 
-pub returns-in_err-lay-clause-fails_never : goal.returns-in_err-lay-clause-fails_never
-returns-in_err-lay-clause-fails_never c = let told = c.program_for-program.ensures in fails_never c.args.verified.now told.typed told.bounded c.args.input.now
+pub returns-clause-reserved : goal.returns-clause-reserved
+returns-clause-reserved c =
+    let told = c.program_for-program.ensures in
+    silent_ok c.call.result c.program_for-program.result.module.now c.args.verified.now told.same told.typed told.bounded told.within c.args.input.now c.call.ensures.sends

@@ -1,10 +1,13 @@
-use Rattle.std.proofs.Common.{◌≡◌, ◌+◌, ◌-◌, map, drop, length, reverse, ap, ◌∙◌, arith}
+use Rattle.std.proofs.Common.{◌≡◌, List, ◌+◌, ◌-◌, map, drop, length, reverse, ap, ◌∙◌, arith}
+use Rattle.wasm_ast.specs.declared.types.Value.{Value}
 use Rattle.wasm_ast.specs.declared.types.Value.TheVariants.{I64}
 use Rattle.wasm_ast.specs.View.{code_of}
 use Rattle.interp.specs.inside.Pile.{pile}
-use Rattle.interp.proofs.Lent.{IsLent, back_below, back_cells, back_here, back_under, given_back, lent, lent_cells, lent_here}
-use Rattle.interp.proofs.Passing.{leads_same, passes_same}
+use Rattle.interp.specs.inside.Split.{Below}
+use Rattle.interp.proofs.Lent.{IsLent, back_lower, back_cells, back_here, back_under, given_back, lent, lent_cells, lent_here}
+use Rattle.interp.proofs.Passing.{leads_same, passes_same, sends_same}
 use Rattle.interp.proofs.Piles.{held}
+use Rattle.interp.proofs.Sending.{on_any}
 use Rattle.interp.proofs.straight.go_straight.Goals as goal
 
 pub run_straight-requires-clause-leads : goal.run_straight-requires-clause-leads
@@ -40,7 +43,7 @@ returns-clause-passes c =
     let g : IsLent l.base l.cells.len others r.new.locals l.cells.items = record {
       same = c.deref_mut-2.ensures.value;
       all = omega (arith, c.deref_mut-2.ensures.len);
-      within = omega (arith, ap (λ k. length k) c.deref_mut-2.ensures.value, c.locals.invariant);
+      within = omega (arith, ap (λ k. length k) c.deref_mut-2.ensures.value, c.locals.invariant.0);
       kept = omega (arith, r.auto.locals);
     } in
     passes_same c.args.program.module.now c.args.most (code_of c.args.code.now) (code_of stop.code.now) (pile (lent o.floor whole) (o.top - o.floor)) c.args.operands.now.here (map I64 (lent l.base others)) c.args.locals.now.here here cells c.args.globals.now c.args.bytes.now c.args.host.now r.new.host c.args.count
@@ -58,7 +61,7 @@ returns-clause-below c =
       within = omega (arith, ap (λ k. length k) c.deref_mut.ensures.value, c.operands.invariant.0, c.operands.invariant.1);
       kept = omega (arith, r.auto.cells);
     } in
-    back_below o.floor o.cells.len whole r.new.cells o.cells.items h (o.floor + c.in_ok-stop.stop.top) o.top (omega arith) c.operands.invariant.0 ∙ ap (λ s. s.below) c.operands.view_is
+    back_lower o.floor o.cells.len whole r.new.cells o.cells.items h (o.floor + c.in_ok-stop.stop.top) o.top (omega arith) c.operands.invariant.0 ∙ ap (λ s. s.below) c.operands.view_is
 
 pub returns-clause-locals_below : goal.returns-clause-locals_below
 returns-clause-locals_below c =
@@ -68,10 +71,11 @@ returns-clause-locals_below c =
     let g : IsLent l.base l.cells.len others r.new.locals l.cells.items = record {
       same = c.deref_mut-2.ensures.value;
       all = omega (arith, c.deref_mut-2.ensures.len);
-      within = omega (arith, ap (λ k. length k) c.deref_mut-2.ensures.value, c.locals.invariant);
+      within = omega (arith, ap (λ k. length k) c.deref_mut-2.ensures.value, c.locals.invariant.0);
       kept = omega (arith, r.auto.locals);
     } in
-    back_under l.base l.cells.len others r.new.locals l.cells.items g ∙ ap (λ s. s.below) c.locals.view_is
+    let with_values : List Value → Below = λ (v : List Value). record { values = v; room = l.room } in
+    ap with_values (back_under l.base l.cells.len others r.new.locals l.cells.items g) ∙ ap (λ s. s.below) c.locals.view_is
 
 pub returns-in_err-stop-clause-below : goal.returns-in_err-stop-clause-below
 returns-in_err-stop-clause-below c =
@@ -84,7 +88,7 @@ returns-in_err-stop-clause-below c =
       within = omega (arith, ap (λ k. length k) c.deref_mut.ensures.value, c.operands.invariant.0, c.operands.invariant.1);
       kept = omega (arith, r.auto.cells);
     } in
-    back_below o.floor o.cells.len whole r.new.cells o.cells.items h o.top o.top c.operands.invariant.0 c.operands.invariant.0 ∙ ap (λ s. s.below) c.operands.view_is
+    back_lower o.floor o.cells.len whole r.new.cells o.cells.items h o.top o.top c.operands.invariant.0 c.operands.invariant.0 ∙ ap (λ s. s.below) c.operands.view_is
 
 pub returns-in_err-stop-clause-locals_below : goal.returns-in_err-stop-clause-locals_below
 returns-in_err-stop-clause-locals_below c =
@@ -94,7 +98,20 @@ returns-in_err-stop-clause-locals_below c =
     let g : IsLent l.base l.cells.len others r.new.locals l.cells.items = record {
       same = c.deref_mut-2.ensures.value;
       all = omega (arith, c.deref_mut-2.ensures.len);
-      within = omega (arith, ap (λ k. length k) c.deref_mut-2.ensures.value, c.locals.invariant);
+      within = omega (arith, ap (λ k. length k) c.deref_mut-2.ensures.value, c.locals.invariant.0);
       kept = omega (arith, r.auto.locals);
     } in
-    back_under l.base l.cells.len others r.new.locals l.cells.items g ∙ ap (λ s. s.below) c.locals.view_is
+    let with_values : List Value → Below = λ (v : List Value). record { values = v; room = l.room } in
+    ap with_values (back_under l.base l.cells.len others r.new.locals l.cells.items g) ∙ ap (λ s. s.below) c.locals.view_is
+
+pub returns-in_err-stop-clause-sends : goal.returns-in_err-stop-clause-sends
+returns-in_err-stop-clause-sends c =
+    let o = c.operands.inside in
+    let l = c.locals.inside in
+    let whole = c.deref_mut.result.now in
+    let others = c.deref_mut-2.result.now in
+    let here : pile (lent o.floor whole) (o.top - o.floor) ≡ c.args.operands.now.here =
+    lent_here o.floor whole o.cells.items c.deref_mut.ensures.value o.top c.operands.invariant.0 ∙ ap (λ s. s.here) c.operands.view_is in
+    let cells : map I64 (lent l.base others) ≡ c.args.locals.now.here =
+    lent_cells l.base others l.cells.items c.deref_mut-2.ensures.value ∙ ap (λ s. s.here) c.locals.view_is in
+    on_any _ _ (sends_same c.args.program.module.now c.args.most (code_of c.args.code.now) (code_of c.args.code.now) (pile (lent o.floor whole) (o.top - o.floor)) c.args.operands.now.here (map I64 (lent l.base others)) c.args.locals.now.here here cells c.args.globals.now c.args.bytes.now c.args.host.now c.args.host.now c.args.count c.in_err-stop.ensures.sends)

@@ -4,21 +4,22 @@ use Rattle.wasm_ast.specs.View.{code_of}
 use Rattle.interp.specs.Configuration.{Gives}
 use Rattle.interp.specs.inside.Acts.{state}
 use Rattle.interp.specs.inside.Pile.{pile}
-use Rattle.interp.specs.inside.Straight.{Spot, spot}
-use Rattle.interp.proofs.Passing.{leads_on, passes_on, straight_asked_amid, straight_room, straight_step}
+use Rattle.interp.specs.inside.Straight.{Spot, spot, straight_units}
+use Rattle.interp.proofs.Passing.{leads_on, passes_on, sends_on, straight_asked_amid, straight_room, straight_sends, straight_step}
+use Rattle.interp.proofs.Sending.{on_any}
 use Rattle.interp.proofs.straight.run_straight.Goals as goal
 
 pub run-init : goal.run-init
-run-init c = record { within = c.requires.within; more = omega arith; passes = λ ls from follows ends. follows }
+run-init c = record { within = c.requires.within; more = omega arith; kept_globals = refl; kept_bytes = refl; passes = λ ls from follows ends. follows }
 
-pub overflow_add-count : goal.overflow_add-count
-overflow_add-count c =
+pub overflow_add-at : goal.overflow_add-at
+overflow_add-at c =
     let m = c.args.program.module.now in
     let next = c.in-Some.next in
     let start : Spot = spot (pile c.args.cells.now c.args.top) (code_of c.args.code.now) (map I64 c.args.locals.now) c.args.globals.now c.args.bytes.now c.args.host.now c.args.count in
     let here : Spot = spot (pile c.run.cells c.run.at.top) (code_of c.run.at.code.now) (map I64 c.run.locals) c.run.globals c.run.bytes c.run.host c.run.at.count in
-    let room = straight_room m c.args.most here next.what next.units (code_of next.code.now) c.in-Some.ensures.is (leads_on m c.args.most start here c.requires.leads c.run.invariant.passes) in
-    omega (arith, room, c.from.ensures, c.ranges.most.fits)
+    let room = straight_room m c.args.most here next.what (straight_units next.what) (code_of next.code.now) c.in-Some.ensures.is (leads_on m c.args.most start here c.requires.leads c.run.invariant.passes) in
+    omega (arith, room, c.from.ensures, c.in_ok-acted-in-Some.ensures.units, c.ranges.most.fits)
 
 pub act_straight-requires-clause-asks : goal.act_straight-requires-clause-asks
 act_straight-requires-clause-asks c =
@@ -26,7 +27,7 @@ act_straight-requires-clause-asks c =
     let next = c.in-Some.next in
     let start : Spot = spot (pile c.args.cells.now c.args.top) (code_of c.args.code.now) (map I64 c.args.locals.now) c.args.globals.now c.args.bytes.now c.args.host.now c.args.count in
     let here : Spot = spot (pile c.run.cells c.run.at.top) (code_of c.run.at.code.now) (map I64 c.run.locals) c.run.globals c.run.bytes c.run.host c.run.at.count in
-    straight_asked_amid m c.args.most here next.what next.units (code_of next.code.now) c.in-Some.ensures.is (leads_on m c.args.most start here c.requires.leads c.run.invariant.passes)
+    straight_asked_amid m c.args.most here next.what (straight_units next.what) (code_of next.code.now) c.in-Some.ensures.is (leads_on m c.args.most start here c.requires.leads c.run.invariant.passes)
 
 pub run-preserved : goal.run-preserved
 run-preserved c =
@@ -36,10 +37,39 @@ run-preserved c =
     let here : Spot = spot (pile c.run.cells c.run.at.top) (code_of c.run.at.code.now) (map I64 c.run.locals) c.run.globals c.run.bytes c.run.host c.run.at.count in
     let count = c.run.at.count + c.from.result in
     let a = c.act_straight in
-    let values = pile a.new.cells c.in_ok-top-in-Some.top in
+    let values = pile a.new.cells c.in_ok-acted-in-Some.acted.top in
     let there : Spot = spot values (code_of next.code.now) (map I64 a.new.locals) a.new.globals a.new.bytes a.new.host count in
     record {
-      within = c.in_ok-top-in-Some.ensures.within;
+      within = c.in_ok-acted-in-Some.ensures.within;
       more = omega (arith, c.run.invariant.more);
-      passes = passes_on m c.args.most start here there c.run.invariant.passes (straight_step m c.args.most here next.what next.units (code_of next.code.now) c.in-Some.ensures.is there (c.in_ok-top-in-Some.ensures.acts (c.run.at.count + next.units) ∙ ap (λ n. Gives values (state (map I64 a.new.locals) a.new.globals a.new.bytes a.new.host (c.run.at.count + n))) (sym c.from.ensures)) refl);
+      kept_globals = a.ensures.kept_globals ∙ c.run.invariant.kept_globals;
+      kept_bytes = a.ensures.kept_bytes ∙ c.run.invariant.kept_bytes;
+      passes = passes_on m c.args.most start here there c.run.invariant.passes (straight_step m c.args.most here next.what (straight_units next.what) (code_of next.code.now) c.in-Some.ensures.is there (c.in_ok-acted-in-Some.ensures.acts (c.run.at.count + straight_units next.what) ∙ ap (λ n. Gives values (state (map I64 a.new.locals) a.new.globals a.new.bytes a.new.host (c.run.at.count + n))) (sym (c.from.ensures ∙ c.in_ok-acted-in-Some.ensures.units))) refl);
     }
+
+pub returns-in_err-acted-in-Some-clause-sends : goal.returns-in_err-acted-in-Some-clause-sends
+returns-in_err-acted-in-Some-clause-sends c =
+    let m = c.args.program.module.now in
+    let next = c.in-Some.next in
+    let start : Spot = spot (pile c.args.cells.now c.args.top) (code_of c.args.code.now) (map I64 c.args.locals.now) c.args.globals.now c.args.bytes.now c.args.host.now c.args.count in
+    let here : Spot = spot (pile c.run.cells c.run.at.top) (code_of c.run.at.code.now) (map I64 c.run.locals) c.run.globals c.run.bytes c.run.host c.run.at.count in
+    let sends = straight_sends m c.args.most here next.what (straight_units next.what) (code_of next.code.now) c.in-Some.ensures.is c.in_err-acted-in-Some.ensures.fails in
+    on_any _ _ (sends_on m c.args.most start here c.run.invariant.passes sends)
+
+pub returns-in-None-clause-kept_globals : goal.returns-in-None-clause-kept_globals
+returns-in-None-clause-kept_globals c = c.run.invariant.kept_globals
+
+pub returns-in-None-clause-kept_bytes : goal.returns-in-None-clause-kept_bytes
+returns-in-None-clause-kept_bytes c = c.run.invariant.kept_bytes
+
+pub returns-in_err-acted-in-Some-clause-kept_globals : goal.returns-in_err-acted-in-Some-clause-kept_globals
+returns-in_err-acted-in-Some-clause-kept_globals c = c.act_straight.ensures.kept_globals ∙ c.run.invariant.kept_globals
+
+pub returns-in_err-acted-in-Some-clause-kept_bytes : goal.returns-in_err-acted-in-Some-clause-kept_bytes
+returns-in_err-acted-in-Some-clause-kept_bytes c = c.act_straight.ensures.kept_bytes ∙ c.run.invariant.kept_bytes
+
+pub returns-clause-kept_globals : goal.returns-clause-kept_globals
+returns-clause-kept_globals c = c.run.invariant.kept_globals
+
+pub returns-clause-kept_bytes : goal.returns-clause-kept_bytes
+returns-clause-kept_bytes c = c.run.invariant.kept_bytes

@@ -1,6 +1,7 @@
-use Rattle.std.proofs.Common.{◌≤◌, length, map}
+use Rattle.std.proofs.Common.{◌≡◌, ◌≤◌, length, map}
 use Rattle.wasm_ast.specs.declared.types.Value.TheVariants.{I64}
 use Rattle.wasm_ast.specs.View.{code_of}
+use Rattle.interp.specs.inside.Kept.{count_kept}
 use Rattle.interp.specs.inside.Pile.{pile}
 use Rattle.interp.specs.inside.Straight.{Passes, spot}
 use Rattle.interp.proofs.straight.run_straight.Given as goal
@@ -9,6 +10,8 @@ abbrev pub invariant-run : goal.invariant-run
 invariant-run l = record {
   within : l.at.top ≤ length l.cells;
   more : l.fn.count ≤ l.at.count;
+  kept_globals : length l.globals ≡ length l.fn.globals;
+  kept_bytes : count_kept l.bytes ≡ count_kept l.fn.bytes;
   passes : Passes l.program.«module».now l.fn.most (spot (pile l.fn.cells l.fn.top) (code_of l.fn.code) (map I64 l.fn.locals) l.fn.globals l.fn.bytes l.fn.host l.fn.count) (spot (pile l.cells l.at.top) (code_of l.at.code.now) (map I64 l.locals) l.globals l.bytes l.host l.at.count);
 }
 

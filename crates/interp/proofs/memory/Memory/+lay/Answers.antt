@@ -46,21 +46,21 @@ lay-requires-else-count-others t c =
       | else-count-others-via-else-count-others w ↦ omega (arith, c.kept_place-start.ensures.place, c.kept_place.ensures.place, g.1, c.if-count-gt0.true, w.if-count-others.false)
     ] in (
       omega (arith, two, c.split_at.ensures.front_len, c.split_at.ensures.back_len, c.decreases),
-      omega (arith, c.requires, c.split_at.ensures.front_len, c.split_at.ensures.back_len, ap length c.lay.ensures, length-laid_over c.args.place c.split_at.result.0.now c.args.self.now),
+      omega (arith, c.requires, c.split_at.ensures.front_len, c.split_at.ensures.back_len, ap length c.lay.ensures.laid, length-laid_over c.args.place c.split_at.result.0.now c.args.self.now),
     )
 
-pub returns-else-count-others : goal.returns-else-count-others
-returns-else-count-others t c =
+pub returns-else-count-others-clause-laid : goal.returns-else-count-others-clause-laid
+returns-else-count-others-clause-laid t c =
     let front = c.split_at.result.0.now in
     let back = c.split_at.result.1.now in
     let old = c.args.self.now in
     ap (λ l. laid_over c.args.place l old) (sym (joined c.args.others.now front back _ c.split_at.ensures.front c.split_at.ensures.back))
     ∙ sym (laid_both c.args.place front back old)
-    ∙ ap (laid_over (c.args.place + length front) back) c.lay.ensures
-    ∙ c.lay-else-count-others.ensures
+    ∙ ap (laid_over (c.args.place + length front) back) c.lay.ensures.laid
+    ∙ c.lay-else-count-others.ensures.laid
 
-pub returns-else-count-gt0 : goal.returns-else-count-gt0
-returns-else-count-gt0 t c =
+pub returns-else-count-gt0-clause-laid : goal.returns-else-count-gt0-clause-laid
+returns-else-count-gt0-clause-laid t c =
     let m = c.self.inside.verified.now in
     let bs = c.self.inside.bytes.items in
     let others = c.args.others.now in

@@ -1,10 +1,19 @@
-use Rattle.std.proofs.Common.{replicate, ap, ◌∙◌}
-use Rattle.interp.specs.inside.Kept.{marks, spread}
-use Rattle.interp.proofs.Kept.{fresh_bytes}
-use Rattle.interp.proofs.Laying.{on_ok}
+use Rattle.std.proofs.Common.{length, sym, ap, ◌∙◌, arith}
+use Rattle.interp.specs.inside.Kept.{count_kept, marks, spread}
+use Rattle.interp.proofs.Kept.{fresh_places, kept-spread, kept_fresh}
 use Rattle.interp.proofs.memory.Memory.renew.Goals as goal
 
-pub returns : goal.returns
-returns c =
+pub returns-clause-zeros : goal.returns-clause-zeros
+returns-clause-zeros c =
     let m = c.args.verified.now in
-    on_ok c.clear_to_zeros.result c.clear_to_zeros.ensures (λ e. ap (spread (marks m)) e ∙ ap (λ n. spread (marks m) (replicate n 0)) c.reach.ensures ∙ fresh_bytes m)
+    let old = c.self.inside.bytes.items in
+    let places = kept-spread (marks c.self.inside.verified.now) old in
+    ap (spread (marks m)) c.fill_with_zeros.ensures ∙ fresh_places m (length old) (omega (arith, places, c.requires, ap count_kept c.self.view_is))
+
+pub returns-clause-kept : goal.returns-clause-kept
+returns-clause-kept c =
+    let m = c.args.verified.now in
+    let old = c.self.inside.bytes.items in
+    let places = kept-spread (marks c.self.inside.verified.now) old in
+    ap count_kept (ap (spread (marks m)) c.fill_with_zeros.ensures ∙ fresh_places m (length old) (omega (arith, places, c.requires, ap count_kept c.self.view_is)))
+    ∙ kept_fresh m ∙ sym c.requires

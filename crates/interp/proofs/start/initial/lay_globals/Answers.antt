@@ -1,8 +1,9 @@
-use Rattle.std.proofs.Common.{◌≡◌, ◌+◌, ◌<◌, ◌∷◌, [], Some, drop, length, ap, ◌∙◌, sym, subst, rules}
-use Rattle.std.specs.Prelude.{get_or}
-use Rattle.std.proofs.lemmas.List.{drop_more}
+use Rattle.std.proofs.Common.{◌≡◌, ◌+◌, ◌<◌, ◌∷◌, [], Some, drop, length, take, suc, arith, ap, ◌∙◌, sym, subst, rules}
+use Rattle.std.specs.Prelude.{get_or, slice_set}
+use Rattle.std.proofs.lemmas.List.{drop_more, length-set}
 use Rattle.interp.specs.Start.{constant_value}
-use Rattle.interp.proofs.Laying.{SoFar, one_more}
+use Rattle.wasm_ast.specs.declared.types.Value.TheVariants.{I64}
+use Rattle.interp.proofs.Laying.{SoFar, one_more, take-set_next}
 use Rattle.interp.proofs.start.initial.lay_globals.Goals as goal
 
 pub loop-definition-preserved : goal.loop-definition-preserved
@@ -14,4 +15,14 @@ loop-definition-preserved c =
     let item : get_or all i g ≡ g = search rules in
     let left : drop i all ≡ g ∷ drop (i + 1) all = drop_more all i g h ∙ ap (λ x. x ∷ drop (i + 1) all) item in
     let is : Some c.in-Some.value ≡ constant_value [] g.initial = search rules in
-    subst (λ l. SoFar all (drop (i + 1) all) l) (sym c.in_ok-add-in-Some.ensures.ok) (one_more all (drop i all) (drop (i + 1) all) g c.loop-definition.globals c.in-Some.value c.of_value.result left is c.of_value.ensures.same c.of_value.ensures.fits c.loop-definition.invariant)
+    let place = c.loop-definition.place in
+    let inv = c.loop-definition.invariant in
+    let within : place < length c.loop-definition.globals = omega (arith, h, inv.long, inv.place) in
+    let cut = take-set_next place c.loop-definition.globals (I64 c.of_value.result) within in
+    let next_place : place + 1 ≡ suc place = omega arith in
+    let next = one_more all (drop i all) (drop (i + 1) all) g (take place c.loop-definition.globals) c.in-Some.value c.of_value.result left is c.of_value.ensures.same c.of_value.ensures.fits inv.so_far in
+    record {
+      so_far = subst (λ l. SoFar all (drop (i + 1) all) l) (sym (ap (λ l. take (place + 1) l) c.lay.ensures ∙ ap (λ n. take n (slice_set c.loop-definition.globals place (I64 c.of_value.result))) next_place ∙ cut)) next;
+      long = inv.long ∙ sym (ap length c.lay.ensures ∙ length-set c.loop-definition.globals place (I64 c.of_value.result));
+      place = ap (λ n. n + 1) inv.place;
+    }

@@ -1,6 +1,10 @@
-use Rattle.std.proofs.Common.{drop}
+use Rattle.std.proofs.Common.{◌≡◌, drop, length, take}
 use Rattle.interp.proofs.Laying.{SoFar}
 use Rattle.interp.proofs.start.initial.lay_globals.Given as goal
 
 abbrev pub invariant-loop-definition : goal.invariant-loop-definition
-invariant-loop-definition l = SoFar l.definitions (drop l.definition-index l.definitions) l.globals
+invariant-loop-definition l = record {
+  so_far : SoFar l.definitions (drop l.definition-index l.definitions) (take l.place l.globals);
+  long : length l.definitions ≡ length l.globals;
+  place : l.place ≡ l.definition-index;
+}

@@ -1,34 +1,55 @@
-use Rattle.std.proofs.Common.{◌≡◌, ◌≤◌, ◌++◌, Some, length, reverse, ap, sym, ◌∙◌, subst, arith, length-append, rules}
+use Rattle.std.proofs.Common.{◌≤◌, Some, length, reverse, take, refl, ap, sym, ◌∙◌, subst, arith, length-append, rules}
+use Rattle.std.proofs.lemmas.List.{length-map, length-reverse, length-take}
+use Rattle.wasm_ast.specs.declared.types.Value.TheVariants.{I64}
 use Rattle.wasm_ast.specs.View.{code_of}
-use Rattle.interp.specs.inside.Meaning.{Ordered}
 use Rattle.interp.specs.Machine.{enter}
 use Rattle.interp.specs.inside.Cells.{celled}
 use Rattle.interp.specs.inside.Going.{goes_on}
 use Rattle.interp.specs.inside.Meaning.{standing_of}
-use Rattle.interp.specs.inside.Place.{state_of}
+use Rattle.interp.specs.inside.Place.{HasFrameRoom, state_of}
 use Rattle.interp.proofs.Asking.{enter_asks}
-use Rattle.interp.proofs.Stacked.{ordered_on}
+use Rattle.interp.proofs.Stacked.{held_is, room_for_one}
 use Rattle.interp.proofs.walk.Walk.enter_typed.Goals as goal
 
 pub topmost-requires : goal.topmost-requires
 topmost-requires c =
     let s = standing_of c.self.inside in
-    let asked = enter_asks (celled c.args.function.now) c.args.func_type.now s.values (code_of c.args.code.now) s.layers (state_of s c.args.count) (ap (goes_on (enter (celled c.args.function.now) (Some c.args.func_type.now)) (code_of c.args.code.now) c.args.count) c.self.view_is ∙ c.requires) in
+    let asked = enter_asks (celled c.args.function.now) c.args.func_type.now s.values (code_of c.args.code.now) s.layers (state_of s c.args.count) (ap (goes_on (enter (celled c.args.function.now) (Some c.args.func_type.now)) (code_of c.args.code.now) c.args.count) c.self.view_is ∙ c.requires.goes) in
     subst (λ n. n ≤ length s.values) (search rules) asked
 
-pub invariant_of-self-in_err-add : goal.invariant_of-self-in_err-add
-invariant_of-self-in_err-add c =
-    let l = c.self.inside.locals in
-    let e : c.add.new.self.below ≡ l.below ++ l.here = c.in_err-add.ensures.below ∙ ap (λ s. s.below) c.in_ok-open.ensures.ok in
-    let n : length l.below ≤ length c.add.new.self.below = omega (arith, ap length e, length-append l.below l.here) in
-    ordered_on (reverse c.self.inside.layers.items) _ _ _ _ (omega arith) n c.self.invariant
+pub open-requires : goal.open-requires
+open-requires c =
+    let i = c.self.inside in
+    let h = subst HasFrameRoom (sym c.self.view_is) c.requires.room in
+    let held = held_is (reverse i.layers.items) i.operands.below.values i.locals.below.values c.self.invariant in
+    let top = ap length c.topmost.ensures in
+    let a = length-map c.topmost.result.now I64 in
+    let n = length c.as_slice-arguments.result.now in
+    let b = length-reverse (take n i.operands.here) in
+    let d = length-take n i.operands.here in
+    let count = ap length c.as_slice-arguments.ensures in
+    omega (arith, h.locals, held, top, a, b, d, count, c.requires.few)
 
-pub invariant_of-self-in_err-push_layer : goal.invariant_of-self-in_err-push_layer
-invariant_of-self-in_err-push_layer c =
-    let l = c.self.inside.locals in
-    let e : c.add.new.self.below ≡ l.below ++ l.here = c.in_ok-add.ensures.below ∙ ap (λ s. s.below) c.in_ok-open.ensures.ok in
-    let n : length l.below ≤ length c.add.new.self.below = omega (arith, ap length e, length-append l.below l.here) in
-    let b : length c.self.inside.operands.below ≡ length c.shed.new.self.below = ap (λ s. length s.below) (sym c.shed.ensures) in
-    let o : Ordered (reverse c.self.inside.layers.items) (length c.shed.new.self.below) (length c.add.new.self.below) =
-    ordered_on (reverse c.self.inside.layers.items) (length c.self.inside.operands.below) (length c.shed.new.self.below) (length l.below) (length c.add.new.self.below) (omega arith) n c.self.invariant in
-    subst (λ xs. Ordered (reverse xs) (length c.shed.new.self.below) (length c.add.new.self.below)) (sym c.in_err-push_layer.ensures.err) o
+pub add-requires : goal.add-requires
+add-requires c =
+    let i = c.self.inside in
+    let h = subst HasFrameRoom (sym c.self.view_is) c.requires.room in
+    let held = held_is (reverse i.layers.items) i.operands.below.values i.locals.below.values c.self.invariant in
+    let top = ap length c.topmost.ensures in
+    let n = length c.as_slice-arguments.result.now in
+    let a = length-map c.topmost.result.now I64 in
+    let b = length-reverse (take n i.operands.here) in
+    let d = length-take n i.operands.here in
+    let count = ap length c.as_slice-arguments.ensures in
+    let here = ap (λ s. length s.here) c.open.ensures in
+    let below = ap (λ s. length s.below.values) c.open.ensures in
+    let room = ap (λ s. s.below.room) c.open.ensures in
+    let both = length-append i.locals.below.values i.locals.here in
+    let types = ap length c.as_slice-2.ensures in
+    omega (arith, h.locals, held, top, a, b, d, count, here, below, room, both, types, c.requires.few)
+
+pub push_layer-requires : goal.push_layer-requires
+push_layer-requires c =
+    let i = c.self.inside in
+    let h = subst HasFrameRoom (sym c.self.view_is) c.requires.room in
+    room_for_one i.layers.items i.operands.below.values i.locals.below.values i.layers.len i.layers.cap (standing_of i) i.layers.ok.0 refl refl h.layers

@@ -1,41 +1,49 @@
-use Rattle.std.proofs.Common.{◌≡◌, arith}
+use Rattle.std.proofs.Common.{◌≡◌, refl, ◌∙◌, arith}
 use Rattle.wasm_ast.specs.View.{code_of}
 use Rattle.interp.specs.Machine.{Done}
 use Rattle.interp.specs.inside.Cells.{cell_advance, in_width}
 use Rattle.interp.specs.inside.Place.{at, running, state_of}
-use Rattle.interp.proofs.Following.{cell_goes, cell_room, falls_on, finishes_on, follows_on}
+use Rattle.interp.specs.inside.Walk.{SendsFrom}
+use Rattle.interp.proofs.Following.{cell_goes, cell_room, falls_on, finishes_on, follows_on, frame_room, gives_on}
+use Rattle.interp.proofs.Sending.{on_any}
 use Rattle.interp.proofs.walk.Walk.finish.Goals as goal
 
 pub go_on-requires-clause-leads : goal.go_on-requires-clause-leads
 go_on-requires-clause-leads c =
-    let leads = c.requires.ends in
-    record { from = leads.from; follows = c.turns.invariant leads.from leads.follows leads.ends; ends = leads.ends }
+    let leads = c.requires.ends.leads in
+    record { from = leads.from; follows = c.turns.invariant.follows leads.from leads.follows leads.ends; ends = leads.ends }
 
 pub turn-requires-clause-fits : goal.turn-requires-clause-fits
 turn-requires-clause-fits c =
-    let leads = c.requires.ends in
+    let leads = c.requires.ends.leads in
     let here = at c.go_on.new.self (code_of c.in_ok-stop.stop.code.now) c.in_ok-stop.stop.count in
-    let follows = c.in_ok-stop.ensures.passes leads.from (c.turns.invariant leads.from leads.follows leads.ends) leads.ends in
+    let follows = c.in_ok-stop.ensures.passes leads.from (c.turns.invariant.follows leads.from leads.follows leads.ends) leads.ends in
     let within = cell_room c.args.program.module.now leads.from here follows c.args.most leads.ends in
     omega (arith, within, c.ranges.most.fits)
 
 pub turn-requires-clause-goes : goal.turn-requires-clause-goes
 turn-requires-clause-goes c =
-    let leads = c.requires.ends in
+    let leads = c.requires.ends.leads in
     let here = at c.go_on.new.self (code_of c.in_ok-stop.stop.code.now) c.in_ok-stop.stop.count in
-    let follows = c.in_ok-stop.ensures.passes leads.from (c.turns.invariant leads.from leads.follows leads.ends) leads.ends in
+    let follows = c.in_ok-stop.ensures.passes leads.from (c.turns.invariant.follows leads.from leads.follows leads.ends) leads.ends in
     cell_goes c.args.program.module.now leads.from here follows c.args.most leads.ends
 
+pub turn-requires-clause-room : goal.turn-requires-clause-room
+turn-requires-clause-room c =
+    let leads = c.requires.ends.leads in
+    let follows = c.in_ok-stop.ensures.passes leads.from (c.turns.invariant.follows leads.from leads.follows leads.ends) leads.ends in
+    frame_room c.args.program.module.now leads.from c.go_on.new.self (code_of c.in_ok-stop.stop.code.now) c.in_ok-stop.stop.count _ (c.go_on.ensures.room ∙ c.turns.invariant.room) follows c.requires.ends.low
+
 pub turns-init : goal.turns-init
-turns-init c = λ from follows ends. follows
+turns-init c = record { follows = λ from follows ends. follows; room = refl }
 
 pub turns-smaller : goal.turns-smaller
 turns-smaller c =
     let here = at c.go_on.new.self (code_of c.in_ok-stop.stop.code.now) c.in_ok-stop.stop.count in
     let next = at c.turn.new.self (code_of c.in-Next.next.now) c.in-Next.counted in
-    let step : cell_advance in_width c.args.program.module.now (running here) ≡ running next = rw c.in-Next.is at c.in_ok-next.ensures in
-    let leads = c.requires.ends in
-    let follows = c.in_ok-stop.ensures.passes leads.from (c.turns.invariant leads.from leads.follows leads.ends) leads.ends in
+    let step : cell_advance in_width c.args.program.module.now (running here) ≡ running next = rw c.in-Next.is at c.in_ok-next.ensures.turned in
+    let leads = c.requires.ends.leads in
+    let follows = c.in_ok-stop.ensures.passes leads.from (c.turns.invariant.follows leads.from leads.follows leads.ends) leads.ends in
     let less = falls_on c.args.program.module.now leads.from here follows c.args.most leads.ends next step in
     omega (arith, less, c.in_ok-stop.ensures.closer)
 
@@ -43,12 +51,31 @@ pub turns-preserved : goal.turns-preserved
 turns-preserved c =
     let here = at c.go_on.new.self (code_of c.in_ok-stop.stop.code.now) c.in_ok-stop.stop.count in
     let next = at c.turn.new.self (code_of c.in-Next.next.now) c.in-Next.counted in
-    let step : cell_advance in_width c.args.program.module.now (running here) ≡ running next = rw c.in-Next.is at c.in_ok-next.ensures in
-    λ from follows ends. follows_on c.args.program.module.now from here (c.in_ok-stop.ensures.passes from (c.turns.invariant from follows ends) ends) c.args.most ends next step
+    let step : cell_advance in_width c.args.program.module.now (running here) ≡ running next = rw c.in-Next.is at c.in_ok-next.ensures.turned in
+    record {
+      follows = λ from follows ends. follows_on c.args.program.module.now from here (c.in_ok-stop.ensures.passes from (c.turns.invariant.follows from follows ends) ends) c.args.most ends next step;
+      room = c.turn.ensures.room ∙ c.go_on.ensures.room ∙ c.turns.invariant.room;
+    }
 
-pub returns-in-Finished : goal.returns-in-Finished
-returns-in-Finished c =
+pub returns-in-Finished-clause-concludes : goal.returns-in-Finished-clause-concludes
+returns-in-Finished-clause-concludes c =
     let here = at c.go_on.new.self (code_of c.in_ok-stop.stop.code.now) c.in_ok-stop.stop.count in
     let final = state_of c.turn.new.self c.in-Finished.counted in
-    let step : cell_advance in_width c.args.program.module.now (running here) ≡ Done final = rw c.in-Finished.is at c.in_ok-next.ensures in
-    λ from follows ends. finishes_on c.args.program.module.now from here (c.in_ok-stop.ensures.passes from (c.turns.invariant from follows ends) ends) c.args.most ends final step
+    let step : cell_advance in_width c.args.program.module.now (running here) ≡ Done final = rw c.in-Finished.is at c.in_ok-next.ensures.turned in
+    λ from follows ends. finishes_on c.args.program.module.now from here (c.in_ok-stop.ensures.passes from (c.turns.invariant.follows from follows ends) ends) c.args.most ends final step
+
+pub returns-in-Finished-clause-room : goal.returns-in-Finished-clause-room
+returns-in-Finished-clause-room c = c.turn.ensures.room ∙ c.go_on.ensures.room ∙ c.turns.invariant.room
+
+pub returns-in_err-next-clause-sends : goal.returns-in_err-next-clause-sends
+returns-in_err-next-clause-sends c =
+    let here = at c.go_on.new.self (code_of c.in_ok-stop.stop.code.now) c.in_ok-stop.stop.count in
+    let all : SendsFrom c.args.program.module.now (at c.args.self.now (code_of c.args.code.now) 0) c.args.most = λ from follows ends.
+    gives_on c.args.program.module.now from here (c.in_ok-stop.ensures.passes from (c.turns.invariant.follows from follows ends) ends) c.args.most ends c.in_err-next.ensures.turned in
+    on_any _ _ all
+
+pub returns-in_err-stop-clause-sends : goal.returns-in_err-stop-clause-sends
+returns-in_err-stop-clause-sends c =
+    let all : SendsFrom c.args.program.module.now (at c.args.self.now (code_of c.args.code.now) 0) c.args.most = λ from follows ends.
+    c.in_err-stop.ensures.sends from (c.turns.invariant.follows from follows ends) ends in
+    on_any _ _ all

@@ -1,3 +1,4 @@
+use Rattle.std.proofs.Common.{◌≡◌}
 use Rattle.wasm_ast.specs.View.{code_of}
 use Rattle.interp.specs.Machine.{Machine}
 use Rattle.interp.specs.inside.Place.{at}
@@ -5,7 +6,10 @@ use Rattle.interp.specs.inside.Walk.{EndsWithin, Follows, left_of}
 use Rattle.interp.proofs.walk.Walk.finish.Given as goal
 
 abbrev pub invariant-turns : goal.invariant-turns
-invariant-turns l = (from : Machine) → Follows l.program.«module».now from (at l.initial.self (code_of l.initial.rest) 0) → EndsWithin l.program.«module».now from l.fn.most → Follows l.program.«module».now from (at l.self (code_of l.rest) l.count)
+invariant-turns l = record {
+  follows : (from : Machine) → Follows l.program.«module».now from (at l.initial.self (code_of l.initial.rest) 0) → EndsWithin l.program.«module».now from l.fn.most → Follows l.program.«module».now from (at l.self (code_of l.rest) l.count);
+  room : l.self.room ≡ l.initial.self.room;
+}
 
 abbrev pub decreases-turns : goal.decreases-turns
 decreases-turns l = left_of l.fn.most (at l.self (code_of l.rest) l.count)

@@ -3,7 +3,8 @@ use Rattle.wasm_ast.specs.View.{code_of}
 use Rattle.interp.specs.inside.Meaning.{layers_of, standing_of}
 use Rattle.interp.specs.inside.Place.{at}
 use Rattle.interp.specs.inside.Straight.{amid, spot}
-use Rattle.interp.specs.inside.Walk.{Follows, Leads}
+use Rattle.interp.specs.inside.Walk.{Follows, Leads, SendsFrom}
+use Rattle.interp.proofs.Sending.{on_any}
 use Rattle.interp.proofs.walk.Walk.go_on.Goals as goal
 
 pub go_straight-requires-clause-leads : goal.go_straight-requires-clause-leads
@@ -18,8 +19,8 @@ returns-clause-passes c =
     let g = c.go_straight in
     let stop = c.in_ok-stop.stop in
     let rs = reverse a.layers.items in
-    let ls : layers_of rs a.operands.below a.locals.below ≡ layers_of rs g.new.operands.below g.new.locals.below =
-    ap (λ b. layers_of rs b a.locals.below) (sym c.in_ok-stop.ensures.below) ∙ ap (λ b. layers_of rs g.new.operands.below b) (sym c.in_ok-stop.ensures.locals_below) in
+    let ls : layers_of rs a.operands.below.values a.locals.below.values ≡ layers_of rs g.new.operands.below.values g.new.locals.below.values =
+    ap (λ b. layers_of rs b.values a.locals.below.values) (sym c.in_ok-stop.ensures.below) ∙ ap (λ b. layers_of rs g.new.operands.below.values b.values) (sym c.in_ok-stop.ensures.locals_below) in
     λ from follows ends.
     let here = subst (λ t. Follows m from (at t (code_of c.args.code.now) c.args.count)) (sym c.self.view_is) follows in
     subst (λ l. Follows m from (amid (spot g.new.operands.here (code_of stop.code.now) g.new.locals.here g.new.globals g.new.bytes g.new.host stop.count) l)) ls (c.in_ok-stop.ensures.passes (standing_of a).layers from here ends)
@@ -30,6 +31,14 @@ returns-clause-closer c =
     let g = c.go_straight in
     let stop = c.in_ok-stop.stop in
     let rs = reverse a.layers.items in
-    let ls : layers_of rs a.operands.below a.locals.below ≡ layers_of rs g.new.operands.below g.new.locals.below =
-    ap (λ b. layers_of rs b a.locals.below) (sym c.in_ok-stop.ensures.below) ∙ ap (λ b. layers_of rs g.new.operands.below b) (sym c.in_ok-stop.ensures.locals_below) in
+    let ls : layers_of rs a.operands.below.values a.locals.below.values ≡ layers_of rs g.new.operands.below.values g.new.locals.below.values =
+    ap (λ b. layers_of rs b.values a.locals.below.values) (sym c.in_ok-stop.ensures.below) ∙ ap (λ b. layers_of rs g.new.operands.below.values b.values) (sym c.in_ok-stop.ensures.locals_below) in
     omega (arith, ap (λ l. length l) ls, ap (λ s. length s.layers) c.self.view_is, c.in_ok-stop.ensures.more)
+
+pub returns-in_err-stop-clause-sends : goal.returns-in_err-stop-clause-sends
+returns-in_err-stop-clause-sends c =
+    let m = c.args.program.module.now in
+    let all : SendsFrom m (at c.args.self.now (code_of c.args.code.now) c.args.count) c.args.most = λ from follows ends.
+    let here = subst (λ t. Follows m from (at t (code_of c.args.code.now) c.args.count)) (sym c.self.view_is) follows in
+    c.in_err-stop.ensures.sends (standing_of c.self.inside).layers from here ends in
+    on_any _ _ all

@@ -90,6 +90,7 @@ fn adds_up(totals: &Totals) -> bool
 
 // The state, where its bytes are in order and it is one.
 fn state_in(
+    alloc: Global,
     ordered: bool,
     totals: Totals,
     aggregates: [i64; 8],
@@ -101,7 +102,7 @@ fn state_in(
         (in_order ordered (standing_of totals aggregates vertices.items)) }
 {
     if ordered && are_rising(&vertices) && adds_up(&totals) {
-        Ok(State::of(totals, aggregates, vertices))
+        Ok(State::of(alloc, totals, aggregates, vertices)?)
     } else {
         Err(CheckFault::Order)
     }
@@ -123,7 +124,8 @@ fn read_content(alloc: Global, version: u32, bytes: &[u8]) -> Result<State, Chec
         units: head.units,
         dropped: head.dropped,
     };
-    state_in(told && rest.is_empty(), totals, head.aggregates, vertices)
+    let ordered = told && rest.is_empty();
+    state_in(alloc, ordered, totals, head.aggregates, vertices)
 }
 
 // The state whose bytes these are, with the digest that stands behind them.

@@ -1,6 +1,6 @@
 //! States as their bytes.
 
-ghost use Rattle.std.specs.Prelude.{◌≡◌, ◌<◌, ◌^◌, ◌++◌, ℕ, List, length, FitsSigned, IfOk, OnOk};
+ghost use Rattle.std.specs.Prelude.{◌≡◌, ◌<◌, ◌^◌, ◌++◌, ℕ, List, length, map, FitsSigned, IfOk, OnOk};
 ghost use Rattle.std.specs.Int.{w64};
 ghost use Rattle.std.specs.List.{AllByRecursion, flat_map};
 ghost use Rattle.checkpoint.specs.Numbers.{number, signed};
@@ -131,20 +131,25 @@ fn put_told(out: &mut Vec<u8>, state: &State) -> Result<(), AllocError>
 }
 
 #[tactic(auto, unfolding(crate::specs::Checkpoint::vertices_bytes))]
-fn put_vertices(out: &mut Vec<u8>, vertices: &[VertexState]) -> Result<(), AllocError>
+fn put_vertices(out: &mut Vec<u8>, vertices: &[&VertexState]) -> Result<(), AllocError>
     requires { length vertices.now < 2 ^ 32 }
-    ensures appended { OnOk result (out.new.items ≡ out.old.items ++ vertices_bytes vertices.now) }
-    ensures fits { OnOk result (AllByRecursion VertexFits vertices.now) }
+    ensures appended { OnOk result (out.new.items
+        ≡ out.old.items ++ vertices_bytes (map (λ vertex. vertex.now) vertices.now)) }
+    ensures fits { OnOk result
+        (AllByRecursion VertexFits (map (λ vertex. vertex.now) vertices.now)) }
 {
     put_u32(out, vertices.len() as u32)?;
-    put_all(out, vertices)
+    for vertex in vertices {
+        vertex.put(out)?;
+    }
+    Ok(())
 }
 
 // How many bytes the checkpoint has, or the greatest number where they are too many to count.
-fn room(state: &State) -> usize {
+fn room(state: &State, vertices: &[&VertexState]) -> usize {
     let told = state.by_superstep().len().saturating_mul(16);
     let mut room = told.saturating_add(148);
-    for vertex in state.vertices() {
+    for vertex in vertices {
         let messages = vertex.inbox.as_slice().len();
         room = room.saturating_add(messages.saturating_mul(8).saturating_add(25));
     }
@@ -156,10 +161,11 @@ pub fn write(alloc: Global, state: &State) -> Result<Vec<u8>, AllocError>
     ensures bytes { IfOk result (λ bytes. bytes.items ≡ checkpoint_bytes state.now) }
     ensures checkpoint { IfOk result (λ bytes. IsCheckpointOf bytes.items state.now) }
 {
-    let mut out = Vec::with_capacity(alloc, room(state))?;
+    let vertices = state.in_order(alloc)?;
+    let mut out = Vec::with_capacity(alloc, room(state, &vertices))?;
     put_head(&mut out, state)?;
     put_told(&mut out, state)?;
-    put_vertices(&mut out, state.vertices())?;
+    put_vertices(&mut out, &vertices)?;
     let seal = digest_of(&out);
     out.extend_from_slice(&seal)?;
     Ok(out)

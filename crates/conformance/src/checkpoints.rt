@@ -90,15 +90,15 @@ fn state_or_fault(alloc: Global, case: &str) -> Result<String, AllocError> {
 
 fn told(alloc: Global, state: &State, bytes: &[u8]) -> Result<String, AllocError> {
     let mut text = String::new(alloc);
-    tell_state(state, &mut text)?;
+    tell_state(alloc, state, &mut text)?;
     tell_written(alloc, state, bytes, &mut text)?;
     Ok(text)
 }
 
 /// Tells what stands in a state, but for what its slots hold.
-pub fn tell_state(state: &State, text: &mut String) -> Result<(), AllocError> {
+pub fn tell_state(alloc: Global, state: &State, text: &mut String) -> Result<(), AllocError> {
     tell_sums(state, text)?;
-    for vertex in state.vertices() {
+    for vertex in state.in_order(alloc)? {
         tell_vertex(vertex, text)?;
     }
     Ok(())

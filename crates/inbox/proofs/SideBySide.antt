@@ -1,23 +1,20 @@
 -- Letters to one id lie side by side among letters by target.
-use Rattle.std.proofs.Common.{◌≡◌, ◌+◌, ◌≤◌, ◌<◌, ℕ, ℤ, pos, Bool, true, false, List, [], ◌∷◌, ◌++◌, All, length, take, drop, filter, arith, append-nil, inl, inr, refl, sym, ap, ◌∙◌, length-drop}
-use Rattle.std.proofs.lemmas.Bool.{cases_eq}
+use Rattle.std.proofs.Common.{◌≡◌, ◌+◌, ◌≤◌, ◌<◌, ◌-◌, ℕ, zero, suc, ℤ, pos, Bool, true, false, cond, List, [], ◌∷◌, ◌++◌, All, length, take, drop, filter, take_while, get_or, arith, inl, inr, refl, sym, ap, ◌∙◌, length-drop}
+use Rattle.std.proofs.lemmas.Bool.{cases_eq, cases_lt, both_ways, false_from_ne_true}
 use Rattle.std.proofs.lemmas.Int.{ints}
 use Rattle.std.proofs.lemmas.List.{get_or-take, get_or-drop, length-take-le, take-append-drop}
-use Rattle.std.proofs.lemmas.List.Elements.{filter-append, recursion_from_All, All-take}
+use Rattle.std.proofs.lemmas.List.Elements.{filter-append, recursion_from_All}
+use Rattle.std.proofs.lemmas.List.Sums.{take_while-cons, prefix_len_passes, prefix_len_stops}
 use Rattle.std.proofs.lemmas.Map.Keys.{Less-from_sorted}
-use Rattle.std.specs.List.{AllByRecursion, AllWithin}
+use Rattle.std.specs.List.{AllByRecursion, AllWithin, prefix_len}
 use Rattle.std.specs.List.Sorted.{IsStrictlySortedBy, IsPartitionedBy, IsPartitionPoint}
-use Rattle.std.specs.Prelude.{int_lt, int_le}
+use Rattle.std.specs.Prelude.{int_lt}
 use Rattle.std.specs.declared.cmp.Ordering.TheVariants.{Less}
 use Rattle.inbox.specs.declared.letters.Letter.{Letter}
 use Rattle.inbox.specs.Merging.{goes_to}
 use Rattle.inbox.specs.inside.Targets.{target_cmp}
 
 module _ {X : Type 0} (p : X → Bool) where
-  filter_whole : (xs : List X) → AllByRecursion (λ x. p x ≡ true) xs → filter p xs ≡ xs
-  filter_whole [] all = refl
-  filter_whole (x ∷ xs) all = rw (all.0, filter_whole xs all.1)
-
   filter_none : (xs : List X) → AllByRecursion (λ x. p x ≡ false) xs → filter p xs ≡ []
   filter_none [] all = refl
   filter_none (x ∷ xs) all = rw all.0 (filter_none xs all.1)
@@ -29,58 +26,85 @@ module _ {X : Type 0} (P : X → Type 0) (xs : List X) (i : ℕ) where
       let below : k < i = omega (arith, length-take-le i xs inside) in
       rw (get_or-take i xs k d) (all k d (omega arith) below)
 
-  each_of_back : AllWithin P xs i (length xs) → All P (drop i xs)
-  each_of_back all = λ k d h. rw get_or-drop (all (i + k) d (omega arith) (omega (arith, length-drop i xs)))
+module _ {X : Type 0} (p : X → Bool) where
+  later : (x : X) (xs : List X) → IsPartitionedBy p (x ∷ xs) → IsPartitionedBy p xs
+  later x xs part = λ i j d le inside is. part (suc i) (suc j) d (omega arith) (omega arith) is
 
-module _ {X : Type 0} (below upto p : X → Bool) where
-  -- those that pass stand between two places, where those below come before and those beyond come after
-  side_by_side : ((x : X) → below x ≡ true → p x ≡ false) → ((x : X) → below x ≡ false → upto x ≡ true → p x ≡ true) → ((x : X) → upto x ≡ false → p x ≡ false) → (xs : List X) (start count : ℕ) → start ≤ length xs → count ≤ length (drop start xs) → IsPartitionPoint (λ x. below x ≡ true) (λ x. below x ≡ false) xs start → IsPartitionPoint (λ x. upto x ≡ true) (λ x. upto x ≡ false) (drop start xs) count → take count (drop start xs) ≡ filter p xs
-  side_by_side before between beyond xs start count inside within first second =
-      let rest = drop start xs in
-      let from_start = each_of_back (λ x. below x ≡ false) xs start first.1 in
-      let lower = each_of_front (λ x. below x ≡ true) xs start inside first.0 in
-      let middle = each_of_front (λ x. upto x ≡ true) rest count within second.0 in
-      let higher = each_of_back (λ x. upto x ≡ false) rest count second.1 in
-      let not_low = All-take (λ x. below x ≡ false) count rest from_start in
-      let none_low : filter p (take start xs) ≡ [] = filter_none p _ (recursion_from_All _ _ (λ k d h. before _ (lower k d h))) in
-      let all_mid : filter p (take count rest) ≡ take count rest = filter_whole p _ (recursion_from_All _ _ (λ k d h. between _ (not_low k d h) (middle k d h))) in
-      let none_high : filter p (drop count rest) ≡ [] = filter_none p _ (recursion_from_All _ _ (λ k d h. beyond _ (higher k d h))) in
-      let inner : filter p rest ≡ take count rest = ap (filter p) (sym (take-append-drop count rest)) ∙ filter-append p (take count rest) (drop count rest) ∙ (λ i. all_mid i ++ none_high i) ∙ append-nil (take count rest) in
-      sym (ap (filter p) (sym (take-append-drop start xs)) ∙ filter-append p (take start xs) rest ∙ (λ i. none_low i ++ inner i))
+  -- where those that pass stand at the front, going forward while they pass finds all of them
+  front_passes : (xs : List X) → IsPartitionedBy p xs → take_while p xs ≡ filter p xs
+  front_passes [] part = refl
+  front_passes (x ∷ xs) part = take_while-cons p x xs ∙ by (p x) refl (front_passes xs (later x xs part))
+    where
+      by : (b : Bool) → p x ≡ b → take_while p xs ≡ filter p xs → cond b (x ∷ take_while p xs) [] ≡ cond b (x ∷ filter p xs) (filter p xs)
+      by true is more = ap (λ ys. x ∷ ys) more
+      by false is more = sym (filter_none p xs (recursion_from_All _ _ (λ k d h. false_from_ne_true _ (λ passes. both_ways _ is (part 0 (suc k) d (omega arith) (omega arith) passes)))))
 
--- a test that falls along the order of targets
-partitioned : (p : Letter → Bool) → ((a b : Letter) → target_cmp a b ≡ Less → p b ≡ true → p a ≡ true) → (letters : List Letter) → IsStrictlySortedBy target_cmp letters → IsPartitionedBy p letters
-partitioned p falls letters up = λ i j d le inside is.
-    elim (cases_eq i j) [
-      | inl e ↦ rw e is
-      | inr other ↦ falls _ _ (Less-from_sorted target_cmp letters i j d up (omega arith) inside) is
-    ]
+  -- those below do not pass, so leaving them out leaves those that pass
+  none_before : (below : X → Bool) → ((x : X) → below x ≡ true → p x ≡ false) → (xs : List X) (start : ℕ) → start ≤ length xs → IsPartitionPoint (λ x. below x ≡ true) (λ x. below x ≡ false) xs start → filter p xs ≡ filter p (drop start xs)
+  none_before below fails xs start inside found =
+      let lower = each_of_front (λ x. below x ≡ true) xs start inside found.0 in
+      let none_low : filter p (take start xs) ≡ [] = filter_none p _ (recursion_from_All _ _ (λ k d h. fails _ (lower k d h))) in
+      ap (filter p) (sym (take-append-drop start xs)) ∙ filter-append p (take start xs) (drop start xs) ∙ (λ i. none_low i ++ filter p (drop start xs))
 
-partitioned_back : {X : Type 0} (p : X → Bool) (xs : List X) (n : ℕ) → IsPartitionedBy p xs → IsPartitionedBy p (drop n xs)
-partitioned_back p xs n part = λ i j d le inside is.
-    rw get_or-drop (part (n + i) (n + j) d (omega arith) (omega (arith, length-drop n xs)) (rw get_or-drop at is))
+module _ {X : Type 0} (p : X → Bool) where
+  pub prefix_point : (xs : List X) → IsPartitionedBy p xs → IsPartitionPoint (λ x. p x ≡ true) (λ x. p x ≡ false) xs (prefix_len p xs)
+  prefix_point xs part = (
+    λ k d from below. prefix_len_passes p xs k d below,
+    λ k d from below. false_from_ne_true _ (λ passes. both_ways _ (prefix_len_stops p xs d (omega arith)) (part (prefix_len p xs) k d from below passes)),
+  )
+
+  pub point_after : (xs : List X) (n k : ℕ) → n ≤ length xs → IsPartitionedBy p xs → ((d : X) → p (get_or xs (n - 1) d) ≡ true) → 0 < n → IsPartitionPoint (λ x. p x ≡ true) (λ x. p x ≡ false) (drop n xs) k → k ≤ length (drop n xs) → IsPartitionPoint (λ x. p x ≡ true) (λ x. p x ≡ false) xs (n + k)
+  point_after xs n k inside part last some found within = (
+    λ j d from below. elim (cases_lt j n) [
+      | inl early ↦ part j (n - 1) d (omega arith) (omega arith) (last d)
+      | inr late ↦
+          let same : n + (j - n) ≡ j = omega arith in
+          ap (λ x. p x) (ap (λ i. get_or xs i d) (sym same) ∙ sym (get_or-drop n xs (j - n) d)) ∙ found.0 (j - n) d (omega arith) (omega arith)
+    ],
+    λ j d from below.
+        let same : n + (j - n) ≡ j = omega arith in
+        ap (λ x. p x) (ap (λ i. get_or xs i d) (sym same) ∙ sym (get_or-drop n xs (j - n) d)) ∙ found.1 (j - n) d (omega arith) (omega (arith, length-drop n xs)),
+  )
+
+  pub partitioned_back : (xs : List X) (n : ℕ) → IsPartitionedBy p xs → IsPartitionedBy p (drop n xs)
+  partitioned_back xs n part = λ i j d le inside is.
+      rw get_or-drop (part (n + i) (n + j) d (omega arith) (omega (arith, length-drop n xs)) (rw get_or-drop at is))
+
+  pub prefix_of_window : (n : ℕ) (xs : List X) → prefix_len p (take n xs) < n → prefix_len p (take n xs) ≡ prefix_len p xs
+  prefix_of_window zero xs less = absurd (omega arith)
+  prefix_of_window (suc n) [] less = refl
+  prefix_of_window (suc n) (x ∷ xs) less = by (p x) (prefix_of_window n xs) less
+    where
+      by : (b : Bool) → (prefix_len p (take n xs) < n → prefix_len p (take n xs) ≡ prefix_len p xs) → cond b (1 + prefix_len p (take n xs)) 0 < suc n → cond b (1 + prefix_len p (take n xs)) 0 ≡ cond b (1 + prefix_len p xs) 0
+      by true same less = ap (λ k. 1 + k) (same (omega arith))
+      by false same less = refl
 
 below_falls : (z : ℤ) (a b : Letter) → target_cmp a b ≡ Less → int_lt b.to z ≡ true → int_lt a.to z ≡ true
 below_falls z a b less is = grind (arith, ints)
 
-upto_falls : (z : ℤ) (a b : Letter) → target_cmp a b ≡ Less → int_le b.to z ≡ true → int_le a.to z ≡ true
-upto_falls z a b less is = grind (arith, ints)
-
 pub below_partitioned : (z : ℤ) (letters : List Letter) → IsStrictlySortedBy target_cmp letters → IsPartitionedBy (λ letter. int_lt letter.to z) letters
-below_partitioned z letters up = partitioned (λ letter. int_lt letter.to z) (below_falls z) letters up
-
-pub upto_partitioned : (z : ℤ) (letters : List Letter) (n : ℕ) → IsStrictlySortedBy target_cmp letters → IsPartitionedBy (λ letter. int_le letter.to z) (drop n letters)
-upto_partitioned z letters n up = partitioned_back (λ letter. int_le letter.to z) letters n (partitioned (λ letter. int_le letter.to z) (upto_falls z) letters up)
+below_partitioned z letters up = λ i j d le inside is.
+    elim (cases_eq i j) [
+      | inl e ↦ rw e is
+      | inr other ↦ below_falls z (get_or letters i d) (get_or letters j d) (Less-from_sorted target_cmp letters i j d up (omega arith) inside) is
+    ]
 
 before_id : (id : ℕ) (letter : Letter) → int_lt letter.to (pos id) ≡ true → goes_to letter id ≡ false
 before_id id letter below = grind (arith, ints)
 
-at_id : (id : ℕ) (letter : Letter) → int_lt letter.to (pos id) ≡ false → int_le letter.to (pos id) ≡ true → goes_to letter id ≡ true
-at_id id letter below upto = grind (arith, ints)
+at_id : (id : ℕ) (a b : Letter) → target_cmp a b ≡ Less → int_lt a.to (pos id) ≡ false → goes_to b id ≡ true → goes_to a id ≡ true
+at_id id a b less from is = grind (arith, ints)
 
-past_id : (id : ℕ) (letter : Letter) → int_le letter.to (pos id) ≡ false → goes_to letter id ≡ false
-past_id id letter upto = grind (arith, ints)
+-- from the first letter that is not below the id on, those to it come first
+id_first : (id : ℕ) (letters : List Letter) (start : ℕ) → IsStrictlySortedBy target_cmp letters → AllWithin (λ letter. int_lt letter.to (pos id) ≡ false) letters start (length letters) → IsPartitionedBy (λ letter. goes_to letter id) (drop start letters)
+id_first id letters start up from = λ i j d le inside is.
+    let within : start + j < length letters = omega (arith, length-drop start letters) in
+    elim (cases_eq i j) [
+      | inl e ↦ rw e is
+      | inr other ↦ rw get_or-drop (at_id id (get_or letters (start + i) d) (get_or letters (start + j) d) (Less-from_sorted target_cmp letters (start + i) (start + j) d up (omega arith) within) (from (start + i) d (omega arith) (omega arith)) (rw get_or-drop at is))
+    ]
 
-pub letters_found : (id : ℕ) (letters : List Letter) (start count : ℕ) → start ≤ length letters → count ≤ length (drop start letters) → IsPartitionPoint (λ letter. int_lt letter.to (pos id) ≡ true) (λ letter. int_lt letter.to (pos id) ≡ false) letters start → IsPartitionPoint (λ letter. int_le letter.to (pos id) ≡ true) (λ letter. int_le letter.to (pos id) ≡ false) (drop start letters) count → take count (drop start letters) ≡ filter (λ letter. goes_to letter id) letters
-letters_found id letters start count inside within first second =
-    side_by_side (λ letter. int_lt letter.to (pos id)) (λ letter. int_le letter.to (pos id)) (λ letter. goes_to letter id) (before_id id) (at_id id) (past_id id) letters start count inside within first second
+pub letters_found : (id : ℕ) (letters : List Letter) (start : ℕ) → IsStrictlySortedBy target_cmp letters → start ≤ length letters → IsPartitionPoint (λ letter. int_lt letter.to (pos id) ≡ true) (λ letter. int_lt letter.to (pos id) ≡ false) letters start → take_while (λ letter. goes_to letter id) (drop start letters) ≡ filter (λ letter. goes_to letter id) letters
+letters_found id letters start up inside found =
+    front_passes (λ letter. goes_to letter id) (drop start letters) (id_first id letters start up found.1)
+    ∙ sym (none_before (λ letter. goes_to letter id) (λ letter. int_lt letter.to (pos id)) (before_id id) letters start inside found)

@@ -1,6 +1,6 @@
-ghost use Rattle.std.specs.Prelude.{◌≡◌, List, map, filter, length, nat_eq, sum_by, vec_items, vec_len, IfOk};
+ghost use Rattle.std.specs.Prelude.{◌≡◌, ◌≤◌, int_lt, pos, true, false, List, map, filter, length, nat_eq, sum_by, vec_items, vec_len, IfOk};
 ghost use Rattle.std.specs.List.{AllZip, IsDistinct};
-ghost use Rattle.std.specs.List.Sorted.{IsStrictlySortedBy};
+ghost use Rattle.std.specs.List.Sorted.{IsStrictlySortedBy, IsPartitionPoint};
 ghost use Rattle.inbox.specs.declared.letters.Letter.{Letter as AnyLetter};
 ghost use Rattle.inbox.specs.Merging.{are_one, goes_to, all_of, IsBySource, inbox_of, inboxes_of, dropped_of};
 ghost use Rattle.inbox.specs.inside.Targets.{target_cmp};
@@ -72,47 +72,86 @@ fn inboxes_at(
     ensures { IfOk result (λ inboxes. AllZip (IsInboxFrom pieces.now) ids.now inboxes.items) }
 {
     ids.par_iter()
-        .map(
-            |id: &u64| -> Result<Inbox, AllocError>
+        .map_init(
+            || 0usize,
+            |near: &mut usize, id: &u64| -> Result<Inbox, AllocError>
                 ensures { IfOk result (IsInboxFrom pieces.entry.now id.now) }
-            { inbox_at(alloc, pieces, *id) },
+            { inbox_at(alloc, pieces, near, *id) },
         )
         .collect::<Result<Vec<Inbox>, AllocError>>(rt, alloc)?
 }
 
 // What stands in the inbox of this id.
-fn inbox_at(alloc: Global, pieces: &[Piece], id: u64) -> Result<Inbox, AllocError>
+fn inbox_at(alloc: Global, pieces: &[Piece], near: &mut usize, id: u64) -> Result<Inbox, AllocError>
     ensures { IfOk result (IsInboxFrom pieces.now id) }
 {
-    let mine = letters_to(pieces, id);
+    let mine = letters_to(pieces, near, id);
     let mut messages = Vec::with_capacity(alloc, mine.len())?;
     messages.extend(mine.iter().map(|letter| letter.value))?;
     Ok(Inbox::from(messages))
 }
 
 // The letters to this id. An id lies in one of the spans.
-fn letters_to(pieces: &[Piece], id: u64) -> &[Letter]
+fn letters_to<'a>(pieces: &'a [Piece], near: &mut usize, id: u64) -> &'a [Letter]
     ensures { HoldsLettersTo pieces.now id result.now }
 {
     match pieces
         .iter()
         .find(|piece| piece.span.contains(i128::from(id)))
     {
-        Some(piece) => run_to(&piece.letters, id),
+        Some(piece) => run_to(&piece.letters, near, id),
         None => &[],
     }
 }
 
 // The letters to this id among those by target, where they lie side by side.
-fn run_to(letters: &[Letter], id: u64) -> &[Letter]
+fn run_to<'a>(letters: &'a [Letter], near: &mut usize, id: u64) -> &'a [Letter]
     ensures { IsStrictlySortedBy target_cmp letters.now
         → result.now ≡ filter (λ letter. goes_to letter id) letters.now }
 {
-    let id = i128::from(id);
-    let start = letters.partition_point(|letter| i128::from(letter.to) < id);
+    let start = start_from(letters, *near, id);
     let rest = &letters[start..];
-    let count = rest.partition_point(|letter| i128::from(letter.to) <= id);
+
+    // Few letters go to most ids, so looking at each costs less than a second search.
+    let count = rest
+        .iter()
+        .take_while(|letter| i128::from(letter.to) == i128::from(id))
+        .count();
+    *near = start + count;
     &rest[..count]
+}
+
+// Whether a letter goes to a target below this id.
+fn goes_below(letter: &Letter, id: u64) -> bool
+    ensures { result ≡ int_lt letter.now.to (pos id) }
+{
+    i128::from(letter.to) < i128::from(id)
+}
+
+// So many letters are looked at one by one before a search.
+const FEW: usize = 32;
+
+// Where the letters to this id or a later one start. It is looked for from `near` on where the letter before it goes to
+// an earlier id, and among all letters where not.
+fn start_from(letters: &[Letter], near: usize, id: u64) -> usize
+    ensures bound { result ≤ length letters.now }
+    ensures found { IsStrictlySortedBy target_cmp letters.now
+        → IsPartitionPoint (λ letter. int_lt letter.to (pos id) ≡ true)
+        (λ letter. int_lt letter.to (pos id) ≡ false) letters.now result }
+{
+    if near == 0 || near > letters.len() || !goes_below(&letters[near - 1], id) {
+        return letters.partition_point(|letter| goes_below(letter, id));
+    }
+    let rest = &letters[near..];
+    let ahead = rest
+        .iter()
+        .take(FEW)
+        .take_while(|letter| goes_below(letter, id))
+        .count();
+    if ahead < FEW {
+        return near + ahead;
+    }
+    near + rest.partition_point(|letter| goes_below(letter, id))
 }
 
 // How many messages stand in these inboxes.

@@ -64,7 +64,7 @@ fn open_book<'a, J: Origin>(alloc: Global, job: &'a Job) -> Result<Book<'a, J>, 
         × (book ≡ opened job.now.settings quiet)) }
 {
     let state = State::first(alloc, job)?;
-    let ids = ids_of(alloc, state.vertices())?;
+    let ids = ids_of(alloc, &state.in_order(alloc)?)?;
     let quiet = state.is_quiet();
     let control = Control::new(alloc, job.settings(), quiet)?;
     let holding = hold_opened(alloc, job, state, quiet)?;
@@ -77,8 +77,8 @@ fn open_book<'a, J: Origin>(alloc: Global, job: &'a Job) -> Result<Book<'a, J>, 
     })
 }
 
-fn ids_of(alloc: Global, vertices: &[VertexState]) -> Result<Vec<u64>, AllocError>
-    ensures { IfOk result (λ ids. ids.items ≡ map state_id vertices.now) }
+fn ids_of(alloc: Global, vertices: &[&VertexState]) -> Result<Vec<u64>, AllocError>
+    ensures { IfOk result (λ ids. ids.items ≡ map (λ vertex. state_id vertex.now) vertices.now) }
 {
     vertices.iter().map(|vertex| vertex.id).collect(alloc)
 }

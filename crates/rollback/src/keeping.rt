@@ -1,6 +1,6 @@
 //! States that are saved, and loaded again.
 
-ghost use Rattle.std.specs.Prelude.{◌≡◌, ◌⊎◌, ℕ, List, true, false, Some, IfOk, MatchOption};
+ghost use Rattle.std.specs.Prelude.{◌≡◌, ◌⊎◌, ℕ, List, map, true, false, Some, IfOk, MatchOption};
 ghost use Rattle.checkpoint.specs.Keep.{HasFailed};
 ghost use Rattle.rollback.specs.Events.{saving};
 ghost use Rattle.rollback.specs.Keeping.{IsSaveTold};
@@ -53,9 +53,10 @@ pub fn save_if_due<K: Keep, R: Files + AllocGlobal>(
 }
 
 // Whether these are the ids of the vertices.
-fn have_ids(vertices: &[VertexState], ids: &[u64]) -> bool
-    ensures those { result ≡ true → HasIds vertices.now ids.now }
-    ensures others { result ≡ false → HasIds vertices.now ids.now → ⊥ }
+fn have_ids(vertices: &[&VertexState], ids: &[u64]) -> bool
+    ensures those { result ≡ true → HasIds (map (λ vertex. vertex.now) vertices.now) ids.now }
+    ensures others { result ≡ false
+        → HasIds (map (λ vertex. vertex.now) vertices.now) ids.now → ⊥ }
 {
     if vertices.len() != ids.len() {
         return false;
@@ -80,7 +81,7 @@ fn read_state(
 {
     match read(alloc, bytes) {
         Ok(state) => {
-            if state.superstep() == superstep && have_ids(state.vertices(), ids) {
+            if state.superstep() == superstep && have_ids(&state.in_order(alloc)?, ids) {
                 Ok(Some(state))
             } else {
                 Ok(None)

@@ -8,10 +8,13 @@ use Rattle.graph.specs.Entry.{Entry, ids}
 use Rattle.graph.specs.Cutting.{joined}
 use Rattle.superstep.specs.Job.{IsGraphOf, Work}
 use Rattle.host_calls.specs.Slots.{slot_starts}
-use Rattle.superstep.specs.State.{IsState, ShowsAt, Standing, bare, state_id}
+use Rattle.superstep.specs.Ordering.{by_key}
+use Rattle.superstep.specs.State.{IsState, ShowsAt, Standing, bare, in_order, state_id}
 use Rattle.superstep.specs.PlainRun.{first_row, state_at}
-use Rattle.superstep.specs.inside.Rows.{IsInOrder, first_state, first_states}
+use Rattle.superstep.specs.inside.Rows.{first_state, first_states}
 use Rattle.superstep.proofs.Graphs.{few_states, whole}
+use Rattle.superstep.proofs.Letters.{joined_map}
+use Rattle.superstep.proofs.Ordering.{by_key_is}
 
 pub first_ids : (graph : List Entry) → map state_id (first_states graph) ≡ ids graph
 first_ids [] = refl
@@ -21,13 +24,18 @@ pub first_rows : (graph : List Entry) → first_states graph ≡ map bare (map f
 first_rows [] = refl
 first_rows (entry ∷ graph) = ap (λ xs. first_state entry ∷ xs) (first_rows graph)
 
--- those of all parts, one part after another, are those of the graph
-pub in_order : (work : Work) (graph : List Entry) → 0 < work.settings.parts → IsGraphOf work graph
-    → IsInOrder (first_states (joined work.parts)) (first_states graph)
-in_order work graph some is = record {
-  same = IsPermutation-map first_state (joined work.parts) graph (whole work graph some is);
-  rising = subst (λ (numbers : List ℕ). IsStrictlyIncreasing numbers) (sym (first_ids graph)) is.proper.rising;
-}
+pub parts_ids : (parts : List (List Entry)) → map (map state_id) (map first_states parts) ≡ map ids parts
+parts_ids [] = refl
+parts_ids (part ∷ parts) = ap (λ xs. xs ∷ map (map state_id) (map first_states parts)) (first_ids part) ∙ ap (λ rest. ids part ∷ rest) (parts_ids parts)
+
+-- those of all parts, by rising id, are those of the graph
+pub firsts_in_order : (work : Work) (graph : List Entry) → 0 < work.settings.parts → IsGraphOf work graph
+    → in_order (map first_states work.parts) ≡ first_states graph
+firsts_in_order work graph some is =
+    ap (by_key state_id) (joined_map first_state work.parts)
+    ∙ by_key_is state_id (first_states (joined work.parts)) (first_states graph)
+    (IsPermutation-map first_state (joined work.parts) graph (whole work graph some is))
+    (subst (λ (numbers : List ℕ). IsStrictlyIncreasing numbers) (sym (first_ids graph)) is.proper.rising)
 
 -- A state before superstep 0.
 pub record IsFirst (graph : List Entry) (state : Standing) : Type 0 where

@@ -1,16 +1,17 @@
 -- A job's graph, by its parts.
-use Rattle.std.proofs.Common.{◌≡◌, ◌^◌, ◌<◌, ◌≤◌, List, None, ap, arith, length, map, rules}
+use Rattle.std.proofs.Common.{◌≡◌, ◌^◌, ◌<◌, ◌≤◌, ◌∙◌, List, None, ap, arith, length, map, rules}
 use Rattle.std.specs.List.Sorted.{IsPermutation}
 use Rattle.std.proofs.lemmas.List.{length-map}
 use Rattle.std.proofs.lemmas.List.Sorted.{IsPermutation-sym, IsPermutation-trans}
 use Rattle.graph.specs.Entry.{Entry, FitsLimits, id_at, ids}
-use Rattle.graph.specs.Cutting.{joined, parts_whole}
+use Rattle.graph.specs.Cutting.{joined, parts_by, parts_by-map, parts_whole}
 use Rattle.graph.specs.Rising.{rising_same}
 use Rattle.superstep.specs.Job.{IsGraphOf, Work}
 use Rattle.superstep.specs.Settings.{first_bad}
-use Rattle.superstep.specs.State.{state_id}
+use Rattle.superstep.specs.State.{in_order, state_id}
 use Rattle.superstep.specs.declared.state.VertexState.{VertexState}
 use Rattle.superstep.specs.declared.settings.Settings.{Settings}
+use Rattle.superstep.proofs.Ordering.{parts_are_kept}
 
 -- there is a part
 pub some_parts : (settings : Settings) → first_bad settings ≡ None → 0 < settings.parts
@@ -34,3 +35,12 @@ few_parts settings good = search rules
 pub few_states : (graph : List Entry) (vertices : List VertexState) → FitsLimits graph → map state_id vertices ≡ ids graph → length vertices < 2 ^ 32
 few_states graph vertices limits same =
     omega (arith, limits.vertices, length-map vertices state_id, length-map graph id_at, ap length same)
+
+ids_by_part : (work : Work) (graph : List Entry) → IsGraphOf work graph → map ids work.parts ≡ parts_by (λ n. n) work.settings.parts (ids graph)
+ids_by_part work graph is = ap (map ids) is.parts ∙ parts_by-map id_at (λ n. n) work.settings.parts graph
+
+-- vertices that lie as those of the job's parts lie in the parts that they belong to
+pub lie_in_parts : (work : Work) (graph : List Entry) (parts : List (List VertexState)) → IsGraphOf work graph → map (map state_id) parts ≡ map ids work.parts
+    → parts ≡ parts_by state_id (length parts) (in_order parts)
+lie_in_parts work graph parts is same =
+    parts_are_kept state_id work.settings.parts (ids graph) parts is.proper.rising (same ∙ ids_by_part work graph is)

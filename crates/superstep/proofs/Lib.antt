@@ -4,6 +4,7 @@ pub mod Gathering
 pub mod Graphs
 pub mod Letters
 pub mod NextState
+pub mod Ordering
 pub mod PartCalls
 pub mod PartLeft
 pub mod PartStates

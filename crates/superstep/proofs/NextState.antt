@@ -1,8 +1,8 @@
 -- The state after a superstep.
 use Rattle.std.proofs.Common.{◌≡◌, ℕ, ℤ, suc, ◌+◌, ◌-◌, ◌^◌, ◌<◌, ◌≤◌, Bool, true, None, not, List, [], ◌∷◌, ◌++◌, length, map, vec_items, refl, ap, sym, ◌∙◌, subst, arith, length-append}
-use Rattle.std.specs.List.{range_with_len, sum, sum_by, zip}
+use Rattle.std.specs.List.{range_with_len, sum, sum_by}
 use Rattle.std.specs.List.Sorted.{IsPermutation, IsStrictlyIncreasing}
-use Rattle.std.proofs.lemmas.List.{map-append}
+use Rattle.std.proofs.lemmas.List.{length-map}
 use Rattle.std.proofs.lemmas.List.FromFn.{map-range_with_len_more}
 use Rattle.std.proofs.lemmas.List.Sorted.{IsPermutation-map, sum_by-IsPermutation}
 use Rattle.std.proofs.lemmas.List.Sums.{sum_by_push}
@@ -19,14 +19,17 @@ use Rattle.superstep.specs.Superstep.{all_left, contributions_of, dropped_by, in
 use Rattle.superstep.specs.PlainRun.{state_at, units_at}
 use Rattle.superstep.specs.Job.{HasGraph, IsGraphOf, Meaning, Work}
 use Rattle.superstep.specs.Settings.{first_bad}
-use Rattle.superstep.specs.State.{HasIdsOf, IsState, ShowsAt, bare, state_id}
+use Rattle.superstep.specs.Ordering.{by_key}
+use Rattle.superstep.specs.State.{HasIdsOf, IsState, ShowsAt, bare, in_order, state_id}
 use Rattle.superstep.specs.Tasks.{DoneStamp, IsRow, Left, emptied, outcomes_in}
 use Rattle.superstep.specs.Totals.{AreTotals, SumsAt, standing_of}
-use Rattle.superstep.specs.inside.Closing.{Follows, IsGathered, IsSpread, filled, left_id, left_ids, with_inbox}
-use Rattle.superstep.specs.inside.Rows.{IsInOrder}
+use Rattle.superstep.specs.inside.Closing.{Follows, IsGathered, IsSpread, all_filled, filled, left_id, left_ids}
+use Rattle.superstep.specs.inside.Rows.{IsKept}
 use Rattle.superstep.proofs.Aggregating.{contributions_permuted}
-use Rattle.superstep.proofs.Graphs.{few_states, one_graph, some_parts}
-use Rattle.superstep.proofs.Rejoining.{is_spread, joined_spread, leaving, ordered, ordered_left, part_left}
+use Rattle.superstep.proofs.Graphs.{few_states, lie_in_parts, one_graph, some_parts}
+use Rattle.superstep.proofs.Letters.{joined_map}
+use Rattle.superstep.proofs.Ordering.{by_key_is}
+use Rattle.superstep.proofs.Rejoining.{is_spread, joined_spread, leaving, ordered, ordered_left, part_left, parts_ids}
 use Rattle.superstep.proofs.Spreading.{ids_found}
 
 -- ---- vertices
@@ -35,38 +38,41 @@ use Rattle.superstep.proofs.Spreading.{ids_found}
 abbrev pub closed : (ℕ → List ℤ) → Left → VertexState
 closed inbox one = record { id = one.0; value = one.1.value; active = not one.1.halted; inbox = inbox one.0 }
 
-part_filled : (inbox : ℕ → List ℤ) (left : List Left) → map with_inbox (zip (map emptied left) (map inbox (left_ids left))) ≡ map (closed inbox) left
+part_filled : (inbox : ℕ → List ℤ) (left : List Left) → filled (map emptied left, map inbox (left_ids left)) ≡ map (closed inbox) left
 part_filled inbox [] = refl
 part_filled inbox (one ∷ left) = ap (λ rest. closed inbox one ∷ rest) (part_filled inbox left)
 
-pub all_filled : (inbox : ℕ → List ℤ) (lefts : List (List Left))
-    → filled (map (map emptied) lefts) (map (λ left. map inbox (left_ids left)) lefts) ≡ map (closed inbox) (joined lefts)
-all_filled inbox [] = refl
-all_filled inbox (left ∷ lefts) =
-    ap (λ own. own ++ filled (map (map emptied) lefts) (map (λ other. map inbox (left_ids other)) lefts)) (part_filled inbox left)
-    ∙ ap (λ rest. map (closed inbox) left ++ rest) (all_filled inbox lefts)
-    ∙ sym (map-append (closed inbox) left (joined lefts))
+parts_filled : (inbox : ℕ → List ℤ) (lefts : List (List Left))
+    → all_filled (map (map emptied) lefts) (map (λ left. map inbox (left_ids left)) lefts) ≡ map (map (closed inbox)) lefts
+parts_filled inbox [] = refl
+parts_filled inbox (left ∷ lefts) =
+    ap (λ own. own ∷ all_filled (map (map emptied) lefts) (map (λ other. map inbox (left_ids other)) lefts)) (part_filled inbox left)
+    ∙ ap (λ rest. map (closed inbox) left ∷ rest) (parts_filled inbox lefts)
+
+-- there is an inbox for each vertex
+along : (inbox : ℕ → List ℤ) (lefts : List (List Left)) → map length (map (map emptied) lefts) ≡ map length (map (λ left. map inbox (left_ids left)) lefts)
+along inbox [] = refl
+along inbox (left ∷ lefts) =
+    let own : length (map emptied left) ≡ length (map inbox (left_ids left)) =
+    length-map left emptied ∙ sym (length-map left left_id) ∙ sym (length-map (left_ids left) inbox) in
+    (λ i. own i ∷ along inbox lefts i)
 
 pub closed_ids : (inbox : ℕ → List ℤ) (left : List Left) → map state_id (map (closed inbox) left) ≡ left_ids left
 closed_ids inbox left = map-map state_id (closed inbox) left
 
-pub closed_in_order : (inbox : ℕ → List ℤ) (left ordered : List Left) → IsPermutation left ordered → IsStrictlyIncreasing (left_ids ordered)
-    → IsInOrder (map (closed inbox) left) (map (closed inbox) ordered)
-closed_in_order inbox left ordered same rising = record {
-  same = IsPermutation-map (closed inbox) left ordered same;
-  rising = subst (λ numbers. IsStrictlyIncreasing numbers) (sym (closed_ids inbox ordered)) rising;
-}
+parts_closed_ids : (inbox : ℕ → List ℤ) (lefts : List (List Left)) → map (map state_id) (map (map (closed inbox)) lefts) ≡ map left_ids lefts
+parts_closed_ids inbox [] = refl
+parts_closed_ids inbox (left ∷ lefts) =
+    ap (λ own. own ∷ map (map state_id) (map (map (closed inbox)) lefts)) (closed_ids inbox left)
+    ∙ ap (λ rest. left_ids left ∷ rest) (parts_closed_ids inbox lefts)
 
--- the vertices of all parts, each with its inbox, and then in the order of their ids
-pub all_closed : (inbox : ℕ → List ℤ) (lefts : List (List Left)) (ordered : List Left) (parts : List (List VertexState)) (inboxes : List (List (List ℤ)))
-    (vertices sorted : List VertexState) → parts ≡ map (map emptied) lefts → inboxes ≡ map (λ left. map inbox (left_ids left)) lefts
-    → vertices ≡ filled parts inboxes → IsPermutation (joined lefts) ordered → IsStrictlyIncreasing (left_ids ordered)
-    → ((other : List VertexState) → IsInOrder vertices other → sorted ≡ other) → sorted ≡ map (closed inbox) ordered
-all_closed inbox lefts ordered parts inboxes vertices sorted are_parts are_inboxes are_filled same rising sorts =
-    sorts (map (closed inbox) ordered)
-    (subst (λ all. IsInOrder all (map (closed inbox) ordered))
-    (sym (are_filled ∙ (λ i. filled (are_parts i) (are_inboxes i)) ∙ all_filled inbox lefts))
-    (closed_in_order inbox (joined lefts) ordered same rising))
+-- the vertices of all parts, by rising id
+closed_in_order : (inbox : ℕ → List ℤ) (lefts : List (List Left)) (ordered : List Left) → IsPermutation (joined lefts) ordered
+    → IsStrictlyIncreasing (left_ids ordered) → in_order (map (map (closed inbox)) lefts) ≡ map (closed inbox) ordered
+closed_in_order inbox lefts ordered same rising =
+    ap (by_key state_id) (joined_map (closed inbox) lefts)
+    ∙ by_key_is state_id (map (closed inbox) (joined lefts)) (map (closed inbox) ordered) (IsPermutation-map (closed inbox) (joined lefts) ordered same)
+    (subst (λ numbers. IsStrictlyIncreasing numbers) (sym (closed_ids inbox ordered)) rising)
 
 -- ---- sums
 
@@ -184,51 +190,52 @@ module _ (work now : Work) (honest : Bool) (totals : Totals) (dones : List DoneS
   lies = is_spread work honest totals.superstep dones gathered ready.graph.0 own_some own_graph ready.parts own_row
 
   -- What is made of it.
-  pub record IsMade (found : List (List (List ℤ))) (lost : ℕ) (vertices sorted : List VertexState) (later : Totals) : Type 0 where
+  pub record IsMade (found : List (List (List ℤ))) (lost : ℕ) (parts : List (List VertexState)) (later : Totals) : Type 0 where
     pub inboxes : found ≡ map (λ left. map (inbox_of (outcomes_in all)) (left_ids left)) lefts
     pub dropped : lost ≡ sum_by (dropped_by (left_ids all)) (outcomes_in all)
-    pub fills : vertices ≡ filled (map vec_items gathered.vertices.items) found
-    pub sorts : (other : List VertexState) → IsInOrder vertices other → sorted ≡ other
+    pub fills : map length (map vec_items gathered.vertices.items) ≡ map length found → parts ≡ all_filled (map vec_items gathered.vertices.items) found
     pub follows : Follows gathered.units lost totals later
 
-  pub next : (found : List (List (List ℤ))) (lost : ℕ) (vertices sorted : List VertexState) (later : Totals) → IsMade found lost vertices sorted later
-      → IsNext all totals later gathered.units lost gathered.slots sorted
-  next found lost vertices sorted later made =
-      let is = ready.parts in
-      let rejoined = sym (joined_spread is.parts) in
-      record {
-        took_all = is.units ∙ ap (λ left. capped (units_left (outcomes_in left))) rejoined ∙ ap capped (units_moved (joined lefts) all lies.same);
-        lost_all = made.dropped;
-        given_all = is.slots ∙ ap (λ left. aggregated (contributions_of (outcomes_in left))) rejoined ∙ slots_moved (joined lefts) all lies.same;
-        vertices_all = all_closed (inbox_of (outcomes_in all)) lefts all (map vec_items gathered.vertices.items) found vertices sorted
-            (is.vertices ∙ sym (map-map (map emptied) part_left is.parts)) made.inboxes made.fills lies.same lies.rising made.sorts;
-        later = made.follows;
-        sums = ready.sums;
-      }
+  module _ (found : List (List (List ℤ))) (lost : ℕ) (parts : List (List VertexState)) (later : Totals) (made : IsMade found lost parts later) where
+    -- the vertices of each part, each with its inbox
+    are_closed : parts ≡ map (map (closed (inbox_of (outcomes_in all)))) lefts
+    are_closed =
+        let left : map vec_items gathered.vertices.items ≡ map (map emptied) lefts = ready.parts.vertices ∙ sym (map-map (map emptied) part_left ready.parts.parts) in
+        let each = ap (map length) left ∙ along (inbox_of (outcomes_in all)) lefts ∙ sym (ap (map length) made.inboxes) in
+        made.fills each ∙ (λ i. all_filled (left i) (made.inboxes i)) ∙ parts_filled (inbox_of (outcomes_in all)) lefts
 
-  pub next_ids : (found : List (List (List ℤ))) (lost : ℕ) (vertices sorted : List VertexState) (later : Totals) → IsMade found lost vertices sorted later
-      → map state_id sorted ≡ ids ready.graph.0
-  next_ids found lost vertices sorted later made =
-      ap (map state_id) (next found lost vertices sorted later made).vertices_all ∙ closed_ids (inbox_of (outcomes_in all)) all
-      ∙ ids_found (joined lefts) (ids ready.graph.0)
+    pub next : IsNext all totals later gathered.units lost gathered.slots (in_order parts)
+    next =
+        let is = ready.parts in
+        let rejoined = sym (joined_spread is.parts) in
+        record {
+          took_all = is.units ∙ ap (λ left. capped (units_left (outcomes_in left))) rejoined ∙ ap capped (units_moved (joined lefts) all lies.same);
+          lost_all = made.dropped;
+          given_all = is.slots ∙ ap (λ left. aggregated (contributions_of (outcomes_in left))) rejoined ∙ slots_moved (joined lefts) all lies.same;
+          vertices_all = ap in_order are_closed ∙ closed_in_order (inbox_of (outcomes_in all)) lefts all lies.same lies.rising;
+          later = made.follows;
+          sums = ready.sums;
+        }
 
-  pub next_is_state : (found : List (List (List ℤ))) (lost : ℕ) (vertices sorted : List VertexState) (later : Totals) → IsMade found lost vertices sorted later
-      → IsState (standing_of later gathered.slots sorted)
-  next_is_state found lost vertices sorted later made =
-      is_state later gathered.slots sorted (totals_more totals later gathered.units lost ready.sums made.follows)
-      (subst (λ numbers. IsStrictlyIncreasing numbers) (sym (next_ids found lost vertices sorted later made)) ready.graph.1.proper.rising)
-      (few_states ready.graph.0 sorted ready.graph.1.limits (next_ids found lost vertices sorted later made))
+    next_ids : map state_id (in_order parts) ≡ ids ready.graph.0
+    next_ids =
+        ap (map state_id) next.vertices_all ∙ closed_ids (inbox_of (outcomes_in all)) all ∙ ids_found (joined lefts) (ids ready.graph.0)
 
-  pub next_is_at : (found : List (List (List ℤ))) (lost : ℕ) (vertices sorted : List VertexState) (later : Totals) → IsMade found lost vertices sorted later
-      → honest ≡ true → (meaning : Meaning work) → SumsAt work meaning totals
-      → ShowsAt meaning.outcomes meaning.graph (suc totals.superstep) (standing_of later gathered.slots sorted)
-  next_is_at found lost vertices sorted later made sure meaning at =
-      next_shows work meaning all totals later gathered.units lost gathered.slots sorted
-      (ordered_left work honest totals.superstep dones gathered ready.graph.0 meaning own_some own_graph sure ready.parts own_row)
-      (next found lost vertices sorted later made) at
+    pub next_is_kept : IsKept (standing_of later gathered.slots (in_order parts)) parts
+    next_is_kept = record {
+      state = is_state later gathered.slots (in_order parts) (totals_more totals later gathered.units lost ready.sums made.follows)
+          (subst (λ numbers. IsStrictlyIncreasing numbers) (sym next_ids) ready.graph.1.proper.rising)
+          (few_states ready.graph.0 (in_order parts) ready.graph.1.limits next_ids);
+      parts = lie_in_parts work ready.graph.0 parts own_graph
+          (ap (map (map state_id)) are_closed ∙ parts_closed_ids (inbox_of (outcomes_in all)) lefts ∙ map-map left_ids part_left ready.parts.parts
+          ∙ parts_ids work honest totals.superstep dones gathered ready.graph.0 own_graph ready.parts own_row);
+    }
 
-  pub next_has_ids : (found : List (List (List ℤ))) (lost : ℕ) (vertices sorted : List VertexState) (later : Totals) → IsMade found lost vertices sorted later
-      → HasIdsOf now (standing_of later gathered.slots sorted)
-  next_has_ids found lost vertices sorted later made = λ other is.
-      next_ids found lost vertices sorted later made
-      ∙ ap ids (one_graph now ready.graph.0 other (some_parts now.settings ready.good) ready.graph.1 is)
+    pub next_is_at : honest ≡ true → (meaning : Meaning work) → SumsAt work meaning totals
+        → ShowsAt meaning.outcomes meaning.graph (suc totals.superstep) (standing_of later gathered.slots (in_order parts))
+    next_is_at sure meaning at =
+        next_shows work meaning all totals later gathered.units lost gathered.slots (in_order parts)
+        (ordered_left work honest totals.superstep dones gathered ready.graph.0 meaning own_some own_graph sure ready.parts own_row) next at
+
+    pub next_has_ids : HasIdsOf now (standing_of later gathered.slots (in_order parts))
+    next_has_ids = λ other is. next_ids ∙ ap ids (one_graph now ready.graph.0 other (some_parts now.settings ready.good) ready.graph.1 is)

@@ -63,7 +63,7 @@ many_parts : (work : Work) (graph : List Entry) → IsGraphOf work graph → len
 many_parts work graph is =
     length-map work.parts ids ∙ ap length is.parts ∙ length-map-range_with_len (part_of_graph work.settings.parts graph) 0 work.settings.parts
 
-parts_ids : (work : Work) (honest : Bool) (s : ℕ) (dones : List DoneStamp) (gathered : Gathered) (graph : List Entry) → IsGraphOf work graph
+pub parts_ids : (work : Work) (honest : Bool) (s : ℕ) (dones : List DoneStamp) (gathered : Gathered) (graph : List Entry) → IsGraphOf work graph
     → (is : IsGathered work honest dones gathered) → IsRow work.settings.parts s dones
     → map (λ (part : PartLeft). left_ids part.1) is.parts ≡ map ids work.parts
 parts_ids work honest s dones gathered graph is_graph is row =

@@ -8,6 +8,7 @@ pub mod PlainRun
 pub mod Settings
 pub mod Job
 -- what is kept of a job between two supersteps
+pub mod Ordering
 pub mod State
 -- the parts of a state that move
 pub mod Tasks

@@ -5,8 +5,10 @@ use Rattle.std.specs.List.Sorted.{IsStrictlyIncreasing}
 use Rattle.interp.specs.Call.{Outcome}
 use Rattle.interp.specs.Outcomes.{Given}
 use Rattle.graph.specs.Entry.{Entry, ids}
+use Rattle.graph.specs.Cutting.{joined}
 use Rattle.superstep.specs.declared.state.VertexState.{VertexState}
 use Rattle.superstep.specs.Folds.{capped}
+use Rattle.superstep.specs.Ordering.{by_key}
 use Rattle.superstep.specs.Snapshot.{Row}
 use Rattle.superstep.specs.PlainRun.{state_at, units_at}
 use Rattle.superstep.specs.Job.{IsGraphOf, Meaning, Work}
@@ -27,6 +29,10 @@ pub record Standing : Type 0 where
 
 abbrev pub state_id : VertexState → ℕ
 state_id vertex = vertex.id
+
+-- the vertices of all parts, by rising id
+abbrev pub in_order : List (List VertexState) → List VertexState
+in_order parts = by_key state_id (joined parts)
 
 -- What is so of every state: ids rise, and a number of 32 bits counts them; the units of each superstep from `since` on are
 -- told, and the total has those in it, and no others where they are all told.

@@ -1,12 +1,12 @@
 //! The barrier between two supersteps (Pregel 2010, 2): what all parts left becomes the next state.
 
-ghost use Rattle.std.specs.Prelude.{◌≡◌, ◌<◌, ◌++◌, ◌∷◌, [], suc, true, List, map, vec_items, IfOk, OnOk};
-ghost use Rattle.std.specs.List.{sum_by, zip};
+ghost use Rattle.std.specs.Prelude.{◌≡◌, ◌<◌, ◌++◌, ◌∷◌, [], suc, true, List, length, map, vec_items, IfOk, OnOk};
+ghost use Rattle.std.specs.List.{sum_by};
 ghost use Rattle.superstep.specs.State.{HasIdsOf, IsStateAt, state_id};
 ghost use Rattle.superstep.specs.Superstep.{dropped_by, inbox_of};
 ghost use Rattle.superstep.specs.Tasks.{DoneStamp, IsRow, Left as AnyLeft, outcomes_in};
 ghost use Rattle.superstep.specs.Totals.{AreTotals, AreTotalsOf};
-ghost use Rattle.superstep.specs.inside.Closing.{IsGathered, IsSpread, filled, left_ids, with_inbox};
+ghost use Rattle.superstep.specs.inside.Closing.{IsGathered, IsSpread, all_filled, filled, left_ids};
 ghost use Rattle.superstep.specs.inside.Uniting.{united};
 
 use crate::job::Job;
@@ -15,7 +15,6 @@ use crate::slice::Origin;
 use crate::state::{State, VertexState};
 use crate::task::Done;
 use crate::totals::Totals;
-use graph::merge_by_id;
 use host_calls::slot_starts;
 use inbox::{
     Inbox, Letter, drops_add_up_over_sources, inboxes_are_concatenated_by_source,
@@ -54,10 +53,9 @@ pub fn barrier<J: Origin>(
         units,
     } = gather(alloc, job.settings().parts, dones)?;
     let (inboxes, dropped) = delivered(rt, alloc, &letters, &ids)?;
-    let mut vertices = filled(alloc, job.count(), vertices, inboxes)?;
-    merge_by_id(&mut vertices)?;
+    let parts = all_filled(alloc, vertices, inboxes)?;
     let totals = totals.after(units, dropped)?;
-    Ok(State::of(totals, slots, vertices))
+    Ok(State::of_parts(totals, slots, parts))
 }
 
 // What the parts left: of each its ids, its vertices and its letters, and what they gave and took together.
@@ -150,36 +148,34 @@ fn delivered(
     merge_parts(rt, alloc, letters, ids)
 }
 
-// All vertices, each with its inbox, one part after another.
-fn filled(
+// The vertices of each part, each with its inbox, where there are as many of these.
+fn all_filled(
     alloc: Global,
-    count: u32,
     vertices: Vec<Vec<VertexState>>,
     inboxes: Vec<Vec<Inbox>>,
-) -> Result<Vec<VertexState>, AllocError>
-    ensures { IfOk result (λ all.
-        all.items ≡ filled (map vec_items vertices.items) (map vec_items inboxes.items)) }
+) -> Result<Vec<Vec<VertexState>>, AllocError>
+    ensures { IfOk result (λ parts. map length (map vec_items vertices.items)
+        ≡ map length (map vec_items inboxes.items)
+        → map vec_items parts.items
+        ≡ all_filled (map vec_items vertices.items) (map vec_items inboxes.items)) }
 {
-    let mut all = Vec::with_capacity(alloc, count as usize)?;
+    let mut parts = Vec::with_capacity(alloc, vertices.len())?;
     for (vertices, inboxes) in vertices.into_iter().zip(inboxes) {
-        push_filled(&mut all, vertices, inboxes)?;
+        parts.push(filled(vertices, inboxes))?;
     }
-    Ok(all)
+    Ok(parts)
 }
 
-// The vertices of a part, each with its inbox, behind the others.
-fn push_filled(
-    all: &mut Vec<VertexState>,
-    vertices: Vec<VertexState>,
-    inboxes: Vec<Inbox>,
-) -> Result<(), AllocError>
-    ensures { OnOk result (all.new.items
-        ≡ all.old.items ++ map with_inbox (zip vertices.items inboxes.items)) }
+// The vertices of a part, each with its inbox, where there are as many of these. They stay where they are.
+fn filled(mut vertices: Vec<VertexState>, inboxes: Vec<Inbox>) -> Vec<VertexState>
+    ensures { length vertices.items ≡ length inboxes.items
+        → result.items ≡ filled (vertices.items, inboxes.items) }
 {
-    let filled = vertices
-        .into_iter()
-        .zip(inboxes)
-        .map(|(vertex, inbox)| VertexState { inbox, ..vertex });
-    all.extend(filled)?;
-    Ok(())
+    let mut inboxes = inboxes.into_iter();
+    for vertex in vertices.iter_mut() {
+        if let Some(inbox) = inboxes.next() {
+            vertex.inbox = inbox;
+        }
+    }
+    vertices
 }

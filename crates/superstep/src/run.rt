@@ -1,6 +1,6 @@
 //! The run of a job on one machine.
 
-ghost use Rattle.std.specs.Prelude.{◌≡◌, ◌<◌, ℕ, true, suc, IfOk};
+ghost use Rattle.std.specs.Prelude.{◌≡◌, ◌<◌, ℕ, true, suc, map, IfOk};
 ghost use Rattle.superstep.specs.Ending.{HasStopped, IsEndIn, IsEndOf, states_values};
 ghost use Rattle.superstep.specs.Job.{Work};
 ghost use Rattle.superstep.specs.State.{HasIdsOf, IsStateAt};
@@ -151,7 +151,7 @@ pub fn tell_end(alloc: Global, state: &State) -> Result<Ended, AllocError>
     } else {
         How::Limit
     };
-    let values = values_of(alloc, state.vertices())?;
+    let values = values_of(alloc, &state.in_order(alloc)?)?;
     let by_superstep = Vec::from_slice(alloc, state.by_superstep())?;
     Ok(Ended {
         how,
@@ -164,8 +164,9 @@ pub fn tell_end(alloc: Global, state: &State) -> Result<Ended, AllocError>
     })
 }
 
-fn values_of(alloc: Global, vertices: &[VertexState]) -> Result<Vec<(u64, i64)>, AllocError>
-    ensures { IfOk result (λ values. values.items ≡ states_values vertices.now) }
+fn values_of(alloc: Global, vertices: &[&VertexState]) -> Result<Vec<(u64, i64)>, AllocError>
+    ensures { IfOk result (λ values.
+        values.items ≡ states_values (map (λ vertex. vertex.now) vertices.now)) }
 {
     let mut values = Vec::with_capacity(alloc, vertices.len())?;
     for vertex in vertices {

@@ -7,7 +7,6 @@ ghost use Rattle.superstep.specs.inside.Rows.{AreSlices};
 
 use crate::job::Job;
 use crate::state::{State, VertexState};
-use graph::cut_by_id;
 use std::alloc::{AllocError, Global};
 use std::marker::{Brand, Model, PhantomData};
 
@@ -82,7 +81,7 @@ pub fn slices<J: Origin>(
         slices.items ≡ stamps_of state.superstep job.now.settings.parts) }
 {
     let superstep = state.superstep();
-    let cut = cut_by_id(alloc, state.into_vertices(), job.settings().parts)?;
+    let cut = state.into_parts(alloc, job.settings().parts)?;
     label(alloc, superstep, cut)
 }
 

@@ -1,16 +1,17 @@
 //! States: what is kept of a job between two supersteps.
 
-ghost use Rattle.std.specs.Prelude.{◌≡◌, IfOk, OnOk, ◌++◌, map, not};
+ghost use Rattle.std.specs.Prelude.{◌≡◌, ◌<◌, IfOk, map, not, vec_items};
 ghost use Rattle.std.specs.List.{list_any};
+ghost use Rattle.graph.specs.Cutting.{joined, parts_by};
 ghost use Rattle.graph.specs.Entry.{entry_of};
-ghost use Rattle.superstep.specs.State.{HasIdsOf, IsState, IsStateAt};
-ghost use Rattle.superstep.specs.inside.Rows.{first_state, first_states};
+ghost use Rattle.superstep.specs.State.{HasIdsOf, IsState, IsStateAt, in_order, state_id};
 ghost use Rattle.superstep.specs.State.{is_due, is_settled};
 ghost use Rattle.superstep.specs.Totals.{standing_of};
+ghost use Rattle.superstep.specs.inside.Rows.{IsKept, first_state, first_states};
 
 use crate::job::Job;
 use crate::totals::Totals;
-use graph::{Identified, Part, Vertex, merge_by_id};
+use graph::{Identified, Part, Vertex, cut_by_id, merge_by_id};
 use host_calls::slot_starts;
 use inbox::Inbox;
 use std::alloc::{AllocError, Global};
@@ -37,6 +38,8 @@ impl Identified for VertexState {
 }
 
 /// What is kept of a job between two supersteps: what a checkpoint saves. Edges are not in it.
+///
+/// The vertices lie in parts, so that a superstep moves none of them. Contracts see them by rising id.
 #[derive(Drop)]
 pub struct State {
     superstep: u32,
@@ -45,11 +48,13 @@ pub struct State {
     units: u128,
     dropped: u128,
     aggregates: [i64; 8],
-    vertices: Vec<VertexState>,
+    parts: Vec<Vec<VertexState>>,
 }
 
 impl Model for State {
-    ghost use Rattle.superstep.specs.State.{IsState, Standing};
+    ghost use Rattle.std.specs.Prelude.{map, vec_items};
+    ghost use Rattle.superstep.specs.State.{Standing, in_order};
+    ghost use Rattle.superstep.specs.inside.Rows.{IsKept};
 
     ghost Value = { Standing };
 
@@ -60,18 +65,18 @@ impl Model for State {
       units = state.units;
       dropped = state.dropped;
       aggregates = state.aggregates;
-      vertices = state.vertices.items;
+      vertices = in_order (map vec_items state.parts.items);
     } };
 
-    ghost invariant = { λ state. IsState (record {
+    ghost invariant = { λ state. IsKept (record {
       superstep = state.superstep;
       since = state.since;
       by_superstep = state.by_superstep.items;
       units = state.units;
       dropped = state.dropped;
       aggregates = state.aggregates;
-      vertices = state.vertices.items;
-    }) };
+      vertices = in_order (map vec_items state.parts.items);
+    }) (map vec_items state.parts.items) };
 }
 
 impl State {
@@ -82,11 +87,10 @@ impl State {
         ensures since { IfOk result (λ state. state.since ≡ 0) }
         ensures ids { IfOk result (HasIdsOf job.now) }
     {
-        let mut vertices = Vec::with_capacity(alloc, job.count() as usize)?;
+        let mut parts = Vec::with_capacity(alloc, job.parts().len())?;
         for part in job.parts() {
-            push_part(alloc, &mut vertices, part)?;
+            parts.push(first_states(alloc, part)?)?;
         }
-        merge_by_id(&mut vertices)?;
         Ok(State {
             superstep: 0,
             since: 0,
@@ -94,14 +98,35 @@ impl State {
             units: 0,
             dropped: 0,
             aggregates: slot_starts(),
-            vertices,
+            parts,
         })
     }
 
-    /// The state of these vertices, by rising id, with what was summed up before it and what its slots hold.
-    pub fn of(totals: Totals, aggregates: [i64; 8], vertices: Vec<VertexState>) -> State
+    /// The state of these vertices, by rising id, with what was summed up before it and what its slots hold. The only refusal
+    /// is that there is no memory.
+    pub fn of(
+        alloc: Global,
+        totals: Totals,
+        aggregates: [i64; 8],
+        vertices: Vec<VertexState>,
+    ) -> Result<State, AllocError>
         requires { IsState (standing_of totals aggregates vertices.items) }
-        ensures { result ≡ standing_of totals aggregates vertices.items }
+        ensures { IfOk result (λ state. state ≡ standing_of totals aggregates vertices.items) }
+    {
+        let mut parts = Vec::with_capacity(alloc, 1)?;
+        parts.push(vertices)?;
+        Ok(State::of_parts(totals, aggregates, parts))
+    }
+
+    // The state of the vertices of these parts.
+    pub(crate) fn of_parts(
+        totals: Totals,
+        aggregates: [i64; 8],
+        parts: Vec<Vec<VertexState>>,
+    ) -> State
+        requires { IsKept (standing_of totals aggregates (in_order (map vec_items parts.items)))
+            (map vec_items parts.items) }
+        ensures { result ≡ standing_of totals aggregates (in_order (map vec_items parts.items)) }
     {
         State {
             superstep: totals.superstep,
@@ -110,7 +135,7 @@ impl State {
             units: totals.units,
             dropped: totals.dropped,
             aggregates,
-            vertices,
+            parts,
         }
     }
 
@@ -161,23 +186,57 @@ impl State {
     pub fn is_quiet(&self) -> bool
         ensures { result ≡ is_settled self.now }
     {
-        are_settled(&self.vertices)
+        for part in &self.parts {
+            if !are_settled(part) {
+                return false;
+            }
+        }
+        true
     }
 
-    // The vertices, by rising id.
-    pub(crate) fn into_vertices(self) -> Vec<VertexState>
-        ensures { result.items ≡ self.vertices }
+    // The vertices of each of so many parts. They are moved, not copied.
+    pub(crate) fn into_parts(
+        self,
+        alloc: Global,
+        parts: u32,
+    ) -> Result<Vec<Vec<VertexState>>, AllocError>
+        requires { 0 < parts }
+        ensures { IfOk result (λ cut. map vec_items cut.items
+            ≡ parts_by state_id parts self.vertices) }
     {
-        self.vertices
+        if self.parts.len() == parts as usize {
+            return Ok(self.parts);
+        }
+        let mut vertices = together(alloc, self.parts)?;
+        merge_by_id(&mut vertices)?;
+        cut_by_id(alloc, vertices, parts)
     }
 
-    /// The vertices, by rising id.
-    pub fn vertices(&self) -> &[VertexState]
-        ensures same { result.now ≡ self.now.vertices }
+    /// The vertices, by rising id. The only refusal is that there is no memory.
+    pub fn in_order(&self, alloc: Global) -> Result<Vec<&VertexState>, AllocError>
         ensures state { IsState self.now }
+        ensures same { IfOk result (λ vertices.
+            map (λ vertex. vertex.now) vertices.items ≡ self.now.vertices) }
     {
-        &self.vertices
+        let mut vertices = Vec::new(alloc);
+        for part in &self.parts {
+            vertices.extend(part.iter())?;
+        }
+        vertices.sort_by_key(|vertex| vertex.id)?;
+        Ok(vertices)
     }
+}
+
+// The vertices of all parts, one part after another.
+fn together(alloc: Global, parts: Vec<Vec<VertexState>>) -> Result<Vec<VertexState>, AllocError>
+    ensures { IfOk result (λ vertices. vertices.items ≡ joined (map vec_items parts.items)) }
+{
+    let mut vertices = Vec::new(alloc);
+    for part in parts {
+        let mut others = part;
+        vertices.append(&mut others)?;
+    }
+    Ok(vertices)
 }
 
 // Whether none of the vertices is to be called.
@@ -198,15 +257,16 @@ fn is_due(vertex: &VertexState) -> bool
     vertex.active || !vertex.inbox.as_slice().is_empty()
 }
 
-// The part's vertices before superstep 0, behind the others.
-fn push_part(alloc: Global, vertices: &mut Vec<VertexState>, part: &Part) -> Result<(), AllocError>
-    ensures { OnOk result (vertices.new.items
-        ≡ vertices.old.items ++ first_states (map entry_of part.now.vertices.items)) }
+// The part's vertices before superstep 0.
+fn first_states(alloc: Global, part: &Part) -> Result<Vec<VertexState>, AllocError>
+    ensures { IfOk result (λ vertices.
+        vertices.items ≡ first_states (map entry_of part.now.vertices.items)) }
 {
+    let mut vertices = Vec::with_capacity(alloc, part.vertices.len())?;
     for vertex in &part.vertices {
         vertices.push(first_state(alloc, vertex))?;
     }
-    Ok(())
+    Ok(vertices)
 }
 
 fn first_state(alloc: Global, vertex: &Vertex) -> VertexState

@@ -18,7 +18,7 @@ pub fn first_superstep(
 ) -> Result<String, AllocError> {
     let state = state_of_copies::<Brand>(rt, alloc, job)?;
     let mut text = String::new(alloc);
-    tell_state(&state, &mut text)?;
+    tell_state(alloc, &state, &mut text)?;
     Ok(text)
 }
 

@@ -60,6 +60,10 @@ pub record IsSpread (all_ids : List (List ℕ)) (all_letters : List (List Letter
 abbrev pub with_inbox : VertexState × List ℤ → VertexState
 with_inbox given = record { id = given.0.id; value = given.0.value; active = given.0.active; inbox = given.1 }
 
--- the vertices of all parts, each with its inbox, one part after another
-abbrev pub filled : List (List VertexState) → List (List (List ℤ)) → List VertexState
-filled parts inboxes = flat_map (λ (given : List VertexState × List (List ℤ)). map with_inbox (zip given.0 given.1)) (zip parts inboxes)
+-- the vertices of a part, each with its inbox
+abbrev pub filled : List VertexState × List (List ℤ) → List VertexState
+filled given = map with_inbox (zip given.0 given.1)
+
+-- those of each part
+abbrev pub all_filled : List (List VertexState) → List (List (List ℤ)) → List (List VertexState)
+all_filled parts inboxes = map filled (zip parts inboxes)

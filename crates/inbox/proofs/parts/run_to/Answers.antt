@@ -1,16 +1,20 @@
-use Rattle.std.proofs.Common.{rules, pos}
+use Rattle.std.proofs.Common.{◌≡◌, ◌∙◌, ap, drop, rules, tests, take}
+use Rattle.std.proofs.lemmas.Iterator.{YieldsList-from_slice}
+use Rattle.std.proofs.lemmas.Iterator.Consumers.{count_from_yields_List}
+use Rattle.std.proofs.lemmas.Iterator.Search.{YieldsList-from_take_while}
 use Rattle.std.proofs.lemmas.List.{take_rest}
-use Rattle.std.proofs.lemmas.List.Sorted.{IsPartitionPoint-from_clause}
-use Rattle.std.specs.Prelude.{int_lt, int_le}
-use Rattle.inbox.proofs.SideBySide.{letters_found, below_partitioned, upto_partitioned}
+use Rattle.std.proofs.lemmas.List.Folds.{length-prefix_len}
+use Rattle.std.specs.List.{prefix_len}
+use Rattle.inbox.specs.Merging.{goes_to}
+use Rattle.inbox.proofs.SideBySide.{letters_found}
 use Rattle.inbox.proofs.parts.run_to.Goals as goal
 
 pub returns : goal.returns
 returns c = λ up.
     let letters = c.args.letters.now in
-    let id = pos c.args.id in
-    let start = c.partition_point-start.result in
-    let rest = take_rest letters start in
-    let first = IsPartitionPoint-from_clause (λ letter. int_lt letter.to id) letters start c.partition_point-start.ensures.partitioned (below_partitioned id letters up) (λ a r q k. search rules) in
-    let second = IsPartitionPoint-from_clause (λ letter. int_le letter.to id) _ c.partition_point-count.result c.partition_point-count.ensures.partitioned (rw rest (upto_partitioned id letters start up)) (λ a r q k. search rules) in
-    rw rest (letters_found c.args.id letters start c.partition_point-count.result c.partition_point-start.ensures.bound (rw rest at c.partition_point-count.ensures.bound) first (rw rest at second))
+    let id = c.args.id in
+    let start = c.start_from-start.result in
+    let rest = drop start letters in
+    let all : c.iter.result.rest.now ≡ rest = rw (take_rest letters start) at c.iter.ensures.rest in
+    let count : c.count-count.result ≡ prefix_len (λ letter. goes_to letter id) rest = count_from_yields_List c.take_while.result _ c.count-count.ensures.ran (YieldsList-from_take_while _ (λ letter. goes_to letter id) (YieldsList-from_slice rest (ap (λ it. it.rest.now) c.take_while.ensures.source ∙ all)) c.take_while.ensures.closure c.take_while.ensures.done (λ x b q k. search (rules, tests))) ∙ length-prefix_len (λ letter. goes_to letter id) rest in
+    rw (take_rest letters start) (ap (λ n. take n rest) count ∙ letters_found id letters start up c.start_from-start.ensures.bound (c.start_from-start.ensures.found up))

@@ -1,6 +1,8 @@
-use Rattle.std.proofs.Common.{◌≡◌, ◌<◌, sym, ap, ◌∙◌, subst, map}
+use Rattle.std.proofs.Common.{◌≡◌, ◌<◌, ℕ, Bor, sym, ap, ◌∙◌, subst, map}
+use Rattle.std.proofs.lemmas.Simd.{map-map}
 use Rattle.superstep.specs.Job.{Work}
 use Rattle.superstep.specs.State.{HasIdsOf, state_id}
+use Rattle.superstep.specs.declared.state.VertexState.{VertexState}
 use Rattle.rollback.specs.Book.{IsQuietAt}
 use Rattle.rollback.specs.Keeping.{IsFullStateAt}
 use Rattle.rollback.specs.inside.Book.{AreIdsOf}
@@ -8,6 +10,12 @@ use Rattle.rollback.specs.inside.Rolling.{IsFirst}
 use Rattle.rollback.proofs.Kept
 use Rattle.rollback.proofs.Opening.{few_parts, few_workers, first_ids, full_first, some_every, some_limit}
 use Rattle.rollback.proofs.book.open_book.Goals as goal
+
+abbrev now : Bor VertexState → VertexState
+now vertex = vertex.now
+
+abbrev id_of : Bor VertexState → ℕ
+id_of vertex = state_id vertex.now
 
 pub new-requires-clause-parts : goal.new-requires-clause-parts
 new-requires-clause-parts g c = few_parts c.settings.result (rw c.settings.ensures.settings c.settings.ensures.good)
@@ -30,7 +38,9 @@ invariant_of-result g c =
     let state = c.in_ok-state.state in
     let own : job ≡ work = sym c.requires.job in
     let graph = c.settings.ensures.graph in
-    let ids = c.in_ok-ids.ensures ∙ ap (λ vs. map state_id vs) c.vertices.ensures.same in
+    let ids =
+    c.in_ok-ids.ensures ∙ ap (map id_of) c.deref.ensures.value ∙ sym (map-map state_id now c.in_ok-in_order.field-0.items)
+    ∙ ap (map state_id) c.in_ok-in_order.ensures.same in
     rw c.in_ok-control.ensures (Kept.book_opened work g.J.Origin.honest job c.settings.result c.in_ok-ids.ids.items c.in_ok-holding.holding c.is_quiet-quiet.result state own
     (c.settings.ensures.settings ∙ ap (λ (w : Work). w.settings) own)
     (subst (λ (w : Work). 0 < w.settings.limit) own (some_limit job.settings c.settings.ensures.good))

@@ -1,7 +1,6 @@
 use Rattle.std.proofs.Common.{map, vec_items, ap, ◌∙◌}
-use Rattle.graph.specs.Rising.{order_is}
 use Rattle.superstep.specs.State.{Standing, state_id}
-use Rattle.superstep.proofs.NextState.{IsMade, IsReady, all, lefts, lies, next_has_ids, next_is_at, next_is_state}
+use Rattle.superstep.proofs.NextState.{IsMade, IsReady, all, lefts, lies, next_has_ids, next_is_at, next_is_kept}
 use Rattle.superstep.proofs.closing.barrier.Goals as goal
 
 pub delivered-requires-after_bounds : goal.delivered-requires-after_bounds
@@ -28,25 +27,24 @@ module _ (g : _) (c : goal.In_ok-totals g) where
   }
 
   made : IsMade g.J.Origin.work c.args.job.now g.J.Origin.honest c.args.totals c.args.dones.items c.in_ok-ids.field-0 ready
-      (map vec_items c.in_ok-inboxes.inboxes.items) c.in_ok-inboxes.dropped c.in_ok-vertices.vertices.items c.merge_by_id.new.elements.items c.in_ok-totals.totals
+      (map vec_items c.in_ok-inboxes.inboxes.items) c.in_ok-inboxes.dropped (map vec_items c.in_ok-parts.parts.items) c.in_ok-totals.totals
   made =
       record {
         inboxes = c.in_ok-inboxes.ensures.inboxes (lefts _ _ _ _ _ _ ready) (all _ _ _ _ _ _ ready) (rw (c.deref-2.ensures.value, c.deref.ensures.value) (lies _ _ _ _ _ _ ready));
         dropped = c.in_ok-inboxes.ensures.dropped (lefts _ _ _ _ _ _ ready) (all _ _ _ _ _ _ ready) (rw (c.deref-2.ensures.value, c.deref.ensures.value) (lies _ _ _ _ _ _ ready));
-        fills = c.in_ok-vertices.ensures;
-        sorts = λ other is. order_is state_id _ _ other c.in_ok-merge_by_id.ensures.permutation c.in_ok-merge_by_id.ensures.sorted is.same is.rising;
+        fills = c.in_ok-parts.ensures;
         follows = c.in_ok-totals.ensures;
       }
 
-pub of-requires : goal.of-requires
-of-requires g c = next_is_state _ _ _ _ _ _ (ready g c) _ _ _ _ _ (made g c)
+pub of_parts-requires : goal.of_parts-requires
+of_parts-requires g c = next_is_kept _ _ _ _ _ _ (ready g c) _ _ _ _ (made g c)
 
 pub returns-clause-next : goal.returns-clause-next
 returns-clause-next g c = λ sure meaning.
     let before = c.before.before.before in
-    rw c.of.ensures (next_is_at _ _ _ _ _ _ (ready g before) _ _ _ _ _ (made g before) sure meaning (c.requires.at sure meaning))
+    rw c.of_parts.ensures (next_is_at _ _ _ _ _ _ (ready g before) _ _ _ _ (made g before) sure meaning (c.requires.at sure meaning))
 
 pub returns-clause-ids : goal.returns-clause-ids
 returns-clause-ids g c = λ other is.
     let before = c.before.before.before in
-    ap (λ (state : Standing). map state_id state.vertices) c.of.ensures ∙ next_has_ids _ _ _ _ _ _ (ready g before) _ _ _ _ _ (made g before) other is
+    ap (λ (state : Standing). map state_id state.vertices) c.of_parts.ensures ∙ next_has_ids _ _ _ _ _ _ (ready g before) _ _ _ _ (made g before) other is

@@ -1,0 +1,6 @@
+use Rattle.std.proofs.Common.{◌≡◌, map, take, vec_items}
+use Rattle.graph.specs.Cutting.{joined}
+use Rattle.superstep.proofs.state.State.in_order.Given as goal
+
+abbrev pub invariant-loop-part : goal.invariant-loop-part
+invariant-loop-part l = map (λ vertex. vertex.now) l.vertices.items ≡ joined (map vec_items (take l.part-index l.part-items))

@@ -2,7 +2,7 @@
 use Rattle.std.proofs.Common.{◌≡◌, ◌+◌, ℕ, ℤ, pos, Bool, true, false, not, cond, ◌||◌, ◌<◌, take, drop, get_or, List, [], ◌∷◌, ◌++◌, length, map, arith, append-nil, append_assoc, refl, sym, ap, ◌∙◌, sum_by}
 use Rattle.std.proofs.lemmas.Bool.Decides.{Decides-int_eq}
 use Rattle.std.proofs.lemmas.Bool.{eqb-false}
-use Rattle.std.proofs.lemmas.List.{length-map, map_more, map_push, take_more, take-append-drop}
+use Rattle.std.proofs.lemmas.List.{length-map, map-append, take_more}
 use Rattle.std.proofs.lemmas.List.Concat.{flat_map-append}
 use Rattle.std.proofs.lemmas.List.Folds.{list_any-append}
 use Rattle.std.proofs.lemmas.List.Sums.{sum_by-append, sum_by-cons, length-filter}
@@ -65,35 +65,22 @@ pub dropped_of_none : (letters : List Letter) → dropped_of letters [] ≡ leng
 dropped_of_none [] = refl
 dropped_of_none (letter ∷ letters) = omega (arith, dropped_of_none letters, sum_by-cons (λ (letter : Letter). 1) letter letters)
 
-pub distinct_front : {X : Type 0} (e : X → X → Bool) (xs ys : List X) → IsDistinct e (xs ++ ys) → IsDistinct e xs
-unfolding IsDistinct
-distinct_front e [] ys apart = tt
-distinct_front e (x ∷ xs) ys apart = (front xs ys apart.0, distinct_front e xs ys apart.1)
-  where
-    front : (xs ys : List _) → AllByRecursion (λ y. e x y ≡ false) (xs ++ ys) → AllByRecursion (λ y. e x y ≡ false) xs
-    front [] ys all = tt
-    front (y ∷ xs) ys all = (all.0, front xs ys all.1)
-
 module _ {X Z : Type 0} (lists : List (Vec X Z)) (i : ℕ) where
   pub all_of_more : (d : Vec X Z) → i < length lists → all_of (take (i + 1) lists) ≡ all_of (take i lists) ++ (get_or lists i d).items
   all_of_more d inside =
       ap all_of (take_more lists i d inside) ∙ flat_map-append vec_items (take i lists) (get_or lists i d ∷ [])
       ∙ ap (λ items. all_of (take i lists) ++ items) (append-nil (get_or lists i d).items)
 
-  all_of_parts : all_of (take i lists) ++ all_of (drop i lists) ≡ all_of lists
-  all_of_parts = sym (flat_map-append vec_items (take i lists) (drop i lists)) ∙ ap all_of (take-append-drop i lists)
-
--- one more part: what stands in its inboxes drops no more
-pub part_more : {Z : Type 0} (letters : List Letter) (ids : List (Vec ℕ Z)) (i : ℕ) (part : Vec ℕ Z) → i < length ids → part ≡ get_or ids i part → IsDistinct nat_eq (all_of ids) → sum_by length (inboxes_of letters part.items) + dropped_of letters (all_of (take (i + 1) ids)) ≡ dropped_of letters (all_of (take i ids))
-part_more letters ids i part inside is apart =
-    let grown : all_of (take (i + 1) ids) ≡ all_of (take i ids) ++ part.items = all_of_more ids i part inside ∙ ap (λ part. all_of (take i ids) ++ part.items) (sym is) in
-    let upto = distinct_front nat_eq (all_of (take (i + 1) ids)) (all_of (drop (i + 1) ids)) (rw all_of_parts apart) in
-    rw grown (delivered_or_dropped letters (all_of (take i ids)) part.items (rw grown at upto))
-
-pub parts_more : {Y Z : Type 0} (letters : List Letter) (ids : List (Vec ℕ Z)) (made : List (Vec (List ℤ) Y)) (inboxes : Vec (List ℤ) Y) (i : ℕ) (part : Vec ℕ Z) → i < length ids → part ≡ get_or ids i part → map vec_items made ≡ map (λ part. inboxes_of letters part.items) (take i ids) → inboxes.items ≡ inboxes_of letters part.items → map vec_items (made ++ inboxes ∷ []) ≡ map (λ part. inboxes_of letters part.items) (take (i + 1) ids)
-parts_more letters ids made inboxes i part inside is earlier here =
-    let made_of : Vec ℕ _ → List (List ℤ) = λ part. inboxes_of letters part.items in
-    map_push vec_items made inboxes ∙ (λ j. earlier j ++ (here ∙ ap made_of is) j ∷ []) ∙ sym (map_more made_of ids i part inside)
+-- what is delivered to all parts
+pub delivered_to_all : {Y Z : Type 0} (letters : List Letter) (ids : List (Vec ℕ Z)) (parts : List (Vec (List ℤ) Y)) → map vec_items parts ≡ map (λ part. inboxes_of letters part.items) ids → sum_by (λ part. sum_by length part.items) parts ≡ sum_by length (inboxes_of letters (all_of ids))
+delivered_to_all letters [] [] same = refl
+delivered_to_all letters [] (part ∷ parts) same = cc
+delivered_to_all letters (ids ∷ others) [] same = cc
+delivered_to_all letters (ids ∷ others) (part ∷ parts) same =
+    let here : part.items ≡ inboxes_of letters ids.items = cc in
+    let rest = delivered_to_all letters others parts cc in
+    let joined = ap (sum_by length) (map-append (inbox_of letters) ids.items (all_of others)) ∙ sum_by-append length (inboxes_of letters ids.items) (inboxes_of letters (all_of others)) in
+    omega (arith, ap (sum_by length) here, rest, joined, sum_by-cons (λ part. sum_by length part.items) part parts)
 
 pub dropped_of-flat_map : (sources : List ℕ) (sent_by : ℕ → List Letter) (ids : List ℕ) → dropped_of (flat_map sent_by sources) ids ≡ sum_by (λ source. dropped_of (sent_by source) ids) sources
 dropped_of-flat_map [] sent_by ids = refl

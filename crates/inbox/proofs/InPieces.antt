@@ -1,5 +1,5 @@
 -- Letters in pieces: what goes to an id is in the piece of its span.
-use Rattle.std.proofs.Common.{◌≡◌, ◌+◌, ◌<◌, ◌^◌, ◌||◌, ℕ, ℤ, pos, Bool, true, false, Some, None, List, [], ◌∷◌, ◌++◌, All, Contains, map, filter, find, take, get_or, length, sum_by, vec_len, arith, refl, sym, ap, ◌∙◌, cond, subst, true≢false, length-append}
+use Rattle.std.proofs.Common.{◌≡◌, ◌+◌, ◌<◌, ◌^◌, ◌||◌, ℕ, ℤ, pos, Bool, true, false, Some, None, List, [], ◌∷◌, ◌++◌, All, Contains, map, filter, find, take, get_or, length, sum_by, vec_items, vec_len, arith, refl, sym, ap, ◌∙◌, cond, subst, true≢false, length-append}
 use Rattle.std.proofs.lemmas.List.Elements.{All-cons, All-nil, All-contains, All-filter, All-from_recursion, Contains-append_right, filter-append, recursion_from_All}
 use Rattle.std.proofs.lemmas.List.Sums.{sum_by-cons}
 use Rattle.std.specs.List.{AllByRecursion, AllZip, IsDistinct, list_any}
@@ -12,7 +12,7 @@ use Rattle.inbox.specs.declared.pieces.Piece.{Piece}
 use Rattle.inbox.specs.Merging.{are_one, goes_to, all_of, IsBySource, inboxes_of, dropped_of}
 use Rattle.inbox.specs.inside.Pieces.{lies_in, goes_into, CoversIds, IsPieceOf, ArePieces, IsInboxFrom}
 use Rattle.inbox.specs.inside.Targets.{IsByTarget, target_cmp}
-use Rattle.inbox.proofs.Counting.{all_of_more, part_more}
+use Rattle.inbox.proofs.Counting.{all_of_more, delivered_or_dropped, delivered_to_all, dropped_of_none}
 use Rattle.inbox.proofs.InOrder.{in_order}
 use Rattle.inbox.proofs.Kept.{same_letters}
 use Rattle.inbox.proofs.OneOrder.{head_inside, same_dropped}
@@ -100,15 +100,24 @@ made pieces letters ordered are by (id ∷ ids) (inbox ∷ inboxes) zip =
     let others = made pieces letters ordered are by ids inboxes zip.1 in
     λ i. first i ∷ others i
 
--- a part's inboxes take what drops no more
-pub part_drops : {Z : Type 0} (letters : List Letter) (pieces : List Piece) (ids : List (Vec ℕ Z)) (i : ℕ) (part : Vec ℕ Z) (inboxes : List (List ℤ)) → IsDistinct are_one letters → IsDistinct nat_eq (all_of ids) → ArePieces letters pieces → i < length ids → part ≡ get_or ids i part → AllZip (IsInboxFrom pieces) part.items inboxes → sum_by length inboxes + dropped_of letters (all_of (take (i + 1) ids)) ≡ dropped_of letters (all_of (take i ids))
-part_drops letters pieces ids i part inboxes differ apart are inside is zip =
-    let order = in_order letters differ in
-    let here = made pieces letters order.0 are order.1 part.items inboxes zip in
-    let before = same_dropped letters order.0 (all_of (take i ids)) order.1.same in
-    let after = same_dropped letters order.0 (all_of (take (i + 1) ids)) order.1.same in
-    omega (arith, ap (sum_by length) here, before, after, part_more order.0 ids i part inside is apart)
+pub all_made : {Y Z : Type 0} (pieces : List Piece) (letters ordered : List Letter) → ArePieces letters pieces → IsBySource letters ordered → (ids : List (Vec ℕ Z)) (parts : List (Vec (List ℤ) Y)) → AllZip (λ part inboxes. AllZip (IsInboxFrom pieces) part.items inboxes.items) ids parts → map vec_items parts ≡ map (λ part. inboxes_of ordered part.items) ids
+all_made pieces letters ordered are by [] [] zip = refl
+all_made pieces letters ordered are by [] (part ∷ parts) zip = absurd zip
+all_made pieces letters ordered are by (ids ∷ others) [] zip = absurd zip
+all_made pieces letters ordered are by (ids ∷ others) (part ∷ parts) zip =
+    let first = made pieces letters ordered are by ids.items part.items zip.0 in
+    let rest = all_made pieces letters ordered are by others parts zip.1 in
+    λ i. first i ∷ rest i
 
-pub counted : {X Z : Type 0} (lists : List (Vec X Z)) → sum_by vec_len lists ≡ length (all_of lists)
+counted : {X Z : Type 0} (lists : List (Vec X Z)) → sum_by vec_len lists ≡ length (all_of lists)
 counted [] = refl
 counted (list ∷ lists) = omega (arith, list.ok.0, counted lists, sum_by-cons vec_len list lists, length-append list.items (all_of lists))
+
+-- each letter stands in one inbox or goes to none of the ids
+pub delivered_or_lost : {Y Z : Type 0} (lists : List (Vec Letter Z)) (pieces : List Piece) (ids : List (Vec ℕ Z)) (parts : List (Vec (List ℤ) Y)) → IsDistinct are_one (all_of lists) → IsDistinct nat_eq (all_of ids) → ArePieces (all_of lists) pieces → AllZip (λ part inboxes. AllZip (IsInboxFrom pieces) part.items inboxes.items) ids parts → sum_by (λ part. sum_by length part.items) parts + dropped_of (all_of lists) (all_of ids) ≡ sum_by vec_len lists
+delivered_or_lost lists pieces ids parts differ apart are zip =
+    let letters = all_of lists in
+    let order = in_order letters differ in
+    let here = delivered_to_all order.0 ids parts (all_made pieces letters order.0 are order.1 ids parts zip) in
+    let none = same_dropped letters order.0 [] order.1.same ∙ dropped_of_none letters in
+    omega (arith, here, none, counted lists, same_dropped letters order.0 (all_of ids) order.1.same, delivered_or_dropped order.0 [] (all_of ids) apart)

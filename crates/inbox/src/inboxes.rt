@@ -1,43 +1,74 @@
 use std::alloc::{AllocError, Global};
 use std::marker::Model;
 
-/// The messages to one vertex, in their order, which contracts see as their list.
+// So many messages lie in the inbox itself. Most vertices are sent no more, and more would make all states larger.
+const FEW: usize = 4;
+
+/// The messages to one vertex, in their order, which contracts see as their list. Up to four take no memory.
 #[derive(Drop)]
 pub struct Inbox {
-    messages: Vec<i64>,
+    held: Held,
+}
+
+// Where the messages lie.
+#[derive(Drop)]
+enum Held {
+    Here(Here),
+    Apart(Vec<i64>),
+}
+
+// Messages that lie in the inbox itself: the first `count` of these.
+#[derive(Clone, Copy)]
+struct Here {
+    alloc: Global,
+    count: usize,
+    messages: [i64; 4],
 }
 
 impl Model for Inbox {
     ghost use Rattle.std.specs.Prelude.{List, ℤ};
+    ghost use Rattle.inbox.specs.inside.Held.{IsHeld, messages_of};
 
     ghost Value = { List ℤ };
 
-    ghost view = { λ a. a.messages.items };
+    ghost view = { λ inbox. messages_of inbox.held };
+
+    ghost invariant = { λ inbox. IsHeld inbox.held };
 }
 
 impl Inbox {
-    ghost use Rattle.std.specs.Prelude.{◌≡◌, [], ◌∷◌, ◌++◌, OnOk, OnErr};
+    ghost use Rattle.std.specs.Prelude.{◌≡◌, [], ◌∷◌, ◌++◌, IfOk, OnOk, OnErr};
 
     /// An inbox that holds nothing; it takes no memory.
     pub fn empty(alloc: Global) -> Inbox
         ensures { result ≡ [] }
     {
         Inbox {
-            messages: Vec::new(alloc),
+            held: Held::Here(Here {
+                alloc,
+                count: 0,
+                messages: [0; 4],
+            }),
         }
+    }
+
+    // An inbox that holds nothing, with room for so many messages.
+    pub(crate) fn with_capacity(alloc: Global, count: usize) -> Result<Inbox, AllocError>
+        ensures { IfOk result (λ inbox. inbox ≡ []) }
+    {
+        if count <= FEW {
+            return Ok(Inbox::empty(alloc));
+        }
+        Ok(Inbox::from(Vec::with_capacity(alloc, count)?))
     }
 
     pub fn as_slice(&self) -> &[i64]
         ensures { result.now ≡ self.now }
     {
-        &self.messages
-    }
-
-    pub fn into_vec(self) -> Vec<i64>
-        ensures { result.items ≡ self }
-    {
-        let Inbox { messages } = self;
-        messages
+        match &self.held {
+            Held::Here(here) => &here.messages[..here.count],
+            Held::Apart(messages) => messages,
+        }
     }
 
     /// Puts a message after the others. An `Err` is want of memory.
@@ -45,7 +76,19 @@ impl Inbox {
         ensures ok { OnOk result (self.new ≡ self.old ++ message ∷ []) }
         ensures err { OnErr result (self.new ≡ self.old) }
     {
-        self.messages.push(message)?;
+        match &mut self.held {
+            Held::Here(here) => {
+                if here.count < FEW {
+                    here.messages[here.count] = message;
+                    here.count += 1;
+                    return Ok(());
+                }
+                let mut messages = Vec::from_slice(here.alloc, &here.messages)?;
+                messages.push(message)?;
+                self.held = Held::Apart(messages);
+            }
+            Held::Apart(messages) => messages.push(message)?,
+        }
         Ok(())
     }
 }
@@ -56,6 +99,8 @@ impl From<Vec<i64>> for Inbox {
     ghost from_gives = { λ messages inbox. inbox ≡ messages.items };
 
     fn from(messages: Vec<i64>) -> Inbox {
-        Inbox { messages }
+        Inbox {
+            held: Held::Apart(messages),
+        }
     }
 }

@@ -1,4 +1,4 @@
-ghost use Rattle.std.specs.Prelude.{◌≡◌, ◌≤◌, int_lt, pos, true, false, List, map, filter, length, nat_eq, sum_by, vec_items, vec_len, IfOk};
+ghost use Rattle.std.specs.Prelude.{◌≡◌, ◌≤◌, ◌<◌, ◌^◌, int_lt, pos, true, false, List, map, filter, length, nat_eq, sum_by, vec_items, vec_len, IfOk};
 ghost use Rattle.std.specs.List.{AllZip, IsDistinct};
 ghost use Rattle.std.specs.List.Sorted.{IsStrictlySortedBy, IsPartitionPoint};
 ghost use Rattle.inbox.specs.declared.letters.Letter.{Letter as AnyLetter};
@@ -23,7 +23,8 @@ use std::thread::Threads;
 /// Targets are cut into as many spans as there are parts, but 16 at most, which hold about as many
 /// of the first part's ids each, where these rise. Threads share the spans, up to two threads for
 /// each processor: for a span, one goes over all letters, copies those of the span and sorts them.
-/// Then threads look up each id's letters and make its inbox, with no more room than its messages.
+/// Then threads look up each id's letters and make its inbox, with no more room than its messages
+/// where they are more than four.
 ///
 /// So letters are read as often as there are spans, and copied and sorted once, in time of the order
 /// of n times the logarithm of how many lists there are, where each is in the letters' order, and
@@ -45,13 +46,8 @@ pub fn merge_parts(
         merged.1 ≡ dropped_of (all_of lists.now) (all_of ids.now)) }
 {
     let pieces = by_target(rt, alloc, lists, ids)?;
-    let mut dropped = letter_count(lists);
-    let mut parts = Vec::with_capacity(alloc, ids.len())?;
-    for part in ids {
-        let inboxes = inboxes_at(rt, alloc, &pieces, part)?;
-        dropped -= message_count(&inboxes);
-        parts.push(inboxes)?;
-    }
+    let parts = inboxes_of_all(rt, alloc, &pieces, ids)?;
+    let dropped = letter_count(lists) - delivered_count(&parts);
     Ok((parts, dropped))
 }
 
@@ -60,6 +56,29 @@ fn letter_count(lists: &[Vec<Letter>]) -> u128
     ensures { result ≡ sum_by (λ list. vec_len list) lists.now }
 {
     lists.iter().map(|list| list.len() as u128).sum()
+}
+
+// What stands in the inboxes of each part's ids.
+fn inboxes_of_all(
+    rt: &(impl Threads + Sync),
+    alloc: Global,
+    pieces: &[Piece],
+    ids: &[Vec<u64>],
+) -> Result<Vec<Vec<Inbox>>, AllocError>
+    ensures { IfOk result (λ parts. AllZip
+        (λ part inboxes. AllZip (IsInboxFrom pieces.now) part.items inboxes.items)
+        ids.now parts.items) }
+{
+    // A part is worth a thread of its own, few as there are.
+    ids.par_iter()
+        .with_min_len(1)
+        .map(
+            |part: &Vec<u64>| -> Result<Vec<Inbox>, AllocError>
+                ensures { IfOk result (λ inboxes.
+                    AllZip (IsInboxFrom pieces.entry.now) part.now.items inboxes.items) }
+            { inboxes_at(rt, alloc, pieces, part) },
+        )
+        .collect::<Result<Vec<Vec<Inbox>>, AllocError>>(rt, alloc)?
 }
 
 // What stands in the inboxes of these ids.
@@ -86,9 +105,11 @@ fn inbox_at(alloc: Global, pieces: &[Piece], near: &mut usize, id: u64) -> Resul
     ensures { IfOk result (IsInboxFrom pieces.now id) }
 {
     let mine = letters_to(pieces, near, id);
-    let mut messages = Vec::with_capacity(alloc, mine.len())?;
-    messages.extend(mine.iter().map(|letter| letter.value))?;
-    Ok(Inbox::from(messages))
+    let mut inbox = Inbox::with_capacity(alloc, mine.len())?;
+    for letter in mine {
+        inbox.push(letter.value)?;
+    }
+    Ok(inbox)
 }
 
 // The letters to this id. An id lies in one of the spans.
@@ -152,6 +173,14 @@ fn start_from(letters: &[Letter], near: usize, id: u64) -> usize
         return near + ahead;
     }
     near + rest.partition_point(|letter| goes_below(letter, id))
+}
+
+// How many messages stand in the inboxes of all parts.
+fn delivered_count(parts: &[Vec<Inbox>]) -> u128
+    requires { sum_by (λ part. sum_by length part.items) parts.now < 2 ^ 128 }
+    ensures { result ≡ sum_by (λ part. sum_by length part.items) parts.now }
+{
+    parts.iter().map(|part| message_count(part)).sum()
 }
 
 // How many messages stand in these inboxes.

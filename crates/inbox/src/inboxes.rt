@@ -2,9 +2,11 @@ use std::alloc::{AllocError, Global};
 use std::marker::Model;
 
 // So many messages lie in the inbox itself. Most vertices are sent no more, and more would make all states larger.
-const FEW: usize = 4;
+const MOST_HERE: usize = 4;
 
-/// The messages to one vertex, in their order, which contracts see as their list. Up to four take no memory.
+/// The messages to one vertex, in their order, which contracts see as their list.
+///
+/// Up to four lie in the inbox itself and take no memory, unless the inbox was made from a list.
 #[derive(Drop)]
 pub struct Inbox {
     held: Held,
@@ -56,7 +58,7 @@ impl Inbox {
     pub(crate) fn with_capacity(alloc: Global, count: usize) -> Result<Inbox, AllocError>
         ensures { IfOk result (λ inbox. inbox ≡ []) }
     {
-        if count <= FEW {
+        if count <= MOST_HERE {
             return Ok(Inbox::empty(alloc));
         }
         Ok(Inbox::from(Vec::with_capacity(alloc, count)?))
@@ -78,7 +80,7 @@ impl Inbox {
     {
         match &mut self.held {
             Held::Here(here) => {
-                if here.count < FEW {
+                if here.count < MOST_HERE {
                     here.messages[here.count] = message;
                     here.count += 1;
                     return Ok(());

@@ -62,7 +62,6 @@ capped_sum a b = omega arith
 
 -- What one more part has goes behind the others.
 pub record HasMore (old new : Gathered) (units : ℕ) (vertices : List VertexState) (letters : List Letter) (given : List ℤ) : Type 0 where
-  pub more_ids : map vec_items new.ids.items ≡ map vec_items old.ids.items ++ map state_id vertices ∷ []
   pub more_vertices : map vec_items new.vertices.items ≡ map vec_items old.vertices.items ++ vertices ∷ []
   pub more_letters : map vec_items new.letters.items ≡ map vec_items old.letters.items ++ letters ∷ []
   pub more_slots : new.slots ≡ united old.slots given
@@ -81,9 +80,6 @@ gathered_more work honest dones done old new vertices letters given before is mo
       stamps = map-append (λ (one : PartLeft). one.0) before.parts (part ∷ []) ∙ ap (λ xs. xs ++ done ∷ []) before.stamps;
       each = each_append (IsPartLeft work honest) before.parts (part ∷ []) before.each
           (record { fits = is.fits ∙ ap Some own_ids; at = is.at }, tt);
-      ids = more.more_ids ∙ ap (λ xs. xs ++ map state_id vertices ∷ []) before.ids
-          ∙ ap (λ (own : List ℕ). map (λ (one : PartLeft). left_ids one.1) before.parts ++ own ∷ []) own_ids
-          ∙ sym (map-append (λ (one : PartLeft). left_ids one.1) before.parts (part ∷ []));
       vertices = more.more_vertices ∙ ap (λ xs. xs ++ vertices ∷ []) before.vertices
           ∙ ap (λ (own : List VertexState). map (λ (one : PartLeft). map emptied one.1) before.parts ++ own ∷ []) is.comes.vertices
           ∙ sym (map-append (λ (one : PartLeft). map emptied one.1) before.parts (part ∷ []));
@@ -100,13 +96,12 @@ gathered_more work honest dones done old new vertices letters given before is mo
     }
 
 -- nothing is gathered yet
-pub gathered_none : (work : Work) (honest : Bool) (gathered : Gathered) → gathered.ids.items ≡ [] → gathered.vertices.items ≡ []
+pub gathered_none : (work : Work) (honest : Bool) (gathered : Gathered) → gathered.vertices.items ≡ []
     → gathered.letters.items ≡ [] → gathered.slots ≡ slot_starts → gathered.units ≡ 0 → IsGathered work honest [] gathered
-gathered_none work honest gathered no_ids no_vertices no_letters slots units = record {
+gathered_none work honest gathered no_vertices no_letters slots units = record {
   parts = [];
   stamps = refl;
   each = tt;
-  ids = ap (map vec_items) no_ids;
   vertices = ap (map vec_items) no_vertices;
   letters = subst (λ xs. IsPermutation [] (joined (map vec_items xs))) (sym no_letters) (IsPermutation-refl []);
   slots = slots;

@@ -186,8 +186,12 @@ module _ (work now : Work) (honest : Bool) (totals : Totals) (dones : List DoneS
   abbrev pub all : List Left
   all = ordered ready.parts.parts ready.graph.0
 
-  pub lies : IsSpread (map vec_items gathered.ids.items) (map vec_items gathered.letters.items) lefts all
-  lies = is_spread work honest totals.superstep dones gathered ready.graph.0 own_some own_graph ready.parts own_row
+  pub spreads : (numbers : List (List ℕ)) → numbers ≡ map (map state_id) (map vec_items gathered.vertices.items)
+      → IsSpread numbers (map vec_items gathered.letters.items) lefts all
+  spreads numbers own = is_spread work honest totals.superstep dones gathered numbers ready.graph.0 own_some own_graph ready.parts own_row own
+
+  lies : IsSpread (map (map state_id) (map vec_items gathered.vertices.items)) (map vec_items gathered.letters.items) lefts all
+  lies = spreads (map (map state_id) (map vec_items gathered.vertices.items)) refl
 
   -- What is made of it.
   pub record IsMade (found : List (List (List ℤ))) (lost : ℕ) (parts : List (List VertexState)) (later : Totals) : Type 0 where

@@ -21,6 +21,7 @@ use inbox::{
     letters_drop_alike_in_any_order, letters_keep_their_order_in_any_lists, merge_parts,
     sources_send_in_any_order,
 };
+use rayon::prelude::*;
 use std::alloc::{AllocError, Global};
 use std::thread::Threads;
 
@@ -46,22 +47,21 @@ pub fn barrier<J: Origin>(
     ensures ids { IfOk result (HasIdsOf job.now) }
 {
     let Gathered {
-        ids,
         vertices,
         letters,
         slots,
         units,
     } = gather(alloc, job.settings().parts, dones)?;
+    let ids = all_ids(rt, alloc, &vertices)?;
     let (inboxes, dropped) = delivered(rt, alloc, &letters, &ids)?;
-    let parts = all_filled(alloc, vertices, inboxes)?;
+    let parts = all_filled(rt, alloc, vertices, inboxes)?;
     let totals = totals.after(units, dropped)?;
     Ok(State::of_parts(totals, slots, parts))
 }
 
-// What the parts left: of each its ids, its vertices and its letters, and what they gave and took together.
+// What the parts left: of each its vertices and its letters, and what they gave and took together.
 #[derive(Drop)]
 struct Gathered {
-    ids: Vec<Vec<u64>>,
     vertices: Vec<Vec<VertexState>>,
     letters: Vec<Vec<Letter>>,
     slots: [i64; 8],
@@ -73,21 +73,20 @@ fn gather<J: Origin>(alloc: Global, parts: u32, dones: Vec<Done<J>>) -> Result<G
     ensures { IfOk result (IsGathered J.work J.honest dones.items) }
 {
     let mut gathered = Gathered {
-        ids: Vec::with_capacity(alloc, parts as usize)?,
         vertices: Vec::with_capacity(alloc, parts as usize)?,
         letters: Vec::with_capacity(alloc, parts as usize)?,
         slots: slot_starts(),
         units: 0,
     };
     for done in dones {
-        gathered.add(alloc, done)?;
+        gathered.add(done)?;
     }
     Ok(gathered)
 }
 
 impl Gathered {
     // What one more part left.
-    fn add<J: Origin>(&mut self, alloc: Global, done: Done<J>) -> Result<(), AllocError>
+    fn add<J: Origin>(&mut self, done: Done<J>) -> Result<(), AllocError>
         ensures { OnOk result ((dones : List DoneStamp) → IsGathered J.work J.honest dones self.old
             → IsGathered J.work J.honest (dones ++ done ∷ []) self.new) }
     {
@@ -98,13 +97,33 @@ impl Gathered {
             slots,
             ..
         } = done;
-        self.ids.push(ids_of(alloc, &vertices)?)?;
         self.vertices.push(vertices)?;
         self.letters.push(letters)?;
         unite(&mut self.slots, &slots);
         self.units = self.units.saturating_add(units);
         Ok(())
     }
+}
+
+// The ids of each part's vertices.
+fn all_ids(
+    rt: &(impl Threads + Sync),
+    alloc: Global,
+    vertices: &[Vec<VertexState>],
+) -> Result<Vec<Vec<u64>>, AllocError>
+    ensures { IfOk result (λ ids.
+        map vec_items ids.items ≡ map (map state_id) (map vec_items vertices.now)) }
+{
+    // A part is worth a thread of its own, few as there are.
+    vertices
+        .par_iter()
+        .with_min_len(1)
+        .map(
+            |part: &Vec<VertexState>| -> Result<Vec<u64>, AllocError>
+                ensures { IfOk result (λ ids. ids.items ≡ map state_id part.now.items) }
+            { ids_of(alloc, part) },
+        )
+        .collect::<Result<Vec<Vec<u64>>, AllocError>>(rt, alloc)?
 }
 
 fn ids_of(alloc: Global, vertices: &[VertexState]) -> Result<Vec<u64>, AllocError>
@@ -150,6 +169,7 @@ fn delivered(
 
 // The vertices of each part, each with its inbox, where there are as many of these.
 fn all_filled(
+    rt: &(impl Threads + Sync),
     alloc: Global,
     vertices: Vec<Vec<VertexState>>,
     inboxes: Vec<Vec<Inbox>>,
@@ -159,11 +179,24 @@ fn all_filled(
         → map vec_items parts.items
         ≡ all_filled (map vec_items vertices.items) (map vec_items inboxes.items)) }
 {
-    let mut parts = Vec::with_capacity(alloc, vertices.len())?;
-    for (vertices, inboxes) in vertices.into_iter().zip(inboxes) {
-        parts.push(filled(vertices, inboxes))?;
-    }
-    Ok(parts)
+    let pairs: Vec<(Vec<VertexState>, Vec<Inbox>)> = vertices
+        .into_iter()
+        .zip(inboxes)
+        .collect(alloc)?;
+    // A part is worth a thread of its own, few as there are.
+    pairs
+        .into_par_iter()
+        .with_min_len(1)
+        .map(
+            |pair: (Vec<VertexState>, Vec<Inbox>)| -> Vec<VertexState>
+                ensures { length pair.0.items ≡ length pair.1.items
+                    → result.items ≡ filled (pair.0.items, pair.1.items) }
+            {
+                let (vertices, inboxes) = pair;
+                filled(vertices, inboxes)
+            },
+        )
+        .collect(rt, alloc)
 }
 
 // The vertices of a part, each with its inbox, where there are as many of these. They stay where they are.
@@ -174,7 +207,7 @@ fn filled(mut vertices: Vec<VertexState>, inboxes: Vec<Inbox>) -> Vec<VertexStat
     let mut inboxes = inboxes.into_iter();
     for vertex in vertices.iter_mut() {
         if let Some(inbox) = inboxes.next() {
-            vertex.inbox = inbox;
+            vertex.fill(inbox);
         }
     }
     vertices

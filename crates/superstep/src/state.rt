@@ -7,6 +7,7 @@ ghost use Rattle.graph.specs.Entry.{entry_of};
 ghost use Rattle.superstep.specs.State.{HasIdsOf, IsState, IsStateAt, in_order, state_id};
 ghost use Rattle.superstep.specs.State.{is_due, is_settled};
 ghost use Rattle.superstep.specs.Totals.{standing_of};
+ghost use Rattle.superstep.specs.inside.Closing.{with_inbox};
 ghost use Rattle.superstep.specs.inside.Rows.{IsKept, first_state, first_states};
 
 use crate::job::Job;
@@ -27,6 +28,15 @@ pub struct VertexState {
     pub active: bool,
     /// What was sent to it in the superstep before.
     pub inbox: Inbox,
+}
+
+impl VertexState {
+    // Puts this inbox in the place of the one that it has.
+    pub(crate) fn fill(&mut self, inbox: Inbox)
+        ensures { self.new ≡ with_inbox (self.old, inbox) }
+    {
+        self.inbox = inbox;
+    }
 }
 
 impl Identified for VertexState {

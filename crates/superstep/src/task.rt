@@ -294,6 +294,6 @@ fn run_vertex(
     left.add(vertex.id, &outcome)?;
     vertex.value = outcome.value;
     vertex.active = !outcome.halted;
-    vertex.inbox = Inbox::empty(alloc);
+    vertex.fill(Inbox::empty(alloc));
     Ok(())
 }

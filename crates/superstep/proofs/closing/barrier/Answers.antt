@@ -1,37 +1,37 @@
 use Rattle.std.proofs.Common.{map, vec_items, ap, ◌∙◌}
 use Rattle.superstep.specs.State.{Standing, state_id}
-use Rattle.superstep.proofs.NextState.{IsMade, IsReady, all, lefts, lies, next_has_ids, next_is_at, next_is_kept}
+use Rattle.superstep.proofs.NextState.{IsMade, IsReady, all, lefts, next_has_ids, next_is_at, next_is_kept, spreads}
 use Rattle.superstep.proofs.closing.barrier.Goals as goal
 
 pub delivered-requires-after_bounds : goal.delivered-requires-after_bounds
 delivered-requires-after_bounds g c κs within =
-    let ready : IsReady g.J.Origin.work c.args.job.now g.J.Origin.honest c.args.totals c.args.dones.items c.in_ok-ids.field-0 = record {
+    let ready : IsReady g.J.Origin.work c.args.job.now g.J.Origin.honest c.args.totals c.args.dones.items c.in_ok-vertices.field-0 = record {
       job = c.requires.job;
       good = c.settings.ensures.good;
       graph = c.settings.ensures.graph;
       row = c.requires.row;
       sums = c.requires.totals;
-      parts = c.in_ok-ids.ensures;
+      parts = c.in_ok-vertices.ensures;
     } in
-    (lefts _ _ _ _ _ _ ready, all _ _ _ _ _ _ ready, rw (c.deref-2.ensures.value, c.deref.ensures.value) (lies _ _ _ _ _ _ ready))
+    (lefts _ _ _ _ _ _ ready, all _ _ _ _ _ _ ready, rw (c.deref-3.ensures.value, c.deref-2.ensures.value) (spreads _ _ _ _ _ _ ready _ (rw (c.deref.ensures.value) at c.in_ok-ids.ensures)))
 
 module _ (g : _) (c : goal.In_ok-totals g) where
-  abbrev ready : IsReady g.J.Origin.work c.args.job.now g.J.Origin.honest c.args.totals c.args.dones.items c.in_ok-ids.field-0
+  abbrev ready : IsReady g.J.Origin.work c.args.job.now g.J.Origin.honest c.args.totals c.args.dones.items c.in_ok-vertices.field-0
   ready = record {
     job = c.requires.job;
     good = c.settings.ensures.good;
     graph = c.settings.ensures.graph;
     row = c.requires.row;
     sums = c.requires.totals;
-    parts = c.in_ok-ids.ensures;
+    parts = c.in_ok-vertices.ensures;
   }
 
-  made : IsMade g.J.Origin.work c.args.job.now g.J.Origin.honest c.args.totals c.args.dones.items c.in_ok-ids.field-0 ready
+  made : IsMade g.J.Origin.work c.args.job.now g.J.Origin.honest c.args.totals c.args.dones.items c.in_ok-vertices.field-0 ready
       (map vec_items c.in_ok-inboxes.inboxes.items) c.in_ok-inboxes.dropped (map vec_items c.in_ok-parts.parts.items) c.in_ok-totals.totals
   made =
       record {
-        inboxes = c.in_ok-inboxes.ensures.inboxes (lefts _ _ _ _ _ _ ready) (all _ _ _ _ _ _ ready) (rw (c.deref-2.ensures.value, c.deref.ensures.value) (lies _ _ _ _ _ _ ready));
-        dropped = c.in_ok-inboxes.ensures.dropped (lefts _ _ _ _ _ _ ready) (all _ _ _ _ _ _ ready) (rw (c.deref-2.ensures.value, c.deref.ensures.value) (lies _ _ _ _ _ _ ready));
+        inboxes = c.in_ok-inboxes.ensures.inboxes (lefts _ _ _ _ _ _ ready) (all _ _ _ _ _ _ ready) (rw (c.deref-3.ensures.value, c.deref-2.ensures.value) (spreads _ _ _ _ _ _ ready _ (rw (c.deref.ensures.value) at c.in_ok-ids.ensures)));
+        dropped = c.in_ok-inboxes.ensures.dropped (lefts _ _ _ _ _ _ ready) (all _ _ _ _ _ _ ready) (rw (c.deref-3.ensures.value, c.deref-2.ensures.value) (spreads _ _ _ _ _ _ ready _ (rw (c.deref.ensures.value) at c.in_ok-ids.ensures)));
         fills = c.in_ok-parts.ensures;
         follows = c.in_ok-totals.ensures;
       }

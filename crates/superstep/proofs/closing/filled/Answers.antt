@@ -57,12 +57,12 @@ loop-vertex-preserved c =
             long = ap length w.vertex-items-is ∙ length-set items i _ ∙ before.long;
             done = λ k d early within. elim (eqb_tells k i) [
               | inl h ↦
-                  let given_to = with_inbox (get_or items i c.vertex-item.result, w.in-Some.inbox) in
+                  let given_to = w.fill.new.self in
                   let own : get_or items i c.vertex-item.result ≡ get_or old k d =
                   get_or_default items i c.vertex-item.result d below ∙ before.same i d (omega arith) ∙ ap (λ n. get_or old n d) (sym h.1) in
                   let found : w.in-Some.inbox ≡ get_or inboxes k [] = sym given.1 ∙ ap (λ n. get_or inboxes n []) (sym h.1) in
                   ap (λ xs. get_or xs k d) w.vertex-items-is ∙ ap (λ n. get_or (set items i given_to) n d) h.1
-                  ∙ get_or-set_same items i given_to d below ∙ (λ j. with_inbox (own j, found j))
+                  ∙ get_or-set_same items i given_to d below ∙ w.fill.ensures ∙ (λ j. with_inbox (own j, found j))
               | inr h ↦ ap (λ xs. get_or xs k d) w.vertex-items-is ∙ get_or-set_other items i k _ d h.1 ∙ before.done k d (omega (arith, h.1, early)) within
             ];
             same = λ k d late. ap (λ xs. get_or xs k d) w.vertex-items-is ∙ get_or-set_other items i k _ d (λ e. omega (arith, e, late)) ∙ before.same k d (omega (arith, late));

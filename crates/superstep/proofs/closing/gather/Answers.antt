@@ -9,7 +9,7 @@ use Rattle.superstep.proofs.closing.gather.Goals as goal
 pub loop-done-init : goal.loop-done-init
 loop-done-init g c =
     gathered_none g.J.Origin.work g.J.Origin.honest _ c.in_ok-with_capacity.ensures.items c.in_ok-with_capacity-2.ensures.items
-    c.in_ok-with_capacity-3.ensures.items c.slot_starts.ensures refl
+    c.slot_starts.ensures refl
 
 pub loop-done-preserved : goal.loop-done-preserved
 loop-done-preserved g c = c.in_ok-add.ensures c.loop-done.yielded c.loop-done.invariant

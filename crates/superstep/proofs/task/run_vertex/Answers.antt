@@ -1,4 +1,4 @@
-use Rattle.std.proofs.Common.{◌≡◌, ◌⊎◌, inl, inr, ◌<◌, true, length, refl, arith, w64, to_z, of_z}
+use Rattle.std.proofs.Common.{◌∙◌, ◌≡◌, ◌⊎◌, inl, inr, ◌<◌, true, length, refl, arith, w64, to_z, of_z}
 use Rattle.std.proofs.lemmas.Int.{ints}
 use Rattle.interp.specs.Call.{shown}
 use Rattle.graph.specs.Entry.{entry_of}
@@ -63,6 +63,6 @@ returns-clause-calls c =
             aggregated = refl;
           })
           (called_true row which);
-      vertex = call_keeps vertex.id _ _ (shown c.in_ok-outcome.outcome) written c.empty.ensures;
+      vertex = c.fill.ensures ∙ call_keeps vertex.id _ _ (shown c.in_ok-outcome.outcome) written c.empty.ensures;
       adds = c.in_ok-add.ensures;
     }

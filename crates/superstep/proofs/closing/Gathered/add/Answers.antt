@@ -1,7 +1,6 @@
-use Rattle.std.proofs.Common.{ℕ, ◌+◌, List, ◌++◌, ◌∷◌, [], map, vec_items, ap, ◌∙◌, subst}
+use Rattle.std.proofs.Common.{◌+◌, map, vec_items, ap, ◌∙◌, subst}
 use Rattle.std.proofs.lemmas.List.{map_push}
 use Rattle.superstep.specs.Folds.{capped}
-use Rattle.superstep.specs.State.{state_id}
 use Rattle.superstep.specs.Tasks.{DoneStamp, IsDone}
 use Rattle.superstep.proofs.Gathering.{gathered_more}
 use Rattle.superstep.proofs.closing.Gathered.add.Goals as goal
@@ -12,10 +11,8 @@ returns g c = λ dones before.
     let is = subst (λ (stamp : DoneStamp). IsDone g.J.Origin.work g.J.Origin.honest stamp inside.vertices.items inside.letters.items inside.slots) c.done.view_is c.done.invariant in
     gathered_more g.J.Origin.work g.J.Origin.honest dones c.args.done c.args.self.now _ inside.vertices.items inside.letters.items inside.slots before is
     (record {
-      more_ids = ap (map vec_items) c.in_ok-push.ensures.items ∙ map_push vec_items c.args.self.now.ids.items c.in_ok-ids_of.field-0
-          ∙ ap (λ (own : List ℕ). map vec_items c.args.self.now.ids.items ++ own ∷ []) (c.in_ok-ids_of.ensures ∙ ap (map state_id) c.deref.ensures.value);
-      more_vertices = ap (map vec_items) c.in_ok-push-2.ensures.items ∙ map_push vec_items c.args.self.now.vertices.items inside.vertices;
-      more_letters = ap (map vec_items) c.in_ok-push-3.ensures.items ∙ map_push vec_items c.args.self.now.letters.items inside.letters;
+      more_vertices = ap (map vec_items) c.in_ok-push.ensures.items ∙ map_push vec_items c.args.self.now.vertices.items inside.vertices;
+      more_letters = ap (map vec_items) c.in_ok-push-2.ensures.items ∙ map_push vec_items c.args.self.now.letters.items inside.letters;
       more_slots = c.unite.ensures;
       more_units = c.saturating_add-self.ensures ∙ ap (λ (stamp : DoneStamp). capped (c.args.self.now.units + stamp.units)) c.done.view_is;
     })

@@ -1,4 +1,4 @@
-use Rattle.std.proofs.Common.{◌≡◌, ◌+◌, ◌∷◌, ◌||◌, Bool, List, Global, Vec, drop, false, map, not, refl, true, vec_items, ap, sym, ◌∙◌}
+use Rattle.std.proofs.Common.{◌≡◌, ◌+◌, ◌<◌, ◌∷◌, ◌||◌, ℕ, Bool, List, Global, Vec, drop, get_or, length, false, map, not, refl, true, vec_items, ap, sym, ◌∙◌}
 use Rattle.std.specs.List.{list_any}
 use Rattle.std.proofs.lemmas.List.{drop_all, drop_more}
 use Rattle.std.proofs.lemmas.List.Folds.{list_any-append}
@@ -19,8 +19,12 @@ unsettled : (due : Bool) → false ≡ not due → due ≡ true
 unsettled true same = refl
 unsettled false same = same
 
-any_due_next : (part : Vec VertexState Global) (parts : List (Vec VertexState Global)) → any_due (part ∷ parts) ≡ (list_any is_due part.items || any_due parts)
-any_due_next part parts = list_any-append is_due part.items (joined (map vec_items parts))
+-- what is left is due where its first part or the rest is
+rest_due : (parts : List (Vec VertexState Global)) (i : ℕ) (part : Vec VertexState Global) → i < length parts → part ≡ get_or parts i part
+    → any_due (drop i parts) ≡ (list_any is_due part.items || any_due (drop (i + 1) parts))
+rest_due parts i part inside is =
+    ap any_due (drop_more parts i part inside ∙ ap (λ first. first ∷ drop (i + 1) parts) (sym is))
+    ∙ list_any-append is_due part.items (joined (map vec_items (drop (i + 1) parts)))
 
 pub loop-part-preserved : goal.loop-part-preserved
 loop-part-preserved c =
@@ -29,27 +33,24 @@ loop-part-preserved c =
     let none : list_any is_due c.part-item.result.items ≡ false =
     ap (list_any is_due) (sym c.deref.ensures.value) ∙ settled (list_any is_due c.deref.result.now) c.if-not-are_settled.ensures in
     c.loop-part.invariant
-    ∙ ap any_due (drop_more parts i c.part-item.result c.loop-part-test.true ∙ ap (λ part. part ∷ drop (i + 1) parts) (sym c.part-item.is))
-    ∙ any_due_next c.part-item.result (drop (i + 1) parts) ∙ ap (λ due. due || any_due (drop (i + 1) parts)) none
+    ∙ rest_due parts i c.part-item.result c.loop-part-test.true c.part-item.is ∙ ap (λ due. due || any_due (drop (i + 1) parts)) none
 
 -- whether any vertex of the state is due
-due_in_parts : (state : Standing) (parts : List (Vec VertexState Global)) → in_order (map vec_items parts) ≡ state.vertices
-    → list_any is_due state.vertices ≡ any_due parts
-due_in_parts state parts same = sym (ap (list_any is_due) same) ∙ any_by_key state_id is_due (joined (map vec_items parts))
+due_in_parts : (state : Standing) (shown parts : List (Vec VertexState Global)) → shown ≡ parts → in_order (map vec_items parts) ≡ state.vertices
+    → list_any is_due state.vertices ≡ any_due shown
+due_in_parts state shown parts same all =
+    sym (ap (list_any is_due) all) ∙ any_by_key state_id is_due (joined (map vec_items parts)) ∙ ap any_due (sym same)
 
 pub returns-then-not-are_settled : goal.returns-then-not-are_settled
 returns-then-not-are_settled c =
     let parts = c.deref-part-items.result.now in
     let i = c.loop-part.part-index in
-    let vertices = ap (λ (lists : List (Vec VertexState Global)). in_order (map vec_items lists)) c.deref-part-items.ensures.value ∙ ap (λ (state : Standing). state.vertices) c.self.view_is in
     let some : list_any is_due c.part-item.result.items ≡ true =
     ap (list_any is_due) (sym c.deref.ensures.value) ∙ unsettled (list_any is_due c.deref.result.now) c.if-not-are_settled.ensures in
-    sym (ap not (due_in_parts c.args.self.now parts vertices ∙ c.loop-part.invariant
-    ∙ ap any_due (drop_more parts i c.part-item.result c.loop-part-test.true ∙ ap (λ part. part ∷ drop (i + 1) parts) (sym c.part-item.is))
-    ∙ any_due_next c.part-item.result (drop (i + 1) parts) ∙ ap (λ due. due || any_due (drop (i + 1) parts)) some))
+    sym (ap not (due_in_parts c.args.self.now parts _ c.deref-part-items.ensures.value (ap (λ (state : Standing). state.vertices) c.self.view_is) ∙ c.loop-part.invariant
+    ∙ rest_due parts i c.part-item.result c.loop-part-test.true c.part-item.is ∙ ap (λ due. due || any_due (drop (i + 1) parts)) some))
 
 pub returns : goal.returns
 returns c =
     let parts = c.deref-part-items.result.now in
-    let vertices = ap (λ (lists : List (Vec VertexState Global)). in_order (map vec_items lists)) c.deref-part-items.ensures.value ∙ ap (λ (state : Standing). state.vertices) c.self.view_is in
-    sym (ap not (due_in_parts c.args.self.now parts vertices ∙ c.loop-part.invariant ∙ ap any_due (drop_all c.loop-part.part-index parts c.loop-part-test.false)))
+    sym (ap not (due_in_parts c.args.self.now parts _ c.deref-part-items.ensures.value (ap (λ (state : Standing). state.vertices) c.self.view_is) ∙ c.loop-part.invariant ∙ ap any_due (drop_all c.loop-part.part-index parts c.loop-part-test.false)))

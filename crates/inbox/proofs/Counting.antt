@@ -1,5 +1,5 @@
 -- Each letter goes to one id at most, where no id stands twice: those that go to none are all but the delivered ones.
-use Rattle.std.proofs.Common.{◌≡◌, ◌+◌, ℕ, ℤ, pos, Bool, true, false, not, cond, ◌||◌, ◌<◌, take, drop, get_or, List, [], ◌∷◌, ◌++◌, length, map, arith, append-nil, append_assoc, refl, sym, ap, ◌∙◌, sum_by}
+use Rattle.std.proofs.Common.{◌≡◌, ◌+◌, ℕ, ℤ, pos, Bool, true, false, not, cond, ◌||◌, ◌<◌, take, get_or, List, [], ◌∷◌, ◌++◌, length, map, arith, append-nil, append_assoc, refl, ap, ◌∙◌, sum_by}
 use Rattle.std.proofs.lemmas.Bool.Decides.{Decides-int_eq}
 use Rattle.std.proofs.lemmas.Bool.{eqb-false}
 use Rattle.std.proofs.lemmas.List.{length-map, map-append, take_more}

@@ -1,5 +1,5 @@
 -- Letters in pieces: what goes to an id is in the piece of its span.
-use Rattle.std.proofs.Common.{◌≡◌, ◌+◌, ◌<◌, ◌^◌, ◌||◌, ℕ, ℤ, pos, Bool, true, false, Some, None, List, [], ◌∷◌, ◌++◌, All, Contains, map, filter, find, take, get_or, length, sum_by, vec_items, vec_len, arith, refl, sym, ap, ◌∙◌, cond, subst, true≢false, length-append}
+use Rattle.std.proofs.Common.{◌≡◌, ◌+◌, ◌<◌, ◌^◌, ◌||◌, ℕ, ℤ, pos, Bool, true, false, Some, None, List, [], ◌∷◌, ◌++◌, All, Contains, map, filter, find, take, get_or, length, sum_by, vec_items, vec_len, arith, refl, sym, ap, ◌∙◌, cond, subst, true≢false, length-append, Global}
 use Rattle.std.proofs.lemmas.List.Elements.{All-cons, All-nil, All-contains, All-filter, All-from_recursion, Contains-append_right, filter-append, recursion_from_All}
 use Rattle.std.proofs.lemmas.List.Sums.{sum_by-cons}
 use Rattle.std.specs.List.{AllByRecursion, AllZip, IsDistinct, list_any}
@@ -7,10 +7,11 @@ use Rattle.std.specs.List.Sorted.{IsStrictlySortedBy}
 use Rattle.std.specs.Prelude.{nat_eq}
 use Rattle.std.specs.declared.vec.Vec.{Vec}
 use Rattle.inbox.specs.declared.letters.Letter.{Letter}
+use Rattle.inbox.specs.declared.parts.Delivered.{Delivered}
 use Rattle.inbox.specs.declared.pieces.Span.{Span}
 use Rattle.inbox.specs.declared.pieces.Piece.{Piece}
 use Rattle.inbox.specs.Merging.{are_one, goes_to, all_of, IsBySource, inboxes_of, dropped_of}
-use Rattle.inbox.specs.inside.Pieces.{lies_in, goes_into, CoversIds, IsPieceOf, ArePieces, IsInboxFrom}
+use Rattle.inbox.specs.inside.Pieces.{lies_in, goes_into, CoversIds, IsPieceOf, ArePieces, IsDeliveredFrom, IsInboxFrom, inboxes_in}
 use Rattle.inbox.specs.inside.Targets.{IsByTarget, target_cmp}
 use Rattle.inbox.proofs.Counting.{all_of_more, delivered_or_dropped, delivered_to_all, dropped_of_none}
 use Rattle.inbox.proofs.InOrder.{in_order}
@@ -113,11 +114,27 @@ counted : {X Z : Type 0} (lists : List (Vec X Z)) → sum_by vec_len lists ≡ l
 counted [] = refl
 counted (list ∷ lists) = omega (arith, list.ok.0, counted lists, sum_by-cons vec_len list lists, length-append list.items (all_of lists))
 
+-- what goes to each part, without its count
+pub each_in : (pieces : List Piece) (ids : List (Vec ℕ Global)) (all : List Delivered) → AllZip (IsDeliveredFrom pieces) ids all → AllZip (λ part inboxes. AllZip (IsInboxFrom pieces) part.items inboxes.items) ids (inboxes_in all)
+each_in pieces [] [] zip = tt
+each_in pieces [] (part ∷ all) zip = absurd zip
+each_in pieces (part ∷ ids) [] zip = absurd zip
+each_in pieces (part ∷ ids) (delivered ∷ all) zip = (zip.0.inboxes, each_in pieces ids all zip.1)
+
+counts_in : (pieces : List Piece) (ids : List (Vec ℕ Global)) (all : List Delivered) → AllZip (IsDeliveredFrom pieces) ids all → sum_by (λ part. part.count) all ≡ sum_by (λ part. sum_by length part.items) (inboxes_in all)
+counts_in pieces [] [] zip = refl
+counts_in pieces [] (part ∷ all) zip = absurd zip
+counts_in pieces (part ∷ ids) [] zip = absurd zip
+counts_in pieces (part ∷ ids) (delivered ∷ all) zip =
+    let rest = counts_in pieces ids all zip.1 in
+    omega (arith, zip.0.count, rest, sum_by-cons (λ (part : Delivered). part.count) delivered all, sum_by-cons (λ (part : Vec (List ℤ) Global). sum_by length part.items) delivered.inboxes (inboxes_in all))
+
 -- each letter stands in one inbox or goes to none of the ids
-pub delivered_or_lost : {Y Z : Type 0} (lists : List (Vec Letter Z)) (pieces : List Piece) (ids : List (Vec ℕ Z)) (parts : List (Vec (List ℤ) Y)) → IsDistinct are_one (all_of lists) → IsDistinct nat_eq (all_of ids) → ArePieces (all_of lists) pieces → AllZip (λ part inboxes. AllZip (IsInboxFrom pieces) part.items inboxes.items) ids parts → sum_by (λ part. sum_by length part.items) parts + dropped_of (all_of lists) (all_of ids) ≡ sum_by vec_len lists
-delivered_or_lost lists pieces ids parts differ apart are zip =
+pub delivered_or_lost : (lists : List (Vec Letter Global)) (pieces : List Piece) (ids : List (Vec ℕ Global)) (all : List Delivered) → IsDistinct are_one (all_of lists) → IsDistinct nat_eq (all_of ids) → ArePieces (all_of lists) pieces → AllZip (IsDeliveredFrom pieces) ids all → sum_by (λ part. part.count) all + dropped_of (all_of lists) (all_of ids) ≡ sum_by vec_len lists
+delivered_or_lost lists pieces ids all differ apart are zip =
+    let parts = inboxes_in all in
     let letters = all_of lists in
     let order = in_order letters differ in
-    let here = delivered_to_all order.0 ids parts (all_made pieces letters order.0 are order.1 ids parts zip) in
+    let here = delivered_to_all order.0 ids parts (all_made pieces letters order.0 are order.1 ids parts (each_in pieces ids all zip)) in
     let none = same_dropped letters order.0 [] order.1.same ∙ dropped_of_none letters in
-    omega (arith, here, none, counted lists, same_dropped letters order.0 (all_of ids) order.1.same, delivered_or_dropped order.0 [] (all_of ids) apart)
+    omega (arith, counts_in pieces ids all zip, here, none, counted lists, same_dropped letters order.0 (all_of ids) order.1.same, delivered_or_dropped order.0 [] (all_of ids) apart)

@@ -4,7 +4,7 @@ ghost use Rattle.std.specs.List.Sorted.{IsStrictlySortedBy, IsPartitionPoint};
 ghost use Rattle.inbox.specs.declared.letters.Letter.{Letter as AnyLetter};
 ghost use Rattle.inbox.specs.Merging.{are_one, goes_to, all_of, IsBySource, inbox_of, inboxes_of, dropped_of};
 ghost use Rattle.inbox.specs.inside.Targets.{target_cmp};
-ghost use Rattle.inbox.specs.inside.Pieces.{HoldsLettersTo, IsInboxFrom};
+ghost use Rattle.inbox.specs.inside.Pieces.{HoldsLettersTo, IsDeliveredFrom, IsInboxFrom, inboxes_in};
 
 use crate::inboxes::Inbox;
 use crate::letters::Letter;
@@ -20,15 +20,14 @@ use std::thread::Threads;
 /// what [`merge`](crate::merge) puts into it of all letters: the values of those to its id, by
 /// source and in the order of sending.
 ///
-/// Targets are cut into as many spans as there are parts, but 16 at most, which hold about as many
-/// of the first part's ids each, where these rise. Threads share the spans, up to two threads for
-/// each processor: for a span, one goes over all letters, copies those of the span and sorts them.
-/// Then threads look up each id's letters and make its inbox, with no more room than its messages
-/// where they are more than four.
+/// Targets are cut into as many spans as there are parts, but no more than there are processors, nor
+/// than 16. They hold about as many of the first part's ids each, where these rise. A thread for each
+/// span goes over all letters, copies those of the span and sorts them. Then threads look up each
+/// id's letters and make its inbox, with no more room than its messages where they are more than
+/// four.
 ///
 /// So letters are read as often as there are spans, and copied and sorted once, in time of the order
-/// of n times the logarithm of how many lists there are, where each is in the letters' order, and
-/// n log n at worst. An `Err` is want of memory.
+/// of n log n. An `Err` is want of memory.
 pub fn merge_parts(
     rt: &(impl Threads + Sync),
     alloc: Global,
@@ -46,9 +45,17 @@ pub fn merge_parts(
         merged.1 ≡ dropped_of (all_of lists.now) (all_of ids.now)) }
 {
     let pieces = by_target(rt, alloc, lists, ids)?;
-    let parts = inboxes_of_all(rt, alloc, &pieces, ids)?;
-    let dropped = letter_count(lists) - delivered_count(&parts);
+    let delivered = delivered_to_all(rt, alloc, &pieces, ids)?;
+    let dropped = letter_count(lists) - delivered_count(&delivered);
+    let parts = inboxes_in(alloc, delivered)?;
     Ok((parts, dropped))
+}
+
+// The inboxes of a part's ids, and how many messages stand in them.
+#[derive(Drop)]
+struct Delivered {
+    inboxes: Vec<Inbox>,
+    count: u128,
 }
 
 // How many letters stand in these lists.
@@ -58,28 +65,42 @@ fn letter_count(lists: &[Vec<Letter>]) -> u128
     lists.iter().map(|list| list.len() as u128).sum()
 }
 
-// What stands in the inboxes of each part's ids.
-fn inboxes_of_all(
+// What goes to each part's ids.
+fn delivered_to_all(
     rt: &(impl Threads + Sync),
     alloc: Global,
     pieces: &[Piece],
     ids: &[Vec<u64>],
-) -> Result<Vec<Vec<Inbox>>, AllocError>
-    ensures { IfOk result (λ parts. AllZip
-        (λ part inboxes. AllZip (IsInboxFrom pieces.now) part.items inboxes.items)
-        ids.now parts.items) }
+) -> Result<Vec<Delivered>, AllocError>
+    ensures { IfOk result (λ all. AllZip (IsDeliveredFrom pieces.now) ids.now all.items) }
 {
     // A part is worth a thread of its own, few as there are.
     ids.par_iter()
         .with_min_len(1)
         .map(
-            |part: &Vec<u64>| -> Result<Vec<Inbox>, AllocError>
-                ensures { IfOk result (λ inboxes.
-                    AllZip (IsInboxFrom pieces.entry.now) part.now.items inboxes.items) }
-            { inboxes_at(rt, alloc, pieces, part) },
+            |part: &Vec<u64>| -> Result<Delivered, AllocError>
+                ensures { IfOk result (IsDeliveredFrom pieces.entry.now part.now) }
+            { delivered_to(rt, alloc, pieces, part) },
         )
-        .collect::<Result<Vec<Vec<Inbox>>, AllocError>>(rt, alloc)?
+        .collect::<Result<Vec<Delivered>, AllocError>>(rt, alloc)?
 }
+
+// What goes to the ids of a part.
+fn delivered_to(
+    rt: &(impl Threads + Sync),
+    alloc: Global,
+    pieces: &[Piece],
+    part: &Vec<u64>,
+) -> Result<Delivered, AllocError>
+    ensures { IfOk result (IsDeliveredFrom pieces.now part.now) }
+{
+    let inboxes = inboxes_at(rt, alloc, pieces, part)?;
+    let count = message_count(&inboxes);
+    Ok(Delivered { inboxes, count })
+}
+
+// Fewer ids are not worth a thread of their own, since parts have threads too.
+const LEAST_IDS: usize = 16_384;
 
 // What stands in the inboxes of these ids.
 fn inboxes_at(
@@ -91,6 +112,7 @@ fn inboxes_at(
     ensures { IfOk result (λ inboxes. AllZip (IsInboxFrom pieces.now) ids.now inboxes.items) }
 {
     ids.par_iter()
+        .with_min_len(LEAST_IDS)
         .map_init(
             || 0usize,
             |near: &mut usize, id: &u64| -> Result<Inbox, AllocError>
@@ -116,10 +138,7 @@ fn inbox_at(alloc: Global, pieces: &[Piece], near: &mut usize, id: u64) -> Resul
 fn letters_to<'a>(pieces: &'a [Piece], near: &mut usize, id: u64) -> &'a [Letter]
     ensures { HoldsLettersTo pieces.now id result.now }
 {
-    match pieces
-        .iter()
-        .find(|piece| piece.span.contains(i128::from(id)))
-    {
+    match pieces.iter().find(|piece| piece.span.contains(id)) {
         Some(piece) => run_to(&piece.letters, near, id),
         None => &[],
     }
@@ -175,12 +194,23 @@ fn start_from(letters: &[Letter], near: usize, id: u64) -> usize
     near + rest.partition_point(|letter| goes_below(letter, id))
 }
 
-// How many messages stand in the inboxes of all parts.
-fn delivered_count(parts: &[Vec<Inbox>]) -> u128
-    requires { sum_by (λ part. sum_by length part.items) parts.now < 2 ^ 128 }
-    ensures { result ≡ sum_by (λ part. sum_by length part.items) parts.now }
+// The inboxes of each part.
+fn inboxes_in(alloc: Global, delivered: Vec<Delivered>) -> Result<Vec<Vec<Inbox>>, AllocError>
+    ensures { IfOk result (λ parts. parts.items ≡ inboxes_in delivered.items) }
 {
-    parts.iter().map(|part| message_count(part)).sum()
+    let mut parts = Vec::with_capacity(alloc, delivered.len())?;
+    for part in delivered {
+        parts.push(part.inboxes)?;
+    }
+    Ok(parts)
+}
+
+// How many messages went to all parts.
+fn delivered_count(parts: &[Delivered]) -> u128
+    requires { sum_by (λ part. part.count) parts.now < 2 ^ 128 }
+    ensures { result ≡ sum_by (λ part. part.count) parts.now }
+{
+    parts.iter().map(|part| part.count).sum()
 }
 
 // How many messages stand in these inboxes.

@@ -1,28 +1,39 @@
-ghost use Rattle.std.specs.Prelude.{◌≡◌, filter, IfOk};
+ghost use Rattle.std.specs.Prelude.{◌≡◌, filter, pos, IfOk};
 ghost use Rattle.std.specs.List.{AllZip, IsDistinct};
 ghost use Rattle.inbox.specs.Merging.{are_one, all_of};
 ghost use Rattle.inbox.specs.inside.Pieces.{lies_in, goes_into, CoversIds, IsPieceOf, ArePieces};
 
 use crate::letters::Letter;
+use rayon::current_num_threads;
 use rayon::prelude::*;
 use std::alloc::{AllocError, Global};
 use std::thread::Threads;
 
-// Each span's letters are looked for among all, so more spans would cost more than they save.
+// Each span's letters are looked for among all, so more spans than threads, or more than these, would cost more than they save.
 const MOST_SPANS: usize = 16;
 
-// The targets from `start` on that are below `end`.
+// The targets from `start` to `last`.
 #[derive(Clone, Copy)]
 pub struct Span {
-    pub start: i128,
-    pub end: i128,
+    pub start: u64,
+    pub last: u64,
 }
 
 impl Span {
-    pub fn contains(self, target: i128) -> bool
-        ensures { result ≡ lies_in self target }
+    pub fn contains(self, target: u64) -> bool
+        ensures { result ≡ lies_in self (pos target) }
     {
-        self.start <= target && target < self.end
+        self.start <= target && target <= self.last
+    }
+
+    // Whether the letter goes to one of the targets.
+    fn takes(self, letter: &Letter) -> bool
+        ensures { result ≡ goes_into self letter.now }
+    {
+        match u64::try_from(letter.to) {
+            Ok(target) => self.contains(target),
+            Err(_) => false,
+        }
     }
 }
 
@@ -44,7 +55,8 @@ pub fn by_target(
     requires { IsDistinct are_one (all_of lists.now) }
     ensures { IfOk result (λ pieces. ArePieces (all_of lists.now) pieces.items) }
 {
-    let spans = spans(alloc, ids)?;
+    let most = current_num_threads(rt).min(MOST_SPANS);
+    let spans = spans(alloc, ids, most)?;
     let room = room_for(lists, &spans);
     pieces(rt, alloc, lists, &spans, room)
 }
@@ -59,26 +71,29 @@ fn room_for(lists: &[Vec<Letter>], spans: &[Span]) -> usize {
     share.saturating_add(share / 16)
 }
 
-// Spans that follow one another, as many as there are parts. Where the first part's ids rise, each
-// span holds about as many of these as the others do; where not, spans are uneven and no more.
-fn spans(alloc: Global, ids: &[Vec<u64>]) -> Result<Vec<Span>, AllocError>
+// Spans that follow one another, as many as there are parts, but so many at most. Where the first part's ids rise, each span holds
+// about as many of these as the others do; where not, spans are uneven and no more.
+fn spans(alloc: Global, ids: &[Vec<u64>], most: usize) -> Result<Vec<Span>, AllocError>
     ensures { IfOk result (λ spans. CoversIds spans.items) }
 {
     let first: &[u64] = match ids.first() {
         Some(part) => part,
         None => &[],
     };
-    let count = ids.len().min(first.len()).min(MOST_SPANS);
+    let count = ids.len().min(first.len()).min(most);
     let mut spans = Vec::new(alloc);
     let mut start = 0;
     for k in 1..count {
-        let end = i128::from(first[k * (first.len() / count)]);
-        spans.push(Span { start, end })?;
+        let end = first[k * (first.len() / count)];
+        spans.push(Span {
+            start,
+            last: end.saturating_sub(1),
+        })?;
         start = end;
     }
     spans.push(Span {
         start,
-        end: i128::MAX,
+        last: u64::MAX,
     })?;
     Ok(spans)
 }
@@ -134,7 +149,7 @@ fn letters_in(
 {
     let mut letters = Vec::with_capacity(alloc, room)?;
     for list in lists {
-        let within = |letter: &&Letter| span.contains(i128::from(letter.to));
+        let within = |letter: &&Letter| span.takes(letter);
         letters.extend(list.iter().filter(within).copied())?;
     }
     Ok(letters)

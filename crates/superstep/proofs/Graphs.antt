@@ -1,9 +1,12 @@
 -- A job's graph, by its parts.
-use Rattle.std.proofs.Common.{◌≡◌, ◌^◌, ◌<◌, ◌≤◌, ◌∙◌, List, None, ap, arith, length, map, rules}
+use Rattle.std.proofs.Common.{◌≡◌, ◌^◌, ℕ, ◌+◌, ◌<◌, ◌≤◌, ◌∙◌, List, [], ◌∷◌, ◌++◌, Global, Vec, vec_items, None, ap, arith, get_or, length, map, rules, sym, take}
 use Rattle.std.specs.List.Sorted.{IsPermutation}
-use Rattle.std.proofs.lemmas.List.{length-map}
+use Rattle.std.proofs.lemmas.List.{length-map, map-append, take_more}
 use Rattle.std.proofs.lemmas.List.Sorted.{IsPermutation-sym, IsPermutation-trans}
-use Rattle.graph.specs.Entry.{Entry, FitsLimits, id_at, ids}
+use Rattle.graph.proofs.Vertices.{ids_entries}
+use Rattle.graph.specs.Entry.{Entry, FitsLimits, id_at, ids, vertex_id}
+use Rattle.graph.specs.Parts.{part_entries}
+use Rattle.graph.specs.declared.parts.Part.{Part}
 use Rattle.graph.specs.Cutting.{joined, parts_by, parts_by-map, parts_whole}
 use Rattle.graph.specs.Rising.{rising_same}
 use Rattle.superstep.specs.Job.{IsGraphOf, Work}
@@ -44,3 +47,15 @@ pub lie_in_parts : (work : Work) (graph : List Entry) (parts : List (List Vertex
     → parts ≡ parts_by state_id (length parts) (in_order parts)
 lie_in_parts work graph parts is same =
     parts_are_kept state_id work.settings.parts (ids graph) parts is.proper.rising (same ∙ ids_by_part work graph is)
+
+-- the ids of one more part's vertices
+pub numbered_more : (parts : List Part) (i : ℕ) (part : Part) (all : List (Vec ℕ Global)) (own : Vec ℕ Global) → i < length parts → part ≡ get_or parts i part
+    → own.items ≡ map vertex_id part.vertices.items → map vec_items all ≡ map ids (map part_entries (take i parts))
+    → map vec_items (all ++ own ∷ []) ≡ map ids (map part_entries (take (i + 1) parts))
+numbered_more parts i part all own inside is mine before =
+    let earlier = take i parts in
+    map-append vec_items all (own ∷ [])
+    ∙ (λ k. before k ++ (mine ∙ sym (ids_entries part.vertices.items)) k ∷ [])
+    ∙ sym (map-append ids (map part_entries earlier) (part_entries part ∷ []))
+    ∙ ap (map ids) (sym (map-append part_entries earlier (part ∷ [])))
+    ∙ ap (λ xs. map ids (map part_entries xs)) (ap (λ x. earlier ++ x ∷ []) is ∙ sym (take_more parts i part inside))

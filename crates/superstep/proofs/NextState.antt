@@ -186,12 +186,13 @@ module _ (work now : Work) (honest : Bool) (totals : Totals) (dones : List DoneS
   abbrev pub all : List Left
   all = ordered ready.parts.parts ready.graph.0
 
-  pub spreads : (numbers : List (List ℕ)) → numbers ≡ map (map state_id) (map vec_items gathered.vertices.items)
-      → IsSpread numbers (map vec_items gathered.letters.items) lefts all
-  spreads numbers own = is_spread work honest totals.superstep dones gathered numbers ready.graph.0 own_some own_graph ready.parts own_row own
+  pub spreads : (numbers : List (List ℕ)) → numbers ≡ map ids now.parts → IsSpread numbers (map vec_items gathered.letters.items) lefts all
+  spreads numbers own =
+      is_spread work honest totals.superstep dones gathered numbers ready.graph.0 own_some own_graph ready.parts own_row
+      (own ∙ ap (λ (of : Work). map ids of.parts) (sym ready.job))
 
-  lies : IsSpread (map (map state_id) (map vec_items gathered.vertices.items)) (map vec_items gathered.letters.items) lefts all
-  lies = spreads (map (map state_id) (map vec_items gathered.vertices.items)) refl
+  lies : IsSpread (map ids now.parts) (map vec_items gathered.letters.items) lefts all
+  lies = spreads (map ids now.parts) refl
 
   -- What is made of it.
   pub record IsMade (found : List (List (List ℤ))) (lost : ℕ) (parts : List (List VertexState)) (later : Totals) : Type 0 where

@@ -4,7 +4,7 @@ use Rattle.std.specs.List.{All, fold}
 use Rattle.std.specs.List.Sorted.{IsPermutation}
 use Rattle.std.proofs.lemmas.List.{drop-drop, drop-set-lt, get_or-drop, get_or-map, length-map, length-take-le, map-append, take_all, take_more, take_more_set}
 use Rattle.std.proofs.lemmas.List.Concat.{flat_map-append}
-use Rattle.std.proofs.lemmas.List.Sorted.{IsPermutation-append_left, IsPermutation-refl, IsPermutation-trans}
+use Rattle.std.proofs.lemmas.List.Sorted.{IsPermutation-append_left, IsPermutation-refl}
 use Rattle.std.proofs.lemmas.List.Sums.{fold-append, sum_by_push}
 use Rattle.interp.specs.Call.{Outcome}
 use Rattle.graph.specs.declared.vertex.Vertex.{Vertex}
@@ -177,18 +177,3 @@ part_end shared entries before now i left same long over part =
     subst (λ (xs : List Entry). CallsPart shared xs before now left) (take_all i entries (omega arith))
     (subst (λ (xs : List VertexState). CallsPart shared (take i entries) xs now left) (take_all i before (omega arith))
     (subst (λ (xs : List VertexState). CallsPart shared (take i entries) (take i before) xs left) (take_all i now (omega arith)) part))
-
--- the letters may be put in another order
-pub calls_sorted : (shared : Shared) (entries : List Entry) (before after : List VertexState) (old new : Left) → CallsPart shared entries before after old
-    → IsPermutation old.letters.items new.letters.items → new.slots ≡ old.slots → new.units ≡ old.units → CallsPart shared entries before after new
-calls_sorted shared entries before after old new calls moved slots units = record {
-  left = calls.left;
-  comes = record {
-    vertices = calls.comes.vertices;
-    letters = IsPermutation-trans _ _ _ calls.comes.letters moved;
-    slots = slots ∙ calls.comes.slots;
-    units = units ∙ calls.comes.units;
-  };
-  ids = calls.ids;
-  is = calls.is;
-}

@@ -18,10 +18,8 @@ use Rattle.superstep.specs.Snapshot.{Row, row_id, row_ids}
 use Rattle.superstep.specs.Superstep.{all_left, left_by, row_after}
 use Rattle.superstep.specs.PlainRun.{first_row, state_at}
 use Rattle.superstep.specs.Job.{IsGraphOf, Meaning, Work}
-use Rattle.superstep.specs.State.{state_id}
-use Rattle.superstep.specs.Tasks.{emptied, DoneStamp, IsRow, Left, letters_of, part_rows}
+use Rattle.superstep.specs.Tasks.{DoneStamp, IsRow, Left, letters_of, part_rows}
 use Rattle.superstep.specs.inside.Closing.{IsGathered, IsPartLeft, IsSpread, PartLeft, left_id, left_ids, spread}
-use Rattle.superstep.proofs.Gathering.{emptied_ids}
 use Rattle.superstep.proofs.Graphs.{whole}
 use Rattle.superstep.proofs.Letters.{joined_map}
 use Rattle.superstep.proofs.Spreading.{at_id, found_moved, ids_found}
@@ -92,19 +90,12 @@ all_ids work honest s dones gathered graph some is_graph is row =
 abbrev pub ordered : List PartLeft → List Entry → List Left
 ordered parts graph = map (at_id (joined (map part_left parts))) (ids graph)
 
--- the ids of what each part left
-gathered_ids : (parts : List PartLeft) → map (map state_id) (map (λ (part : PartLeft). map emptied part.1) parts) ≡ map left_ids (map part_left parts)
-gathered_ids [] = refl
-gathered_ids (part ∷ parts) =
-    let own = emptied_ids part.1 in
-    λ i. own i ∷ gathered_ids parts i
-
 pub is_spread : (work : Work) (honest : Bool) (s : ℕ) (dones : List DoneStamp) (gathered : Gathered) (numbers : List (List ℕ)) (graph : List Entry) → 0 < work.settings.parts
     → IsGraphOf work graph → (is : IsGathered work honest dones gathered) → IsRow work.settings.parts s dones
-    → numbers ≡ map (map state_id) (map vec_items gathered.vertices.items)
+    → numbers ≡ map ids work.parts
     → IsSpread numbers (map vec_items gathered.letters.items) (map part_left is.parts) (ordered is.parts graph)
 is_spread work honest s dones gathered numbers graph some is_graph is row own = record {
-  ids = own ∙ ap (map (map state_id)) is.vertices ∙ gathered_ids is.parts;
+  ids = own ∙ sym (parts_ids work honest s dones gathered graph is_graph is row) ∙ sym (map-map left_ids part_left is.parts);
   letters = subst (λ left. IsPermutation (letters_of left) (joined (map vec_items gathered.letters.items))) (sym (joined_spread is.parts)) is.letters;
   same = found_moved (joined (map part_left is.parts)) (ids graph) is_graph.proper.rising (all_ids work honest s dones gathered graph some is_graph is row);
   rising = subst (λ numbers. IsStrictlyIncreasing numbers) (sym (ids_found (joined (map part_left is.parts)) (ids graph))) is_graph.proper.rising;
@@ -152,7 +143,7 @@ pub ordered_left : (work : Work) (honest : Bool) (s : ℕ) (dones : List DoneSta
     → ordered is.parts graph ≡ map (leaving meaning s) (rows_at meaning s)
 ordered_left work honest s dones gathered graph meaning some is_graph sure is row =
     let rows = rows_at meaning s in
-    let spread_out = is_spread work honest s dones gathered (map (map state_id) (map vec_items gathered.vertices.items)) graph some is_graph is row refl in
+    let spread_out = is_spread work honest s dones gathered (map ids work.parts) graph some is_graph is row refl in
     let rejoined : joined (map part_left is.parts) ≡ map (leaving meaning s) (joined (parts_by row_id work.settings.parts rows)) =
     ap joined (parts_left work honest s dones gathered meaning sure is row) ∙ joined_map (leaving meaning s) (parts_by row_id work.settings.parts rows) in
     let moved : IsPermutation (joined (map part_left is.parts)) (map (leaving meaning s) rows) =

@@ -2,7 +2,7 @@
 
 ghost use Rattle.std.specs.Prelude.{◌≡◌, ◌<◌, ◌++◌, ◌∷◌, [], suc, true, List, length, map, vec_items, IfOk, OnOk};
 ghost use Rattle.std.specs.List.{sum_by};
-ghost use Rattle.superstep.specs.State.{HasIdsOf, IsStateAt, state_id};
+ghost use Rattle.superstep.specs.State.{HasIdsOf, IsStateAt};
 ghost use Rattle.superstep.specs.Superstep.{dropped_by, inbox_of};
 ghost use Rattle.superstep.specs.Tasks.{DoneStamp, IsRow, Left as AnyLeft, outcomes_in};
 ghost use Rattle.superstep.specs.Totals.{AreTotals, AreTotalsOf};
@@ -52,8 +52,7 @@ pub fn barrier<J: Origin>(
         slots,
         units,
     } = gather(alloc, job.settings().parts, dones)?;
-    let ids = all_ids(rt, alloc, &vertices)?;
-    let (inboxes, dropped) = delivered(rt, alloc, &letters, &ids)?;
+    let (inboxes, dropped) = delivered(rt, alloc, &letters, job.ids())?;
     let parts = all_filled(rt, alloc, vertices, inboxes)?;
     let totals = totals.after(units, dropped)?;
     Ok(State::of_parts(totals, slots, parts))
@@ -103,33 +102,6 @@ impl Gathered {
         self.units = self.units.saturating_add(units);
         Ok(())
     }
-}
-
-// The ids of each part's vertices.
-fn all_ids(
-    rt: &(impl Threads + Sync),
-    alloc: Global,
-    vertices: &[Vec<VertexState>],
-) -> Result<Vec<Vec<u64>>, AllocError>
-    ensures { IfOk result (λ ids.
-        map vec_items ids.items ≡ map (map state_id) (map vec_items vertices.now)) }
-{
-    // A part is worth a thread of its own, few as there are.
-    vertices
-        .par_iter()
-        .with_min_len(1)
-        .map(
-            |part: &Vec<VertexState>| -> Result<Vec<u64>, AllocError>
-                ensures { IfOk result (λ ids. ids.items ≡ map state_id part.now.items) }
-            { ids_of(alloc, part) },
-        )
-        .collect::<Result<Vec<Vec<u64>>, AllocError>>(rt, alloc)?
-}
-
-fn ids_of(alloc: Global, vertices: &[VertexState]) -> Result<Vec<u64>, AllocError>
-    ensures { IfOk result (λ ids. ids.items ≡ map state_id vertices.now) }
-{
-    vertices.iter().map(|vertex| vertex.id).collect(alloc)
 }
 
 // Unites what the slots hold with what other vertices gave to them.

@@ -2,7 +2,6 @@
 
 ghost use Rattle.std.specs.Prelude.{◌≡◌, ◌++◌, OnOk};
 ghost use Rattle.std.specs.List.{fold};
-ghost use Rattle.std.specs.List.Sorted.{IsPermutation};
 ghost use Rattle.interp.specs.Call.{shown};
 ghost use Rattle.superstep.specs.Folds.{combined, give};
 ghost use Rattle.superstep.specs.Tasks.{letter_from, letters_from};
@@ -15,7 +14,7 @@ use std::alloc::{AllocError, Global};
 /// What the vertices of a part leave, so far.
 #[derive(Drop)]
 pub struct Left {
-    /// Their messages, in the order of sending until they are sorted.
+    /// Their messages, in the order of sending.
     pub letters: Vec<Letter>,
     /// What they gave to the slots, aggregated.
     pub slots: [i64; 8],
@@ -43,15 +42,6 @@ impl Left {
         give_all(&mut self.slots, &outcome.contributions);
         self.units = self.units.saturating_add(outcome.units);
         Ok(())
-    }
-
-    /// Puts the letters by target, which spares the barrier a sort: it merges what lies in order.
-    pub fn sort_letters(&mut self) -> Result<(), AllocError>
-        ensures letters { IsPermutation self.old.letters.items self.new.letters.items }
-        ensures slots { self.new.slots ≡ self.old.slots }
-        ensures units { self.new.units ≡ self.old.units }
-    {
-        self.letters.sort_by_key(|letter| letter.to)
     }
 }
 

@@ -232,7 +232,7 @@ impl State {
         for part in &self.parts {
             vertices.extend(part.iter())?;
         }
-        vertices.sort_by_key(|vertex| vertex.id)?;
+        vertices.sort_by_cached_key(|vertex| vertex.id)?;
         Ok(vertices)
     }
 }

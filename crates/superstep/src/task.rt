@@ -238,7 +238,7 @@ struct Shared<'a> {
     aggregated: [i64; 8],
 }
 
-// The calls of a part's vertices, one after another, and what they leave, with the letters by target. Entries have their edges.
+// The calls of a part's vertices, one after another, and what they leave. Entries have their edges.
 fn run_part(
     alloc: Global,
     shared: &Shared,
@@ -258,7 +258,6 @@ fn run_part(
         let vertex = &mut vertices[index];
         run_vertex(alloc, shared, &entries[index], vertex, scratch, &mut left)?;
     }
-    left.sort_letters()?;
     Ok(left)
 }
 

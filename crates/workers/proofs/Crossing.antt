@@ -1,5 +1,5 @@
 -- A job may be lent to other threads.
-use denote.Builtin.{u8, u32}
+use denote.Builtin.{u8, u32, u64}
 use denote.Hole.{as_row}
 use denote.Struct.Field.{Field, row_field, u32-field}
 use denote.Struct.Declared as struct_type
@@ -119,6 +119,9 @@ u32_sync = search sendable
 u8_sync : IsSync u8
 u8_sync = search sendable
 
+u64_sync : IsSync u64
+u64_sync = search sendable
+
 element_field : IsSync (Element.the_field).row
 element_field = struct_sync (struct_type.shape Element.the_type) (search sendable, (body_sync, (sequence.the_sync u32 u32_sync, tt)))
 
@@ -181,4 +184,4 @@ verified_sync = view_sync verified_inside.the_row _ _ _ _
 pub job_sync : IsSync Job.the_row
 job_sync = view_sync job_inside.the_row _ _ _ _
     (recorded_sync (job_inside.the_field).row _ _ (job_inside.the_type).to_one
-    (struct_sync (struct_type.shape job_inside.the_type) (verified_sync, (Vec-sync Part.the_row part.the_sync, (search sendable, (settings.the_field_sync, tt))))))
+    (struct_sync (struct_type.shape job_inside.the_type) (verified_sync, (Vec-sync Part.the_row part.the_sync, (Vec-sync (Vec.the_row u64 Heap.the_row ghosts) (Vec-sync u64 u64_sync), (search sendable, (settings.the_field_sync, tt)))))))

@@ -1,29 +1,57 @@
--- Rows of threads and of receipts, one longer.
-use Rattle.std.proofs.Common.{◌≡◌, ℕ, ◌+◌, List, [], ◌∷◌, ◌++◌, length, sym, ◌∙◌, subst, arith}
+-- Rows of passes, one shorter, and of threads and of receipts, one longer.
+use Rattle.std.proofs.Common.{◌≡◌, ℕ, ◌≤◌, ◌+◌, vec_capacity, List, [], ◌∷◌, ◌++◌, length, sym, ◌∙◌, subst, arith}
 use Rattle.std.specs.declared.thread.PromisedHandle.{PromisedHandle}
-use Rattle.workers.specs.Hub.{Channels, IsReceiptOn, IsSettled, IsTickReceiptOn, IsTickerSettled, at, channels_of, handed, received}
+use Rattle.workers.specs.Hub.{AreNewPasses, Channels, IsNewPass, IsReceiptOn, IsSameHub, IsSettled, IsTickReceiptOn, IsTickerSettled, at, channels_of, handed, received}
 use Rattle.workers.specs.Messages.{closes, coordinator, sender_of, stops}
 use Rattle.workers.specs.Passes as pass
 use Rattle.workers.specs.Rule.{IsOnceInOrder}
-use Rattle.workers.specs.Threads.{AreHired, AreSettled, IsHired}
+use Rattle.workers.specs.Threads.{AreHired, AreSettled, AreThreadsOf, IsHired}
 use Rattle.workers.specs.declared.ends.Ends.{Ends}
+use Rattle.workers.specs.declared.hired.Hired.{Hired}
 use Rattle.workers.specs.declared.hired.HiredWorker.{HiredWorker}
 use Rattle.workers.specs.declared.message.Message.{Message}
 use Rattle.workers.specs.declared.message.Order.{Order}
 use Rattle.workers.specs.declared.pass.TickReceipt.{TickReceipt}
+use Rattle.workers.specs.declared.pass.WorkerPass.{WorkerPass}
 use Rattle.workers.specs.declared.pass.WorkerReceipt.{WorkerReceipt}
 
 module _ {J : Type 0} where
+  -- the passes that are left
+  pub pass_first : (channels : Channels J) (n : ℕ) (ps : List (WorkerPass J)) (p : WorkerPass J) (qs : List (WorkerPass J)) → ps ≡ p ∷ qs → AreNewPasses channels n ps → IsNewPass channels n p
+  pass_first channels n ps p qs a h = let z : AreNewPasses channels n (p ∷ qs) = subst (λ (l : List (WorkerPass J)). AreNewPasses channels n l) a h in z.0
+
+  pub pass_rest : (channels : Channels J) (n m : ℕ) (ps : List (WorkerPass J)) (p : WorkerPass J) (qs : List (WorkerPass J)) → ps ≡ p ∷ qs → m ≡ n + 1 → AreNewPasses channels n ps → AreNewPasses channels m qs
+  pass_rest channels n m ps p qs a b h =
+      let z : AreNewPasses channels n (p ∷ qs) = subst (λ (l : List (WorkerPass J)). AreNewPasses channels n l) a h in
+      subst (λ (k : ℕ). AreNewPasses channels k qs) (sym b) z.1
+
   module _ {T : Type 0} where
-    pub hired_more : (ends : Ends J) (n : ℕ) (hs : List (PromisedHandle T (HiredWorker J))) (h : PromisedHandle T (HiredWorker J))
+    hired_more : (ends : Ends J) (n : ℕ) (hs : List (PromisedHandle T (HiredWorker J))) (h : PromisedHandle T (HiredWorker J))
         → AreHired ends n hs → IsHired ends (n + length hs) h → AreHired ends n (hs ++ h ∷ [])
     hired_more ends n [] h old new = (subst (λ (k : ℕ). IsHired ends k h) (let z : n + 0 ≡ n = omega arith in z) new, tt)
     hired_more ends n (x ∷ xs) h old new =
         (old.0, hired_more ends (n + 1) xs h old.1 (subst (λ (k : ℕ). IsHired ends k h) (let z : n + length (x ∷ xs) ≡ n + 1 + length xs = omega arith in z) new))
 
-    pub hired_same : (ends now : Ends J) (n : ℕ) (hs : List (PromisedHandle T (HiredWorker J))) → channels_of now ≡ channels_of ends → AreHired ends n hs → AreHired now n hs
+    -- the thread of the next worker behind those of the first ones
+    pub hired_next : (ends : Ends J) (w : ℕ) (hs now : List (PromisedHandle T (HiredWorker J))) (h : PromisedHandle T (HiredWorker J))
+        → now ≡ hs ++ h ∷ [] → w ≡ length hs → AreHired ends 0 hs → IsHired ends w h → AreHired ends 0 now
+    hired_next ends w hs now h is next old new =
+        subst (λ (l : List (PromisedHandle T (HiredWorker J))). AreHired ends 0 l) (sym is)
+        (hired_more ends 0 hs h old (subst (λ (k : ℕ). IsHired ends k h) (let z : w ≡ 0 + length hs = omega (arith, next) in z) new))
+
+    hired_same : (ends now : Ends J) (n : ℕ) (hs : List (PromisedHandle T (HiredWorker J))) → channels_of now ≡ channels_of ends → AreHired ends n hs → AreHired now n hs
     hired_same ends now n [] same old = tt
     hired_same ends now n (h ∷ hs) same old = (record { worker = old.0.worker; hub = old.0.hub ∙ sym same }, hired_same ends now (n + 1) hs same old.1)
+
+  -- the ends changed, but not the hub
+  pub threads_same : (ends now : Ends J) (hired : Hired J) → IsSameHub ends now → AreThreadsOf ends hired → AreThreadsOf now hired
+  threads_same ends now hired hub old = record {
+    ticker = old.ticker ∙ sym hub.channels;
+    workers = hired_same ends now 0 hired.workers.items hub.channels old.workers;
+    all = old.all ∙ sym hub.workers;
+    nothing = old.nothing;
+    room = subst (λ (n : ℕ). n ≤ vec_capacity hired.receipts) (sym hub.workers) old.room;
+  }
 
   -- the ends changed, but not in what a settled receipt says
   settled_still : (ends now : Ends J) (w : ℕ) (receipt : WorkerReceipt J)

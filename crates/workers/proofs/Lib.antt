@@ -12,5 +12,4 @@ pub mod Opening
 pub mod Passing
 pub mod Rules
 pub mod Spent
-pub mod Starting
 pub mod Told

@@ -1,5 +1,5 @@
 -- Threads that were started for a hub, and what they leave.
-use Rattle.std.specs.Prelude.{◌≡◌, ◌+◌, ℕ, Option, Some, None, List, [], ◌∷◌, vec_len, slice_index_or}
+use Rattle.std.specs.Prelude.{◌≡◌, ◌≤◌, ◌+◌, ℕ, Option, Some, None, List, [], ◌∷◌, vec_len, vec_capacity, slice_index_or}
 use Rattle.std.specs.declared.thread.PromisedHandle.{PromisedHandle}
 use Rattle.rollback.specs.declared.report.Report.{Report}
 use Rattle.workers.specs.Hub.{IsSettled, IsTickerSettled, at, channels_of, handed, received, staff, tasks_in}
@@ -8,6 +8,7 @@ use Rattle.workers.specs.Steps.{stamps_in}
 use Rattle.workers.specs.Units.{cut, units_by}
 use Rattle.workers.specs.declared.coordinator.Receipts.{Receipts}
 use Rattle.workers.specs.declared.ends.Ends.{Ends}
+use Rattle.workers.specs.declared.hired.Hired.{Hired}
 use Rattle.workers.specs.declared.hired.HiredTicker.{HiredTicker}
 use Rattle.workers.specs.declared.hired.HiredWorker.{HiredWorker}
 use Rattle.workers.specs.declared.pass.WorkerReceipt.{WorkerReceipt}
@@ -25,6 +26,14 @@ module _ {J : Type 0} where
 
   abbrev pub IsHiredTicker : {T : Type 0} → Ends J → PromisedHandle T (HiredTicker J) → Type 0
   IsHiredTicker ends thread = channels_of thread.promise.hub.value ≡ channels_of ends
+
+  -- all threads of a hub, and room for the receipts of its workers
+  pub record AreThreadsOf (ends : Ends J) (hired : Hired J) : Type 0 where
+    pub ticker : IsHiredTicker ends hired.ticker
+    pub workers : AreHired ends 0 hired.workers.items
+    pub all : vec_len hired.workers ≡ staff ends
+    pub nothing : hired.receipts.items ≡ []
+    pub room : staff ends ≤ vec_capacity hired.receipts
 
   -- the receipts of the workers from w on are settled
   abbrev pub AreSettled : Ends J → ℕ → List (WorkerReceipt J) → Type 0

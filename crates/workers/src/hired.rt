@@ -38,3 +38,13 @@ impl<J: Origin> Promise<Result<TickReceipt<J>, JobFault>> for HiredTicker<J> {
 pub type WorkerThread<J> = PromisedHandle<Result<WorkerReceipt<J>, JobFault>, HiredWorker<J>>;
 
 pub type TickThread<J> = PromisedHandle<Result<TickReceipt<J>, JobFault>, HiredTicker<J>>;
+
+/// The threads of a hub, and room for what its workers leave.
+#[derive(Drop)]
+pub struct Hired<J: Origin> {
+    pub ticker: TickThread<J>,
+    /// One for each worker, from 0 on.
+    pub workers: Vec<WorkerThread<J>>,
+    /// Nothing yet, with room for one of each worker.
+    pub receipts: Vec<WorkerReceipt<J>>,
+}

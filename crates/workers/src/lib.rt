@@ -15,6 +15,7 @@ mod pass;
 mod rule;
 mod run;
 mod settling;
+mod staffing;
 mod threads;
 mod view;
 mod work;

@@ -1,25 +1,23 @@
 //! A job is run in threads.
 
 ghost use Rattle.std.specs.Thread.{IsSync};
-ghost use Rattle.std.specs.Prelude.{◌≡◌, ◌<◌, ◌≤◌, ◌+◌, [], true, ℕ, vec_len, vec_capacity, IfErr, IfOk};
+ghost use Rattle.std.specs.Prelude.{◌≡◌, true, IfErr, IfOk};
 ghost use Rattle.workers.specs.Answers.{HasSpent, IsDriveFault, IsOpened, IsRunFault, Ran, WhereEnded, WhereRefused, WhereRun, has_ended};
 ghost use Rattle.workers.specs.Coordinator as lent;
 ghost use Rattle.workers.specs.Hub.{HasByes, IsNewHubOf, IsSameHub, IsUnused, handed, received, staff};
-ghost use Rattle.workers.specs.Passes.{IsReceipt};
-ghost use Rattle.workers.specs.Threads.{AreHired, HasSettled, IsHiredTicker, IsIdle};
+ghost use Rattle.workers.specs.Threads.{AreThreadsOf, HasSettled, IsIdle};
 
 use crate::coordinator::{Coordinator, Receipts};
 use crate::ends::Ends;
 use crate::gate::Gate;
-use crate::hired::{HiredTicker, HiredWorker, TickThread, WorkerThread};
-use crate::pass::{TickPass, WorkerPass, WorkerReceipt};
+use crate::hired::Hired;
+use crate::pass::{TickPass, WorkerPass};
 use crate::settling::settle_all;
-use crate::work::{tick_all, work_all};
+use crate::staffing::hire_all;
 use checkpoint::Keep;
 use rollback::{Book, Report};
 use std::alloc::Global;
 use std::rt::Files;
-use std::snapshot::Snapshot;
 use std::sync::Wait;
 use std::thread;
 use std::thread::Threads;
@@ -39,9 +37,7 @@ fn was_driven(answer: &Result<Report, JobFault>) -> bool
 fn drive_all<J: Origin, K: Keep, R: Wait + Threads + Sync + Files + AllocGlobal>(
     rt: &R,
     ends: &mut Ends<J>,
-    ticking: TickThread<J>,
-    threads: Vec<WorkerThread<J>>,
-    workers: Vec<WorkerReceipt<J>>,
+    hired: Hired<J>,
     book: Book<J>,
     keep: &mut K,
 ) -> (Option<Receipts<J>>, Result<Report, JobFault>)
@@ -49,11 +45,7 @@ fn drive_all<J: Origin, K: Keep, R: Wait + Threads + Sync + Files + AllocGlobal>
     requires workers { staff ends.old ≡ J.work.settings.workers }
     requires book { IsOpened J.work book }
     requires keep { J.honest ≡ true → K.honest keep.old ≡ true }
-    requires ticking { IsHiredTicker ends.old ticking }
-    requires hired { AreHired ends.old 0 threads.items }
-    requires all { vec_len threads ≡ staff ends.old }
-    requires room { (workers.items ≡ []) × (vec_len workers ≡ 0)
-        × (staff ends.old ≤ vec_capacity workers) }
+    requires hired { AreThreadsOf ends.old hired }
     ensures ran { WhereEnded result.1
         (Ran J.work J.honest (received ends.new) (handed ends.new) result.1) }
     ensures byes { WhereEnded result.1 (HasByes (staff ends.new) (received ends.new)) }
@@ -66,15 +58,15 @@ fn drive_all<J: Origin, K: Keep, R: Wait + Threads + Sync + Files + AllocGlobal>
     if !was_driven(&answer) {
         return (None, answer);
     }
-    match settle_all(rt, ends, ticking, threads, workers) {
+    match settle_all(rt, ends, hired) {
         Ok(receipts) => (Some(receipts), answer),
         Err(_) => (None, Err(JobFault::Closed)),
     }
 }
 
-// Starts the workers and then the ticker in a scope, drives the job to its end, and gives the ends back with the receipts of
-// what the threads sent. Where one cannot be started, those that run are stopped: each sends its bye alone, for which the
-// channel has room, and the scope joins them.
+// Starts all threads in a scope, drives the job to its end, and gives the ends back with the receipts of what the threads sent.
+// Where a thread cannot be started, those that run are stopped: each sends its bye alone, for which the channel has room, and
+// the scope joins them.
 fn run_hired<
     J: Origin + Send + Sync,
     K: Keep + Drop,
@@ -125,40 +117,16 @@ fn run_hired<
         {
             let mut mine = ends;
             let mut keep = keep;
-            let Ok(receipts) = Vec::with_capacity(alloc, passes.len()) else {
-                return (mine, None, Err(JobFault::ThreadRefused));
-            };
-            let Ok(mut threads) = Vec::with_capacity(alloc, passes.len()) else {
-                return (mine, None, Err(JobFault::ThreadRefused));
-            };
-            for pass in passes {
-                let promise = HiredWorker {
-                    worker: pass.worker(),
-                    hub: Snapshot::of(&mine),
-                };
-                let Ok(thread) = scope.spawn_with(
-                    promise,
-                    move || -> Result<WorkerReceipt<J>, JobFault>
-                        requires { J.work ≡ job.now }
-                        ensures { IfOk result (IsReceipt pass) }
-                    { work_all(rt, alloc, job, gate, pass) },
-                ) else {
+            match hire_all(scope, rt, alloc, job, gate, &mine, passes, ticker) {
+                Ok(hired) => {
+                    let (receipts, answer) = drive_all(rt, &mut mine, hired, book, &mut keep);
+                    (mine, receipts, answer)
+                }
+                Err(fault) => {
                     let _stopped = mine.stop(rt);
-                    return (mine, None, Err(JobFault::ThreadRefused));
-                };
-                threads.push_reserved(thread);
+                    (mine, None, Err(fault))
+                }
             }
-            let promise = HiredTicker {
-                hub: Snapshot::of(&mine),
-            };
-            let Ok(ticking) = scope.spawn_with(promise, move || tick_all(rt, gate, ticker)) else {
-                let _stopped = mine.stop(rt);
-                return (mine, None, Err(JobFault::ThreadRefused));
-            };
-            let (receipts, answer) = drive_all(
-                rt, &mut mine, ticking, threads, receipts, book, &mut keep,
-            );
-            (mine, receipts, answer)
         },
     )
 }

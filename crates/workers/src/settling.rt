@@ -1,12 +1,12 @@
 //! Joins threads, and settles what they sent.
 
-ghost use Rattle.std.specs.Prelude.{◌≡◌, ◌<◌, ◌≤◌, ◌+◌, [], vec_len, vec_capacity, IfOk, OnOk};
+ghost use Rattle.std.specs.Prelude.{◌≡◌, ◌<◌, ◌+◌, vec_len, vec_capacity, IfOk, OnOk};
 ghost use Rattle.workers.specs.Hub.{IsSameHub, handed, received, staff};
-ghost use Rattle.workers.specs.Threads.{AreHired, AreSettled, IsHired, IsHiredTicker, IsSettledHub};
+ghost use Rattle.workers.specs.Threads.{AreSettled, AreThreadsOf, IsHired, IsSettledHub};
 
 use crate::coordinator::Receipts;
 use crate::ends::Ends;
-use crate::hired::{TickThread, WorkerThread};
+use crate::hired::{Hired, WorkerThread};
 use crate::pass::WorkerReceipt;
 use std::thread::Threads;
 use superstep::{JobFault, Origin};
@@ -39,24 +39,26 @@ fn settle_one<J: Origin, R: Threads>(
 pub fn settle_all<J: Origin, R: Threads>(
     rt: &R,
     ends: &mut Ends<J>,
-    ticking: TickThread<J>,
-    threads: Vec<WorkerThread<J>>,
-    mut workers: Vec<WorkerReceipt<J>>,
+    hired: Hired<J>,
 ) -> Result<Receipts<J>, JobFault>
-    requires ticking { IsHiredTicker ends.old ticking }
-    requires hired { AreHired ends.old 0 threads.items }
-    requires all { vec_len threads ≡ staff ends.old }
-    requires room { (workers.items ≡ []) × (vec_len workers ≡ 0)
-        × (staff ends.old ≤ vec_capacity workers) }
+    requires { AreThreadsOf ends.old hired }
     ensures settled { IfOk result (IsSettledHub ends.new) }
     ensures received { received ends.new ≡ received ends.old }
     ensures handed { handed ends.new ≡ handed ends.old }
     ensures hub { IsSameHub ends.old ends.new }
 {
-    let receipt = ticking.join(rt)?;
+    let Hired {
+        ticker,
+        workers,
+        mut receipts,
+    } = hired;
+    let receipt = ticker.join(rt)?;
     let ticker = ends.settle_ticker(receipt);
-    for thread in threads {
-        settle_one(rt, ends, thread, &mut workers)?;
+    for thread in workers {
+        settle_one(rt, ends, thread, &mut receipts)?;
     }
-    Ok(Receipts { ticker, workers })
+    Ok(Receipts {
+        ticker,
+        workers: receipts,
+    })
 }

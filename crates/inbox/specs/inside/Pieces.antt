@@ -1,7 +1,9 @@
 -- Letters in pieces, each of a span of targets.
-use Rattle.std.specs.Prelude.{◌≡◌, ◌<◌, ◌^◌, ◌&&◌, ℕ, ℤ, pos, Bool, true, List, map, filter, int_le, int_lt, All}
-use Rattle.std.specs.List.{list_any}
+use Rattle.std.specs.Prelude.{◌≡◌, ◌<◌, ◌^◌, ◌&&◌, ℕ, ℤ, pos, Bool, true, List, map, filter, int_le, length, sum_by, All}
+use Rattle.std.specs.Global.{Vec}
+use Rattle.std.specs.List.{AllZip, list_any}
 use Rattle.inbox.specs.declared.letters.Letter.{Letter}
+use Rattle.inbox.specs.declared.parts.Delivered.{Delivered}
 use Rattle.inbox.specs.declared.pieces.Span.{Span}
 use Rattle.inbox.specs.declared.pieces.Piece.{Piece}
 use Rattle.inbox.specs.Merging.{IsBySource, goes_to, inbox_of}
@@ -9,7 +11,7 @@ use Rattle.inbox.specs.inside.Targets.{IsByTarget}
 
 -- whether the span contains this target
 abbrev pub lies_in : Span → ℤ → Bool
-lies_in span target = int_le span.start target && int_lt target span.end
+lies_in span target = int_le (pos span.start) target && int_le target (pos span.last)
 
 abbrev pub goes_into : Span → Letter → Bool
 goes_into span letter = lies_in span letter.to
@@ -33,3 +35,12 @@ HoldsLettersTo pieces id mine = (letters ordered : List Letter) → ArePieces le
 
 abbrev pub IsInboxFrom : List Piece → ℕ → List ℤ → Type 0
 IsInboxFrom pieces id inbox = (letters ordered : List Letter) → ArePieces letters pieces → IsBySource letters ordered → inbox ≡ inbox_of ordered id
+
+-- what goes to the ids of a part, and how many messages that is
+pub record IsDeliveredFrom (pieces : List Piece) (ids : Vec ℕ) (delivered : Delivered) : Type 0 where
+  pub inboxes : AllZip (IsInboxFrom pieces) ids.items delivered.inboxes.items
+  pub count : delivered.count ≡ sum_by length delivered.inboxes.items
+
+-- the inboxes of each part
+abbrev pub inboxes_in : List Delivered → List (Vec (List ℤ))
+inboxes_in all = map (λ part. part.inboxes) all

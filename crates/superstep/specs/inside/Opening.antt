@@ -1,14 +1,15 @@
 -- What a job keeps.
-use Rattle.std.specs.Prelude.{◌≡◌, ℕ, List, length, None}
+use Rattle.std.specs.Prelude.{◌≡◌, ℕ, List, length, map, None}
 use Rattle.wasm_ast.specs.declared.module.Module.{Module}
-use Rattle.graph.specs.Entry.{Entry}
+use Rattle.graph.specs.Entry.{Entry, ids}
 use Rattle.superstep.specs.declared.settings.Settings.{Settings}
 use Rattle.superstep.specs.Job.{IsGraphOf}
 use Rattle.superstep.specs.Settings.{first_bad}
 
--- the parts are those of a graph with so many vertices
-pub record IsOpen (m : Module) (parts : List (List Entry)) (settings : Settings) (count : ℕ) : Type 0 where
+-- the parts are those of a graph with so many vertices, and these are the ids of each part's vertices
+pub record IsOpen (m : Module) (parts : List (List Entry)) (numbers : List (List ℕ)) (settings : Settings) (count : ℕ) : Type 0 where
   pub good : first_bad settings ≡ None
   pub graph : List Entry
   pub is_graph : IsGraphOf (record { «module» = m; parts = parts; settings = settings }) graph
   pub counted : count ≡ length graph
+  pub numbered : numbers ≡ map ids parts

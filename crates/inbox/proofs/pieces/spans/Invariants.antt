@@ -1,8 +1,7 @@
-use Rattle.std.proofs.Common.{◌≡◌, ℕ, pos, true}
+use Rattle.std.proofs.Common.{◌≡◌, ◌<◌, ℕ, pos, true}
 use Rattle.std.specs.List.{list_any}
-use Rattle.std.specs.Prelude.{int_lt}
 use Rattle.inbox.specs.inside.Pieces.{lies_in}
 use Rattle.inbox.proofs.pieces.spans.Given as goal
 
 abbrev pub invariant-loop-k : goal.invariant-loop-k
-invariant-loop-k l = (id : ℕ) → int_lt (pos id) l.start ≡ true → list_any (λ span. lies_in span (pos id)) l.spans.items ≡ true
+invariant-loop-k l = (id : ℕ) → id < l.start → list_any (λ span. lies_in span (pos id)) l.spans.items ≡ true

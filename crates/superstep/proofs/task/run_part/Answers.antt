@@ -1,7 +1,7 @@
 use Rattle.std.proofs.Common.{◌∙◌, arith}
-use Rattle.std.proofs.lemmas.List.{length-map, take_all}
+use Rattle.std.proofs.lemmas.List.{length-map}
 use Rattle.graph.specs.Entry.{entries_of, entry_of}
-use Rattle.superstep.proofs.PartCalls.{as_many, calls_sorted, entry_at, has_entry, part_step, proper_at, rest_step, same_id}
+use Rattle.superstep.proofs.PartCalls.{as_many, entry_at, has_entry, part_end, part_step, proper_at, rest_step, same_id}
 use Rattle.superstep.proofs.task.run_part.Goals as goal
 
 pub run_vertex-requires-clause-same : goal.run_vertex-requires-clause-same
@@ -32,11 +32,7 @@ loop-index-preserved c =
 
 pub returns-clause-calls : goal.returns-clause-calls
 returns-clause-calls c =
-    let entries = entries_of c.args.entries.now in
+    let entries = c.args.entries.now in
     let before = c.args.vertices.now in
-    let now = c.loop-index.vertices in
-    let i = c.loop-index.index in
-    let many = length-map c.args.entries.now entry_of ∙ as_many c.args.entries.now before c.requires.same in
-    let calls = rw (take_all i entries (omega (arith, many)), take_all i before (omega arith), take_all i now (omega arith)) at c.loop-index.invariant.calls in
-    calls_sorted c.args.shared.now entries before now c.loop-index.left c.sort_letters.new.self calls c.in_ok-sort_letters.ensures.letters
-    c.in_ok-sort_letters.ensures.slots c.in_ok-sort_letters.ensures.units
+    part_end c.args.shared.now (entries_of entries) before c.loop-index.vertices c.loop-index.index c.loop-index.left
+    (length-map entries entry_of ∙ as_many entries before c.requires.same) c.loop-index.auto.vertices (omega arith) c.loop-index.invariant.calls

@@ -3,15 +3,11 @@ use Rattle.workers.specs.Answers.{HasSpent, Ran, WhereEnded, has_ended}
 use Rattle.workers.specs.Hub.{HasByes, handed, received, staff}
 use Rattle.workers.proofs.Ending.{not_ended, where_ended}
 use Rattle.workers.proofs.Handing.{hub_then}
-use Rattle.workers.proofs.Hiring.{hired_same}
+use Rattle.workers.proofs.Hiring.{threads_same}
 use Rattle.workers.proofs.run.drive_all.Goals as goal
 
-pub settle_all-requires-clause-ticking : goal.settle_all-requires-clause-ticking
-settle_all-requires-clause-ticking g c = c.requires.ticking ∙ sym c.drive-answer.ensures.hub.channels
-
-pub settle_all-requires-clause-hired : goal.settle_all-requires-clause-hired
-settle_all-requires-clause-hired g c =
-    hired_same c.args.ends.now c.drive-answer.new.self 0 c.args.threads.items c.drive-answer.ensures.hub.channels c.requires.hired
+pub settle_all-requires : goal.settle_all-requires
+settle_all-requires g c = threads_same c.args.ends.now c.drive-answer.new.self c.args.hired c.drive-answer.ensures.hub c.requires.hired
 
 pub returns-then-not-was_driven-clause-settled : goal.returns-then-not-was_driven-clause-settled
 returns-then-not-was_driven-clause-settled g c =

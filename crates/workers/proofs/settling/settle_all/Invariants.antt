@@ -6,11 +6,11 @@ use Rattle.workers.proofs.settling.settle_all.Given as goal
 
 abbrev pub invariant-loop-thread : goal.invariant-loop-thread
 invariant-loop-thread g l = record {
-  hired : AreHired l.fn.ends (vec_len l.workers) (into_iter_items l.thread-iterator);
-  all : vec_len l.workers + into_iter_len l.thread-iterator ≡ staff l.fn.ends;
-  room : staff l.fn.ends ≤ vec_capacity l.workers;
+  hired : AreHired l.fn.ends (vec_len l.receipts) (into_iter_items l.thread-iterator);
+  all : vec_len l.receipts + into_iter_len l.thread-iterator ≡ staff l.fn.ends;
+  room : staff l.fn.ends ≤ vec_capacity l.receipts;
   ticker : IsTickerSettled l.ends l.ticker;
-  settled : AreSettled l.ends 0 l.workers.items;
+  settled : AreSettled l.ends 0 l.receipts.items;
   received : received l.ends ≡ received l.fn.ends;
   handed : handed l.ends ≡ handed l.fn.ends;
   hub : IsSameHub l.fn.ends l.ends;

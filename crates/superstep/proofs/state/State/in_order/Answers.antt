@@ -38,15 +38,15 @@ pub returns-clause-same : goal.returns-clause-same
 returns-clause-same c =
     let now = λ (vertex : Bor VertexState). vertex.now in
     let key = λ (vertex : Bor VertexState). state_id vertex.now in
-    let items = c.sort_by_key.new.self.items in
+    let items = c.sort_by_cached_key.new.self.items in
     let all = joined (map vec_items c.self.inside.parts.items) in
     let held : map now c.loop-part.vertices.items ≡ all =
     c.loop-part.invariant
     ∙ ap (λ (lists : List (Vec VertexState Global)). joined (map vec_items lists)) (take_all _ _ c.loop-part-test.false ∙ c.deref-part-items.ensures.value) in
     let moved : IsPermutation all (map now items) =
-    subst (λ xs. IsPermutation xs (map now items)) held (IsPermutation-map now _ _ c.sort_by_key.ensures.permutation) in
+    subst (λ xs. IsPermutation xs (map now items)) held (IsPermutation-map now _ _ c.sort_by_cached_key.ensures.permutation) in
     let up : IsNonDecreasing (map key items) =
-    keys_sorted key items (IsNonDecreasingBy-from_sort_by_key key items c.in_ok-sort_by_key.ensures.sorted (λ a r q k. search rules)) in
+    keys_sorted key items (IsNonDecreasingBy-from_sort_by_key key items c.in_ok-sort_by_cached_key.ensures.sorted (λ a r q k. search rules)) in
     let sorted : IsNonDecreasing (map state_id (map now items)) = subst IsNonDecreasing (sym (map-map state_id now items)) up in
     order_is state_id all (map now items) (by_key state_id all) moved sorted (by_key_same state_id all) c.self.invariant.state.rising
     ∙ ap (λ (state : Standing). state.vertices) c.self.view_is

@@ -1,4 +1,4 @@
--- How many operands stand in a call of a function, its calls unfolded (Core 1.0, 4.2.11): those of each function that
+-- How many operands stand in a call of a function, its calls unfolded (Core 1.0, 4.2.12): those of each function that
 -- runs, and those under each block.
 use Rattle.std.specs.Prelude.{◌≡◌, ℕ, ◌+◌, ◌-◌, max, Option, Some, None}
 use Rattle.wasm_ast.specs.declared.module.Module.{Module}

@@ -31,7 +31,7 @@ pub enum ProfileRule {
     P7,
     /// Nothing stands after `br`, `br_table` or `return` in a sequence.
     P8,
-    /// Each loop begins by taking an item, and leaves where there is none.
+    /// Each loop takes an item each time round, first or last, and is left where there is none.
     P9,
     /// The memory begins with at most 16 pages, and each address is known and lies in it.
     P10,

@@ -64,7 +64,7 @@ pub fn command<F: Files, O: Output>(
         × Told (F.disk files.old) (F.disk files.new) request.entry status told
         × IsTold (O.contents out.old) (O.contents out.new) status told result }
     ensures failed { OnErr result (O.has_failed out.new) }
-    // No command but `asm` and `upgrade` writes a file.
+    // No command but `asm` and `upgrade` writes one of `files`.
     ensures kept { writes_file request.entry ≡ false → Stays (F.disk files.old) (F.disk files.new) }
 {
     match carry_out(rt, alloc, request, files) {

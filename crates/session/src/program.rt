@@ -28,7 +28,7 @@ pub fn carry_out<R: Read, W: Write, F: Files>(
     ensures done { Does options.entry (F.disk files.old) (F.disk files.new)
         (R.remaining reader.old) (R.remaining reader.new) (W.contents writer.old)
         (W.contents writer.new) result }
-    // Only commands that are to write a file write one.
+    // Only commands that are to write one of `files` write one.
     ensures kept { may_write options.entry ≡ false → Stays (F.disk files.old) (F.disk files.new) }
 {
     match options {

@@ -27,7 +27,7 @@ use std::thread::Threads;
 
 /// The state after a superstep: what all parts left, one for each part and in order, on what was summed up before.
 ///
-/// Inboxes are built by as many threads as there are processors. The only refusal is that there is no memory.
+/// Inboxes are built in threads of `rayon`. The only refusal is that there is no memory.
 pub fn barrier<J: Origin>(
     rt: &(impl Threads + Sync),
     alloc: Global,

@@ -46,8 +46,8 @@ pub struct Ended {
 }
 
 /// The run of a job on one machine (Pregel 2010, 2): superstep after superstep, until no vertex is active and no inbox
-/// holds anything, or to the limit. It tells the units of each superstep from the first on. Inboxes are built by as many
-/// threads as there are processors. The only refusal is that there is no memory.
+/// holds anything, or to the limit. It tells the units of each superstep from the first on. Inboxes are built in threads
+/// of `rayon`. The only refusal is that there is no memory.
 pub fn one_machine(
     rt: &(impl Threads + Sync),
     alloc: Global,

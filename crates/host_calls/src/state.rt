@@ -2,6 +2,10 @@ use crate::call::{CallInput, CallOutcome, SLOTS};
 use std::alloc::{AllocError, Global};
 use std::marker::Model;
 
+// The first message makes room for so many. A list that grows by a few at a time asks the allocator each time, and the lists of
+// all workers' calls come from places that they share, where they wait for one another.
+const FIRST_ROOM: usize = 16;
+
 /// A vertex during a compute call.
 #[derive(Drop)]
 pub struct CallState<'a> {
@@ -152,6 +156,9 @@ impl<'a> CallState<'a> {
         ensures ok { OnOk result (self.new ≡ with_send self.old target value) }
         ensures err { OnErr result (self.new ≡ self.old) }
     {
+        if self.sends.is_empty() {
+            self.sends.reserve(FIRST_ROOM)?;
+        }
         self.sends.push((target, value))?;
         Ok(())
     }

@@ -1,4 +1,4 @@
--- The letters to one id are the same ones, in the same order, among those of its span by target and among all by source.
+-- The letters to one id are the same ones, in the same order, among those of its class by target and among all by source.
 use Rattle.std.proofs.Common.{◌≡◌, ℕ, pos, Bool, true, false, List, [], ◌∷◌, Contains, filter, arith, inl, inr, refl}
 use Rattle.std.proofs.lemmas.Bool.Decides.{Decides-int_eq, nat_tests}
 use Rattle.std.proofs.lemmas.Int.{ints}
@@ -9,9 +9,9 @@ use Rattle.std.specs.List.{AllByRecursion}
 use Rattle.std.specs.List.Sorted.{IsStrictlySortedBy}
 use Rattle.std.specs.declared.cmp.Ordering.TheVariants.{Less}
 use Rattle.inbox.specs.declared.letters.Letter.{Letter}
-use Rattle.inbox.specs.declared.pieces.Span.{Span}
+use Rattle.inbox.specs.declared.shares.Class.{Class}
 use Rattle.inbox.specs.Merging.{IsBySource, goes_to, source_cmp}
-use Rattle.inbox.specs.inside.Pieces.{lies_in, goes_into}
+use Rattle.inbox.specs.inside.Shares.{has, goes_into}
 use Rattle.inbox.specs.inside.Targets.{IsByTarget, target_cmp}
 use Rattle.inbox.proofs.OneOrder.{contained, head_inside, same_sorted}
 use Rattle.inbox.proofs.Order.{source_total}
@@ -34,9 +34,9 @@ module _ {X : Type 0} (p : X → Bool) where
       more true e inside = rw e (Contains-append_right (y ∷ []) (filter p ys) x inside)
       more false e inside = rw e inside
 
--- a letter to an id goes into a span in which the id lies
-goes_inside : (span : Span) (id : ℕ) (letter : Letter) → lies_in span (pos id) ≡ true → goes_to letter id ≡ true → goes_into span letter ≡ true
-goes_inside span id letter inside goes =
+-- a letter to an id goes into a class that has the id
+goes_inside : (class : Class) (id : ℕ) (letter : Letter) → has class id ≡ true → goes_to letter id ≡ true → goes_into class letter ≡ true
+goes_inside class id letter inside goes =
     let to : letter.to ≡ pos id = (Decides-int_eq letter.to (pos id)).0 goes in
     rw to inside
 
@@ -53,17 +53,17 @@ unfolding IsStrictlySortedBy
 all_by_source id [] all up = tt
 all_by_source id (a ∷ letters) all up = (later_by_source id a letters all.0 all.1 up.0, all_by_source id letters all.1 up.1)
 
--- the letters to an id, in a span in which it lies and among all
-pub same_letters : (letters sorted ordered : List Letter) (span : Span) (id : ℕ) → lies_in span (pos id) ≡ true → IsByTarget (filter (goes_into span) letters) sorted → IsBySource letters ordered → filter (λ letter. goes_to letter id) sorted ≡ filter (λ letter. goes_to letter id) ordered
-same_letters letters sorted ordered span id inside by by' =
+-- the letters to an id, in a class that has it and among all
+pub same_letters : (letters sorted ordered : List Letter) (class : Class) (id : ℕ) → has class id ≡ true → IsByTarget (filter (goes_into class) letters) sorted → IsBySource letters ordered → filter (λ letter. goes_to letter id) sorted ≡ filter (λ letter. goes_to letter id) ordered
+same_letters letters sorted ordered class id inside by by' =
     let mine = λ (letter : Letter). goes_to letter id in
-    let within = goes_into span in
+    let within = goes_into class in
     let rising : IsStrictlySortedBy source_cmp (filter mine sorted) = all_by_source id (filter mine sorted) (recursion_from_All _ _ (filter_passes mine sorted)) (IsStrictlySortedBy-filter target_cmp mine sorted by.rising) in
     let to = λ (z : Letter) (h : Contains (filter mine sorted) z).
     let here = Contains-permutation _ _ z (IsPermutation-sym _ _ by.same) (from_filter mine sorted z h) in
     into_filter mine ordered z (Contains-permutation _ _ z by'.same (from_filter within letters z here)) (passes mine sorted z h) in
     let from = λ (z : Letter) (h : Contains (filter mine ordered) z).
     let goes = passes mine ordered z h in
-    let here = into_filter within letters z (Contains-permutation _ _ z (IsPermutation-sym _ _ by'.same) (from_filter mine ordered z h)) (goes_inside span id z inside goes) in
+    let here = into_filter within letters z (Contains-permutation _ _ z (IsPermutation-sym _ _ by'.same) (from_filter mine ordered z h)) (goes_inside class id z inside goes) in
     into_filter mine sorted z (Contains-permutation _ _ z by.same here) goes in
     same_sorted source_total (filter mine sorted) (filter mine ordered) rising (IsStrictlySortedBy-filter source_cmp mine ordered by'.rising) to from

@@ -4,7 +4,7 @@ pub mod Concatenation
 pub mod Counting
 pub mod Delivery
 pub mod InOrder
-pub mod InPieces
+pub mod InShares
 pub mod Kept
 pub mod OneOrder
 pub mod Order

@@ -1,3 +1,3 @@
 pub mod Held
-pub mod Pieces
+pub mod Shares
 pub mod Targets

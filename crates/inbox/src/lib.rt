@@ -10,7 +10,7 @@ mod laws;
 mod letters;
 mod merging;
 mod parts;
-mod pieces;
+mod shares;
 
 pub use inboxes::Inbox;
 pub use laws::{

@@ -2,13 +2,14 @@ ghost use Rattle.std.specs.Prelude.{◌≡◌, ◌≤◌, ◌<◌, ◌^◌, int_
 ghost use Rattle.std.specs.List.{AllZip, IsDistinct};
 ghost use Rattle.std.specs.List.Sorted.{IsStrictlySortedBy, IsPartitionPoint};
 ghost use Rattle.inbox.specs.declared.letters.Letter.{Letter as AnyLetter};
-ghost use Rattle.inbox.specs.Merging.{are_one, goes_to, all_of, IsBySource, inbox_of, inboxes_of, dropped_of};
-ghost use Rattle.inbox.specs.inside.Targets.{target_cmp};
-ghost use Rattle.inbox.specs.inside.Pieces.{HoldsLettersTo, IsDeliveredFrom, IsInboxFrom, inboxes_in};
+ghost use Rattle.inbox.specs.Merging.{are_one, goes_to, all_of, IsBySource, inboxes_of, dropped_of};
+ghost use Rattle.inbox.specs.inside.Targets.{IsByTarget, target_cmp};
+ghost use Rattle.inbox.specs.inside.Shares.{goes_into, AreDelivered, IsInboxIn, IsPutIn, inboxes_in};
 
 use crate::inboxes::Inbox;
 use crate::letters::Letter;
-use crate::pieces::{Piece, by_target};
+use crate::shares::{Class, Share, shares};
+use rayon::current_num_threads;
 use rayon::prelude::*;
 use std::alloc::{AllocError, Global};
 use std::thread::Threads;
@@ -20,14 +21,16 @@ use std::thread::Threads;
 /// what [`merge`](crate::merge) puts into it of all letters: the values of those to its id, by
 /// source and in the order of sending.
 ///
-/// Targets are cut into as many spans as there are parts, but no more than there are processors, nor
-/// than 16. They hold about as many of the first part's ids each, where these rise. A thread for each
-/// span goes over all letters, copies those of the span and sorts them. Then threads look up each
-/// id's letters and make its inbox, with no more room than its messages where they are more than
-/// four.
+/// Parts that follow one another are shared out, in as many shares as there are parts, but no more
+/// than there are processors, nor than 16. A thread for each share goes over all letters, copies those
+/// that may go to an id of its parts and sorts them. Then it looks up each id's letters and makes its
+/// inbox, with no more room than its messages where they are more than four; many ids of one part are
+/// shared among threads once more.
 ///
-/// So letters are read as often as there are spans, and copied and sorted once, in time of the order
-/// of n log n. An `Err` is want of memory.
+/// Which letters may go to a part is seen by a division where all ids of a share are in the parts of
+/// their own remainders, as those of a job are. Else the share's thread takes all letters. So letters
+/// are read as often as there are shares, and copied and sorted once, in time of the order of n log n.
+/// An `Err` is want of memory.
 pub fn merge_parts(
     rt: &(impl Threads + Sync),
     alloc: Global,
@@ -44,8 +47,10 @@ pub fn merge_parts(
     ensures dropped { IfOk result (λ merged.
         merged.1 ≡ dropped_of (all_of lists.now) (all_of ids.now)) }
 {
-    let pieces = by_target(rt, alloc, lists, ids)?;
-    let delivered = delivered_to_all(rt, alloc, &pieces, ids)?;
+    let shares = shares(alloc, ids, current_num_threads(rt))?;
+    let room = room_for(lists, shares.len());
+    let by_share = delivered_to_all(rt, alloc, lists, &shares, room)?;
+    let delivered = together(alloc, by_share)?;
     let dropped = letter_count(lists) - delivered_count(&delivered);
     let parts = inboxes_in(alloc, delivered)?;
     Ok((parts, dropped))
@@ -65,36 +70,104 @@ fn letter_count(lists: &[Vec<Letter>]) -> u128
     lists.iter().map(|list| list.len() as u128).sum()
 }
 
-// What goes to each part's ids.
+// How many letters a share has if all have as many, and a sixteenth more, so that most need not grow.
+// A count past all memory stops at the largest number, for which there is no memory either.
+fn room_for(lists: &[Vec<Letter>], shares: usize) -> usize {
+    let count = lists
+        .iter()
+        .fold(0usize, |count, list| count.saturating_add(list.len()));
+    let share = count / shares.max(1);
+    share.saturating_add(share / 16)
+}
+
+// What goes to the parts of each share.
 fn delivered_to_all(
     rt: &(impl Threads + Sync),
     alloc: Global,
-    pieces: &[Piece],
-    ids: &[Vec<u64>],
-) -> Result<Vec<Delivered>, AllocError>
-    ensures { IfOk result (λ all. AllZip (IsDeliveredFrom pieces.now) ids.now all.items) }
+    lists: &[Vec<Letter>],
+    shares: &[Share],
+    room: usize,
+) -> Result<Vec<Vec<Delivered>>, AllocError>
+    requires { IsDistinct are_one (all_of lists.now) }
+    ensures { IfOk result (λ all. AllZip (AreDelivered (all_of lists.now)) shares.now all.items) }
 {
-    // A part is worth a thread of its own, few as there are.
-    ids.par_iter()
+    // A share is worth a thread of its own, few as there are.
+    shares
+        .par_iter()
         .with_min_len(1)
         .map(
-            |part: &Vec<u64>| -> Result<Delivered, AllocError>
-                ensures { IfOk result (IsDeliveredFrom pieces.entry.now part.now) }
-            { delivered_to(rt, alloc, pieces, part) },
+            |share: &Share| -> Result<Vec<Delivered>, AllocError>
+                requires { IsDistinct are_one (all_of lists.now) }
+                ensures { IfOk result (AreDelivered (all_of lists.entry.now) share.now) }
+            { delivered_to_share(rt, alloc, lists, share, room) },
         )
-        .collect::<Result<Vec<Delivered>, AllocError>>(rt, alloc)?
+        .collect::<Result<Vec<Vec<Delivered>>, AllocError>>(rt, alloc)?
 }
 
-// What goes to the ids of a part.
+// What goes to each part of a share, whose letters have room for so many from the start.
+fn delivered_to_share(
+    rt: &(impl Threads + Sync),
+    alloc: Global,
+    lists: &[Vec<Letter>],
+    share: &Share,
+    room: usize,
+) -> Result<Vec<Delivered>, AllocError>
+    requires { IsDistinct are_one (all_of lists.now) }
+    ensures { IfOk result (AreDelivered (all_of lists.now) share.now) }
+{
+    let targets = share.targets();
+    let letters = by_target(alloc, lists, targets, room)?;
+    let mut all = Vec::with_capacity(alloc, share.parts.len())?;
+    for ids in share.parts {
+        let delivered = delivered_to(rt, alloc, &letters, ids)?;
+        all.push(delivered)?;
+    }
+    Ok(all)
+}
+
+// The letters to these targets, by target and then by source, with room for so many from the start.
+fn by_target(
+    alloc: Global,
+    lists: &[Vec<Letter>],
+    targets: Class,
+    room: usize,
+) -> Result<Vec<Letter>, AllocError>
+    requires { IsDistinct are_one (all_of lists.now) }
+    ensures { IfOk result (λ letters.
+        IsByTarget (filter (goes_into targets) (all_of lists.now)) letters.items) }
+{
+    let mut letters = letters_in(alloc, lists, targets, room)?;
+    letters.sort()?;
+    Ok(letters)
+}
+
+// The letters to these targets, one list after the other.
+fn letters_in(
+    alloc: Global,
+    lists: &[Vec<Letter>],
+    targets: Class,
+    room: usize,
+) -> Result<Vec<Letter>, AllocError>
+    ensures { IfOk result (λ letters. letters.items ≡ filter (goes_into targets) (all_of lists.now)) }
+{
+    let mut letters = Vec::with_capacity(alloc, room)?;
+    for list in lists {
+        let within = |letter: &&Letter| targets.takes(letter);
+        letters.extend(list.iter().filter(within).copied())?;
+    }
+    Ok(letters)
+}
+
+// What goes to the ids of a part, of letters by target.
 fn delivered_to(
     rt: &(impl Threads + Sync),
     alloc: Global,
-    pieces: &[Piece],
-    part: &Vec<u64>,
+    letters: &[Letter],
+    ids: &Vec<u64>,
 ) -> Result<Delivered, AllocError>
-    ensures { IfOk result (IsDeliveredFrom pieces.now part.now) }
+    ensures { IfOk result (IsPutIn letters.now ids.now.items) }
 {
-    let inboxes = inboxes_at(rt, alloc, pieces, part)?;
+    let inboxes = inboxes_at(rt, alloc, letters, ids)?;
     let count = message_count(&inboxes);
     Ok(Delivered { inboxes, count })
 }
@@ -106,42 +179,37 @@ const LEAST_IDS: usize = 16_384;
 fn inboxes_at(
     rt: &(impl Threads + Sync),
     alloc: Global,
-    pieces: &[Piece],
+    letters: &[Letter],
     ids: &[u64],
 ) -> Result<Vec<Inbox>, AllocError>
-    ensures { IfOk result (λ inboxes. AllZip (IsInboxFrom pieces.now) ids.now inboxes.items) }
+    ensures { IfOk result (λ inboxes. AllZip (IsInboxIn letters.now) ids.now inboxes.items) }
 {
     ids.par_iter()
         .with_min_len(LEAST_IDS)
         .map_init(
             || 0usize,
             |near: &mut usize, id: &u64| -> Result<Inbox, AllocError>
-                ensures { IfOk result (IsInboxFrom pieces.entry.now id.now) }
-            { inbox_at(alloc, pieces, near, *id) },
+                ensures { IfOk result (IsInboxIn letters.entry.now id.now) }
+            { inbox_at(alloc, letters, near, *id) },
         )
         .collect::<Result<Vec<Inbox>, AllocError>>(rt, alloc)?
 }
 
 // What stands in the inbox of this id.
-fn inbox_at(alloc: Global, pieces: &[Piece], near: &mut usize, id: u64) -> Result<Inbox, AllocError>
-    ensures { IfOk result (IsInboxFrom pieces.now id) }
+fn inbox_at(
+    alloc: Global,
+    letters: &[Letter],
+    near: &mut usize,
+    id: u64,
+) -> Result<Inbox, AllocError>
+    ensures { IfOk result (IsInboxIn letters.now id) }
 {
-    let mine = letters_to(pieces, near, id);
+    let mine = run_to(letters, near, id);
     let mut inbox = Inbox::with_capacity(alloc, mine.len())?;
     for letter in mine {
         inbox.push(letter.value)?;
     }
     Ok(inbox)
-}
-
-// The letters to this id. An id lies in one of the spans.
-fn letters_to<'a>(pieces: &'a [Piece], near: &mut usize, id: u64) -> &'a [Letter]
-    ensures { HoldsLettersTo pieces.now id result.now }
-{
-    match pieces.iter().find(|piece| piece.span.contains(id)) {
-        Some(piece) => run_to(&piece.letters, near, id),
-        None => &[],
-    }
 }
 
 // The letters to this id among those by target, where they lie side by side.
@@ -192,6 +260,18 @@ fn start_from(letters: &[Letter], near: usize, id: u64) -> usize
         return near + ahead;
     }
     near + rest.partition_point(|letter| goes_below(letter, id))
+}
+
+// What goes to the parts of all shares, one share after another.
+fn together(alloc: Global, shares: Vec<Vec<Delivered>>) -> Result<Vec<Delivered>, AllocError>
+    ensures { IfOk result (λ all. all.items ≡ all_of shares.items) }
+{
+    let mut all = Vec::new(alloc);
+    for share in shares {
+        let mut parts = share;
+        all.append(&mut parts)?;
+    }
+    Ok(all)
 }
 
 // The inboxes of each part.

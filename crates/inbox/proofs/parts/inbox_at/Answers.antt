@@ -4,6 +4,6 @@ use Rattle.inbox.specs.declared.letters.Letter.{Letter}
 use Rattle.inbox.proofs.parts.inbox_at.Goals as goal
 
 pub returns : goal.returns
-returns c = λ letters ordered are by.
-    let all = take_all c.loop-letter.letter-index c.letters_to-mine.result.now c.loop-letter-test.false in
-    rw all at c.loop-letter.invariant ∙ ap (map (λ (letter : Letter). letter.value)) (c.letters_to-mine.ensures letters ordered are by)
+returns c = λ up.
+    let all = take_all c.loop-letter.letter-index c.run_to-mine.result.now c.loop-letter-test.false in
+    rw all at c.loop-letter.invariant ∙ ap (map (λ (letter : Letter). letter.value)) (c.run_to-mine.ensures up)

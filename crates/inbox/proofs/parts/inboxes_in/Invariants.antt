@@ -1,5 +1,5 @@
 use Rattle.std.proofs.Common.{◌≡◌}
-use Rattle.inbox.specs.inside.Pieces.{inboxes_in}
+use Rattle.inbox.specs.inside.Shares.{inboxes_in}
 use Rattle.inbox.proofs.parts.inboxes_in.Given as goal
 
 abbrev pub invariant-loop-part : goal.invariant-loop-part

@@ -27,10 +27,10 @@ use std::thread::Threads;
 /// inbox, with no more room than its messages where they are more than four; many ids of one part are
 /// shared among threads once more.
 ///
-/// Which letters may go to a part is seen by a division where all ids of a share are in the parts of
-/// their own remainders, as those of a job are. Else the share's thread takes all letters. So letters
-/// are read as often as there are shares, and copied and sorted once, in time of the order of n log n.
-/// An `Err` is want of memory.
+/// Which letters may go to a part is seen by their targets' remainders where all ids of a share are in
+/// the parts of their own remainders, as those of a job are. Else the share's thread takes all letters.
+/// So letters are read as often as there are shares, and copied and sorted once, in time of the order
+/// of n log n. An `Err` is want of memory.
 pub fn merge_parts(
     rt: &(impl Threads + Sync),
     alloc: Global,

@@ -1,6 +1,6 @@
-ghost use Rattle.std.specs.Prelude.{◌≡◌, ◌↔◌, true, IfOk, IsTrue};
+ghost use Rattle.std.specs.Prelude.{◌≡◌, ◌↔◌, ℕ, true, IfOk, IsTrue};
 ghost use Rattle.std.specs.List.{AllByRecursion, flat_map};
-ghost use Rattle.inbox.specs.inside.Shares.{goes_into, has, parts_of};
+ghost use Rattle.inbox.specs.inside.Shares.{goes_into, has, key_of, parts_of};
 
 use crate::letters::Letter;
 use std::alloc::{AllocError, Global};
@@ -8,21 +8,50 @@ use std::alloc::{AllocError, Global};
 // Each share's letters are looked for among all, so more shares than threads, or more than these, would cost more than they save.
 const MOST_SHARES: usize = 16;
 
-// The targets of which, divided by `parts`, a remainder from `start` to `last` is left; all targets where there is one part.
+// What parts are told apart by.
+#[derive(Clone, Copy)]
+pub enum Key {
+    // The bits of a target that this mask has: its remainder by one more, where that is a power of two.
+    Bits(u64),
+    // A target's remainder by this number, or by 1 where it is 0. It takes a division.
+    Remainder(u64),
+}
+
+impl Key {
+    // That by which the parts of a job are told apart, where there are so many.
+    fn by(parts: u64) -> Key {
+        if parts.is_power_of_two() {
+            Key::Bits(parts - 1)
+        } else {
+            Key::Remainder(parts)
+        }
+    }
+
+    fn of(self, target: u64) -> u64
+        ensures { result ≡ key_of self target }
+    {
+        match self {
+            Key::Bits(mask) => target & mask,
+            Key::Remainder(parts) => target % parts.max(1),
+        }
+    }
+}
+
+// The targets whose keys are from `start` to `last`.
 #[derive(Clone, Copy)]
 pub struct Class {
-    pub parts: u64,
-    pub start: u64,
-    pub last: u64,
+    key: Key,
+    start: u64,
+    last: u64,
 }
 
 impl Class {
     // All targets.
-    pub fn all() -> Class
-        ensures { result.parts ≡ 1 }
+    fn all() -> Class
+        ensures { (target : ℕ) → has result target ≡ true }
     {
         Class {
-            parts: 1,
+            key: Key::Remainder(1),
             start: 0,
             last: 0,
         }
@@ -31,11 +60,8 @@ impl Class {
     fn has(self, target: u64) -> bool
         ensures { result ≡ has self target }
     {
-        if self.parts <= 1 {
-            return true;
-        }
-        let remainder = target % self.parts;
-        self.start <= remainder && remainder <= self.last
+        let key = self.key.of(target);
+        self.start <= key && key <= self.last
     }
 
     // Whether the letter goes to one of the targets.
@@ -63,8 +89,8 @@ impl Class {
     }
 }
 
-// Parts that follow one another, whose inboxes are made by one thread, and the targets that their ids have if each part has the
-// ids of its own remainder.
+// Parts that follow one another, whose inboxes are made by one thread, and the targets that their ids are if each part has the ids
+// of its own remainder, as the parts of a job have.
 #[derive(Clone, Copy)]
 pub struct Share<'a> {
     pub parts: &'a [Vec<u64>],
@@ -95,6 +121,7 @@ pub fn shares<'a>(
 {
     let mut left = ids.len().min(most).min(MOST_SHARES);
     let mut shares = Vec::with_capacity(alloc, left)?;
+    let key = Key::by(ids.len() as u64);
     let mut start = 0u64;
     let mut rest = ids;
     while !rest.is_empty() {
@@ -102,7 +129,7 @@ pub fn shares<'a>(
         let (parts, others) = rest.split_at(size);
         let next = start.saturating_add(parts.len() as u64);
         let class = Class {
-            parts: ids.len() as u64,
+            key,
             start,
             last: next.saturating_sub(1),
         };

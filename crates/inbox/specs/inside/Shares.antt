@@ -1,18 +1,25 @@
 -- Letters by the share of parts whose ids they may go to.
-use Rattle.std.specs.Prelude.{◌≡◌, ◌%◌, ◌&&◌, ◌||◌, ℕ, ℤ, pos, negsuc, Bool, false, List, map, nat_le, length, sum_by}
+use Rattle.std.specs.Prelude.{◌≡◌, ◌%◌, ◌&&◌, max, bit_and, ℕ, ℤ, pos, negsuc, Bool, false, List, map, nat_le, length, sum_by}
 use Rattle.std.specs.Global.{Vec}
 use Rattle.std.specs.List.{AllZip}
 use Rattle.std.specs.List.Sorted.{IsStrictlySortedBy}
 use Rattle.inbox.specs.declared.letters.Letter.{Letter}
 use Rattle.inbox.specs.declared.parts.Delivered.{Delivered}
 use Rattle.inbox.specs.declared.shares.Class.{Class}
+use Rattle.inbox.specs.declared.shares.Key.{Key}
+use Rattle.inbox.specs.declared.shares.Key.TheVariants.{Bits, Remainder}
 use Rattle.inbox.specs.declared.shares.Share.{Share}
 use Rattle.inbox.specs.Merging.{IsBySource, inbox_of, inboxes_of}
 use Rattle.inbox.specs.inside.Targets.{target_cmp}
 
+-- what tells the part of a target
+abbrev pub key_of : Key → ℕ → ℕ
+key_of (Bits mask) target = bit_and target mask
+key_of (Remainder parts) target = target % max parts 1
+
 -- whether this is one of the class's targets
 abbrev pub has : Class → ℕ → Bool
-has class target = nat_le class.parts 1 || (nat_le class.start (target % class.parts) && nat_le (target % class.parts) class.last)
+has class target = nat_le class.start (key_of class.key target) && nat_le (key_of class.key target) class.last
 
 abbrev pub has_target : Class → ℤ → Bool
 has_target class (pos target) = has class target

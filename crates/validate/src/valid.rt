@@ -19,7 +19,8 @@ use wasm_ast::{Module, within_limits};
 /// A module that is typed (Core 1.0, 3.4.10). Only `validate` makes one.
 #[derive(Drop)]
 pub struct Valid {
-    module: Module,
+    // boxed, so that it is let go by one call
+    module: Box<Module>,
 }
 
 impl Model for Valid {
@@ -32,9 +33,10 @@ impl Model for Valid {
 
     ghost coded = { module_type.the_row.coded };
 
-    ghost view = { λ valid. valid.«module» };
+    ghost view = { λ valid. valid.«module».value };
 
-    ghost invariant = { λ valid. IsTyped valid.«module» × IsWithinLimits valid.«module» };
+    ghost invariant = { λ valid. IsTyped valid.«module».value
+        × IsWithinLimits valid.«module».value };
 }
 
 impl Valid {
@@ -60,6 +62,7 @@ pub fn validate(alloc: Global, module: Module) -> Result<Valid, ValidFault>
     ensures refused { IsTyped «module» → IsWithinLimits «module»
         → IsOkUnless result ValidFault.OutOfMemory }
 {
+    let module = Box::new(alloc, module)?;
     check_module(alloc, &module)?;
     Ok(Valid { module })
 }

@@ -9,6 +9,7 @@ pub mod Leveling
 pub mod Framing
 pub mod Marking
 pub mod Spanning
+pub mod SameTables
 pub mod Walking
 pub mod Refusals
 pub mod Computing

@@ -18,6 +18,7 @@ mod module_rules;
 mod rules;
 mod shapes;
 mod spans;
+mod tables;
 mod verified;
 mod wants;
 

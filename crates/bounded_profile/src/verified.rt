@@ -10,14 +10,13 @@ ghost use Rattle.bounded_profile.specs.Faults.{Refuses};
 ghost use Rattle.bounded_profile.specs.Hosts.{AreHostCalls};
 ghost use Rattle.bounded_profile.specs.Profile.{IsBounded, HasCompute};
 ghost use Rattle.bounded_profile.specs.Reached.{reached_below, reached_bytes};
+ghost use Rattle.bounded_profile.specs.inside.Tables.{AreTables};
 
-use crate::cells::{Cells, cells_table};
-use crate::facts::Facts;
+use crate::cells::Cells;
 use crate::fault::ProfileFault;
-use crate::hosts::host_calls;
 use crate::memory_rules::memory_bytes;
-use crate::rules::check_rules;
-use crate::spans::{Span, bytes_below, reached_spans};
+use crate::spans::bytes_below;
+use crate::tables::Tables;
 use host_calls::HostCall;
 use std::alloc::{AllocError, Global};
 use std::marker::Model;
@@ -27,36 +26,33 @@ use wasm_ast::Module;
 /// A valid module in the bounded profile. Only `verify` makes one, and `copy`.
 #[derive(Drop)]
 pub struct Verified {
+    // boxed, so that it is let go by one call
+    judged: Box<Judged>,
+}
+
+// A module with its tables.
+#[derive(Drop)]
+struct Judged {
     valid: Valid,
-    facts: Facts,
-    calls: Vec<HostCall>,
-    cells: Vec<Cells>,
-    spans: Vec<Span>,
+    tables: Tables,
 }
 
 impl Model for Verified {
-    ghost use Rattle.std.specs.Prelude.{◌≡◌};
     ghost use Rattle.wasm_ast.specs.declared.module.Module.{Module as AnyModule};
     ghost use Rattle.validate.specs.Modules.{IsTyped};
-    ghost use Rattle.bounded_profile.specs.Cells.{cells_table};
-    ghost use Rattle.bounded_profile.specs.Facts.{AreFacts};
-    ghost use Rattle.bounded_profile.specs.Hosts.{AreHostCalls};
     ghost use Rattle.bounded_profile.specs.Profile.{IsBounded};
-    ghost use Rattle.bounded_profile.specs.inside.Marks.{TellReached};
+    ghost use Rattle.bounded_profile.specs.inside.Tables.{AreTables};
     ghost use Rattle.wasm_ast.specs.contracts.module.Module as module_type;
 
     ghost Value = { AnyModule };
 
     ghost coded = { module_type.the_row.coded };
 
-    ghost view = { λ verified. verified.valid };
+    ghost view = { λ verified. verified.judged.value.valid };
 
-    ghost invariant = { λ verified. IsBounded verified.valid
-        × AreFacts verified.valid verified.facts
-        × AreHostCalls verified.valid verified.calls.items
-        × (verified.cells.items ≡ cells_table verified.valid)
-        × IsTyped verified.valid
-        × TellReached verified.valid verified.spans.items };
+    ghost invariant = { λ verified. IsBounded verified.judged.value.valid
+        × IsTyped verified.judged.value.valid
+        × AreTables verified.judged.value.valid verified.judged.value.tables };
 }
 
 impl Verified {
@@ -67,28 +63,37 @@ impl Verified {
         ensures within { IsWithinLimits self.now }
         ensures bounded { IsBounded self.now }
     {
-        self.valid.module()
+        self.judged.valid.module()
+    }
+
+    // What was found in the module.
+    fn tables(&self) -> &Tables
+        ensures tables { AreTables self.now result.now }
+        ensures typed { IsTyped self.now }
+        ensures bounded { IsBounded self.now }
+    {
+        &self.judged.tables
     }
 
     /// The number of `compute`; it takes no memory.
     pub fn compute(&self) -> u32
         ensures { IsComputeNumber self.now result }
     {
-        self.facts.compute
+        self.tables().facts.compute
     }
 
     /// The host's function of each imported function, in order; it takes no memory.
     pub fn host_calls(&self) -> &[HostCall]
         ensures { AreHostCalls self.now result.now }
     {
-        self.calls.as_slice()
+        self.tables().calls.as_slice()
     }
 
     /// The size of `compute`, its calls unfolded (`cost::unfolded`).
     pub fn size(&self) -> u32
         ensures { IsSizeOfCompute self.now result }
     {
-        self.facts.size
+        self.tables().facts.size
     }
 
     /// The greatest height of the operands in a call of `compute`: those of all functions that run, and those under each
@@ -96,14 +101,14 @@ impl Verified {
     pub fn max_operands(&self) -> u32
         ensures { (compute : HasCompute self.now) → IsHeightAt self.now compute.number result }
     {
-        self.facts.max_operands
+        self.tables().facts.max_operands
     }
 
     /// How many functions the longest chain of calls has that begins with `compute`, which alone makes 1.
     pub fn max_frames(&self) -> u32
         ensures { (compute : HasCompute self.now) → IsDepthAt self.now compute.number result }
     {
-        self.facts.max_frames
+        self.tables().facts.max_frames
     }
 
     /// How many cells a frame of the function needs, which the module defines. Its own operands are those of its body, without
@@ -115,7 +120,8 @@ impl Verified {
         ensures operands { result.operands ≡ min (own_height self.now function) most_told }
         ensures exact { MayRun self.now function → result.operands ≡ own_height self.now function }
     {
-        self.cells[function as usize - self.calls.len()]
+        let tables = self.tables();
+        tables.cells[function as usize - tables.calls.len()]
     }
 
     /// How many bytes of the memory the loads and the stores of all functions reach, called or not; each counts once. It
@@ -124,8 +130,8 @@ impl Verified {
         ensures { result ≡ reached_bytes self.now }
     {
         bytes_below(
-            self.spans.as_slice(),
-            memory_bytes(self.valid.module()) as u32,
+            self.tables().spans.as_slice(),
+            memory_bytes(self.module()) as u32,
         )
     }
 
@@ -133,31 +139,29 @@ impl Verified {
     pub fn place(&self, byte: u32) -> u32
         ensures { result ≡ reached_below self.now byte }
     {
-        bytes_below(self.spans.as_slice(), byte)
+        bytes_below(self.tables().spans.as_slice(), byte)
     }
 
     /// The same module once more. The only refusal is that there is no memory for it.
     pub fn copy(&self, alloc: Global) -> Result<Verified, AllocError>
         ensures { IfOk result (λ copy. copy ≡ self.now) }
     {
-        let mut calls = Vec::new(alloc);
-        calls.extend_from_slice(self.calls.as_slice())?;
-        let mut cells = Vec::new(alloc);
-        cells.extend_from_slice(self.cells.as_slice())?;
-        let mut spans = Vec::new(alloc);
-        spans.extend_from_slice(self.spans.as_slice())?;
-        let module = self.valid.module().copy(alloc)?;
-        match validate(alloc, module) {
-            Ok(valid) => Ok(Verified {
-                valid,
-                facts: self.facts,
-                calls,
-                cells,
-                spans,
-            }),
-            // The module is valid: there was no memory to see that.
-            Err(_) => Err(AllocError),
-        }
+        let valid = copy_valid(alloc, self.module())?;
+        let tables = self.judged.tables.copy(alloc)?;
+        let judged = Box::new(alloc, Judged { valid, tables })?;
+        Ok(Verified { judged })
+    }
+}
+
+// The same valid module once more.
+fn copy_valid(alloc: Global, module: &Module) -> Result<Valid, AllocError>
+    ensures { IfOk result (λ copy. copy ≡ «module».now) }
+{
+    let module = module.copy(alloc)?;
+    match validate(alloc, module) {
+        Ok(valid) => Ok(valid),
+        // The module is valid: there was no memory to see that.
+        Err(_) => Err(AllocError),
     }
 }
 
@@ -172,15 +176,7 @@ pub fn verify(alloc: Global, valid: Valid) -> Result<Verified, ProfileFault>
     ensures refused { IsBounded valid → IsOkUnless result ProfileFault.OutOfMemory }
     ensures told { IfErr result (Refuses valid) }
 {
-    let facts = check_rules(alloc, &valid)?;
-    let calls = host_calls(alloc, valid.module())?;
-    let cells = cells_table(alloc, valid.module())?;
-    let spans = reached_spans(alloc, valid.module())?;
-    Ok(Verified {
-        valid,
-        facts,
-        calls,
-        cells,
-        spans,
-    })
+    let tables = Tables::of(alloc, &valid)?;
+    let judged = Box::new(alloc, Judged { valid, tables })?;
+    Ok(Verified { judged })
 }

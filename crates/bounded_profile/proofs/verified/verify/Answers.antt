@@ -3,7 +3,7 @@ use Rattle.bounded_profile.specs.declared.fault.ProfileFault.TheVariants as faul
 use Rattle.bounded_profile.proofs.Refusals.{only_memory}
 use Rattle.bounded_profile.proofs.verified.verify.Goals as goal
 
-pub returns-in_err-facts-clause-refused : goal.returns-in_err-facts-clause-refused
-returns-in_err-facts-clause-refused c bounded =
-    let memory : c.in_err-facts.field-0.0 ≡ fault.OutOfMemory = only_memory c.args.valid c.in_err-facts.field-0.0 c.in_err-facts.ensures bounded in
+pub returns-in_err-tables-clause-refused : goal.returns-in_err-tables-clause-refused
+returns-in_err-tables-clause-refused c bounded =
+    let memory : c.in_err-tables.field-0.0 ≡ fault.OutOfMemory = only_memory c.args.valid c.in_err-tables.field-0.0 c.in_err-tables.ensures bounded in
     search rules

@@ -30,9 +30,9 @@ pub struct Verified {
     judged: Box<Judged>,
 }
 
-// A module with its tables.
+/// A module with its tables.
 #[derive(Drop)]
-struct Judged {
+pub struct Judged {
     valid: Valid,
     tables: Tables,
 }

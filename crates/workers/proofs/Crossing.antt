@@ -8,7 +8,7 @@ use denote.Param.SendFields.{as_row_sync, declared_sync, variants_sync}
 use denote.Model.Goals.{sync, one_law, part_has, has_of, tied_goals}
 use denote.Model.Cut.{split_one}
 use denote.Model.Local.{Parts, rows}
-use Rattle.std.proofs.Crossing.{Vec-sync}
+use Rattle.std.proofs.Crossing.{Box-sync, Vec-sync}
 use Rattle.std.specs.contracts.alloc.Global as Heap
 use Rattle.std.specs.contracts.impls.GlobalAllocator.TheImpl.{ghosts}
 use Rattle.std.specs.contracts.vec.Vec as Vec
@@ -33,6 +33,8 @@ use Rattle.validate.specs.contracts.valid.Valid.TheInside as valid_inside
 use Rattle.host_calls.specs.contracts.imports.HostCall as HostCall
 use Rattle.bounded_profile.specs.contracts.cells.Cells as Cells
 use Rattle.bounded_profile.specs.contracts.spans.Span as Span
+use Rattle.bounded_profile.specs.contracts.tables.Tables as Tables
+use Rattle.bounded_profile.specs.contracts.verified.Judged as Judged
 use Rattle.bounded_profile.specs.contracts.verified.Verified as Verified
 use Rattle.bounded_profile.specs.contracts.verified.Verified.TheInside as verified_inside
 use Rattle.graph.specs.contracts.parts.Part as Part
@@ -163,23 +165,33 @@ module_field = struct_sync (struct_type.shape Module.the_type) (
 
 -- ---- what is made of it
 
+module_sync : IsSync Module.the_row
+module_sync = recorded_sync (Module.the_field).row _ _ (Module.the_type).to_one module_field
+
 valid_sync : IsSync Valid.the_row
 valid_sync = view_sync valid_inside.the_row _ _ _ _
-    (recorded_sync (valid_inside.the_field).row _ _ (valid_inside.the_type).to_one (struct_sync (struct_type.shape valid_inside.the_type) (module_field, tt)))
+    (recorded_sync (valid_inside.the_field).row _ _ (valid_inside.the_type).to_one
+    (struct_sync (struct_type.shape valid_inside.the_type) (Box-sync Module.the_row module_sync, tt)))
+
+tables_field : IsSync (Tables.the_field).row
+tables_field = struct_sync (struct_type.shape Tables.the_type) (
+  facts.the_field_sync,
+  (
+    Vec-sync HostCall.the_row host_call.the_sync,
+    (Vec-sync Cells.the_row cells.the_sync, (Vec-sync Span.the_row span.the_sync, tt)),
+  ),
+)
+
+judged_field : IsSync (Judged.the_field).row
+judged_field = struct_sync (struct_type.shape Judged.the_type) (valid_sync, (tables_field, tt))
+
+judged_sync : IsSync Judged.the_row
+judged_sync = recorded_sync (Judged.the_field).row _ _ (Judged.the_type).to_one judged_field
 
 verified_sync : IsSync Verified.the_row
 verified_sync = view_sync verified_inside.the_row _ _ _ _
     (recorded_sync (verified_inside.the_field).row _ _ (verified_inside.the_type).to_one
-    (struct_sync (struct_type.shape verified_inside.the_type) (
-      valid_sync,
-      (
-        facts.the_field_sync,
-        (
-          Vec-sync HostCall.the_row host_call.the_sync,
-          (Vec-sync Cells.the_row cells.the_sync, (Vec-sync Span.the_row span.the_sync, tt)),
-        ),
-      ),
-    )))
+    (struct_sync (struct_type.shape verified_inside.the_type) (Box-sync Judged.the_row judged_sync, tt)))
 
 pub job_sync : IsSync Job.the_row
 job_sync = view_sync job_inside.the_row _ _ _ _

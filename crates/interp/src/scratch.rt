@@ -23,7 +23,7 @@ use wasm_ast::{Function, MAX_LOCALS, MAX_NESTING};
 #[derive(Drop)]
 pub struct Scratch<'a> {
     verified: &'a Verified,
-    rooms: Rooms<'a>,
+    rooms: Box<Rooms<'a>>,
 }
 
 impl<'a> Model for Scratch<'a> {
@@ -37,7 +37,7 @@ impl<'a> Model for Scratch<'a> {
 
     ghost view = { λ scratch. scratch.verified.now };
 
-    ghost invariant = { λ scratch. HasRoom scratch.verified.now (room_in scratch.rooms) };
+    ghost invariant = { λ scratch. HasRoom scratch.verified.now (room_in scratch.rooms.value) };
 }
 
 impl<'a> Scratch<'a> {
@@ -46,7 +46,7 @@ impl<'a> Scratch<'a> {
     pub fn new(alloc: Global, verified: &'a Verified) -> Result<Scratch<'a>, AllocError>
         ensures { IfOk result (λ scratch. scratch ≡ verified.now) }
     {
-        let mut rooms = Rooms::new(alloc, verified);
+        let mut rooms = Box::new(alloc, Rooms::new(alloc, verified))?;
         make_room(verified, &mut rooms)?;
         Ok(Scratch { verified, rooms })
     }

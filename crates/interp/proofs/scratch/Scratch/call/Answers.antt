@@ -1,6 +1,7 @@
 use Rattle.std.proofs.Common.{sym, subst}
 use Rattle.wasm_ast.specs.declared.module.Module.{Module}
 use Rattle.wasm_ast.specs.Limits.{IsWithinLimits}
+use Rattle.interp.specs.declared.rooms.Rooms.{Rooms}
 use Rattle.interp.specs.inside.Begun.{HasRoom, room_in}
 use Rattle.interp.proofs.Staying.{in_room, start_room}
 use Rattle.interp.proofs.scratch.Scratch.call.Goals as goal
@@ -10,10 +11,12 @@ call_in-requires-clause-within c = subst IsWithinLimits (sym c.requires.same) c.
 
 pub call_in-requires-clause-room : goal.call_in-requires-clause-room
 call_in-requires-clause-room c =
-    let has = subst (λ (m : Module). HasRoom m (room_in c.self.inside.rooms)) c.self.view_is c.self.invariant in
-    start_room c.args.self.now c.args.program.module.now (sym c.requires.same) c.args.function.now (room_in c.self.inside.rooms) has c.requires.few
+    let own = subst (λ (m : Module). HasRoom m (room_in c.self.inside.rooms.value)) c.self.view_is c.self.invariant in
+    let has = subst (λ (r : Rooms). HasRoom c.args.self.now (room_in r)) (sym c.deref_mut.ensures.value) own in
+    start_room c.args.self.now c.args.program.module.now (sym c.requires.same) c.args.function.now (room_in c.deref_mut.result.now) has c.requires.few
 
 pub call_in-requires-clause-ends : goal.call_in-requires-clause-ends
 call_in-requires-clause-ends c =
-    let has = subst (λ (m : Module). HasRoom m (room_in c.self.inside.rooms)) c.self.view_is c.self.invariant in
-    in_room c.args.self.now c.args.program.module.now (sym c.requires.same) c.requires.typed c.requires.bounded c.requires.within (room_in c.self.inside.rooms) has c.args.input.now c.args.most c.requires.ends
+    let own = subst (λ (m : Module). HasRoom m (room_in c.self.inside.rooms.value)) c.self.view_is c.self.invariant in
+    let has = subst (λ (r : Rooms). HasRoom c.args.self.now (room_in r)) (sym c.deref_mut.ensures.value) own in
+    in_room c.args.self.now c.args.program.module.now (sym c.requires.same) c.requires.typed c.requires.bounded c.requires.within (room_in c.deref_mut.result.now) has c.args.input.now c.args.most c.requires.ends

@@ -1,10 +1,13 @@
 //! Jobs: a module's calls over a graph.
 
-ghost use Rattle.std.specs.Prelude.{◌≡◌, ◌<◌, None, map, vec_items, IfOk, IfErr};
+ghost use Rattle.std.specs.Prelude.{◌≡◌, ◌<◌, None, length, map, vec_items, IfOk, IfErr};
 ghost use Rattle.graph.specs.Entry.{ids, parts_of, vertex_id};
 ghost use Rattle.graph.specs.Parts.{part_entries};
 ghost use Rattle.superstep.specs.Job.{HasGraph, IsCount, IsGraphOf};
 ghost use Rattle.superstep.specs.Settings.{Refuses, first_bad};
+ghost use Rattle.superstep.specs.declared.fault.JobFault.TheVariants.{OutOfMemory};
+ghost use Rattle.superstep.specs.declared.fault.Place.TheVariants.{Open};
+ghost use Rattle.superstep.specs.inside.Opening.{IsOpen};
 
 use crate::fault::{JobFault, Place};
 use crate::settings::Settings;
@@ -19,11 +22,25 @@ use std::marker::Model;
 /// those parts and its settings.
 #[derive(Drop)]
 pub struct Job {
+    kept: Box<Kept>,
+}
+
+// What a job keeps. It lies in a box, so that each owner drops it by one call.
+#[derive(Drop)]
+struct Kept {
     verified: Verified,
     parts: Vec<Part>,
     ids: Vec<Vec<u64>>,
     count: u32,
     settings: Settings,
+}
+
+// A graph in parts, the ids of each one's vertices, and how many vertices there are.
+#[derive(Drop)]
+struct Cut {
+    parts: Vec<Part>,
+    ids: Vec<Vec<u64>>,
+    count: u32,
 }
 
 impl Model for Job {
@@ -38,14 +55,14 @@ impl Model for Job {
     ghost coded = { work_code };
 
     ghost view = { λ job. record {
-      «module» = job.verified;
-      parts = map part_entries job.parts.items;
-      settings = job.settings;
+      «module» = job.kept.value.verified;
+      parts = map part_entries job.kept.value.parts.items;
+      settings = job.kept.value.settings;
     } };
 
     ghost invariant = { λ job.
-        IsOpen job.verified (map part_entries job.parts.items) (map vec_items job.ids.items)
-        job.settings job.count };
+        IsOpen job.kept.value.verified (map part_entries job.kept.value.parts.items)
+        (map vec_items job.kept.value.ids.items) job.kept.value.settings job.kept.value.count };
 }
 
 impl Job {
@@ -64,18 +81,31 @@ impl Job {
         ensures good { IfOk result (λ job. first_bad settings ≡ None) }
         ensures refused { IfErr result (Refuses (first_bad settings)) }
     {
-        if let Some(setting) = settings.first_bad() {
-            return Err(JobFault::Settings(setting));
+        match cut_graph(alloc, graph, settings) {
+            Ok(cut) => Job::of(alloc, verified, cut, settings),
+            Err(fault) => Err(fault),
         }
-        let count = graph.vertices().len() as u32;
-        match split_with_ids(alloc, graph, settings.parts) {
-            Ok((parts, ids)) => Ok(Job {
-                verified,
-                parts,
-                ids,
-                count,
-                settings,
-            }),
+    }
+
+    // Makes the job of a module over a graph in parts.
+    fn of(alloc: Global, verified: Verified, cut: Cut, settings: Settings) -> Result<Job, JobFault>
+        requires { IsOpen verified (map part_entries cut.parts.items) (map vec_items cut.ids.items)
+            settings cut.count }
+        ensures verified { IfOk result (λ job. job.«module» ≡ verified) }
+        ensures parts { IfOk result (λ job. job.parts ≡ map part_entries cut.parts.items) }
+        ensures settings { IfOk result (λ job. job.settings ≡ settings) }
+        ensures refused { IfErr result (λ fault. fault ≡ OutOfMemory Open) }
+    {
+        let Cut { parts, ids, count } = cut;
+        let kept = Kept {
+            verified,
+            parts,
+            ids,
+            count,
+            settings,
+        };
+        match boxed(alloc, kept) {
+            Ok(kept) => Ok(Job { kept }),
             Err(_) => Err(JobFault::OutOfMemory(Place::Open)),
         }
     }
@@ -84,7 +114,7 @@ impl Job {
     pub fn verified(&self) -> &Verified
         ensures { result.now ≡ self.now.«module» }
     {
-        &self.verified
+        &self.kept.verified
     }
 
     /// How it is run. Each setting is in its range.
@@ -93,14 +123,14 @@ impl Job {
         ensures good { first_bad self.now.settings ≡ None }
         ensures graph { HasGraph self.now }
     {
-        self.settings
+        self.kept.settings
     }
 
     /// How many vertices the graph has.
     pub fn count(&self) -> u32
         ensures { IsCount self.now result }
     {
-        self.count
+        self.kept.count
     }
 
     // The graph's parts, each with its vertices by rising id.
@@ -109,14 +139,41 @@ impl Job {
         ensures graph { HasGraph self.now }
         ensures good { first_bad self.now.settings ≡ None }
     {
-        &self.parts
+        &self.kept.parts
     }
 
     // The ids of each part's vertices.
     pub(crate) fn ids(&self) -> &[Vec<u64>]
         ensures { map vec_items result.now ≡ map ids self.now.parts }
     {
-        &self.ids
+        &self.kept.ids
+    }
+}
+
+// Puts what a job keeps into a box.
+fn boxed(alloc: Global, kept: Kept) -> Result<Box<Kept>, AllocError>
+    ensures { IfOk result (λ boxed. boxed.value ≡ kept) }
+{
+    Ok(Box::new(alloc, kept)?)
+}
+
+// Cuts the graph into parts, where the settings are good.
+fn cut_graph(alloc: Global, graph: Graph, settings: Settings) -> Result<Cut, JobFault>
+    ensures good { IfOk result (λ cut. first_bad settings ≡ None) }
+    ensures parts { IfOk result (λ cut.
+        map part_entries cut.parts.items ≡ parts_of settings.parts graph) }
+    ensures ids { IfOk result (λ cut.
+        map vec_items cut.ids.items ≡ map ids (map part_entries cut.parts.items)) }
+    ensures count { IfOk result (λ cut. cut.count ≡ length graph) }
+    ensures refused { IfErr result (Refuses (first_bad settings)) }
+{
+    if let Some(setting) = settings.first_bad() {
+        return Err(JobFault::Settings(setting));
+    }
+    let count = graph.vertices().len() as u32;
+    match split_with_ids(alloc, graph, settings.parts) {
+        Ok((parts, ids)) => Ok(Cut { parts, ids, count }),
+        Err(_) => Err(JobFault::OutOfMemory(Place::Open)),
     }
 }
 

@@ -1,0 +1,3 @@
+pub mod CommandRules
+pub mod Pregel
+pub mod Entries

@@ -1,0 +1,197 @@
+-- The program's command line, and what is asked for by it.
+use Rattle.std.specs.Prelude.{◌≡◌, ◌⊎◌, ◌<◌, ◌^◌, ℕ, Bool, true, false, List, [], ◌∷◌, ◌++◌, Option, Some, map, codes, pos, option_map, slice_index, ◌==◌, IsSomeAnd}
+use Rattle.std.specs.List.{list_any}
+use Rattle.std.specs.Option.{option_map_or}
+use Rattle.std.specs.Str.{bytes_eq}
+use Rattle.std.specs.Str.Parse.{IsNumeral, digits_value, without_leading_plus}
+use Rattle.std.specs.Borrow.{Bor}
+use Rattle.clap.specs.Words.{App, HasKind, Row, Rule, Shape, Text, fault_of, first_of, kind_of, new_rule, one_of, subcommand_of}
+use Rattle.clap.specs.declared.error.Error.{Error}
+use Rattle.clap.specs.declared.error.kind.ErrorKind.TheVariants.{MissingSubcommand, ValueValidation}
+use Rattle.clap.specs.Simple.{new_shape}
+use Rattle.clap.specs.declared.builder.action.ArgAction.TheVariants.{SetTrue}
+use Rattle.clap.specs.declared.builder.value_parser.ValueParser.{ValueParser}
+use Rattle.clap.specs.declared.builder.value_parser.ValueParser.TheVariants.{Signed}
+use Rattle.superstep.specs.declared.settings.Settings.{Settings}
+use Rattle.command_line.specs.declared.request.JobRequest.{JobRequest}
+use Rattle.command_line.specs.declared.request.Options.{Options}
+use Rattle.command_line.specs.declared.request.Options.TheVariants as options
+use Rattle.command_line.specs.declared.request.Request.{Request}
+use Rattle.command_line.specs.declared.request.Request.TheVariants as request
+use Rattle.command_line.specs.declared.request.RunRequest.{RunRequest}
+
+-- ---- the arguments, of four kinds
+
+-- `NAME`, by its place, which has to be given
+abbrev pub positional : Text → Rule
+positional name = record (new_rule name) { value_names = 1; required = true }
+
+-- `--name VALUE`
+abbrev pub option : Text → Rule
+option name = record (new_rule name) { long = Some name; value_names = 1 }
+
+-- `--name`
+abbrev pub flag : Text → Rule
+flag name = record (new_rule name) { long = Some name; action = Some SetTrue }
+
+-- a number of 32 bits
+abbrev pub number : ValueParser
+number = Signed (pos 0) (pos 4294967295)
+
+-- `--name N`, which is `otherwise` where it is not given
+abbrev pub setting : (Text × Text) → Rule
+setting (name, otherwise) = record (option name) { defaults = otherwise ∷ []; parser = Some number }
+
+-- the settings of a job, with what each is otherwise
+abbrev pub settings : List (Text × Text)
+settings = (codes "parts", codes "1")
+    ∷ (codes "workers", codes "1")
+    ∷ (codes "every", codes "10")
+    ∷ (codes "limit", codes "1000")
+    ∷ (codes "lease", codes "1000")
+    ∷ []
+
+-- ---- the commands
+
+-- a command with these arguments and no subcommand
+abbrev pub command : Text → List Rule → Shape
+command name rules = record (new_shape name) { rules = rules }
+
+-- what any command over a job takes last
+abbrev pub job_rules : List Rule
+job_rules = map setting settings ++ flag (codes "units") ∷ []
+
+abbrev pub call : Shape
+call = command (codes "call") (positional (codes "module") ∷ positional (codes "input") ∷ [])
+
+abbrev pub run : Shape
+run = command (codes "run")
+    (positional (codes "module") ∷ positional (codes "graph")
+    ∷ option (codes "keep") ∷ option (codes "lose") ∷ flag (codes "again") ∷ job_rules)
+
+abbrev pub replay : Shape
+replay = command (codes "replay")
+    (positional (codes "module") ∷ positional (codes "graph") ∷ positional (codes "steps") ∷ job_rules)
+
+abbrev pub upgrade : Shape
+upgrade = command (codes "upgrade") (positional (codes "checkpoint") ∷ positional (codes "binary") ∷ [])
+
+abbrev pub asm : Shape
+asm = command (codes "asm") (positional (codes "module") ∷ positional (codes "binary") ∷ [])
+
+abbrev pub print : Shape
+print = command (codes "print") (positional (codes "module") ∷ [])
+
+abbrev pub verify : Shape
+verify = command (codes "verify") (positional (codes "module") ∷ [])
+
+abbrev pub console : Shape
+console = command (codes "console") []
+
+-- the program takes one of these commands, and shows its help where it is given no word
+abbrev pub pregel : App
+pregel = record {
+  top = record (new_shape (codes "pregel")) {
+    is_leaf = false;
+    subcommand_required = true;
+    arg_required_else_help = true;
+  };
+  subs = call ∷ run ∷ replay ∷ upgrade ∷ asm ∷ print ∷ verify ∷ console ∷ [];
+}
+
+-- ---- what is asked for by a command and the entries of its arguments
+
+-- the argument's entry has this text
+abbrev pub Gives : List Row → (name : Text) → Bor Text → Type 0
+Gives rows name text = first_of name rows ≡ Some text.now
+
+-- the argument's entry has this text, or there is no entry and no text
+abbrev pub MayGive : List Row → (name : Text) → Option (Bor Text) → Type 0
+MayGive rows name text = first_of name rows ≡ option_map (λ t. t.now) text
+
+-- the flag is given
+abbrev pub is_set : List Row → (name : Text) → Bool
+is_set rows name = option_map_or (bytes_eq (codes "true")) (one_of name rows) false
+
+-- the setting's entry is this number of 32 bits, in decimal digits
+abbrev pub GivesNumber : List Row → (name : Text) → ℕ → Type 0
+GivesNumber rows name n =
+    let digits : Text → Text = without_leading_plus in
+    IsSomeAnd (one_of name rows) (λ text. IsNumeral 10 (digits text) × (n ≡ digits_value 10 (digits text)) × (n < 2 ^ 32))
+
+-- the entries of the settings are these numbers
+pub record GivesSettings (rows : List Row) (given : Settings) : Type 0 where
+  pub parts : GivesNumber rows (codes "parts") given.parts
+  pub workers : GivesNumber rows (codes "workers") given.workers
+  pub every : GivesNumber rows (codes "every") given.every
+  pub limit : GivesNumber rows (codes "limit") given.limit
+  pub lease : GivesNumber rows (codes "lease") given.lease
+
+-- the entries ask for this job
+pub record AsksJob (rows : List Row) (job : JobRequest) : Type 0 where
+  pub module_path : Gives rows (codes "module") job.«module»
+  pub graph_path : Gives rows (codes "graph") job.graph
+  pub settings : GivesSettings rows job.settings
+  pub units : job.tells_units ≡ is_set rows (codes "units")
+
+-- the entries ask for this run
+pub record AsksRun (rows : List Row) (asked : RunRequest) : Type 0 where
+  pub job : AsksJob rows asked.job
+  pub keep : MayGive rows (codes "keep") asked.keep
+  pub lose : MayGive rows (codes "lose") asked.lose
+  pub again : asked.again ≡ is_set rows (codes "again")
+
+-- the command over files of this name asks for this
+abbrev pub AsksFor : (name : Text) → List Row → Request → Type 0
+AsksFor name rows (request.Call m input) = (name ≡ codes "call") × Gives rows (codes "module") m × Gives rows (codes "input") input
+AsksFor name rows (request.Run asked) = (name ≡ codes "run") × AsksRun rows asked
+AsksFor name rows (request.Replay asked steps) = (name ≡ codes "replay") × AsksJob rows asked × Gives rows (codes "steps") steps
+AsksFor name rows (request.Upgrade checkpoint newer) =
+    (name ≡ codes "upgrade") × Gives rows (codes "checkpoint") checkpoint × Gives rows (codes "binary") newer
+AsksFor name rows (request.Assemble m binary) = (name ≡ codes "asm") × Gives rows (codes "module") m × Gives rows (codes "binary") binary
+AsksFor name rows (request.Print m) = (name ≡ codes "print") × Gives rows (codes "module") m
+AsksFor name rows (request.Verify m) = (name ≡ codes "verify") × Gives rows (codes "module") m
+
+-- the command of this name asks for this
+abbrev pub Asks : (name : Text) → List Row → Options → Type 0
+Asks name rows options.Session = name ≡ codes "console"
+Asks name rows (options.Command request) = AsksFor name rows request
+
+-- the command that was met, with its entries, asks for this
+abbrev pub AskedIn : (met : Option (Text × List Row)) → Options → Type 0
+AskedIn met given = IsSomeAnd met (λ command. Asks command.0 command.1 given)
+
+-- the words of a command line, the program's name first, ask for this
+abbrev pub AskedBy : (words : List Text) → Options → Type 0
+AskedBy words = AskedIn (subcommand_of pregel words)
+
+-- ---- a sign, which `clap` takes before a number
+
+-- 43 is `+`
+abbrev pub begins_with_plus : Text → Bool
+begins_with_plus text = slice_index text 0 == 43
+
+-- the setting's entry is written with a `+`
+abbrev pub is_signed : List Row → (name : Text) → Bool
+is_signed rows name = option_map_or begins_with_plus (first_of name rows) false
+
+-- a setting of the command that was met is
+abbrev pub has_plus_in : (met : Option (Text × List Row)) → Bool
+has_plus_in met = option_map_or (λ command. list_any (λ s. is_signed command.1 s.0) settings) met false
+
+-- a setting among the words has a `+`
+abbrev pub has_plus : (words : List Text) → Bool
+has_plus words = has_plus_in (subcommand_of pregel words)
+
+-- ---- refusals
+
+-- the words ask for no options at all
+abbrev pub AsksNothing : (words : List Text) → Type 0
+AsksNothing words = (given : Options) → AskedBy words given → ⊥
+
+-- Memory ran out, or `clap` refuses the words, or it takes them and a setting has a `+`, or what it takes asks for nothing.
+abbrev pub IsRefusal : (words : List Text) → Error → Type 0
+IsRefusal words e = HasKind (fault_of pregel words) e
+    ⊎ ((fault_of pregel words ≡ [])
+    × (((has_plus words ≡ true) × (kind_of e ≡ ValueValidation))
+    ⊎ (AsksNothing words × (kind_of e ≡ MissingSubcommand))))

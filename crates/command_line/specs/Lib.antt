@@ -1,0 +1,4 @@
+-- What a reader has to believe: the program's command line, and what is asked for by it.
+pub mod CommandLine
+-- what only mirrors the code, for its proofs
+pub mod inside

@@ -1,0 +1,37 @@
+-- What the commands of the code are to `clap`.
+use Rattle.std.specs.Prelude.{◌≡◌, List, [], ◌++◌, Option, None, Some, false}
+use Rattle.clap.specs.Words.{App, Row, Rule, Shape, app_of, found_of, rows_of, rule_of}
+use Rattle.clap.specs.declared.builder.arg.Arg.{Arg}
+use Rattle.clap.specs.declared.builder.command.Command.{Command}
+use Rattle.clap.specs.declared.builder.command.Command.TheViews.{out-Command}
+use Rattle.clap.specs.declared.parser.matches.ArgMatches.{ArgMatches}
+
+-- the argument follows this rule, in its own command alone
+abbrev pub IsArg : Rule → Arg → Type 0
+IsArg rule arg = (rule_of arg ≡ rule) × (arg.global ≡ false)
+
+-- the command takes this, and passes on no argument
+abbrev pub IsCommand : App → Command → Type 0
+IsCommand app command = (app_of command ≡ app) × ((out-Command command).has_globals ≡ false)
+
+-- the same of a command with no subcommand
+abbrev pub IsLeaf : Shape → Command → Type 0
+IsLeaf shape = IsCommand (record { top = shape; subs = [] })
+
+-- the app with these rules more
+abbrev pub with_rules : App → List Rule → App
+with_rules app rules = record app { top = record app.top { rules = app.top.rules ++ rules } }
+
+-- the second command is the first with these rules more
+abbrev pub AddsRules : Command → List Rule → Command → Type 0
+AddsRules old rules new =
+    (app_of new ≡ with_rules (app_of old) rules) × ((out-Command new).has_globals ≡ (out-Command old).has_globals)
+
+-- the entries of a command's own arguments
+abbrev pub rows_in : ArgMatches → List Row
+rows_in matches = rows_of (found_of matches)
+
+-- it is of this kind, and where there is none, nothing is
+abbrev pub Finds : {T : Type 0} → (T → Type 0) → Option T → Type 0
+Finds {T} P None = (x : T) → P x → ⊥
+Finds P (Some x) = P x

@@ -1,0 +1,8 @@
+//! The words of the command line, and what they ask for.
+#![tactic(auto)]
+
+mod command_line;
+mod request;
+
+pub use command_line::options;
+pub use request::{JobRequest, Options, Request, RunRequest};

@@ -1,0 +1,69 @@
+//! What the program is asked for.
+
+use superstep::Settings;
+
+/// What the command line asks for.
+#[derive(Clone, Copy)]
+pub enum Options<'a> {
+    /// A session on standard input and output.
+    Session,
+    /// One command over files.
+    Command(Request<'a>),
+}
+
+/// A command over files.
+#[derive(Clone, Copy)]
+pub enum Request<'a> {
+    /// Call the module in one file with the input in the other.
+    Call {
+        module: &'a str,
+        input: &'a str,
+    },
+    /// Run a job in threads.
+    Run(RunRequest<'a>),
+    /// Replay a job by the steps in a file.
+    Replay {
+        asked: JobRequest<'a>,
+        steps: &'a str,
+    },
+    /// Write the checkpoint in one file to another, of the newest version.
+    Upgrade {
+        checkpoint: &'a str,
+        newer: &'a str,
+    },
+    /// Write the module in one file to another, in the binary format.
+    Assemble {
+        module: &'a str,
+        binary: &'a str,
+    },
+    /// Print the module in a file as text.
+    Print {
+        module: &'a str,
+    },
+    /// Tell the bounds of the calls of the module in a file.
+    Verify {
+        module: &'a str,
+    },
+}
+
+/// The job of the module in one file over the graph in the other.
+#[derive(Clone, Copy)]
+pub struct JobRequest<'a> {
+    pub module: &'a str,
+    pub graph: &'a str,
+    pub settings: Settings,
+    /// Whether the units of each superstep are told too.
+    pub tells_units: bool,
+}
+
+/// A job that is run in threads, whose workers can be lost.
+#[derive(Clone, Copy)]
+pub struct RunRequest<'a> {
+    pub job: JobRequest<'a>,
+    /// The folder in which its states are kept; without one they are kept in memory.
+    pub keep: Option<&'a str>,
+    /// Which worker is lost, as `W:S`.
+    pub lose: Option<&'a str>,
+    /// Whether a worker that is lost joins again.
+    pub again: bool,
+}

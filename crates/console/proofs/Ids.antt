@@ -7,13 +7,13 @@ use Rattle.std.specs.Str.{bytes_eq}
 use Rattle.host_calls.specs.declared.call.CallInput.{CallInput}
 use Rattle.graph.specs.Number.{id_of, number_of}
 use Rattle.interp.specs.Bounded.{HasIds, max_id}
-use Rattle.console.specs.declared.input.Input.{Input}
-use Rattle.console.specs.declared.input_line.Line.{Line}
-use Rattle.console.specs.declared.input_line.Line.TheVariants.{Skipped, Id, Superstep, Count, Value, Message, Edge, Aggregate, Bad}
-use Rattle.console.specs.Input.{Lends, Says}
-use Rattle.console.specs.InputLine.{line_of}
-use Rattle.console.specs.InputSays.{lines_of, id_by, edge_by}
-use Rattle.console.specs.InputLine.{says_number, small_of, edge_line, aggregate_line, short_line, long_line, line_of_fields}
+use Rattle.sources.specs.declared.input.Input.{Input}
+use Rattle.sources.specs.declared.input_line.Line.{Line}
+use Rattle.sources.specs.declared.input_line.Line.TheVariants.{Skipped, Id, Superstep, Count, Value, Message, Edge, Aggregate, Bad}
+use Rattle.sources.specs.Input.{Lends, Says}
+use Rattle.sources.specs.InputLine.{line_of}
+use Rattle.sources.specs.InputSays.{lines_of, id_by, edge_by}
+use Rattle.sources.specs.InputLine.{says_number, small_of, edge_line, aggregate_line, short_line, long_line, line_of_fields}
 use Rattle.graph.specs.Fields.{fields, is_filled}
 use Rattle.std.specs.Str.{all_ascii_digits}
 use Rattle.std.specs.Str.Parse.{digits_value}

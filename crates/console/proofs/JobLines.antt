@@ -11,8 +11,8 @@ use Rattle.superstep.specs.Job.{Meaning, Work}
 use Rattle.superstep.specs.PlainRun.{units_at}
 use Rattle.superstep.specs.Settings.{Refuses, first_bad}
 use Rattle.std.specs.Prelude.{Option, Some, None}
-use Rattle.console.specs.Lines.{job_lines, numbered_line, numbered_lines}
-use Rattle.console.specs.Jobs.{RefusesSettings}
+use Rattle.sources.specs.Lines.{job_lines, numbered_line, numbered_lines}
+use Rattle.sources.specs.Jobs.{RefusesSettings}
 use Rattle.console.specs.inside.Answering.{opening_fault}
 
 -- ---- numbered lines, one more at a time

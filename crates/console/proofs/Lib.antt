@@ -1,5 +1,3 @@
-pub mod TextLines
-pub mod InputLines
 pub mod StepLines
 pub mod Meanings
 pub mod Faults
@@ -8,6 +6,3 @@ pub mod Disks
 pub mod Telling
 pub mod JobLines
 pub mod Replays
-pub mod CommandRules
-pub mod Pregel
-pub mod Entries

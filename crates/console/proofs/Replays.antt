@@ -4,7 +4,7 @@ use Rattle.superstep.specs.Job.{Work}
 use Rattle.rollback.specs.Simulation.{IsRun, IsSimulated}
 use Rattle.rollback.specs.declared.simulation.Step.{Step}
 use Rattle.rollback.specs.declared.simulation.Trace.{Trace}
-use Rattle.console.specs.declared.fault.CommandFault.{CommandFault}
+use Rattle.sources.specs.declared.fault.CommandFault.{CommandFault}
 use Rattle.console.specs.Replays.{AreReplayLines, IsFaultOfReplay}
 
 -- where there was memory to begin with

@@ -3,14 +3,14 @@ use Rattle.std.proofs.Common.{◌≡◌, ℕ, suc, ◌+◌, ◌≤◌, List, [],
 use Rattle.std.specs.Str.Lines.{lines}
 use Rattle.std.proofs.lemmas.List.{append-nil, drop_all}
 use Rattle.rollback.specs.declared.simulation.Step.{Step}
-use Rattle.console.specs.declared.input.InputFault.{InputFault}
-use Rattle.console.specs.declared.input.InputFault.TheVariants as fault
+use Rattle.sources.specs.declared.input.InputFault.{InputFault}
+use Rattle.sources.specs.declared.input.InputFault.TheVariants as fault
 use Rattle.console.specs.declared.step_line.StepLine.{StepLine}
 use Rattle.console.specs.declared.step_line.StepLine.TheVariants.{Skipped, Says, Bad}
 use Rattle.console.specs.StepLine.{step_line_of}
 use Rattle.console.specs.Steps.{IsStepsFault, put_first, steps_from}
 use Rattle.console.specs.inside.Stepping.{with_step}
-use Rattle.console.proofs.TextLines.{Comes}
+use Rattle.sources.proofs.TextLines.{Comes}
 
 -- steps, and those that come then
 abbrev pub behind : List Step → Result (List Step) ℕ → Result (List Step) ℕ

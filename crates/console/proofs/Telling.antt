@@ -1,17 +1,19 @@
 -- What a command tells, from what its parts answered.
 use Rattle.std.proofs.Common.{inl, inr, ◌≡◌, ◌⊎◌, ℕ, List, Option, Some, Result, refl, subst}
-use Rattle.console.specs.declared.fault.CommandFault.{CommandFault}
-use Rattle.console.specs.declared.fault.CommandFault.TheVariants as command
-use Rattle.console.specs.declared.request.Request.{Request}
-use Rattle.console.specs.declared.request.Request.TheVariants as request
-use Rattle.console.specs.declared.sources.Source.{Source}
-use Rattle.console.specs.Disk.{Disk, Stays}
-use Rattle.console.specs.Engine.{Refuses, RefusesText, content, is_text}
-use Rattle.console.specs.inside.Answering.{HoldsSource}
-use Rattle.console.specs.Lines.{line}
-use Rattle.console.specs.Refusal.{fault_text, status_of}
-use Rattle.console.specs.Program.{IsBeforeWriting, IsCause, IsRefusedAt, IsTold, MayTry, RefusesCalled, Told}
-use Rattle.console.proofs.Disks.{refused_at}
+use Rattle.sources.specs.declared.fault.CommandFault.{CommandFault}
+use Rattle.sources.specs.declared.fault.CommandFault.TheVariants as command
+use Rattle.command_line.specs.declared.request.Request.{Request}
+use Rattle.command_line.specs.declared.request.Request.TheVariants as request
+use Rattle.sources.specs.declared.sources.Source.{Source}
+use Rattle.sources.specs.Disk.{Disk, Stays}
+use Rattle.sources.specs.Source.{content, is_text}
+use Rattle.console.specs.Engine.{Refuses, RefusesText}
+use Rattle.sources.specs.Reading.{HoldsSource}
+use Rattle.sources.specs.Lines.{line}
+use Rattle.sources.specs.Refusal.{fault_text, status_of}
+use Rattle.sources.specs.Reading.{IsRefusedAt}
+use Rattle.console.specs.Program.{IsBeforeWriting, IsCause, IsTold, MayTry, RefusesCalled, Told}
+use Rattle.sources.proofs.Disks.{refused_at}
 
 -- the call of what was read is refused
 pub refused_in_text : (disk middle : Disk) (module_path input_path seen text : List ℕ) (read : Source) → Stays disk middle

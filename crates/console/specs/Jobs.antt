@@ -1,32 +1,14 @@
--- The job of a module over the graph that a text means, what it tells, and why it does not.
+-- What a job tells, and why it does not.
 use denote.Bor.{Bor}
 use Rattle.std.specs.Prelude.{◌≡◌, ℕ, Bool, List, map, Option, Some, None}
 use Rattle.std.specs.List.{range_with_len}
-use Rattle.wasm_ast.specs.declared.module.Module.{Module}
-use Rattle.graph.specs.Entry.{Entry}
-use Rattle.graph.specs.Graph.{IsGraphText, IsWithinLimits}
-use Rattle.graph.specs.declared.fault.GraphFault.TheVariants as graph_fault
 use Rattle.superstep.specs.declared.run.Ended.{Ended}
-use Rattle.superstep.specs.declared.settings.Settings.{Settings}
-use Rattle.superstep.specs.Settings.{first_bad}
-use Rattle.superstep.specs.Job.{IsGraphOf, Meaning, Work}
+use Rattle.superstep.specs.Job.{Meaning, Work}
 use Rattle.superstep.specs.PlainRun.{Answer, IsAnswer, units_at}
 use Rattle.workers.specs.Answers.{IsRunFault}
-use Rattle.console.specs.Lines.{ended_lines, job_lines}
-use Rattle.console.specs.declared.fault.CommandFault.{CommandFault}
-use Rattle.console.specs.declared.fault.CommandFault.TheVariants as command
-
--- the text means this graph, and has no more vertices and edges than a graph may have
-pub record IsGraphIn (text : List ℕ) (graph : List Entry) : Type 0 where
-  pub means : IsGraphText text graph
-  pub within : IsWithinLimits text
-
--- the job of a module over a graph, with these settings, each of which is in its range
-pub record IsJobOf (m : Module) (graph : List Entry) (settings : Settings) (job : Work) : Type 0 where
-  pub calls : job.«module» ≡ m
-  pub over : IsGraphOf job graph
-  pub how : job.settings ≡ settings
-  pub good : first_bad settings ≡ None
+use Rattle.sources.specs.Lines.{ended_lines, job_lines}
+use Rattle.sources.specs.declared.fault.CommandFault.{CommandFault}
+use Rattle.sources.specs.declared.fault.CommandFault.TheVariants as command
 
 -- The lines are those of what the run on one machine ends with (Pregel 2010, 2).
 pub record AreLinesOf (job : Work) (meaning : Meaning job) (tells_units : Bool) (lines : List ℕ) : Type 0 where
@@ -49,17 +31,6 @@ AreRunLines job None tells_units lines = AreJobLines job tells_units lines
 AreRunLines job (Some folder) tells_units lines = AreEndLines tells_units lines
 
 -- ---- refusals
-
--- what a fault says of a text where no graph is read of it; want of memory says nothing
-abbrev pub RefusesGraph : List ℕ → CommandFault → Type 0
-RefusesGraph text (command.Graph fault) = (graph : List Entry) → IsGraphIn text graph → fault ≡ graph_fault.OutOfMemory
-RefusesGraph text _ = ⊥
-
--- what it says of settings: which one is the first that is out of its range
-abbrev pub RefusesSettings : Settings → CommandFault → Type 0
-RefusesSettings settings (command.Settings setting) = first_bad settings ≡ Some setting
-RefusesSettings settings command.OutOfMemory = first_bad settings ≡ None
-RefusesSettings settings _ = ⊥
 
 -- the job ended by a fault of its own or of threads, or there is no memory for the lines of what it ended with
 abbrev pub IsFaultOfRun : CommandFault → Type 0

@@ -2,10 +2,10 @@
 use denote.Bor.{Bor}
 use Rattle.std.specs.Prelude.{◌≡◌, ◌≢◌, ℕ, ◌==◌, ◌&&◌, nat_le, nat_lt, Bool, List, length, Option, Some, None, if◌then◌else◌}
 use Rattle.std.specs.List.{after_first, before_first, position_or_len}
-use Rattle.console.specs.declared.fault.CommandFault.{CommandFault}
-use Rattle.console.specs.declared.fault.CommandFault.TheVariants as command
+use Rattle.sources.specs.declared.fault.CommandFault.{CommandFault}
+use Rattle.sources.specs.declared.fault.CommandFault.TheVariants as command
 use Rattle.console.specs.declared.loss.Loss.{Loss}
-use Rattle.console.specs.InputLine.{small_of}
+use Rattle.sources.specs.InputLine.{small_of}
 
 abbrev pub is_colon : ℕ → Bool
 is_colon byte = byte == 58

@@ -17,19 +17,21 @@ use Rattle.superstep.specs.State.{Standing}
 use Rattle.rollback.specs.declared.simulation.Step.{Step}
 use Rattle.checkpoint.specs.Checkpoint.{IsCheckpointOf, checkpoint_bytes}
 use Rattle.checkpoint.specs.Reading.{Fails, state_of}
-use Rattle.console.specs.declared.fault.CommandFault.{CommandFault}
-use Rattle.console.specs.declared.fault.CommandFault.TheVariants as command
-use Rattle.console.specs.declared.request.JobRequest.{JobRequest}
-use Rattle.console.specs.declared.request.Request.{Request}
-use Rattle.console.specs.declared.request.RunRequest.{RunRequest}
+use Rattle.sources.specs.declared.fault.CommandFault.{CommandFault}
+use Rattle.sources.specs.declared.fault.CommandFault.TheVariants as command
+use Rattle.command_line.specs.declared.request.JobRequest.{JobRequest}
+use Rattle.command_line.specs.declared.request.Request.{Request}
+use Rattle.command_line.specs.declared.request.RunRequest.{RunRequest}
 use Rattle.console.specs.declared.loss.Loss.{Loss}
-use Rattle.console.specs.declared.request.Request.TheVariants as request
-use Rattle.console.specs.Lines.{line}
-use Rattle.console.specs.Disk.{Disk, HoldsAt, Stays, Tries, Writes}
-use Rattle.console.specs.Modules.{IsModuleAt, Loads, MeansBy, is_text_path}
-use Rattle.console.specs.Refusal.{fault_text, status_of}
-use Rattle.console.specs.Engine.{IsAnswer, RefusesLoad, RefusesModule, RefusesText}
-use Rattle.console.specs.Jobs.{AreRunLines, IsFaultOfRun, IsGraphIn, IsJobOf, RefusesGraph, RefusesSettings}
+use Rattle.command_line.specs.declared.request.Request.TheVariants as request
+use Rattle.sources.specs.Lines.{line}
+use Rattle.sources.specs.Disk.{Disk, HoldsAt, Stays, Tries, Writes}
+use Rattle.sources.specs.Modules.{IsModuleAt, Loads, MeansBy, is_text_path}
+use Rattle.sources.specs.Refusal.{fault_text, status_of}
+use Rattle.sources.specs.Source.{RefusesLoad, RefusesModule}
+use Rattle.console.specs.Engine.{IsAnswer, RefusesText}
+use Rattle.sources.specs.Jobs.{IsGraphIn, IsJobOf, RefusesGraph, RefusesSettings}
+use Rattle.console.specs.Jobs.{AreRunLines, IsFaultOfRun}
 use Rattle.console.specs.Loss.{NamesLoss, RefusesLoss}
 use Rattle.console.specs.Replays.{AreReplayLines, IsFaultOfReplay}
 use Rattle.console.specs.Steps.{RefusesSteps, steps_of}
@@ -40,14 +42,6 @@ use Rattle.console.specs.Steps.{RefusesSteps, steps_of}
 abbrev pub TellsOutcome : Disk → (module_path input_path told : List ℕ) → Type 0
 TellsOutcome disk module_path input_path told =
     HoldsAt disk module_path (λ content. HoldsAt disk input_path (λ text. IsAnswer (is_text_path module_path) content text told))
-
--- the file's module is loaded
-abbrev pub IsLoadedAt : Disk → (path : List ℕ) → Module → Type 0
-IsLoadedAt disk path m = HoldsAt disk path (λ content. Loads (is_text_path path) content m)
-
--- the file's text means this graph
-abbrev pub IsReadAt : Disk → (path : List ℕ) → List Entry → Type 0
-IsReadAt disk path graph = HoldsAt disk path (λ text. IsGraphIn text graph)
 
 -- it is the job of the module and the graph in two files
 pub record IsJobAt (disk : Disk) (asked : JobRequest) (job : Work) : Type 0 where
@@ -135,24 +129,6 @@ Answered before after (request.Verify module_path) told = TellsBounds before mod
 
 -- ---- why a command is not carried out
 
--- there is no file to be read at the path; a text has to be in UTF-8
-abbrev pub IsNoFile : (is_text : Bool) → Disk → List ℕ → Type 0
-IsNoFile true disk path = disk.holds path None ⊎ HoldsAt disk path (λ bytes. ¬ (IsUtf8 bytes))
-IsNoFile false disk path = disk.holds path None
-
--- reading the file at the path, as a text or as bytes, came to this
-abbrev pub IsUnread : (is_text : Bool) → Disk → List ℕ → CommandFault → Type 0
-IsUnread is_text disk path (command.Unread missing) = (missing.now ≡ path) × IsNoFile is_text disk path
-IsUnread is_text disk path command.OutOfMemory = Unit {0}
-IsUnread is_text disk path _ = ⊥
-
--- the module's file is not read, or what is in it is refused like this
-abbrev pub IsRefusedAt : Disk → (module_path : List ℕ) → (refuses : (is_text : Bool) → List ℕ → CommandFault → Type 0)
-    → CommandFault → Type 0
-IsRefusedAt disk module_path refuses fault =
-    IsUnread (is_text_path module_path) disk module_path fault
-    ⊎ HoldsAt disk module_path (λ content. refuses (is_text_path module_path) content fault)
-
 -- why there are no lines of a call of a module: the input's file is not read, or what is in it is refused
 abbrev pub RefusesInput : Disk → (input_path : List ℕ) → Module → CommandFault → Type 0
 RefusesInput disk input_path m fault =
@@ -166,10 +142,6 @@ RefusesCalled disk input_path is_text content fault =
 -- why there is no call of the module in one file with the input in the other
 abbrev pub IsUncalled : Disk → (module_path input_path : List ℕ) → CommandFault → Type 0
 IsUncalled disk module_path input_path fault = IsRefusedAt disk module_path (RefusesCalled disk input_path) fault
-
--- the graph's file is not read, or what is in it means no graph
-abbrev pub IsNoGraphAt : Disk → (path : List ℕ) → CommandFault → Type 0
-IsNoGraphAt disk path fault = IsUnread true disk path fault ⊎ HoldsAt disk path (λ text. RefusesGraph text fault)
 
 -- why a module that is loaded has no job: there is no graph, or a setting is out of its range
 abbrev pub RefusesJob : Disk → JobRequest → CommandFault → Type 0
@@ -206,12 +178,6 @@ RefusesReplay disk steps_path job fault =
 abbrev pub IsUnreplayed : Disk → JobRequest → (steps_path : List ℕ) → CommandFault → Type 0
 IsUnreplayed disk asked steps_path fault =
     IsUnopened disk asked fault ⊎ ((job : Work) × IsJobAt disk asked job × RefusesReplay disk steps_path job fault)
-
--- writing to the file at the path came to this
-abbrev pub IsUnwritable : Disk → List ℕ → CommandFault → Type 0
-IsUnwritable disk path (command.Unwritable refused) = (refused.now ≡ path) × disk.refuses path
-IsUnwritable disk path command.OutOfMemory = Unit {0}
-IsUnwritable disk path _ = ⊥
 
 -- what a fault says of bytes that are no checkpoint: it is the one that reading comes to; want of memory says nothing
 abbrev pub RefusesCheckpoint : List ℕ → CommandFault → Type 0

@@ -14,9 +14,9 @@ use Rattle.rollback.specs.declared.simulation.Step.{Step}
 use Rattle.rollback.specs.declared.simulation.StepAnswer.{StepAnswer}
 use Rattle.rollback.specs.declared.simulation.StepAnswer.TheVariants.{Handed, Idle, Said}
 use Rattle.rollback.specs.declared.simulation.Trace.{Trace}
-use Rattle.console.specs.declared.fault.CommandFault.{CommandFault}
-use Rattle.console.specs.declared.fault.CommandFault.TheVariants as command
-use Rattle.console.specs.Lines.{ended_lines, line, numbered_lines}
+use Rattle.sources.specs.declared.fault.CommandFault.{CommandFault}
+use Rattle.sources.specs.declared.fault.CommandFault.TheVariants as command
+use Rattle.sources.specs.Lines.{ended_lines, line, numbered_lines}
 
 -- ---- lines
 

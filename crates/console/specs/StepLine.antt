@@ -6,7 +6,7 @@ use Rattle.rollback.specs.declared.simulation.Step.{Step}
 use Rattle.rollback.specs.declared.simulation.Step.TheVariants.{Join, Lose, Take, Tick, Work}
 use Rattle.console.specs.declared.step_line.StepLine.{StepLine}
 use Rattle.console.specs.declared.step_line.StepLine.TheVariants.{Skipped, Says, Bad}
-use Rattle.console.specs.InputLine.{small_of}
+use Rattle.sources.specs.InputLine.{small_of}
 
 -- a name alone
 abbrev pub alone : List ℕ → StepLine

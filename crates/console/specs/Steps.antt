@@ -2,10 +2,10 @@
 use Rattle.std.specs.Prelude.{◌≡◌, ℕ, suc, List, [], ◌∷◌, map, Result, Ok, Err}
 use Rattle.std.specs.Str.Lines.{lines}
 use Rattle.rollback.specs.declared.simulation.Step.{Step}
-use Rattle.console.specs.declared.input.InputFault.{InputFault}
-use Rattle.console.specs.declared.input.InputFault.TheVariants as fault
-use Rattle.console.specs.declared.fault.CommandFault.{CommandFault}
-use Rattle.console.specs.declared.fault.CommandFault.TheVariants as command
+use Rattle.sources.specs.declared.input.InputFault.{InputFault}
+use Rattle.sources.specs.declared.input.InputFault.TheVariants as fault
+use Rattle.sources.specs.declared.fault.CommandFault.{CommandFault}
+use Rattle.sources.specs.declared.fault.CommandFault.TheVariants as command
 use Rattle.console.specs.declared.step_line.StepLine.{StepLine}
 use Rattle.console.specs.declared.step_line.StepLine.TheVariants.{Skipped, Says, Bad}
 use Rattle.console.specs.StepLine.{step_line_of}

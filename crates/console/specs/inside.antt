@@ -1,5 +1,3 @@
 -- What the steps of the code answer. No contract of a public function cites these.
-pub mod Adding
 pub mod Answering
 pub mod Stepping
-pub mod Commands

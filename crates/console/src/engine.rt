@@ -1,24 +1,20 @@
 //! A compute call, from a module's text or bytes and an input's text to printed lines.
 
-ghost use Rattle.std.specs.Prelude.{◌≡◌, List, ℕ, IfOk, IfErr, MatchResult};
+ghost use Rattle.std.specs.Prelude.{◌≡◌, List, ℕ, IfOk, IfErr};
 ghost use Rattle.wasm_ast.specs.declared.module.Module.{Module as AnyModule};
 ghost use Rattle.interp.specs.Bounded.{HasIds};
 ghost use Rattle.interp.specs.Call.{IsOutcome};
-ghost use Rattle.console.specs.Lines.{IfTold};
-ghost use Rattle.console.specs.Modules.{IsSpelledBy, IsVerified, Loads};
-ghost use Rattle.console.specs.Engine.{Answers, IsAnswer, IsWant, IsWantOfCall, Refuses, RefusesLoad, RefusesText, content, is_text};
+ghost use Rattle.sources.specs.Lines.{IfTold};
+ghost use Rattle.sources.specs.Modules.{IsSpelledBy, IsVerified};
+ghost use Rattle.sources.specs.Source.{IsWant, content, is_text};
+ghost use Rattle.console.specs.Engine.{Answers, IsAnswer, IsWantOfCall, Refuses, RefusesText};
 ghost use Rattle.console.specs.inside.Answering.{AnswersInput};
 
-use crate::fault::CommandFault;
-use crate::input::Input;
-use crate::lines::outcome_text;
-use crate::modules::module_of;
-use crate::sources::Source;
-use bounded_profile::{Verified, verify};
+use bounded_profile::Verified;
 use host_calls::{CallInput, CallOutcome};
 use interp::{Scratch, run};
+use sources::{CommandFault, Input, Source, load, outcome_text};
 use std::alloc::{AllocError, Global};
-use validate::validate;
 
 /// What a call of the module, with the input that the text means, prints: the outcome's lines.
 ///
@@ -37,21 +33,6 @@ pub fn call<'a>(alloc: Global, module: &Source, input: &str) -> Result<String, C
 {
     let verified = load(alloc, module)?;
     answer(alloc, &verified, input)
-}
-
-/// The module that a text or bytes spell, where it is valid (Core 1.0, section 3) and in the bounded profile. It is
-/// refused by `Decode` or `Text`, then by `Invalid`, then by `Unbounded`, and by no other fault.
-pub fn load<'a>(alloc: Global, source: &Source) -> Result<Verified, CommandFault<'a>>
-    ensures loaded { IfOk result (Loads (is_text source.now) (content source.now)) }
-    // The one module that is spelled so is loaded where it is verified, unless memory runs out.
-    ensures only { (m : AnyModule) → IsSpelledBy (is_text source.now) (content source.now) m
-        → IsVerified m → MatchResult result (λ verified. verified ≡ m) IsWant }
-    ensures refused { IfErr result (RefusesLoad (is_text source.now) (content source.now)) }
-{
-    let module = module_of(alloc, source)?;
-    let valid = validate(alloc, module)?;
-    let verified = verify(alloc, valid)?;
-    Ok(verified)
 }
 
 // What a call of the module prints.

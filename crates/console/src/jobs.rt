@@ -1,21 +1,21 @@
 //! A job, from a module and a graph to printed lines.
 
 ghost use Rattle.std.specs.Prelude.{◌≡◌, true, IfOk, IfErr, MatchResult, OnOk, string_bytes};
-ghost use Rattle.graph.specs.Print.{value_lines};
-ghost use Rattle.superstep.specs.Ending.{answer_of, is_finished};
-ghost use Rattle.console.specs.Lines.{Gains, IfTold, end_line, end_word, ended_lines, numbered_line, numbered_lines};
-ghost use Rattle.console.specs.Jobs.{AreEndLines, AreJobLines, IsFaultOfRun, IsJobOf, RefusesSettings};
+ghost use Rattle.superstep.specs.Ending.{answer_of};
+ghost use Rattle.sources.specs.Lines.{Gains, IfTold, end_line, ended_lines, numbered_line, numbered_lines};
+ghost use Rattle.sources.specs.Jobs.{IsJobOf, RefusesSettings};
+ghost use Rattle.console.specs.Jobs.{AreEndLines, AreJobLines, IsFaultOfRun};
 ghost use Rattle.console.specs.inside.Answering.{opening_fault};
 
-use crate::fault::CommandFault;
 use bounded_profile::Verified;
 use checkpoint::Keep;
 use graph::Graph;
+use sources::{CommandFault, how_word, push_values};
 use std::alloc::{AllocError, Global};
 use std::rt::Files;
 use std::sync::Wait;
 use std::thread::Threads;
-use superstep::{Ended, How, Job, JobFault, Settings};
+use superstep::{Ended, Job, JobFault, Settings};
 use workers::{Gate, run_in_threads};
 
 /// The job of a module over a graph. `Settings` names the first setting that is out of its range.
@@ -89,16 +89,6 @@ pub fn push_ended(text: &mut String, ended: &Ended, tells_units: bool) -> Result
     Ok(())
 }
 
-/// Puts a line `v ID VALUE` behind a text for each of these values.
-pub fn push_values(text: &mut String, values: &[(u64, i64)]) -> Result<(), AllocError>
-    ensures { OnOk result (Gains text.old text.new (value_lines values.now)) }
-{
-    for (id, value) in values {
-        writeln!(text, "v {id} {value}")?;
-    }
-    Ok(())
-}
-
 fn push_end(text: &mut String, ended: &Ended) -> Result<(), AllocError>
     ensures { OnOk result (Gains text.old text.new (end_line (answer_of ended.now))) }
 {
@@ -108,16 +98,6 @@ fn push_end(text: &mut String, ended: &Ended) -> Result<(), AllocError>
         text,
         "end {how} supersteps {superstep} units {units} dropped {dropped}"
     )
-}
-
-/// How a job ended, in a word.
-pub fn how_word(how: How) -> &'static str
-    ensures { result.now ≡ end_word (is_finished how) }
-{
-    match how {
-        How::Finished => "finished",
-        How::Limit => "limit",
-    }
 }
 
 /// Puts a line `WORD N UNITS` behind a text for each of these units, N being this number at the first and one more at each.

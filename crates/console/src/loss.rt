@@ -3,7 +3,7 @@
 ghost use Rattle.std.specs.Prelude.{◌≡◌};
 ghost use Rattle.console.specs.Loss.{is_due, loss_of};
 
-use crate::input_line::small_of;
+use sources::small_of;
 use std::sync::atomic::{AtomicBool, Ordering};
 use workers::{Gate, Turn};
 

@@ -4,30 +4,30 @@ ghost use Rattle.std.specs.Prelude.{◌≡◌, ◌⊎◌, List, ℕ, false, IfOk
 ghost use Rattle.wasm_ast.specs.Limits.{IsWithinLimits};
 ghost use Rattle.wasm_decode.specs.Canonical.{canonical};
 ghost use Rattle.checkpoint.specs.Checkpoint.{checkpoint_bytes};
-ghost use Rattle.console.specs.Disk.{Stays, Tries};
+ghost use Rattle.sources.specs.Disk.{Stays, Tries};
 ghost use Rattle.console.specs.Jobs.{AreRunLines, IsFaultOfRun};
-ghost use Rattle.console.specs.Lines.{IfTold};
+ghost use Rattle.sources.specs.Lines.{IfTold};
 ghost use Rattle.console.specs.Loss.{NamesLoss, RefusesLoss};
-ghost use Rattle.console.specs.Modules.{IsModuleAt};
-ghost use Rattle.console.specs.Engine.{RefusesLoad, RefusesModule};
-ghost use Rattle.console.specs.Program.{Answered, AreStepsAt, IsBoundsLine, IsCause, IsJobAt, IsKeptAt, IsLoadedAt, IsNoCheckpointAt, IsNoGraphAt, IsNoStepsAt, IsNotUpgraded, IsReadAt, IsRefusedAt, IsTold, IsUnassembled, IsUncalled, IsUnopened, IsUnreplayed, IsUnrun, IsUnspelled, IsUnwritable, MayTry, StaysBeforeWriting, TellsBounds, TellsLayout, TellsLength, TellsOutcome, TellsReplay, TellsRun, TellsSpelling, TellsUpgraded, TellsWritten, Told, TriesSpelling, TriesUpgraded, bounds_line, length_line, writes_file};
+ghost use Rattle.sources.specs.Modules.{IsModuleAt};
+ghost use Rattle.sources.specs.Source.{RefusesLoad, RefusesModule};
+ghost use Rattle.sources.specs.Reading.{IsLoadedAt, IsNoGraphAt, IsReadAt, IsRefusedAt, IsUnwritable};
+ghost use Rattle.console.specs.Program.{Answered, AreStepsAt, IsBoundsLine, IsCause, IsJobAt, IsKeptAt, IsNoCheckpointAt, IsNoStepsAt, IsNotUpgraded, IsTold, IsUnassembled, IsUncalled, IsUnopened, IsUnreplayed, IsUnrun, IsUnspelled, MayTry, StaysBeforeWriting, TellsBounds, TellsLayout, TellsLength, TellsOutcome, TellsReplay, TellsRun, TellsSpelling, TellsUpgraded, TellsWritten, Told, TriesSpelling, TriesUpgraded, bounds_line, length_line, writes_file};
 ghost use Rattle.console.specs.inside.Answering.{IsFaultTold};
 
-use crate::engine::{call, load};
-use crate::fault::{CommandFault, status_of};
-use crate::files::Files;
+use crate::engine::call;
 use crate::jobs::{open, run};
 use crate::loss::{Loss, LossGate};
-use crate::modules::module_of;
-use crate::refusal::refusal_line;
 use crate::replay::replay;
-use crate::request::{JobRequest, Request, RunRequest};
-use crate::sources::{read_bytes, read_source, read_text, write};
 use crate::steps::steps_of;
 use bounded_profile::Verified;
 use checkpoint::{FileKeep, MemoryKeep};
-use graph::{Graph, Output, Unwritten, put};
+use command_line::{JobRequest, Request, RunRequest};
+use graph::{Output, Unwritten, put};
 use rollback::Step;
+use sources::{
+    CommandFault, Files, load, load_file, read_bytes, read_graph, read_module, read_source,
+    read_text, refusal_line, status_of, write,
+};
 use std::alloc::{AllocError, Global};
 use std::sync::Wait;
 use std::thread::Threads;
@@ -240,35 +240,6 @@ fn job_of<'a, F: Files>(
     open(alloc, verified, graph, asked.settings)
 }
 
-// The module in a file, verified.
-fn load_file<'a, F: Files>(
-    alloc: Global,
-    path: &'a str,
-    files: &mut F,
-) -> Result<Verified, CommandFault<'a>>
-    ensures found { MatchResult result (IsLoadedAt (F.disk files.old) path.now)
-        (IsRefusedAt (F.disk files.old) path.now RefusesLoad) }
-    ensures kept { Stays (F.disk files.old) (F.disk files.new) }
-{
-    let source = read_source(alloc, path, files)?;
-    load(alloc, &source)
-}
-
-// The graph in a file.
-fn read_graph<'a, F: Files>(
-    alloc: Global,
-    path: &'a str,
-    files: &mut F,
-) -> Result<Graph, CommandFault<'a>>
-    ensures found { MatchResult result (IsReadAt (F.disk files.old) path.now)
-        (IsNoGraphAt (F.disk files.old) path.now) }
-    ensures kept { Stays (F.disk files.old) (F.disk files.new) }
-{
-    let text = read_text(alloc, path, files)?;
-    let graph = Graph::read(alloc, text.as_str())?;
-    Ok(graph)
-}
-
 // Writes the module in one file to another, in the binary format.
 fn assemble_file<'a, F: Files>(
     alloc: Global,
@@ -285,20 +256,6 @@ fn assemble_file<'a, F: Files>(
 {
     let module = read_module(alloc, path, files)?;
     write_module(alloc, &module, binary, files)
-}
-
-// The module in a file.
-fn read_module<'a, F: Files>(
-    alloc: Global,
-    path: &'a str,
-    files: &mut F,
-) -> Result<Module, CommandFault<'a>>
-    ensures found { MatchResult result (IsModuleAt (F.disk files.old) path.now)
-        (IsRefusedAt (F.disk files.old) path.now RefusesModule) }
-    ensures kept { Stays (F.disk files.old) (F.disk files.new) }
-{
-    let source = read_source(alloc, path, files)?;
-    module_of(alloc, &source)
 }
 
 // Writes a module to a file, in the binary format.

@@ -2,13 +2,13 @@
 
 ghost use Rattle.std.specs.Prelude.{◌≡◌, IfOk, IfErr, OnOk, string_bytes};
 ghost use Rattle.std.specs.List.{flat_map};
-ghost use Rattle.console.specs.Lines.{Gains, IfTold};
+ghost use Rattle.sources.specs.Lines.{Gains, IfTold};
 ghost use Rattle.console.specs.Replays.{AreReplayLines, IsFaultOfReplay, answer_line, outcome_lines, report_lines, said_line, trace_lines};
 
-use crate::fault::CommandFault;
 use crate::jobs::{push_ended, push_numbered};
 use checkpoint::MemoryKeep;
 use rollback::{Answer, Outcome, Report, Step, StepAnswer, Trace, simulate};
+use sources::CommandFault;
 use std::alloc::{AllocError, Global};
 use std::rt::Files;
 use std::thread::Threads;

@@ -3,9 +3,9 @@
 ghost use Rattle.std.specs.Prelude.{◌≡◌};
 ghost use Rattle.console.specs.StepLine.{alone, of_worker, step_line_of};
 
-use crate::input_line::small_of;
 use graph::Fields;
 use rollback::Step;
+use sources::small_of;
 
 /// What a line says.
 #[derive(Clone, Copy)]

@@ -5,9 +5,9 @@ ghost use Rattle.console.specs.Steps.{IsStepsFault, steps_of};
 ghost use Rattle.console.specs.declared.step_line.StepLine.TheVariants.{Bad};
 ghost use Rattle.console.specs.inside.Stepping.{with_step};
 
-use crate::input::InputFault;
 use crate::step_line::{StepLine, step_line_of};
 use rollback::Step;
+use sources::InputFault;
 use std::alloc::Global;
 
 /// The steps that a text means.

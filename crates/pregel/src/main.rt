@@ -4,9 +4,12 @@
 ghost use Rattle.std.specs.Prelude.{◌≡◌, ◌⊎◌, IfOk, OnErr};
 ghost use Rattle.std.specs.Process.{exit_status};
 
+mod program;
+
+use crate::program::carry_out;
 use clap::error::ErrorKind;
-use console::{CommandFault, SystemFiles, options};
-use session::carry_out;
+use command_line::options;
+use sources::{CommandFault, SystemFiles};
 use std::process::ExitCode;
 use std::rt::{Env, Files};
 use std::sync::Wait;

@@ -10,16 +10,16 @@ use Rattle.superstep.specs.declared.settings.Settings.{Settings}
 use Rattle.superstep.specs.declared.fault.JobFault.{JobFault}
 use Rattle.superstep.specs.Job.{Work}
 use Rattle.superstep.specs.Ending.{IsEndOf}
-use Rattle.console.specs.declared.fault.CommandFault.{CommandFault}
-use Rattle.console.specs.declared.fault.CommandFault.TheVariants as command
-use Rattle.console.specs.declared.files.FileFault.{FileFault}
-use Rattle.console.specs.declared.files.FileFault.TheVariants as file_fault
-use Rattle.console.specs.declared.sources.Source.{Source}
-use Rattle.console.specs.Disk.{Disk, unknown as any_disk}
-use Rattle.console.specs.Engine.{RefusesLoad, content, is_text}
-use Rattle.console.specs.Jobs.{IsGraphIn, IsJobOf, RefusesGraph, RefusesSettings}
-use Rattle.console.specs.Modules.{Loads, is_text_path}
-use Rattle.console.specs.Program.{IsLoadedAt, IsNoFile, IsNoGraphAt, IsReadAt, IsRefusedAt}
+use Rattle.sources.specs.declared.fault.CommandFault.{CommandFault}
+use Rattle.sources.specs.declared.fault.CommandFault.TheVariants as command
+use Rattle.sources.specs.declared.files.FileFault.{FileFault}
+use Rattle.sources.specs.declared.files.FileFault.TheVariants as file_fault
+use Rattle.sources.specs.declared.sources.Source.{Source}
+use Rattle.sources.specs.Disk.{Disk, unknown as any_disk}
+use Rattle.sources.specs.Source.{RefusesLoad, content, is_text}
+use Rattle.sources.specs.Jobs.{IsGraphIn, IsJobOf, RefusesGraph, RefusesSettings}
+use Rattle.sources.specs.Modules.{Loads, is_text_path}
+use Rattle.sources.specs.Reading.{IsLoadedAt, IsNoFile, IsNoGraphAt, IsReadAt, IsRefusedAt}
 use Rattle.session.specs.declared.held.Ending.{Ending}
 use Rattle.session.specs.declared.held.Ending.TheVariants as ending
 use Rattle.session.specs.declared.held.HeldJob.{HeldJob}

@@ -12,8 +12,8 @@ use Rattle.superstep.specs.Job.{Meaning, Work}
 use Rattle.superstep.specs.PlainRun.{Answer, IsAnswer, IsEnd, state_at}
 use Rattle.superstep.specs.Snapshot.{values_of}
 use Rattle.graph.specs.Print.{value_lines}
-use Rattle.console.specs.Lines.{line}
-use Rattle.console.specs.Jobs.{IsJobOf}
+use Rattle.sources.specs.Lines.{line}
+use Rattle.sources.specs.Jobs.{IsJobOf}
 use Rattle.session.specs.Maps.{Maps}
 use Rattle.session.specs.declared.held.HeldJob.{HeldJob}
 use Rattle.session.specs.Replies.{values_text}

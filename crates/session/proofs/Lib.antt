@@ -8,6 +8,5 @@ pub mod Asking
 pub mod Answering
 pub mod Telling
 pub mod Loops
-pub mod Statuses
 pub mod Proper
 pub mod Ends

@@ -6,8 +6,8 @@ use Rattle.std.proofs.KnownBytes.{Consumes-kept, Consumes-nil, Consumes-trans}
 use Rattle.std.proofs.lemmas.List.{append-nil, map-append, take_all}
 use Rattle.std.proofs.Math.Seq.{take-append-add, take-append_seam}
 use Rattle.graph.proofs.Writing.{appends_nothing}
-use Rattle.console.specs.Disk.{Disk, Stays}
-use Rattle.console.proofs.Disks.{stays_again, stays_same}
+use Rattle.sources.specs.Disk.{Disk, Stays}
+use Rattle.sources.proofs.Disks.{stays_again, stays_same}
 use Rattle.session.specs.declared.serving.ServeFault.{ServeFault}
 use Rattle.session.specs.declared.serving.ServeFault.TheVariants as fault
 use Rattle.session.specs.Lines.{lines_from, rest_from}

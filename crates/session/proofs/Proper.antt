@@ -3,8 +3,8 @@ use Rattle.std.proofs.Common.{inl, inr, ◌≡◌, ◌∙◌, ℕ, List, [], ◌
 use Rattle.std.specs.Str.{bytes_eq}
 use Rattle.std.proofs.lemmas.Bool.{cases_Bool}
 use Rattle.wasm_ast.specs.declared.module.Module.{Module}
-use Rattle.console.specs.Disk.{Disk}
-use Rattle.console.specs.Modules.{IsVerified}
+use Rattle.sources.specs.Disk.{Disk}
+use Rattle.sources.specs.Modules.{IsVerified}
 use Rattle.superstep.specs.Job.{Work}
 use Rattle.session.specs.declared.command.Kind.{Kind}
 use Rattle.session.specs.declared.command.Kind.TheVariants as kind

@@ -4,13 +4,13 @@ use Rattle.std.specs.Io.KnownBytes.{Appends}
 use Rattle.graph.specs.Output.{HasBegun}
 use Rattle.graph.proofs.Writing.{appends_more, appends_nothing, begun_piece}
 use Rattle.std.proofs.lemmas.List.{append-nil}
-use Rattle.console.specs.declared.fault.CommandFault.{CommandFault}
-use Rattle.console.specs.Disk.{Disk, Stays}
-use Rattle.console.specs.Engine.{RefusesLoad}
-use Rattle.console.specs.Jobs.{IsGraphIn}
-use Rattle.console.specs.Modules.{Loads, is_text_path}
-use Rattle.console.specs.Program.{IsRefusedAt}
-use Rattle.console.proofs.Disks.{holds_before, no_graph_before, unread_before}
+use Rattle.sources.specs.declared.fault.CommandFault.{CommandFault}
+use Rattle.sources.specs.Disk.{Disk, Stays}
+use Rattle.sources.specs.Source.{RefusesLoad}
+use Rattle.sources.specs.Jobs.{IsGraphIn}
+use Rattle.sources.specs.Modules.{Loads, is_text_path}
+use Rattle.sources.specs.Reading.{IsRefusedAt}
+use Rattle.sources.proofs.Disks.{holds_before, no_graph_before, unread_before}
 use Rattle.session.specs.Commands.{Asked, add_module, add_graph, add_job, run, status, values, drop, quit, unknown, is_quit}
 use Rattle.session.specs.Maps.{Maps}
 use Rattle.session.specs.Runs.{Runs}

@@ -2,7 +2,7 @@
 use Rattle.std.specs.Prelude.{ℕ, nat_lt, Bool, true, false, ◌&&◌, List, [], ◌∷◌, length, map, Option, Some, None, codes, if◌then◌else◌}
 use Rattle.std.specs.Str.{bytes_eq, is_utf8}
 use Rattle.superstep.specs.declared.settings.Settings.{Settings}
-use Rattle.console.specs.InputLine.{small_of}
+use Rattle.sources.specs.InputLine.{small_of}
 use Rattle.session.specs.declared.command.Kind.{Kind}
 use Rattle.session.specs.declared.command.Kind.TheVariants as kind
 use Rattle.session.specs.Lines.{lines_of}

@@ -7,11 +7,9 @@ pub mod Runs
 pub mod Held
 pub mod Maps
 pub mod Replies
--- what is answered, what serving a session leaves, and what two sessions have in common
+-- and what is answered, what serving a session leaves, and what two sessions have in common
 pub mod Transcript
 pub mod Serving
 pub mod Same
--- and what the program does
-pub mod Program
 -- what only mirrors the code, for its proofs
 pub mod inside

@@ -9,10 +9,10 @@ use Rattle.superstep.specs.declared.fault.JobFault.{JobFault}
 use Rattle.superstep.specs.declared.fault.JobFault.TheVariants as job_fault
 use Rattle.superstep.specs.declared.run.Ended.{Ended}
 use Rattle.superstep.specs.Ending.{is_finished}
-use Rattle.console.specs.declared.fault.CommandFault.{CommandFault}
-use Rattle.console.specs.declared.fault.CommandFault.TheVariants as command
-use Rattle.console.specs.Lines.{end_word, line}
-use Rattle.console.specs.Refusal.{fault_text}
+use Rattle.sources.specs.declared.fault.CommandFault.{CommandFault}
+use Rattle.sources.specs.declared.fault.CommandFault.TheVariants as command
+use Rattle.sources.specs.Lines.{end_word, line}
+use Rattle.sources.specs.Refusal.{fault_text}
 use Rattle.session.specs.declared.held.Ending.{Ending}
 use Rattle.session.specs.declared.held.Ending.TheVariants as ending
 use Rattle.session.specs.declared.standing.Numbers.{Numbers}

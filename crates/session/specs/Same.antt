@@ -3,8 +3,8 @@ use Rattle.std.specs.Prelude.{◌≡◌, List, ℕ, Some}
 use Rattle.wasm_ast.specs.declared.module.Module.{Module}
 use Rattle.graph.specs.Entry.{Entry}
 use Rattle.superstep.specs.declared.settings.Settings.{Settings}
-use Rattle.console.specs.Disk.{Disk}
-use Rattle.console.specs.Jobs.{IsJobOf}
+use Rattle.sources.specs.Disk.{Disk}
+use Rattle.sources.specs.Jobs.{IsJobOf}
 use Rattle.session.specs.declared.held.HeldJob.{HeldJob}
 use Rattle.session.specs.Commands.{Asked}
 use Rattle.session.specs.Maps.{Maps, nothing}

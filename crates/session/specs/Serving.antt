@@ -3,7 +3,7 @@ use Rattle.std.specs.Prelude.{◌≡◌, ◌⊎◌, ⊤, ℕ, true, List, length
 use Rattle.std.specs.List.{list_any}
 use Rattle.std.specs.Io.KnownBytes.{Appends, Consumes, IsAtEnd}
 use Rattle.graph.specs.Output.{HasBegun}
-use Rattle.console.specs.Disk.{Disk}
+use Rattle.sources.specs.Disk.{Disk}
 use Rattle.session.specs.declared.serving.ServeFault.{ServeFault}
 use Rattle.session.specs.declared.serving.ServeFault.TheVariants as fault
 use Rattle.session.specs.Commands.{Asked, asked_in, is_quit}

@@ -6,11 +6,11 @@ use Rattle.graph.specs.Entry.{Entry, edge_count}
 use Rattle.superstep.specs.declared.settings.Settings.{Settings}
 use Rattle.superstep.specs.declared.fault.JobFault.{JobFault}
 use Rattle.superstep.specs.Ending.{IsEndOf}
-use Rattle.console.specs.declared.fault.CommandFault.{CommandFault}
-use Rattle.console.specs.Disk.{Disk}
-use Rattle.console.specs.Engine.{RefusesLoad}
-use Rattle.console.specs.Jobs.{IsJobOf, RefusesSettings}
-use Rattle.console.specs.Program.{IsLoadedAt, IsNoGraphAt, IsReadAt, IsRefusedAt}
+use Rattle.sources.specs.declared.fault.CommandFault.{CommandFault}
+use Rattle.sources.specs.Disk.{Disk}
+use Rattle.sources.specs.Source.{RefusesLoad}
+use Rattle.sources.specs.Jobs.{IsJobOf, RefusesSettings}
+use Rattle.sources.specs.Reading.{IsLoadedAt, IsNoGraphAt, IsReadAt, IsRefusedAt}
 use Rattle.session.specs.declared.command.Kind.{Kind}
 use Rattle.session.specs.declared.command.Kind.TheVariants as kind
 use Rattle.rollback.specs.declared.report.Report.{Report}

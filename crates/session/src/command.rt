@@ -1,13 +1,13 @@
 //! What a line asks for.
 
 ghost use Rattle.std.specs.Prelude.{◌≡◌, Option};
-ghost use Rattle.console.specs.InputLine.{small_of};
+ghost use Rattle.sources.specs.InputLine.{small_of};
 ghost use Rattle.session.specs.Words.{words_of};
 ghost use Rattle.session.specs.Commands.{asked_alone, asked_by, asked_job, asked_of, asked_of_drop, asked_of_name, asked_of_two, settings_by, settings_of};
 ghost use Rattle.session.specs.inside.Seen.{asked};
 
 use crate::word::{first_word, is_name};
-use console::small_of;
+use sources::small_of;
 use superstep::Settings;
 
 /// How many bytes a line may have, without its line feed.

@@ -4,8 +4,8 @@ ghost use Rattle.session.specs.Runs.{runs_of};
 ghost use Rattle.session.specs.Same.{HaveSameValues};
 
 use crate::runner::JobRunner;
-use console::Files;
 use interp::calls_are_a_function;
+use sources::Files;
 use workers::Gate;
 
 /// Whatever files they read, however they run jobs and whatever else they were asked, two sessions tell the same values of two

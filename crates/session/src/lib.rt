@@ -6,7 +6,6 @@ mod held;
 mod laws;
 mod lines;
 mod maps;
-mod program;
 mod reading;
 mod refusals;
 mod reply;
@@ -18,6 +17,5 @@ mod texts;
 mod word;
 
 pub use laws::same_values;
-pub use program::carry_out;
 pub use runner::JobRunner;
 pub use serving::{ServeFault, serve};

@@ -1,18 +1,18 @@
 //! What files have of modules and graphs.
 
 ghost use Rattle.std.specs.Prelude.{◌≡◌, MatchOption, MatchResult};
-ghost use Rattle.console.specs.Disk.{Stays};
-ghost use Rattle.console.specs.Engine.{RefusesLoad, content, is_text};
-ghost use Rattle.console.specs.Jobs.{IsGraphIn, RefusesGraph};
-ghost use Rattle.console.specs.Modules.{Loads};
-ghost use Rattle.console.specs.Program.{IsLoadedAt, IsNoGraphAt, IsReadAt, IsRefusedAt};
+ghost use Rattle.sources.specs.Disk.{Stays};
+ghost use Rattle.sources.specs.Source.{RefusesLoad, content, is_text};
+ghost use Rattle.sources.specs.Jobs.{IsGraphIn, RefusesGraph};
+ghost use Rattle.sources.specs.Modules.{Loads};
+ghost use Rattle.sources.specs.Reading.{IsLoadedAt, IsNoGraphAt, IsReadAt, IsRefusedAt};
 ghost use Rattle.session.specs.inside.Seen.{IsGraphFound, IsModuleFound, IsNoText, IsSourceOf, IsToldOf, reply_text, unread_text};
 
 use crate::refusals::refusal;
 use crate::reply::Reply;
 use bounded_profile::Verified;
-use console::{CommandFault, FileFault, Files, Source, is_text_path, load};
 use graph::Graph;
+use sources::{CommandFault, FileFault, Files, Source, is_text_path, load};
 use std::alloc::Global;
 
 /// The module in a file, verified, or what is told where there is none. A file whose path ends in `.wat` has its text, and any

@@ -1,14 +1,14 @@
 //! How it is told that a file gives no module or no graph, or that settings give no job.
 
 ghost use Rattle.std.specs.Prelude.{◌≡◌, ◌++◌, IfOk, MatchOption, None, Some, codes, string_bytes};
-ghost use Rattle.console.specs.Refusal.{fault_text};
+ghost use Rattle.sources.specs.Refusal.{fault_text};
 ghost use Rattle.session.specs.Words.{words_of};
 ghost use Rattle.session.specs.Replies.{no_line, number_of, refusal_line, third, with_word, word_of};
 ghost use Rattle.session.specs.inside.Seen.{IsToldOrNoMemory, reply_text};
 
 use crate::reply::Reply;
 use crate::word::first_word;
-use console::CommandFault;
+use sources::CommandFault;
 use std::alloc::{AllocError, Global};
 
 /// What is told of a fault: the number and the word of its refusal.

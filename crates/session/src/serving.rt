@@ -3,7 +3,7 @@
 ghost use Rattle.std.specs.Prelude.{◌≡◌, ◌≤◌, [], vec_len, MatchResult};
 ghost use Rattle.std.specs.Io.KnownBytes.{Appends, Keeps};
 ghost use Rattle.graph.specs.Output.{HasBegun};
-ghost use Rattle.console.specs.Disk.{Stays};
+ghost use Rattle.sources.specs.Disk.{Stays};
 ghost use Rattle.session.specs.declared.serving.ServeFault.TheVariants as fault;
 ghost use Rattle.session.specs.Commands.{asked_of, is_quit};
 ghost use Rattle.session.specs.Maps.{nothing};
@@ -16,8 +16,8 @@ use crate::command::{Command, command_of};
 use crate::lines::{KEPT, cut_line, keep};
 use crate::runner::JobRunner;
 use crate::sessions::{Session, answer};
-use console::Files;
 use graph::{Unwritten, put};
+use sources::Files;
 use std::alloc::{AllocError, Global};
 use std::io::{ErrorKind, Read, Write};
 use std::sync::Wait;

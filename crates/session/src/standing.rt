@@ -7,8 +7,8 @@ ghost use Rattle.session.specs.Replies.{fault_data, numbers_of, state_word, stat
 
 use crate::held::Ending;
 use crate::texts::fault_word;
-use console::how_word;
 use serde_json::{Value, json};
+use sources::how_word;
 use std::alloc::{AllocError, Global};
 
 /// The numbers of what a job ended with.

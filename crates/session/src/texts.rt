@@ -3,14 +3,14 @@
 ghost use Rattle.std.specs.Prelude.{◌≡◌, ◌≤◌, IfOk, length, string_bytes};
 ghost use Rattle.bounded_profile.specs.Facts.{IsSizeOfCompute};
 ghost use Rattle.graph.specs.Entry.{edge_count, entries_of};
-ghost use Rattle.console.specs.Lines.{IfTold};
+ghost use Rattle.sources.specs.Lines.{IfTold};
 ghost use Rattle.session.specs.Replies.{fault_word, failed_line, graph_line, job_line, module_line, run_line, values_text};
 ghost use Rattle.session.specs.inside.Seen.{IsModuleLine, end_line};
 
 use bounded_profile::Verified;
-use console::{how_word, push_values};
 use graph::{Graph, MAX_EDGES, Vertex};
 use rollback::Report;
+use sources::{how_word, push_values};
 use std::alloc::{AllocError, Global};
 use superstep::{Ended, JobFault};
 

@@ -5,21 +5,16 @@ use Rattle.host_calls.specs.declared.call.CallInput.{CallInput}
 use Rattle.host_calls.specs.declared.call.CallOutcome.{CallOutcome}
 use Rattle.superstep.specs.declared.fault.JobFault.{JobFault}
 use Rattle.superstep.specs.declared.fault.JobFault.TheVariants as job_fault
-use Rattle.console.specs.declared.fault.CommandFault.{CommandFault}
-use Rattle.console.specs.declared.fault.CommandFault.TheVariants as command
-use Rattle.console.specs.declared.sources.Source.{Source}
-use Rattle.console.specs.Disk.{Disk}
-use Rattle.console.specs.Lines.{line, outcome_lines}
-use Rattle.console.specs.Modules.{is_text_path}
+use Rattle.sources.specs.declared.fault.CommandFault.{CommandFault}
+use Rattle.sources.specs.declared.fault.CommandFault.TheVariants as command
+use Rattle.sources.specs.declared.sources.Source.{Source}
+use Rattle.sources.specs.Disk.{Disk}
+use Rattle.sources.specs.Lines.{line, outcome_lines}
+use Rattle.sources.specs.Modules.{is_text_path}
 use Rattle.interp.specs.Call.{IsOutcome}
-use Rattle.console.specs.Engine.{content, is_text}
-use Rattle.console.specs.Refusal.{fault_text, status_of}
+use Rattle.sources.specs.Source.{content, is_text}
+use Rattle.sources.specs.Refusal.{fault_text, status_of}
 use Rattle.console.specs.Program.{IsTold}
-
--- the file at the path has this of a module
-pub record HoldsSource (disk : Disk) (path : List ℕ) (source : Source) : Type 0 where
-  pub kind : is_text source ≡ is_text_path path
-  pub held : disk.holds path (Some (content source))
 
 -- the lines are those of the outcome of a call with this input
 abbrev pub AnswersInput : Module → CallInput → (lines : List ℕ) → Type 0

@@ -6,13 +6,13 @@ use Rattle.wasm_ast.specs.declared.module.Module.{Module}
 use Rattle.bounded_profile.specs.Facts.{IsSizeOfCompute}
 use Rattle.graph.specs.Entry.{Entry}
 use Rattle.superstep.specs.declared.fault.JobFault.{JobFault}
-use Rattle.console.specs.declared.fault.CommandFault.{CommandFault}
-use Rattle.console.specs.declared.files.FileFault.{FileFault}
-use Rattle.console.specs.declared.files.FileFault.TheVariants as file_fault
-use Rattle.console.specs.declared.sources.Source.{Source}
-use Rattle.console.specs.Engine.{RefusesLoad, content, is_text}
-use Rattle.console.specs.Jobs.{IsGraphIn, RefusesGraph}
-use Rattle.console.specs.Modules.{Loads, is_text_path}
+use Rattle.sources.specs.declared.fault.CommandFault.{CommandFault}
+use Rattle.sources.specs.declared.files.FileFault.{FileFault}
+use Rattle.sources.specs.declared.files.FileFault.TheVariants as file_fault
+use Rattle.sources.specs.declared.sources.Source.{Source}
+use Rattle.sources.specs.Source.{RefusesLoad, content, is_text}
+use Rattle.sources.specs.Jobs.{IsGraphIn, RefusesGraph}
+use Rattle.sources.specs.Modules.{Loads, is_text_path}
 use Rattle.session.specs.declared.command.Command.{Command}
 use Rattle.session.specs.declared.command.Command.TheVariants as command
 use Rattle.session.specs.declared.held.Ending.{Ending}

@@ -1,10 +1,11 @@
 use Rattle.std.proofs.Common.{◌≡◌}
-use Rattle.console.specs.declared.input.InputFault.TheVariants as input
-use Rattle.console.specs.InputSays.{lines_of}
-use Rattle.console.proofs.Faults.{IfErr-along, IfOk-along, is_fault, text_refused, want_of_call}
+use Rattle.sources.specs.declared.input.InputFault.TheVariants as input
+use Rattle.sources.specs.InputSays.{lines_of}
+use Rattle.sources.proofs.Faults.{IfErr-along, IfOk-along, is_fault}
+use Rattle.console.proofs.Faults.{text_refused, want_of_call}
 use Rattle.console.proofs.Ids.{has_ids}
-use Rattle.console.proofs.InputLines.{none_bad}
-use Rattle.console.proofs.Meanings.{lent_means}
+use Rattle.sources.proofs.InputLines.{none_bad}
+use Rattle.sources.proofs.Meanings.{lent_means}
 use Rattle.console.proofs.engine.answer.Goals as goal
 
 pub returns-in_err-input-clause-answered : goal.returns-in_err-input-clause-answered

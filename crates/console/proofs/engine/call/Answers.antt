@@ -1,7 +1,7 @@
 use Rattle.std.proofs.Common.{◌≡◌, inl, inr, subst, sym}
 use Rattle.wasm_ast.specs.declared.module.Module.{Module}
 use Rattle.console.specs.Engine.{Answers}
-use Rattle.console.proofs.Faults.{IfErr-along, IfOk-along, is_fault}
+use Rattle.sources.proofs.Faults.{IfErr-along, IfOk-along, is_fault}
 use Rattle.console.proofs.engine.call.Goals as goal
 
 pub returns-in_err-verified-clause-answered : goal.returns-in_err-verified-clause-answered

@@ -1,7 +1,8 @@
 use Rattle.std.proofs.Common.{inl, inr}
 use Rattle.wasm_decode.specs.Canonical.{canonical}
-use Rattle.console.proofs.Faults.{IfErr-along, IfOk-along, OnErr-along, is_fault}
-use Rattle.console.proofs.Disks.{not_spelled, spelling_then, stays_again, tries_then, unspelled_before, within_at}
+use Rattle.sources.proofs.Faults.{IfErr-along, IfOk-along, OnErr-along, is_fault}
+use Rattle.sources.proofs.Disks.{stays_again, tries_then, within_at}
+use Rattle.console.proofs.Disks.{not_spelled, spelling_then, unspelled_before}
 use Rattle.console.proofs.program.assemble_file.Goals as goal
 
 pub write_module-requires : goal.write_module-requires

@@ -1,8 +1,8 @@
 use Rattle.std.proofs.Common.{inl, inr, true}
 use Rattle.std.specs.String.{string_bytes}
 use Rattle.console.specs.Program.{RefusesCalled}
-use Rattle.console.proofs.Disks.{refused_at, unread_before}
-use Rattle.console.proofs.Faults.{IfErr-along}
+use Rattle.sources.proofs.Disks.{refused_at, unread_before}
+use Rattle.sources.proofs.Faults.{IfErr-along}
 use Rattle.console.proofs.Telling.{refused_in_text}
 use Rattle.console.proofs.program.call_files.Goals as goal
 

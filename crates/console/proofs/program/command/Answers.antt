@@ -1,6 +1,6 @@
 use Rattle.std.proofs.Common.{inl, refl, subst, sym}
-use Rattle.console.specs.Lines.{line}
-use Rattle.console.specs.Refusal.{fault_text, status_of}
+use Rattle.sources.specs.Lines.{line}
+use Rattle.sources.specs.Refusal.{fault_text, status_of}
 use Rattle.console.specs.Program.{Answered}
 use Rattle.console.proofs.Telling.{refusal_told}
 use Rattle.console.proofs.program.command.Goals as goal

@@ -1,7 +1,7 @@
 use Rattle.std.proofs.Common.{inl, inr}
-use Rattle.console.specs.Jobs.{IsGraphIn}
-use Rattle.console.proofs.Disks.{holds_before, no_graph_before}
-use Rattle.console.proofs.Faults.{MatchResult-along, is_fault}
+use Rattle.sources.specs.Jobs.{IsGraphIn}
+use Rattle.sources.proofs.Disks.{holds_before, no_graph_before}
+use Rattle.sources.proofs.Faults.{MatchResult-along, is_fault}
 use Rattle.console.proofs.program.job_of.Goals as goal
 
 pub returns-in_err-verified-clause-found : goal.returns-in_err-verified-clause-found

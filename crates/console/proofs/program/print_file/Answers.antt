@@ -1,6 +1,6 @@
 use Rattle.std.proofs.Common.{inl}
-use Rattle.console.proofs.Faults.{is_fault}
-use Rattle.console.proofs.Disks.{within_at}
+use Rattle.sources.proofs.Faults.{is_fault}
+use Rattle.sources.proofs.Disks.{within_at}
 use Rattle.console.proofs.program.print_file.Goals as goal
 
 pub print-requires : goal.print-requires

@@ -1,7 +1,7 @@
 use Rattle.std.proofs.Common.{inl, inr, subst}
 use Rattle.checkpoint.specs.Checkpoint.{IsCheckpointOf}
 use Rattle.checkpoint.specs.Reading.{Fails, state_of}
-use Rattle.console.proofs.Faults.{is_fault}
+use Rattle.sources.proofs.Faults.{is_fault}
 use Rattle.console.proofs.program.read_checkpoint.Goals as goal
 
 pub returns-in_err-bytes-clause-found : goal.returns-in_err-bytes-clause-found

@@ -1,7 +1,7 @@
 use Rattle.std.proofs.Common.{◌≡◌, inl, inr, subst, Ok}
 use Rattle.std.specs.String.{string_bytes}
 use Rattle.console.specs.Steps.{IsStepsFault, steps_of}
-use Rattle.console.proofs.Faults.{is_fault}
+use Rattle.sources.proofs.Faults.{is_fault}
 use Rattle.console.proofs.program.read_steps.Goals as goal
 
 pub returns-in_err-text-clause-found : goal.returns-in_err-text-clause-found

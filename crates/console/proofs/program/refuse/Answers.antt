@@ -1,7 +1,7 @@
 use Rattle.std.proofs.Common.{inl, inr, refl, ◌∙◌}
-use Rattle.console.specs.declared.fault.CommandFault.TheVariants as command
-use Rattle.console.specs.Lines.{line}
-use Rattle.console.specs.Refusal.{fault_text, status_of}
+use Rattle.sources.specs.declared.fault.CommandFault.TheVariants as command
+use Rattle.sources.specs.Lines.{line}
+use Rattle.sources.specs.Refusal.{fault_text, status_of}
 use Rattle.console.proofs.Telling.{retold}
 use Rattle.console.proofs.program.refuse.Goals as goal
 

@@ -1,8 +1,9 @@
 use Rattle.std.proofs.Common.{◌≡◌, inl, inr, Ok}
 use Rattle.std.specs.String.{string_bytes}
 use Rattle.console.specs.Steps.{steps_of}
-use Rattle.console.proofs.Disks.{holds_before, no_steps_before}
-use Rattle.console.proofs.Faults.{IfErr-along, IfOk-along, is_fault}
+use Rattle.sources.proofs.Disks.{holds_before}
+use Rattle.console.proofs.Disks.{no_steps_before}
+use Rattle.sources.proofs.Faults.{IfErr-along, IfOk-along, is_fault}
 use Rattle.console.proofs.Replays.{fault_of_lent, lines_of_lent}
 use Rattle.console.proofs.program.replay_files.Goals as goal
 

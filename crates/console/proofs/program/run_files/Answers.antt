@@ -1,5 +1,5 @@
 use Rattle.std.proofs.Common.{inl, inr}
-use Rattle.console.proofs.Faults.{IfErr-along, IfOk-along, is_fault}
+use Rattle.sources.proofs.Faults.{IfErr-along, IfOk-along, is_fault}
 use Rattle.console.proofs.program.run_files.Goals as goal
 
 pub returns-in_err-loss-clause-refused : goal.returns-in_err-loss-clause-refused

@@ -1,7 +1,8 @@
 use Rattle.std.proofs.Common.{inl, inr}
 use Rattle.checkpoint.specs.Checkpoint.{checkpoint_bytes}
-use Rattle.console.proofs.Faults.{IfErr-along, IfOk-along, OnErr-along, is_fault}
-use Rattle.console.proofs.Disks.{stays_again, tries_then, unwritable_before, written_then}
+use Rattle.sources.proofs.Faults.{IfErr-along, IfOk-along, OnErr-along, is_fault}
+use Rattle.sources.proofs.Disks.{stays_again, tries_then, unwritable_before}
+use Rattle.console.proofs.Disks.{written_then}
 use Rattle.console.proofs.program.upgrade_file.Goals as goal
 
 pub returns-in_err-state-clause-refused : goal.returns-in_err-state-clause-refused

@@ -1,5 +1,5 @@
 use Rattle.std.proofs.Common.{inl}
-use Rattle.console.proofs.Faults.{is_fault}
+use Rattle.sources.proofs.Faults.{is_fault}
 use Rattle.console.proofs.program.verify_file.Goals as goal
 
 pub returns-in_err-verified-clause-refused : goal.returns-in_err-verified-clause-refused

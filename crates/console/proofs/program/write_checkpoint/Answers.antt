@@ -1,10 +1,10 @@
 use Rattle.std.proofs.Common.{subst, ◌∙◌, string_bytes}
 use Rattle.std.specs.Prelude.{IfOk, OnErr}
 use Rattle.checkpoint.specs.Checkpoint.{checkpoint_bytes}
-use Rattle.console.specs.Disk.{Tries}
+use Rattle.sources.specs.Disk.{Tries}
 use Rattle.console.specs.Program.{TellsWritten}
-use Rattle.console.proofs.Faults.{is_fault}
-use Rattle.console.proofs.Disks.{tries_nothing}
+use Rattle.sources.proofs.Faults.{is_fault}
+use Rattle.sources.proofs.Disks.{tries_nothing}
 use Rattle.console.proofs.program.write_checkpoint.Goals as goal
 
 pub returns-in_err-bytes-clause-tried : goal.returns-in_err-bytes-clause-tried

@@ -2,9 +2,10 @@ use Rattle.std.proofs.Common.{Err, ap, length, subst, sym, ◌∙◌, ◌≤◌}
 use Rattle.std.specs.Prelude.{OnErr}
 use Rattle.wasm_ast.specs.Limits.{max_module_bytes}
 use Rattle.wasm_decode.specs.Canonical.{canonical}
-use Rattle.console.specs.Disk.{Tries}
-use Rattle.console.proofs.Faults.{IfErr-along, IfOk-along, is_fault}
-use Rattle.console.proofs.Disks.{spelling_told, stays_same, tries_nothing, unwritable}
+use Rattle.sources.specs.Disk.{Tries}
+use Rattle.sources.proofs.Faults.{IfErr-along, IfOk-along, is_fault}
+use Rattle.sources.proofs.Disks.{stays_same, tries_nothing}
+use Rattle.console.proofs.Disks.{spelling_told, unwritable}
 use Rattle.console.proofs.program.write_module.Goals as goal
 
 pub returns-in_err-bytes-clause-refused : goal.returns-in_err-bytes-clause-refused

@@ -1,5 +1,6 @@
-use Rattle.console.proofs.Faults.{is_fault}
-use Rattle.console.proofs.Disks.{tries_nothing, written_late}
+use Rattle.sources.proofs.Faults.{is_fault}
+use Rattle.sources.proofs.Disks.{tries_nothing}
+use Rattle.console.proofs.Disks.{written_late}
 use Rattle.console.proofs.program.write_told.Goals as goal
 
 pub returns-in_err-told-clause-tried : goal.returns-in_err-told-clause-tried

@@ -6,7 +6,7 @@ use Rattle.std.proofs.lemmas.Iterator.Splits.{YieldsList-from_lines}
 use Rattle.console.specs.StepLine.{step_line_of}
 use Rattle.console.specs.Steps.{IsStepsFault}
 use Rattle.console.proofs.StepLines.{none_read, reads_all, reads_next, refused_next}
-use Rattle.console.proofs.TextLines.{line_comes, line_counted, none_left}
+use Rattle.sources.proofs.TextLines.{line_comes, line_counted, none_left}
 use Rattle.console.proofs.steps.steps_of.Goals as goal
 
 pub loop-index-init : goal.loop-index-init

@@ -1,5 +1,5 @@
 use Rattle.std.proofs.Common.{◌∙◌, subst, sym}
-use Rattle.console.specs.Modules.{IsVerified}
+use Rattle.sources.specs.Modules.{IsVerified}
 use Rattle.superstep.specs.Ending.{IsEndOf}
 use Rattle.session.specs.declared.held.HeldJob.{HeldJob}
 use Rattle.session.proofs.Ends.{held_is, same_told}

@@ -1,5 +1,5 @@
-use Rattle.console.specs.declared.fault.CommandFault.TheVariants as command
-use Rattle.console.specs.Jobs.{RefusesGraph}
+use Rattle.sources.specs.declared.fault.CommandFault.TheVariants as command
+use Rattle.sources.specs.Jobs.{RefusesGraph}
 use Rattle.session.specs.inside.Seen.{reply_text}
 use Rattle.session.proofs.Answering.{told_of}
 use Rattle.session.proofs.reading.graph_in.Goals as goal

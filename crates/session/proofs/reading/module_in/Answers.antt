@@ -1,4 +1,4 @@
-use Rattle.console.specs.Engine.{RefusesLoad, content, is_text}
+use Rattle.sources.specs.Source.{RefusesLoad, content, is_text}
 use Rattle.session.specs.inside.Seen.{reply_text}
 use Rattle.session.proofs.Answering.{told_of}
 use Rattle.session.proofs.reading.module_in.Goals as goal

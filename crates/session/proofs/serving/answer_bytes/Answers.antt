@@ -1,5 +1,5 @@
 use Rattle.std.proofs.Common.{◌∙◌, arith}
-use Rattle.console.proofs.Faults.{is_fault}
+use Rattle.sources.proofs.Faults.{is_fault}
 use Rattle.session.specs.inside.Seen.{maps_of}
 use Rattle.session.proofs.Loops.{answers_so, at_break, at_next, at_quit, at_start, at_want}
 use Rattle.session.specs.Runs.{runs_of}

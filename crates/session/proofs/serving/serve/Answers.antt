@@ -1,4 +1,4 @@
-use Rattle.console.proofs.Faults.{is_fault}
+use Rattle.sources.proofs.Faults.{is_fault}
 use Rattle.session.specs.Maps.{nothing}
 use Rattle.session.proofs.Loops.{served_none}
 use Rattle.session.specs.Runs.{runs_of}

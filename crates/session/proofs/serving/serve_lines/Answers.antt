@@ -1,5 +1,5 @@
 use Rattle.std.proofs.Common.{◌∙◌, Err, ap, arith}
-use Rattle.console.proofs.Faults.{is_fault}
+use Rattle.sources.proofs.Faults.{is_fault}
 use Rattle.graph.proofs.Writing.{keeps}
 use Rattle.session.specs.inside.Seen.{maps_of}
 use Rattle.session.proofs.Loops.{bytes_so, gets_none, gets_some, served_break, served_end, served_quit, served_read, serving_more}

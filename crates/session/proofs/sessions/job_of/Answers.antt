@@ -1,7 +1,7 @@
 use Rattle.std.proofs.Common.{◌≡◌, Some}
 use Rattle.superstep.specs.Settings.{first_bad}
-use Rattle.console.specs.declared.fault.CommandFault.TheVariants as command
-use Rattle.console.specs.Jobs.{RefusesSettings}
+use Rattle.sources.specs.declared.fault.CommandFault.TheVariants as command
+use Rattle.sources.specs.Jobs.{RefusesSettings}
 use Rattle.session.specs.inside.Seen.{reply_text}
 use Rattle.session.proofs.Answering.{told_of}
 use Rattle.session.proofs.sessions.job_of.Goals as goal

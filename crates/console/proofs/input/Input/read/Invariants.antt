@@ -1,7 +1,0 @@
-use Rattle.std.proofs.Common.{length, take}
-use Rattle.console.specs.Input.{Says}
-use Rattle.console.specs.InputSays.{lines_of}
-use Rattle.console.proofs.input.Input.read.Given as goal
-
-abbrev pub invariant-loop-index : goal.invariant-loop-index
-invariant-loop-index l = Says (take (length l.yielded) (lines_of l.text)) l.input

@@ -1,0 +1,5 @@
+pub mod TextLines
+pub mod InputLines
+pub mod Meanings
+pub mod Faults
+pub mod Disks

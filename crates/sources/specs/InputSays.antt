@@ -1,0 +1,87 @@
+-- What lines say, one after another.
+use Rattle.std.specs.Prelude.{◌≡◌, ◌≤◌, ℕ, ℤ, nat_lt, Bool, true, false, List, [], ◌∷◌, map, length, slice_set}
+use Rattle.std.specs.List.{All, flat_map, fold}
+use Rattle.std.specs.Str.Lines.{lines}
+use Rattle.host_calls.specs.declared.call.TheConstants.{SLOTS}
+use Rattle.sources.specs.InputLine.{line_of}
+use Rattle.sources.specs.declared.input_line.Line.{Line}
+use Rattle.sources.specs.declared.input_line.Line.TheVariants.{Id, Superstep, Count, Value, Message, Edge, Aggregate, Bad}
+
+-- what the lines of a text say, from the top: a line ends with a line feed, and a carriage return before that belongs to
+-- the end; the last line may have no end
+abbrev pub lines_of : List ℕ → List Line
+lines_of text = map line_of (lines text)
+
+-- ---- what a line says of each
+
+abbrev pub id_by : Line → List ℕ
+id_by (Id id) = id ∷ []
+id_by _ = []
+
+abbrev pub superstep_by : Line → List ℕ
+superstep_by (Superstep superstep) = superstep ∷ []
+superstep_by _ = []
+
+abbrev pub count_by : Line → List ℕ
+count_by (Count count) = count ∷ []
+count_by _ = []
+
+abbrev pub value_by : Line → List ℤ
+value_by (Value value) = value ∷ []
+value_by _ = []
+
+abbrev pub message_by : Line → List ℤ
+message_by (Message value) = value ∷ []
+message_by _ = []
+
+abbrev pub edge_by : Line → List (ℕ × ℤ)
+edge_by (Edge target value) = (target, value) ∷ []
+edge_by _ = []
+
+abbrev pub slot_by : Line → List (ℕ × ℤ)
+slot_by (Aggregate slot value) = (slot, value) ∷ []
+slot_by _ = []
+
+-- a line that says something or is skipped, and names a slot that there is
+abbrev pub is_good : Line → Bool
+is_good Bad = false
+is_good (Aggregate slot value) = nat_lt slot SLOTS
+is_good _ = true
+
+-- ---- what lines say
+
+abbrev pub all_ids : List Line → List ℕ
+all_ids lines = flat_map id_by lines
+
+abbrev pub all_supersteps : List Line → List ℕ
+all_supersteps lines = flat_map superstep_by lines
+
+abbrev pub all_counts : List Line → List ℕ
+all_counts lines = flat_map count_by lines
+
+abbrev pub all_values : List Line → List ℤ
+all_values lines = flat_map value_by lines
+
+abbrev pub all_messages : List Line → List ℤ
+all_messages lines = flat_map message_by lines
+
+abbrev pub all_edges : List Line → List (ℕ × ℤ)
+all_edges lines = flat_map edge_by lines
+
+abbrev pub all_slots : List Line → List (ℕ × ℤ)
+all_slots lines = flat_map slot_by lines
+
+abbrev pub set_slot : List ℤ → ℕ × ℤ → List ℤ
+set_slot slots said = slice_set slots said.0 said.1
+
+-- the slots from these on, each as the last that is said of it
+abbrev pub slots_after : List ℤ → List (ℕ × ℤ) → List ℤ
+slots_after slots said = fold set_slot slots said
+
+-- The lines are those of an input: each is good, and what may be said once is not said twice.
+pub record AreInput (lines : List Line) : Type 0 where
+  pub good : All (λ line. is_good line ≡ true) lines
+  pub one_id : length (all_ids lines) ≤ 1
+  pub one_superstep : length (all_supersteps lines) ≤ 1
+  pub one_count : length (all_counts lines) ≤ 1
+  pub one_value : length (all_values lines) ≤ 1

@@ -1,0 +1,57 @@
+-- What reading a file gives, and why reading or writing one fails.
+use Rattle.std.specs.Prelude.{◌≡◌, ◌⊎◌, ℕ, Bool, true, false, List, Some, None}
+use Rattle.std.specs.Str.{IsUtf8}
+use Rattle.wasm_ast.specs.declared.module.Module.{Module}
+use Rattle.graph.specs.Entry.{Entry}
+use Rattle.sources.specs.declared.fault.CommandFault.{CommandFault}
+use Rattle.sources.specs.declared.fault.CommandFault.TheVariants as command
+use Rattle.sources.specs.declared.sources.Source.{Source}
+use Rattle.sources.specs.Disk.{Disk, HoldsAt}
+use Rattle.sources.specs.Modules.{Loads, is_text_path}
+use Rattle.sources.specs.Source.{content, is_text}
+use Rattle.sources.specs.Jobs.{IsGraphIn, RefusesGraph}
+
+-- ---- what a file has
+
+-- the file at the path has this of a module
+pub record HoldsSource (disk : Disk) (path : List ℕ) (source : Source) : Type 0 where
+  pub kind : is_text source ≡ is_text_path path
+  pub held : disk.holds path (Some (content source))
+
+-- the file's module is loaded
+abbrev pub IsLoadedAt : Disk → (path : List ℕ) → Module → Type 0
+IsLoadedAt disk path m = HoldsAt disk path (λ content. Loads (is_text_path path) content m)
+
+-- the file's text means this graph
+abbrev pub IsReadAt : Disk → (path : List ℕ) → List Entry → Type 0
+IsReadAt disk path graph = HoldsAt disk path (λ text. IsGraphIn text graph)
+
+-- ---- why it is not read or written
+
+-- there is no file to be read at the path; a text has to be in UTF-8
+abbrev pub IsNoFile : (is_text : Bool) → Disk → List ℕ → Type 0
+IsNoFile true disk path = disk.holds path None ⊎ HoldsAt disk path (λ bytes. ¬ (IsUtf8 bytes))
+IsNoFile false disk path = disk.holds path None
+
+-- reading the file at the path, as a text or as bytes, came to this
+abbrev pub IsUnread : (is_text : Bool) → Disk → List ℕ → CommandFault → Type 0
+IsUnread is_text disk path (command.Unread missing) = (missing.now ≡ path) × IsNoFile is_text disk path
+IsUnread is_text disk path command.OutOfMemory = Unit {0}
+IsUnread is_text disk path _ = ⊥
+
+-- the module's file is not read, or what is in it is refused like this
+abbrev pub IsRefusedAt : Disk → (module_path : List ℕ) → (refuses : (is_text : Bool) → List ℕ → CommandFault → Type 0)
+    → CommandFault → Type 0
+IsRefusedAt disk module_path refuses fault =
+    IsUnread (is_text_path module_path) disk module_path fault
+    ⊎ HoldsAt disk module_path (λ content. refuses (is_text_path module_path) content fault)
+
+-- the graph's file is not read, or what is in it means no graph
+abbrev pub IsNoGraphAt : Disk → (path : List ℕ) → CommandFault → Type 0
+IsNoGraphAt disk path fault = IsUnread true disk path fault ⊎ HoldsAt disk path (λ text. RefusesGraph text fault)
+
+-- writing to the file at the path came to this
+abbrev pub IsUnwritable : Disk → List ℕ → CommandFault → Type 0
+IsUnwritable disk path (command.Unwritable refused) = (refused.now ≡ path) × disk.refuses path
+IsUnwritable disk path command.OutOfMemory = Unit {0}
+IsUnwritable disk path _ = ⊥

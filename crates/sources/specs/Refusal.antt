@@ -1,0 +1,112 @@
+-- How a fault of a command is told: the status of the process, and the line without its end.
+use Rattle.std.specs.Prelude.{ℕ, List, ◌++◌, codes}
+use Rattle.std.specs.Fmt.{decimal}
+use Rattle.wasm_decode.specs.Faults.{fault_text as decode_text}
+use Rattle.validate.specs.Faults.{fault_text as invalid_text}
+use Rattle.bounded_profile.specs.FaultText.{fault_text as unbounded_text}
+use Rattle.wasm_decode.specs.declared.encoder.fault.EncodeFault.{EncodeFault}
+use Rattle.wasm_decode.specs.declared.encoder.fault.EncodeFault.TheVariants as encode
+use Rattle.wat_asm.specs.declared.fault.Position.{Position}
+use Rattle.wat_asm.specs.declared.fault.TextFault.{TextFault}
+use Rattle.wat_asm.specs.declared.fault.TextFault.TheVariants as text
+use Rattle.graph.specs.declared.fault.GraphFault.{GraphFault}
+use Rattle.graph.specs.declared.fault.GraphFault.TheVariants as graph
+use Rattle.superstep.specs.declared.fault.JobFault.{JobFault}
+use Rattle.superstep.specs.declared.fault.JobFault.TheVariants as job
+use Rattle.superstep.specs.declared.settings.Setting.{Setting}
+use Rattle.superstep.specs.declared.settings.Setting.TheVariants as setting
+use Rattle.checkpoint.specs.declared.fault.CheckFault.{CheckFault}
+use Rattle.checkpoint.specs.declared.fault.CheckFault.TheVariants as checkpoint
+use Rattle.sources.specs.declared.input.InputFault.{InputFault}
+use Rattle.sources.specs.declared.input.InputFault.TheVariants as input
+use Rattle.sources.specs.declared.fault.CommandFault.{CommandFault}
+use Rattle.sources.specs.declared.fault.CommandFault.TheVariants as command
+
+-- a file's fault is a mistake of another kind than a refusal, and so is a job's end by a fault
+abbrev pub status_of : CommandFault → ℕ
+status_of (command.Job fault) = 3
+status_of (command.Unread path) = 4
+status_of (command.Unwritable path) = 4
+status_of _ = 1
+
+-- ---- the line
+
+-- a word, and a place in a text
+abbrev pub word_at_position : List ℕ → Position → List ℕ
+word_at_position word place = word ++ codes " " ++ decimal place.line ++ codes " " ++ decimal place.column
+
+abbrev pub text_fault_text : TextFault → List ℕ
+text_fault_text (text.Lex place) = word_at_position (codes "Lex") place
+text_fault_text (text.Syntax place) = word_at_position (codes "Syntax") place
+text_fault_text (text.UnknownName place) = word_at_position (codes "UnknownName") place
+text_fault_text (text.DuplicateName place) = word_at_position (codes "DuplicateName") place
+text_fault_text (text.NumberRange place) = word_at_position (codes "NumberRange") place
+text_fault_text (text.TypeUse place) = word_at_position (codes "TypeUse") place
+text_fault_text (text.Unsupported place) = word_at_position (codes "Unsupported") place
+text_fault_text (text.OverLimit place) = word_at_position (codes "OverLimit") place
+text_fault_text text.OutOfMemory = codes "OutOfMemory - -"
+
+-- the number of the line that an input may not have
+abbrev pub input_text : InputFault → List ℕ
+input_text (input.Line number) = codes "no input " ++ decimal number
+input_text input.OutOfMemory = codes "no memory"
+
+-- a word, and the number of the line
+abbrev pub word_of_line : List ℕ → ℕ → List ℕ
+word_of_line word number = codes "no graph " ++ word ++ codes " " ++ decimal number
+
+abbrev pub graph_text : GraphFault → List ℕ
+graph_text (graph.Line number) = word_of_line (codes "Line") number
+graph_text (graph.DuplicateVertex number) = word_of_line (codes "DuplicateVertex") number
+graph_text (graph.UnknownEnd number) = word_of_line (codes "UnknownEnd") number
+graph_text (graph.Number number) = word_of_line (codes "Number") number
+graph_text (graph.OverLimit number) = word_of_line (codes "OverLimit") number
+graph_text graph.OutOfMemory = codes "no graph OutOfMemory -"
+
+abbrev pub setting_word : Setting → List ℕ
+setting_word setting.Parts = codes "parts"
+setting_word setting.Workers = codes "workers"
+setting_word setting.Every = codes "every"
+setting_word setting.Limit = codes "limit"
+setting_word setting.Lease = codes "lease"
+
+-- how a job without an answer ended
+abbrev pub job_text : JobFault → List ℕ
+job_text (job.OutOfMemory place) = codes "end fault OutOfMemory"
+job_text job.NoWorkers = codes "end fault NoWorkers"
+job_text (job.Settings which) = codes "end fault Settings"
+job_text job.ThreadRefused = codes "end fault ThreadRefused"
+job_text job.Closed = codes "end fault Closed"
+
+abbrev pub checkpoint_text : CheckFault → List ℕ
+checkpoint_text checkpoint.Header = codes "no checkpoint Header"
+checkpoint_text checkpoint.Version = codes "no checkpoint Version"
+checkpoint_text checkpoint.Truncated = codes "no checkpoint Truncated"
+checkpoint_text checkpoint.Digest = codes "no checkpoint Digest"
+checkpoint_text checkpoint.Order = codes "no checkpoint Order"
+checkpoint_text checkpoint.OutOfMemory = codes "no checkpoint OutOfMemory"
+
+-- the module has no spelling that is short enough
+abbrev pub encode_text : EncodeFault → List ℕ
+encode_text encode.OverLimit = codes "no encode OverLimit"
+encode_text encode.OutOfMemory = codes "no encode OutOfMemory"
+
+abbrev pub file_text : List ℕ → List ℕ
+file_text path = codes "no file " ++ path
+
+abbrev pub fault_text : CommandFault → List ℕ
+fault_text (command.Decode fault) = codes "no decode " ++ decode_text fault
+fault_text (command.Text fault) = codes "no text " ++ text_fault_text fault
+fault_text (command.Invalid fault) = codes "no valid " ++ invalid_text fault
+fault_text (command.Unbounded fault) = codes "no profile " ++ unbounded_text fault
+fault_text (command.Input fault) = input_text fault
+fault_text command.Run = codes "no run OutOfMemory"
+fault_text command.Loss = codes "no input lose"
+fault_text (command.Graph fault) = graph_text fault
+fault_text (command.Settings which) = codes "no settings " ++ setting_word which
+fault_text (command.Job fault) = job_text fault
+fault_text (command.Checkpoint fault) = checkpoint_text fault
+fault_text (command.Encode fault) = encode_text fault
+fault_text (command.Unread path) = file_text path.now
+fault_text (command.Unwritable path) = file_text path.now
+fault_text command.OutOfMemory = codes "no memory"

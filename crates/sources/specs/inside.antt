@@ -1,0 +1,2 @@
+-- What the steps of the code answer. No contract of a public function cites these.
+pub mod Adding

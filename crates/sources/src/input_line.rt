@@ -1,0 +1,98 @@
+//! What one line of an input says.
+
+ghost use Rattle.std.specs.Prelude.{◌≡◌};
+ghost use Rattle.sources.specs.InputLine.{line_of, long_line, short_line, small_of};
+
+use graph::{Fields, id_of, number_of};
+
+/// What a line says.
+#[derive(Clone, Copy)]
+pub enum Line {
+    /// It is blank, or a comment.
+    Skipped,
+    /// `id N`.
+    Id(u64),
+    /// `superstep N`.
+    Superstep(u32),
+    /// `count N`.
+    Count(u32),
+    /// `value V`.
+    Value(i64),
+    /// `message V`.
+    Message(i64),
+    /// `edge TARGET V`.
+    Edge(u64, i64),
+    /// `aggregate SLOT V`. There may be no such slot.
+    Aggregate(u32, i64),
+    /// It is no line of an input.
+    Bad,
+}
+
+/// What a line says, without its end.
+pub fn line_of(line: &str) -> Line
+    ensures { result ≡ line_of line.now }
+{
+    if line.starts_with('#') {
+        return Line::Skipped;
+    }
+    let mut fields = Fields::new(line);
+    let Some(name) = fields.next() else {
+        return Line::Skipped;
+    };
+    let Some(first) = fields.next() else {
+        return Line::Bad;
+    };
+    let Some(second) = fields.next() else {
+        return short_line(name, first);
+    };
+    if fields.next().is_some() {
+        return Line::Bad;
+    }
+    long_line(name, first, second)
+}
+
+// A line of a name and one number.
+fn short_line(name: &[u8], number: &[u8]) -> Line
+    ensures { result ≡ short_line name.now number.now }
+{
+    if name == b"id".as_slice() {
+        return id_of(number).map_or(Line::Bad, Line::Id);
+    }
+    if name == b"superstep".as_slice() {
+        return small_of(number).map_or(Line::Bad, Line::Superstep);
+    }
+    if name == b"count".as_slice() {
+        return small_of(number).map_or(Line::Bad, Line::Count);
+    }
+    if name == b"value".as_slice() {
+        return number_of(number).map_or(Line::Bad, Line::Value);
+    }
+    if name == b"message".as_slice() {
+        return number_of(number).map_or(Line::Bad, Line::Message);
+    }
+    Line::Bad
+}
+
+// A line of a name and two numbers.
+fn long_line(name: &[u8], first: &[u8], second: &[u8]) -> Line
+    ensures { result ≡ long_line name.now first.now second.now }
+{
+    let Some(value) = number_of(second) else {
+        return Line::Bad;
+    };
+    if name == b"edge".as_slice() {
+        return id_of(first).map_or(Line::Bad, |target| Line::Edge(target, value));
+    }
+    if name == b"aggregate".as_slice() {
+        return small_of(first).map_or(Line::Bad, |slot| Line::Aggregate(slot, value));
+    }
+    Line::Bad
+}
+
+/// The number that a field writes: decimal digits of a number of 32 bits.
+pub fn small_of(field: &[u8]) -> Option<u32>
+    ensures { result ≡ small_of field.now }
+{
+    let number = id_of(field)?;
+    u32::try_from(number).ok()
+}

@@ -1,0 +1,24 @@
+//! What bytes and a text mean.
+
+ghost use Rattle.std.specs.Prelude.{◌≡◌, true, false, List, ℕ};
+ghost use Rattle.wasm_ast.specs.declared.module.Module.{Module as AnyModule};
+ghost use Rattle.host_calls.specs.declared.call.CallInput.{CallInput as AnyInput};
+ghost use Rattle.sources.specs.Input.{Means, SameInput};
+ghost use Rattle.sources.specs.Modules.{IsLayoutOf, IsModuleOf, is_text_path};
+
+use wasm_decode::spells_one_module;
+
+/// A text means one input.
+pub fn means_what_lines_say()
+    ensures { (text : List ℕ) (a b : AnyInput) → Means text a → Means text b → SameInput a b }
+{}
+
+/// A binary file means one module, and so does a text that is what is printed of a module: it means that one.
+pub fn means_one_module()
+    ensures binary { (path content : List ℕ) (m n : AnyModule) → is_text_path path ≡ false
+        → IsModuleOf path content m → IsModuleOf path content n → m ≡ n }
+    ensures printed { (path content : List ℕ) (m n : AnyModule) → is_text_path path ≡ true
+        → IsLayoutOf n content → IsModuleOf path content m → m ≡ n }
+{
+    spells_one_module();
+}

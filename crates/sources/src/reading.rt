@@ -1,0 +1,59 @@
+//! The modules and graphs in files.
+
+ghost use Rattle.std.specs.Prelude.{MatchResult};
+ghost use Rattle.sources.specs.Disk.{Stays};
+ghost use Rattle.sources.specs.Modules.{IsModuleAt};
+ghost use Rattle.sources.specs.Reading.{IsLoadedAt, IsNoGraphAt, IsReadAt, IsRefusedAt};
+ghost use Rattle.sources.specs.Source.{RefusesLoad, RefusesModule};
+
+use crate::fault::CommandFault;
+use crate::files::Files;
+use crate::modules::{load, module_of};
+use crate::sources::{read_source, read_text};
+use bounded_profile::Verified;
+use graph::Graph;
+use std::alloc::Global;
+use wasm_ast::Module;
+
+/// The module in a file.
+pub fn read_module<'a, F: Files>(
+    alloc: Global,
+    path: &'a str,
+    files: &mut F,
+) -> Result<Module, CommandFault<'a>>
+    ensures found { MatchResult result (IsModuleAt (F.disk files.old) path.now)
+        (IsRefusedAt (F.disk files.old) path.now RefusesModule) }
+    ensures kept { Stays (F.disk files.old) (F.disk files.new) }
+{
+    let source = read_source(alloc, path, files)?;
+    module_of(alloc, &source)
+}
+
+/// The module in a file, verified.
+pub fn load_file<'a, F: Files>(
+    alloc: Global,
+    path: &'a str,
+    files: &mut F,
+) -> Result<Verified, CommandFault<'a>>
+    ensures found { MatchResult result (IsLoadedAt (F.disk files.old) path.now)
+        (IsRefusedAt (F.disk files.old) path.now RefusesLoad) }
+    ensures kept { Stays (F.disk files.old) (F.disk files.new) }
+{
+    let source = read_source(alloc, path, files)?;
+    load(alloc, &source)
+}
+
+/// The graph in a file.
+pub fn read_graph<'a, F: Files>(
+    alloc: Global,
+    path: &'a str,
+    files: &mut F,
+) -> Result<Graph, CommandFault<'a>>
+    ensures found { MatchResult result (IsReadAt (F.disk files.old) path.now)
+        (IsNoGraphAt (F.disk files.old) path.now) }
+    ensures kept { Stays (F.disk files.old) (F.disk files.new) }
+{
+    let text = read_text(alloc, path, files)?;
+    let graph = Graph::read(alloc, text.as_str())?;
+    Ok(graph)
+}

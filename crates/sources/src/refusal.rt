@@ -1,0 +1,181 @@
+//! How a refusal is told.
+
+ghost use Rattle.std.specs.Prelude.{◌≡◌, ◌++◌, IfOk, Some, codes, string_bytes};
+ghost use Rattle.std.specs.Fmt.{DisplaysOnOk};
+ghost use Rattle.sources.specs.Lines.{line};
+ghost use Rattle.sources.specs.Refusal.{checkpoint_text, encode_text, fault_text, file_text, graph_text, input_text, job_text, setting_word, text_fault_text, word_at_position, word_of_line};
+
+use crate::fault::CommandFault;
+use crate::input::InputFault;
+use checkpoint::CheckFault;
+use graph::GraphFault;
+use std::alloc::{AllocError, Global};
+use std::fmt;
+use superstep::{JobFault, Setting};
+use wasm_decode::EncodeFault;
+use wat_asm::{Position, TextFault};
+
+/// The line that tells of a fault, with its end: `no decode WORD PLACE`, `no text WORD LINE COLUMN`,
+/// `no valid WORD FUNC INSTR`, `no profile RULE FUNC INSTR`, `no profile P12` and the numbers of the cycle, `no input LINE`, `no input lose`,
+/// `no run OutOfMemory`, `no graph WORD LINE`, `no settings WHICH`, `end fault WORD`, `no checkpoint WORD`, `no encode WORD`,
+/// `no file PATH` or `no memory`. FUNC, INSTR, PLACE and the LINE of a graph are `-` where there is none.
+pub fn refusal_line(alloc: Global, fault: &CommandFault) -> Result<String, AllocError>
+    ensures { IfOk result (λ text. string_bytes text ≡ line (fault_text fault.now)) }
+{
+    let mut text = String::new(alloc);
+    writeln!(text, "{fault}")?;
+    Ok(text)
+}
+
+impl fmt::Display for CommandFault<'_> {
+    ghost output = { λ fault. Some (fault_text fault) };
+
+    fn fmt<W: fmt::Write>(&self, f: &mut fmt::Formatter<W>) -> fmt::Result {
+        match self {
+            CommandFault::Decode(fault) => write!(f, "no decode {fault}"),
+            CommandFault::Text(fault) => tell_text_fault(fault, f),
+            CommandFault::Invalid(fault) => write!(f, "no valid {fault}"),
+            CommandFault::Unbounded(fault) => write!(f, "no profile {fault}"),
+            CommandFault::Input(fault) => tell_input_fault(*fault, f),
+            CommandFault::Run => f.write_str("no run OutOfMemory"),
+            CommandFault::Loss => f.write_str("no input lose"),
+            CommandFault::Graph(fault) => tell_graph_fault(*fault, f),
+            CommandFault::Settings(setting) => tell_setting(*setting, f),
+            CommandFault::Job(fault) => f.write_str(job_line(*fault)),
+            CommandFault::Checkpoint(fault) => f.write_str(checkpoint_line(*fault)),
+            CommandFault::Encode(fault) => f.write_str(encode_line(*fault)),
+            CommandFault::Unread(path) => tell_file(path, f),
+            CommandFault::Unwritable(path) => tell_file(path, f),
+            CommandFault::OutOfMemory => f.write_str("no memory"),
+        }
+    }
+}
+
+fn tell_file<W: fmt::Write>(path: &str, f: &mut fmt::Formatter<W>) -> fmt::Result
+    ensures { DisplaysOnOk W.write_str_gives f.old result (Some (file_text path.now)) f.new }
+{
+    write!(f, "no file {path}")
+}
+
+fn tell_text_fault<W: fmt::Write>(fault: &TextFault, f: &mut fmt::Formatter<W>) -> fmt::Result
+    ensures { DisplaysOnOk W.write_str_gives f.old result
+        (Some (codes "no text " ++ text_fault_text fault.now)) f.new }
+{
+    f.write_str("no text ")?;
+    tell_text_word(fault, f)
+}
+
+// The fault's word and its place in the text.
+fn tell_text_word<W: fmt::Write>(fault: &TextFault, f: &mut fmt::Formatter<W>) -> fmt::Result
+    ensures { DisplaysOnOk W.write_str_gives f.old result (Some (text_fault_text fault.now)) f.new }
+{
+    match fault {
+        TextFault::Lex(place) => tell_word_at("Lex", place, f),
+        TextFault::Syntax(place) => tell_word_at("Syntax", place, f),
+        TextFault::UnknownName(place) => tell_word_at("UnknownName", place, f),
+        TextFault::DuplicateName(place) => tell_word_at("DuplicateName", place, f),
+        TextFault::NumberRange(place) => tell_word_at("NumberRange", place, f),
+        TextFault::TypeUse(place) => tell_word_at("TypeUse", place, f),
+        TextFault::Unsupported(place) => tell_word_at("Unsupported", place, f),
+        TextFault::OverLimit(place) => tell_word_at("OverLimit", place, f),
+        TextFault::OutOfMemory => f.write_str("OutOfMemory - -"),
+    }
+}
+
+fn tell_word_at<W: fmt::Write>(
+    word: &str,
+    place: &Position,
+    f: &mut fmt::Formatter<W>,
+) -> fmt::Result
+    ensures { DisplaysOnOk W.write_str_gives f.old result
+        (Some (word_at_position word.now place.now)) f.new }
+{
+    write!(f, "{word} {} {}", place.line, place.column)
+}
+
+// The number of the line, or want of memory.
+fn tell_input_fault<W: fmt::Write>(fault: InputFault, f: &mut fmt::Formatter<W>) -> fmt::Result
+    ensures { DisplaysOnOk W.write_str_gives f.old result (Some (input_text fault)) f.new }
+{
+    match fault {
+        InputFault::Line(line) => write!(f, "no input {line}"),
+        InputFault::OutOfMemory => f.write_str("no memory"),
+    }
+}
+
+fn tell_graph_fault<W: fmt::Write>(fault: GraphFault, f: &mut fmt::Formatter<W>) -> fmt::Result
+    ensures { DisplaysOnOk W.write_str_gives f.old result (Some (graph_text fault)) f.new }
+{
+    match fault {
+        GraphFault::Line(line) => tell_word_of_line("Line", line, f),
+        GraphFault::DuplicateVertex(line) => tell_word_of_line("DuplicateVertex", line, f),
+        GraphFault::UnknownEnd(line) => tell_word_of_line("UnknownEnd", line, f),
+        GraphFault::Number(line) => tell_word_of_line("Number", line, f),
+        GraphFault::OverLimit(line) => tell_word_of_line("OverLimit", line, f),
+        GraphFault::OutOfMemory => f.write_str("no graph OutOfMemory -"),
+    }
+}
+
+fn tell_word_of_line<W: fmt::Write>(
+    word: &str,
+    line: usize,
+    f: &mut fmt::Formatter<W>,
+) -> fmt::Result
+    ensures { DisplaysOnOk W.write_str_gives f.old result
+        (Some (word_of_line word.now line)) f.new }
+{
+    write!(f, "no graph {word} {line}")
+}
+
+fn tell_setting<W: fmt::Write>(setting: Setting, f: &mut fmt::Formatter<W>) -> fmt::Result
+    ensures { DisplaysOnOk W.write_str_gives f.old result
+        (Some (codes "no settings " ++ setting_word setting)) f.new }
+{
+    write!(f, "no settings {}", setting_word(setting))
+}
+
+fn setting_word(setting: Setting) -> &'static str
+    ensures { result.now ≡ setting_word setting }
+{
+    match setting {
+        Setting::Parts => "parts",
+        Setting::Workers => "workers",
+        Setting::Every => "every",
+        Setting::Limit => "limit",
+        Setting::Lease => "lease",
+    }
+}
+
+fn job_line(fault: JobFault) -> &'static str
+    ensures { result.now ≡ job_text fault }
+{
+    match fault {
+        JobFault::OutOfMemory(_) => "end fault OutOfMemory",
+        JobFault::NoWorkers => "end fault NoWorkers",
+        JobFault::Settings(_) => "end fault Settings",
+        JobFault::ThreadRefused => "end fault ThreadRefused",
+        JobFault::Closed => "end fault Closed",
+    }
+}
+
+fn checkpoint_line(fault: CheckFault) -> &'static str
+    ensures { result.now ≡ checkpoint_text fault }
+{
+    match fault {
+        CheckFault::Header => "no checkpoint Header",
+        CheckFault::Version => "no checkpoint Version",
+        CheckFault::Truncated => "no checkpoint Truncated",
+        CheckFault::Digest => "no checkpoint Digest",
+        CheckFault::Order => "no checkpoint Order",
+        CheckFault::OutOfMemory => "no checkpoint OutOfMemory",
+    }
+}
+
+fn encode_line(fault: EncodeFault) -> &'static str
+    ensures { result.now ≡ encode_text fault }
+{
+    match fault {
+        EncodeFault::OverLimit => "no encode OverLimit",
+        EncodeFault::OutOfMemory => "no encode OutOfMemory",
+    }
+}

@@ -1,0 +1,99 @@
+//! What a command reads of files, and writes to them.
+
+ghost use Rattle.std.specs.Prelude.{◌≡◌, Some, OnErr, OnOk, IfErr, MatchResult, false, string_bytes, true};
+ghost use Rattle.sources.specs.Disk.{Stays, Tries, Writes};
+ghost use Rattle.sources.specs.Modules.{is_text_path};
+ghost use Rattle.sources.specs.Reading.{HoldsSource, IsUnread, IsUnwritable};
+
+use crate::fault::CommandFault;
+use crate::files::{FileFault, Files};
+use std::alloc::Global;
+
+/// What a file has of a module.
+#[derive(Drop)]
+pub enum Source {
+    /// Its text (Core 1.0, section 6).
+    Text(String),
+    /// Its bytes (section 5).
+    Binary(Vec<u8>),
+}
+
+/// What the file of a module has: one whose path ends in `.wat` has its text, and any other its bytes.
+pub fn read_source<'a, F: Files>(
+    alloc: Global,
+    path: &'a str,
+    files: &mut F,
+) -> Result<Source, CommandFault<'a>>
+    ensures found { MatchResult result (HoldsSource (F.disk files.old) path.now)
+        (IsUnread (is_text_path path.now) (F.disk files.old) path.now) }
+    ensures kept { Stays (F.disk files.old) (F.disk files.new) }
+{
+    if is_text_path(path) {
+        let text = read_text(alloc, path, files)?;
+        Ok(Source::Text(text))
+    } else {
+        let bytes = read_bytes(alloc, path, files)?;
+        Ok(Source::Binary(bytes))
+    }
+}
+
+/// Whether the file of a module has its text: where its path ends in `.wat`.
+#[tactic(auto, using(std::proofs::lemmas::Str::Pattern::ends_text))]
+pub fn is_text_path(path: &str) -> bool
+    ensures { result ≡ is_text_path path.now }
+{
+    path.ends_with(".wat")
+}
+
+/// The text of a file, which has to be in UTF-8.
+pub fn read_text<'a, F: Files>(
+    alloc: Global,
+    path: &'a str,
+    files: &mut F,
+) -> Result<String, CommandFault<'a>>
+    ensures found { MatchResult result
+        (λ text. (F.disk files.old).holds path.now (Some (string_bytes text)))
+        (IsUnread true (F.disk files.old) path.now) }
+    ensures kept { Stays (F.disk files.old) (F.disk files.new) }
+{
+    let bytes = read_bytes(alloc, path, files)?;
+    match String::from_utf8(bytes) {
+        Ok(text) => Ok(text),
+        Err(_) => Err(CommandFault::Unread(path)),
+    }
+}
+
+/// The bytes of a file.
+pub fn read_bytes<'a, F: Files>(
+    alloc: Global,
+    path: &'a str,
+    files: &mut F,
+) -> Result<Vec<u8>, CommandFault<'a>>
+    ensures found { MatchResult result
+        (λ bytes. (F.disk files.old).holds path.now (Some bytes.items))
+        (IsUnread false (F.disk files.old) path.now) }
+    ensures kept { Stays (F.disk files.old) (F.disk files.new) }
+{
+    files.read(alloc, path).map_err(|fault| match fault {
+        FileFault::Device => CommandFault::Unread(path),
+        FileFault::OutOfMemory => CommandFault::OutOfMemory,
+    })
+}
+
+/// Makes these bytes the file at a path.
+pub fn write<'a, F: Files>(
+    path: &'a str,
+    bytes: &[u8],
+    files: &mut F,
+) -> Result<(), CommandFault<'a>>
+    ensures written { OnOk result
+        (Writes path.now bytes.now (F.disk files.old) (F.disk files.new)) }
+    ensures tried { OnErr result
+        (Tries path.now bytes.now (F.disk files.old) (F.disk files.new)) }
+    ensures refused { IfErr result (IsUnwritable (F.disk files.old) path.now) }
+{
+    files.write(path, bytes).map_err(|fault| match fault {
+        FileFault::Device => CommandFault::Unwritable(path),
+        FileFault::OutOfMemory => CommandFault::OutOfMemory,
+    })
+}

@@ -1,8 +1,7 @@
 -- What the program tells of a command over files.
-use Rattle.std.specs.Prelude.{◌≡◌, ℕ, ◌<◌, ◌≤◌, ◌⊎◌, Bool, true, false, List, ◌++◌, Option, None, Result, Ok, MatchResult, codes, length}
+use Rattle.std.specs.Prelude.{◌≡◌, ℕ, ◌<◌, ◌≤◌, ◌⊎◌, Bool, true, false, List, ◌++◌, Option, Result, Ok, MatchResult, codes, length}
 use Rattle.std.specs.Fmt.{decimal}
 use Rattle.std.specs.Io.KnownBytes.{Appends}
-use Rattle.std.specs.Str.{IsUtf8}
 use Rattle.wasm_ast.specs.declared.module.Module.{Module}
 use Rattle.wasm_ast.specs.Limits.{max_module_bytes}
 use Rattle.wasm_decode.specs.Canonical.{canonical}
@@ -30,7 +29,7 @@ use Rattle.sources.specs.Modules.{IsModuleAt, Loads, MeansBy, is_text_path}
 use Rattle.sources.specs.Refusal.{fault_text, status_of}
 use Rattle.sources.specs.Source.{RefusesLoad, RefusesModule}
 use Rattle.console.specs.Engine.{IsAnswer, RefusesText}
-use Rattle.sources.specs.Jobs.{IsGraphIn, IsJobOf, RefusesGraph, RefusesSettings}
+use Rattle.sources.specs.Jobs.{IsJobOf, RefusesSettings}
 use Rattle.console.specs.Jobs.{AreRunLines, IsFaultOfRun}
 use Rattle.console.specs.Loss.{NamesLoss, RefusesLoss}
 use Rattle.console.specs.Replays.{AreReplayLines, IsFaultOfReplay}

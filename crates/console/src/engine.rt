@@ -1,6 +1,6 @@
 //! A compute call, from a module's text or bytes and an input's text to printed lines.
 
-ghost use Rattle.std.specs.Prelude.{◌≡◌, List, ℕ, IfOk, IfErr};
+ghost use Rattle.std.specs.Prelude.{List, ℕ, IfOk, IfErr};
 ghost use Rattle.wasm_ast.specs.declared.module.Module.{Module as AnyModule};
 ghost use Rattle.interp.specs.Bounded.{HasIds};
 ghost use Rattle.interp.specs.Call.{IsOutcome};

@@ -8,9 +8,8 @@ ghost use Rattle.sources.specs.Disk.{Stays, Tries};
 ghost use Rattle.console.specs.Jobs.{AreRunLines, IsFaultOfRun};
 ghost use Rattle.sources.specs.Lines.{IfTold};
 ghost use Rattle.console.specs.Loss.{NamesLoss, RefusesLoss};
-ghost use Rattle.sources.specs.Modules.{IsModuleAt};
 ghost use Rattle.sources.specs.Source.{RefusesLoad, RefusesModule};
-ghost use Rattle.sources.specs.Reading.{IsLoadedAt, IsNoGraphAt, IsReadAt, IsRefusedAt, IsUnwritable};
+ghost use Rattle.sources.specs.Reading.{IsRefusedAt, IsUnwritable};
 ghost use Rattle.console.specs.Program.{Answered, AreStepsAt, IsBoundsLine, IsCause, IsJobAt, IsKeptAt, IsNoCheckpointAt, IsNoStepsAt, IsNotUpgraded, IsTold, IsUnassembled, IsUncalled, IsUnopened, IsUnreplayed, IsUnrun, IsUnspelled, MayTry, StaysBeforeWriting, TellsBounds, TellsLayout, TellsLength, TellsOutcome, TellsReplay, TellsRun, TellsSpelling, TellsUpgraded, TellsWritten, Told, TriesSpelling, TriesUpgraded, bounds_line, length_line, writes_file};
 ghost use Rattle.console.specs.inside.Answering.{IsFaultTold};
 

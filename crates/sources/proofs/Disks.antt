@@ -1,5 +1,5 @@
 -- What one step says of files, after another that wrote nothing.
-use Rattle.std.proofs.Common.{inl, inr, ◌≡◌, ℕ, Bool, true, false, List, Some, None, Result, Ok, Err, subst}
+use Rattle.std.proofs.Common.{inl, inr, ℕ, Bool, true, false, List, Some, None, Result, Ok, Err, subst}
 use Rattle.std.specs.Prelude.{OnErr}
 use Rattle.wasm_ast.specs.declared.module.Module.{Module}
 use Rattle.wasm_ast.specs.Limits.{IsWithinLimits}

@@ -1,5 +1,5 @@
 -- What the steps of a command answer.
-use Rattle.std.specs.Prelude.{◌≡◌, ◌⊎◌, ℕ, List, Option, Result, Some}
+use Rattle.std.specs.Prelude.{◌≡◌, ◌⊎◌, ℕ, List, Option, Result}
 use Rattle.wasm_ast.specs.declared.module.Module.{Module}
 use Rattle.host_calls.specs.declared.call.CallInput.{CallInput}
 use Rattle.host_calls.specs.declared.call.CallOutcome.{CallOutcome}
@@ -7,12 +7,8 @@ use Rattle.superstep.specs.declared.fault.JobFault.{JobFault}
 use Rattle.superstep.specs.declared.fault.JobFault.TheVariants as job_fault
 use Rattle.sources.specs.declared.fault.CommandFault.{CommandFault}
 use Rattle.sources.specs.declared.fault.CommandFault.TheVariants as command
-use Rattle.sources.specs.declared.sources.Source.{Source}
-use Rattle.sources.specs.Disk.{Disk}
 use Rattle.sources.specs.Lines.{line, outcome_lines}
-use Rattle.sources.specs.Modules.{is_text_path}
 use Rattle.interp.specs.Call.{IsOutcome}
-use Rattle.sources.specs.Source.{content, is_text}
 use Rattle.sources.specs.Refusal.{fault_text, status_of}
 use Rattle.console.specs.Program.{IsTold}
 

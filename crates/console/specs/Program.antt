@@ -28,6 +28,7 @@ use Rattle.sources.specs.Disk.{Disk, HoldsAt, Stays, Tries, Writes}
 use Rattle.sources.specs.Modules.{IsModuleAt, Loads, MeansBy, is_text_path}
 use Rattle.sources.specs.Refusal.{fault_text, status_of}
 use Rattle.sources.specs.Source.{RefusesLoad, RefusesModule}
+use Rattle.sources.specs.Reading.{IsLoadedAt, IsNoGraphAt, IsReadAt, IsRefusedAt, IsUnread, IsUnwritable}
 use Rattle.console.specs.Engine.{IsAnswer, RefusesText}
 use Rattle.sources.specs.Jobs.{IsJobOf, RefusesSettings}
 use Rattle.console.specs.Jobs.{AreRunLines, IsFaultOfRun}

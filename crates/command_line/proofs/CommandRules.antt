@@ -4,7 +4,7 @@ use Rattle.std.specs.List.{slice_index_or}
 use Rattle.std.proofs.lemmas.List.{map_more}
 use Rattle.clap.specs.Words.{AddsSubcommand, App, Rule, Shape, with_rule, with_subcommand}
 use Rattle.clap.specs.declared.builder.command.Command.{Command}
-use Rattle.command_line.specs.inside.Commands.{IsCommand, IsLeaf, with_rules}
+use Rattle.command_line.specs.inside.Commands.{IsCommand, IsLeaf, with_rules, with_shapes}
 
 pub or_false : (b : Bool) → (b || false) ≡ b
 or_false true = refl
@@ -33,3 +33,12 @@ one_below old sub new app shape is leaf added = (
   added.shape leaf.1 ∙ ap₂ with_subcommand is.0 (ap (λ (a : App). a.top) leaf.0),
   added.globals ∙ ap₂ ◌||◌ is.1 leaf.1,
 )
+
+-- one more of the subcommands that are made of xs
+pub last_below : (app : App) (shapes : List Shape) (shape : Shape) → with_subcommand (with_shapes app shapes) shape ≡ with_shapes app (shapes ++ shape ∷ [])
+last_below app [] shape = refl
+last_below app (s ∷ shapes) shape = last_below (with_subcommand app s) shapes shape
+
+pub next_below : {X : Type 0} (make : X → Shape) (app : App) (xs : List X) (k : ℕ) (x : X) → k < length xs
+    → with_subcommand (with_shapes app (map make (take k xs))) (make (slice_index_or xs k x)) ≡ with_shapes app (map make (take (k + 1) xs))
+next_below make app xs k x low = last_below app (map make (take k xs)) (make (slice_index_or xs k x)) ∙ ap (with_shapes app) (sym (map_more make xs k x low))

@@ -1,10 +1,14 @@
 -- What the commands of the code are to `clap`.
-use Rattle.std.specs.Prelude.{◌≡◌, List, [], ◌++◌, Option, None, Some, false}
-use Rattle.clap.specs.Words.{App, Row, Rule, Shape, app_of, found_of, rows_of, rule_of}
+use Rattle.std.specs.Prelude.{◌≡◌, List, [], ◌∷◌, ◌++◌, Option, None, Some, false, map}
+use Rattle.clap.specs.Words.{App, Row, Rule, Shape, app_of, found_of, rows_of, rule_of, with_subcommand}
 use Rattle.clap.specs.declared.builder.arg.Arg.{Arg}
 use Rattle.clap.specs.declared.builder.command.Command.{Command}
 use Rattle.clap.specs.declared.builder.command.Command.TheViews.{out-Command}
 use Rattle.clap.specs.declared.parser.matches.ArgMatches.{ArgMatches}
+use Rattle.command_line.specs.CommandLine.{command, flag, option, positional, setting}
+use Rattle.command_line.specs.declared.commands.Argument.{Argument}
+use Rattle.command_line.specs.declared.commands.Argument.TheVariants as argument
+use Rattle.command_line.specs.declared.commands.Usage.{Usage}
 
 -- the argument follows this rule, in its own command alone
 abbrev pub IsArg : Rule → Arg → Type 0
@@ -26,6 +30,27 @@ with_rules app rules = record app { top = record app.top { rules = app.top.rules
 abbrev pub AddsRules : Command → List Rule → Command → Type 0
 AddsRules old rules new =
     (app_of new ≡ with_rules (app_of old) rules) × ((out-Command new).has_globals ≡ (out-Command old).has_globals)
+
+-- the app with these subcommands more
+abbrev pub with_shapes : App → List Shape → App
+with_shapes app [] = app
+with_shapes app (shape ∷ shapes) = with_shapes (with_subcommand app shape) shapes
+
+-- the second command is the first with these subcommands more
+abbrev pub AddsCommands : Command → List Shape → Command → Type 0
+AddsCommands old shapes new =
+    (app_of new ≡ with_shapes (app_of old) shapes) × ((out-Command new).has_globals ≡ (out-Command old).has_globals)
+
+-- the rule of an argument of the table
+abbrev pub rule_in : Argument → Rule
+rule_in (argument.Positional name value_name help) = positional name.now
+rule_in (argument.Option name value_name help) = option name.now
+rule_in (argument.Flag name help) = flag name.now
+rule_in (argument.Setting name otherwise help) = setting (name.now, otherwise.now)
+
+-- what a command of the table takes
+abbrev pub shape_in : Usage → Shape
+shape_in usage = command usage.name.now (map rule_in usage.arguments.now)
 
 -- the entries of a command's own arguments
 abbrev pub rows_in : ArgMatches → List Row

@@ -1,0 +1,312 @@
+//! The commands, what each takes, and what their help says.
+
+ghost use Rattle.std.specs.Prelude.{IfOk, map};
+ghost use Rattle.command_line.specs.CommandLine.{console, flag, option, positional, pregel, setting};
+ghost use Rattle.command_line.specs.inside.Commands.{AddsCommands, AddsRules, IsArg, IsCommand, IsLeaf, rule_in, shape_in};
+
+use clap::{Arg, ArgAction, Command, value_parser};
+use std::alloc::{AllocError, Global};
+
+// An argument of a command.
+#[derive(Clone, Copy)]
+enum Argument {
+    // One that is given by its place.
+    Positional {
+        name: &'static str,
+        value_name: &'static str,
+        help: &'static str,
+    },
+    // An option with a value.
+    Option {
+        name: &'static str,
+        value_name: &'static str,
+        help: &'static str,
+    },
+    // An option with no value.
+    Flag {
+        name: &'static str,
+        help: &'static str,
+    },
+    // A setting of a job.
+    Setting {
+        name: &'static str,
+        otherwise: &'static str,
+        help: &'static str,
+    },
+}
+
+// A command with no subcommand.
+#[derive(Clone, Copy)]
+struct Usage {
+    name: &'static str,
+    about: &'static str,
+    arguments: &'static [Argument],
+}
+
+// What help says of a module.
+const MODULE_HELP: &str = "The module: text where the name ends in `.wat`, else binary";
+
+const MODULE: Argument = Argument::Positional {
+    name: "module",
+    value_name: "MODULE",
+    help: MODULE_HELP,
+};
+
+const MODULE_IN: Argument = Argument::Positional {
+    name: "module",
+    value_name: "IN",
+    help: MODULE_HELP,
+};
+
+const BINARY: Argument = Argument::Positional {
+    name: "binary",
+    value_name: "OUT",
+    help: "The file to be written",
+};
+
+const GRAPH: Argument = Argument::Positional {
+    name: "graph",
+    value_name: "GRAPH",
+    help: "The graph, in lines such as `v 1 3` for a vertex and `e 1 2 5` for an edge",
+};
+
+const INPUT: Argument = Argument::Positional {
+    name: "input",
+    value_name: "INPUT",
+    help: "The input, in lines such as `value 34`",
+};
+
+const STEPS: Argument = Argument::Positional {
+    name: "steps",
+    value_name: "STEPS",
+    help: "The steps, in lines such as `work 0`; also `take`, `lose` and `join` with a worker, and `tick`",
+};
+
+const CHECKPOINT: Argument = Argument::Positional {
+    name: "checkpoint",
+    value_name: "IN",
+    help: "The checkpoint, of version 1 or 2",
+};
+
+const KEEP: Argument = Argument::Option {
+    name: "keep",
+    value_name: "DIR",
+    help: "Keeps saved states in files of this folder, which has to be there, and not in memory; a save that fails is not told",
+};
+
+const LOSE: Argument = Argument::Option {
+    name: "lose",
+    value_name: "W:S",
+    help: "Loses worker W once, with its first task in superstep S or later",
+};
+
+const AGAIN: Argument = Argument::Flag {
+    name: "again",
+    help: "Has the worker that `--lose` names join again",
+};
+
+const PARTS: Argument = Argument::Setting {
+    name: "parts",
+    otherwise: "1",
+    help: "How many parts the graph is cut into, from 1 to 256",
+};
+
+const WORKERS: Argument = Argument::Setting {
+    name: "workers",
+    otherwise: "1",
+    help: "How many workers there are, from 1 to 64; more than there are parts have nothing to do",
+};
+
+const EVERY: Argument = Argument::Setting {
+    name: "every",
+    otherwise: "10",
+    help: "A state is saved at each multiple of so many supersteps, from 1 to 1,000",
+};
+
+const LIMIT: Argument = Argument::Setting {
+    name: "limit",
+    otherwise: "1000",
+    help: "The superstep at which the job ends if it has not finished, from 1 to 1,000,000",
+};
+
+const LEASE: Argument = Argument::Setting {
+    name: "lease",
+    otherwise: "1000",
+    help: "How many ticks a worker may take for a task, from 1 to 1,000,000; in `run` no tick comes",
+};
+
+const UNITS: Argument = Argument::Flag {
+    name: "units",
+    help: "Tells the units of each superstep too",
+};
+
+// The commands, but for `console`, in the order in which help shows them.
+static COMMANDS: [Usage; 7] = [
+    Usage {
+        name: "call",
+        about: "Makes one compute call of one vertex, and prints its outcome",
+        arguments: &[MODULE, INPUT],
+    },
+    Usage {
+        name: "run",
+        about: "Runs a module's job over a graph, and prints the vertices' values",
+        arguments: &[
+            MODULE, GRAPH, KEEP, LOSE, AGAIN, PARTS, WORKERS, EVERY, LIMIT, LEASE, UNITS,
+        ],
+    },
+    Usage {
+        name: "replay",
+        about: "Replays a job by steps of its workers, and prints what becomes of each step",
+        arguments: &[
+            MODULE, GRAPH, STEPS, PARTS, WORKERS, EVERY, LIMIT, LEASE, UNITS,
+        ],
+    },
+    Usage {
+        name: "upgrade",
+        about: "Writes a checkpoint of any version as one of the newest",
+        arguments: &[CHECKPOINT, BINARY],
+    },
+    Usage {
+        name: "asm",
+        about: "Writes a module in WebAssembly's binary format, in the fewest bytes",
+        arguments: &[MODULE_IN, BINARY],
+    },
+    Usage {
+        name: "print",
+        about: "Prints a module in WebAssembly's text format",
+        arguments: &[MODULE_IN],
+    },
+    Usage {
+        name: "verify",
+        about: "Tells the bounds of a module's calls, where they are known to have any",
+        arguments: &[MODULE],
+    },
+];
+
+/// The program's command, with all that it takes.
+pub(crate) fn pregel<'a>(alloc: Global) -> Result<Command<'a>, AllocError>
+    ensures { IfOk result (IsCommand pregel) }
+{
+    let command = Command::new(alloc, "pregel")
+        .bin_name("pregel")?
+        .about("Computes over graphs by programs of one vertex, each a WebAssembly module")
+        .after_help("A module whose file's name ends in `.wat` is text, any other is binary.")
+        .subcommand_required(true)
+        .arg_required_else_help(true);
+    let command = with_commands(alloc, command, COMMANDS.as_slice())?;
+    command.subcommand(console(alloc))
+}
+
+// Adds these commands to a command.
+fn with_commands<'a>(
+    alloc: Global,
+    mut command: Command<'a>,
+    usages: &[Usage],
+) -> Result<Command<'a>, AllocError>
+    ensures { IfOk result (AddsCommands command.entry (map shape_in usages.now)) }
+{
+    for usage in usages {
+        let leaf = leaf(alloc, usage)?;
+        command = command.subcommand(leaf)?;
+    }
+    Ok(command)
+}
+
+// A command with no subcommand.
+fn leaf<'a>(alloc: Global, usage: &Usage) -> Result<Command<'a>, AllocError>
+    ensures { IfOk result (IsLeaf (shape_in usage.now)) }
+{
+    let command = Command::new(alloc, usage.name).about(usage.about);
+    with_arguments(alloc, command, usage.arguments)
+}
+
+// Adds these arguments to a command.
+fn with_arguments<'a>(
+    alloc: Global,
+    mut command: Command<'a>,
+    arguments: &[Argument],
+) -> Result<Command<'a>, AllocError>
+    ensures { IfOk result (AddsRules command.entry (map rule_in arguments.now)) }
+{
+    for argument in arguments {
+        command = command.arg(argument.arg(alloc))?;
+    }
+    Ok(command)
+}
+
+impl Argument {
+    // What it is to `clap`.
+    fn arg<'a>(self, alloc: Global) -> Arg<'a>
+        ensures { IsArg (rule_in self) result }
+    {
+        match self {
+            Argument::Positional {
+                name,
+                value_name,
+                help,
+            } => positional(alloc, name, value_name, help),
+            Argument::Option {
+                name,
+                value_name,
+                help,
+            } => option(alloc, name, value_name, help),
+            Argument::Flag { name, help } => flag(alloc, name, help),
+            Argument::Setting {
+                name,
+                otherwise,
+                help,
+            } => setting(alloc, name, otherwise, help),
+        }
+    }
+}
+
+fn console<'a>(alloc: Global) -> Command<'a>
+    ensures { IsLeaf console result }
+{
+    Command::new(alloc, "console")
+        .about(
+            "Serves a session of named modules, graphs and jobs: lines of commands in, replies out",
+        )
+        .after_help(
+            "Commands: `module NAME PATH`, `graph NAME PATH`, `job NAME MODULE GRAPH PARTS WORKERS EVERY LIMIT`, `run NAME`, `status NAME`, `values NAME`, `drop module NAME` (also `graph`, `job`), `quit`.",
+        )
+}
+
+// An argument that is given by its place.
+fn positional<'a>(alloc: Global, name: &'a str, value_name: &'a str, help: &'a str) -> Arg<'a>
+    ensures { IsArg (positional name.entry.now) result }
+{
+    Arg::new(alloc, name)
+        .value_name(value_name)
+        .help(help)
+        .required(true)
+}
+
+// An option with a value.
+fn option<'a>(alloc: Global, name: &'a str, value_name: &'a str, help: &'a str) -> Arg<'a>
+    ensures { IsArg (option name.entry.now) result }
+{
+    Arg::new(alloc, name)
+        .long(name)
+        .value_name(value_name)
+        .help(help)
+}
+
+// An option with no value.
+fn flag<'a>(alloc: Global, name: &'a str, help: &'a str) -> Arg<'a>
+    ensures { IsArg (flag name.entry.now) result }
+{
+    Arg::new(alloc, name)
+        .long(name)
+        .action(ArgAction::SetTrue)
+        .help(help)
+}
+
+// A setting of a job.
+fn setting<'a>(alloc: Global, name: &'a str, otherwise: &'a str, help: &'a str) -> Arg<'a>
+    ensures { IsArg (setting (name.entry.now, otherwise.entry.now)) result }
+{
+    option(alloc, name, "N", help)
+        .default_value(otherwise)
+        .value_parser(value_parser!(u32))
+}

@@ -1,12 +1,14 @@
 -- What `clap` makes of the program's command line.
-use Rattle.std.proofs.Common.{◌≡◌, ◌∙◌, ◌∷◌, [], List, Result, Ok, Err, ap, inl, inr, refl, subst, sym, true}
-use Rattle.std.specs.Prelude.{IsErrAnd, MatchResult}
-use Rattle.clap.specs.Words.{App, HasKind, HasMatchesOf, Text, fault_of, is_simple, is_simple_and_free, kind_of, subcommand_of, subcommand_rows_of}
+use Rattle.std.proofs.Common.{◌≡◌, ◌∙◌, ◌∷◌, [], List, Option, Result, Ok, Err, ap, inl, inr, refl, subst, sym, true}
+use Rattle.std.specs.Prelude.{IfErr, IsErrAnd, MatchResult}
+use Rattle.clap.specs.Words.{App, HasKind, HasMatchesOf, Row, Text, fault_of, is_simple, is_simple_and_free, kind_of, subcommand_of, subcommand_rows_of}
 use Rattle.clap.specs.declared.error.Error.{Error}
-use Rattle.clap.specs.declared.error.kind.ErrorKind.TheVariants.{MissingSubcommand, OutOfMemory}
+use Rattle.clap.specs.declared.error.kind.ErrorKind.TheVariants.{MissingSubcommand, OutOfMemory, ValueValidation}
 use Rattle.clap.specs.declared.parser.matches.ArgMatches.{ArgMatches}
 use Rattle.clap.proofs.OnLiterals.{clap_on_literals}
-use Rattle.command_line.specs.CommandLine.{AsksNothing, IsRefusal, pregel}
+use Rattle.command_line.specs.CommandLine.{AskedIn, IsRefusal, has_plus_in, pregel}
+use Rattle.command_line.specs.declared.request.Options.{Options}
+use Rattle.command_line.specs.inside.Commands.{IsRefusedIn}
 
 pub simple : is_simple pregel ≡ true
 unfolding clap_on_literals
@@ -38,9 +40,24 @@ pub no_memory : {T : Type 0} (r : Result T Error) (words : List Text) (P : T →
 no_memory (Ok x) words P full = absurd full
 no_memory (Err y) words P full = inl (inl full)
 
-pub nothing_asked : {T : Type 0} (r : Result T Error) (words : List Text) (P : T → Type 0) → fault_of pregel words ≡ [] → AsksNothing words
-    → IsErrAnd r (HasKind (MissingSubcommand ∷ [])) → MatchResult r P (IsRefusal words)
-nothing_asked (Ok x) words P free none kind = absurd kind
-nothing_asked (Err y) words P free none (inl full) = inl (inl full)
-nothing_asked (Err y) words P free none (inr (inl missing)) = inr (free, inr (none, missing))
-nothing_asked (Err y) words P free none (inr (inr other)) = absurd other
+pub signed : {T : Type 0} (r : Result T Error) (met : Option (Text × List Row)) → has_plus_in met ≡ true
+    → IsErrAnd r (HasKind (ValueValidation ∷ [])) → IfErr r (IsRefusedIn met)
+signed (Ok x) met plus kind = absurd kind
+signed (Err y) met plus (inl full) = inl full
+signed (Err y) met plus (inr (inl same)) = inr (inl (plus, same))
+signed (Err y) met plus (inr (inr other)) = absurd other
+
+pub nothing_asked : {T : Type 0} (r : Result T Error) (met : Option (Text × List Row)) → ((given : Options) → AskedIn met given → ⊥)
+    → IsErrAnd r (HasKind (MissingSubcommand ∷ [])) → IfErr r (IsRefusedIn met)
+nothing_asked (Ok x) met none kind = absurd kind
+nothing_asked (Err y) met none (inl full) = inl full
+nothing_asked (Err y) met none (inr (inl missing)) = inr (inr (none, missing))
+nothing_asked (Err y) met none (inr (inr other)) = absurd other
+
+-- what is refused of words in which `clap` finds no fault
+pub refused_of : {T : Type 0} (r : Result T Error) (words : List Text) → fault_of pregel words ≡ []
+    → IfErr r (IsRefusedIn (subcommand_of pregel words)) → MatchResult r (λ _. fault_of pregel words ≡ []) (IsRefusal words)
+refused_of (Ok x) words free refused = free
+refused_of (Err y) words free (inl full) = inl (inl full)
+refused_of (Err y) words free (inr (inl sign)) = inr (free, inl sign)
+refused_of (Err y) words free (inr (inr none)) = inr (free, inr none)

@@ -1,10 +1,10 @@
 //! The command line.
 
-ghost use Rattle.std.specs.Prelude.{◌≡◌, ◌∷◌, [], IfOk, IsErrAnd, MatchResult, OnOk, codes, false, map};
+ghost use Rattle.std.specs.Prelude.{◌≡◌, ◌∷◌, [], IfErr, IfOk, IsErrAnd, MatchResult, OnOk, codes, false, map};
 ghost use Rattle.std.specs.List.{list_any};
 ghost use Rattle.clap.specs.Words.{HasKind, app_of, fault_of, subcommand_rows_of};
 ghost use Rattle.command_line.specs.CommandLine.{AskedBy, AskedIn, AsksFor, AsksJob, AsksRun, GivesNumber, GivesSettings, IsRefusal, has_plus, has_plus_in, is_set, is_signed, pregel};
-ghost use Rattle.command_line.specs.inside.Commands.{Finds, rows_in};
+ghost use Rattle.command_line.specs.inside.Commands.{Finds, IsRefusedIn, rows_in};
 
 use crate::commands::pregel;
 use crate::request::{JobRequest, Options, Request, RunRequest};
@@ -39,20 +39,37 @@ fn options_by<'a, S: AsStr>(command: &mut Command<'a>, words: &'a [S]) -> Result
         (IsRefusal (map S.text words.entry.now)) }
 {
     let matches = command.try_get_matches_from_mut(words)?;
-    if has_plus(&matches) {
-        let error = command.error(ErrorKind::ValueValidation, "a number has no sign")?;
-        return Err(error);
+    options_in(command, &matches)
+}
+
+// Finds the options in what clap took. A `+` and a missing command are errors of the command.
+fn options_in<'a>(command: &mut Command<'a>, matches: &ArgMatches<'a>) -> Result<Options<'a>, Error>
+    ensures asked { IfOk result (AskedIn (subcommand_rows_of matches.now)) }
+    ensures unsigned { OnOk result (has_plus_in (subcommand_rows_of matches.now) ≡ false) }
+    ensures refused { IfErr result (IsRefusedIn (subcommand_rows_of matches.now)) }
+{
+    if has_plus(matches) {
+        return refusal(command, ErrorKind::ValueValidation, "a number has no sign");
     }
-    match chosen(&matches) {
+    match chosen(matches) {
         Some(options) => Ok(options),
-        None => missing(command),
+        None => refusal(
+            command,
+            ErrorKind::MissingSubcommand,
+            "a command is missing",
+        ),
     }
 }
 
-fn missing<'a>(command: &mut Command<'a>) -> Result<Options<'a>, Error>
-    ensures { IsErrAnd result (HasKind (ErrorKind.MissingSubcommand ∷ [])) }
+// Makes an error of the command.
+fn refusal<'a>(
+    command: &mut Command<'a>,
+    kind: ErrorKind,
+    message: &str,
+) -> Result<Options<'a>, Error>
+    ensures { IsErrAnd result (HasKind (kind ∷ [])) }
 {
-    let error = command.error(ErrorKind::MissingSubcommand, "a command is missing")?;
+    let error = command.error(kind, message)?;
     Err(error)
 }
 

@@ -1,14 +1,17 @@
 -- What the commands of the code are to `clap`.
-use Rattle.std.specs.Prelude.{◌≡◌, List, [], ◌∷◌, ◌++◌, Option, None, Some, false, map}
-use Rattle.clap.specs.Words.{App, Row, Rule, Shape, app_of, found_of, rows_of, rule_of, with_subcommand}
+use Rattle.std.specs.Prelude.{◌≡◌, ◌⊎◌, List, [], ◌∷◌, ◌++◌, Option, None, Some, false, map, true}
+use Rattle.clap.specs.Words.{App, Row, Rule, Shape, Text, app_of, found_of, kind_of, rows_of, rule_of, with_subcommand}
 use Rattle.clap.specs.declared.builder.arg.Arg.{Arg}
 use Rattle.clap.specs.declared.builder.command.Command.{Command}
 use Rattle.clap.specs.declared.builder.command.Command.TheViews.{out-Command}
+use Rattle.clap.specs.declared.error.Error.{Error}
+use Rattle.clap.specs.declared.error.kind.ErrorKind.TheVariants.{MissingSubcommand, OutOfMemory, ValueValidation}
 use Rattle.clap.specs.declared.parser.matches.ArgMatches.{ArgMatches}
-use Rattle.command_line.specs.CommandLine.{command, flag, option, positional, setting}
+use Rattle.command_line.specs.CommandLine.{AskedIn, command, flag, has_plus_in, option, positional, setting}
 use Rattle.command_line.specs.declared.commands.Argument.{Argument}
 use Rattle.command_line.specs.declared.commands.Argument.TheVariants as argument
 use Rattle.command_line.specs.declared.commands.Usage.{Usage}
+use Rattle.command_line.specs.declared.request.Options.{Options}
 
 -- the argument follows this rule, in its own command alone
 abbrev pub IsArg : Rule → Arg → Type 0
@@ -55,6 +58,12 @@ shape_in usage = command usage.name.now (map rule_in usage.arguments.now)
 -- the entries of a command's own arguments
 abbrev pub rows_in : ArgMatches → List Row
 rows_in matches = rows_of (found_of matches)
+
+-- Memory ran out, or a setting of the command that was met has a `+`, or what was met asks for nothing.
+abbrev pub IsRefusedIn : (met : Option (Text × List Row)) → Error → Type 0
+IsRefusedIn met e = (kind_of e ≡ OutOfMemory)
+    ⊎ (((has_plus_in met ≡ true) × (kind_of e ≡ ValueValidation))
+    ⊎ (((given : Options) → AskedIn met given → ⊥) × (kind_of e ≡ MissingSubcommand)))
 
 -- it is of this kind, and where there is none, nothing is
 abbrev pub Finds : {T : Type 0} → (T → Type 0) → Option T → Type 0

@@ -42,7 +42,7 @@ fn options_by<'a, S: AsStr>(command: &mut Command<'a>, words: &'a [S]) -> Result
     options_in(command, &matches)
 }
 
-// Finds the options in what clap took. A `+` and a missing command are errors of the command.
+// Finds the options in the matches. A setting with a `+` and a missing command are errors.
 fn options_in<'a>(command: &mut Command<'a>, matches: &ArgMatches<'a>) -> Result<Options<'a>, Error>
     ensures asked { IfOk result (AskedIn (subcommand_rows_of matches.now)) }
     ensures unsigned { OnOk result (has_plus_in (subcommand_rows_of matches.now) ≡ false) }

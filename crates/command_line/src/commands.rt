@@ -1,4 +1,4 @@
-//! The commands, what each takes, and what their help says.
+//! The program's commands: the arguments of each, and its help.
 
 ghost use Rattle.std.specs.Prelude.{IfOk, map};
 ghost use Rattle.command_line.specs.CommandLine.{console, flag, option, positional, pregel, setting};
@@ -7,7 +7,7 @@ ghost use Rattle.command_line.specs.inside.Commands.{AddsCommands, AddsRules, Is
 use clap::{Arg, ArgAction, Command, value_parser};
 use std::alloc::{AllocError, Global};
 
-// An argument of a command.
+// An argument of a command, with its help.
 #[derive(Clone, Copy)]
 enum Argument {
     // One that is given by its place.
@@ -35,7 +35,7 @@ enum Argument {
     },
 }
 
-// A command with no subcommand.
+// A command with no subcommand, as the table has it.
 #[derive(Clone, Copy)]
 struct Usage {
     name: &'static str,
@@ -43,7 +43,7 @@ struct Usage {
     arguments: &'static [Argument],
 }
 
-// What help says of a module.
+// The help of a module.
 const MODULE_HELP: &str = "The module: text where the name ends in `.wat`, else binary";
 
 const MODULE: Argument = Argument::Positional {
@@ -140,7 +140,7 @@ const UNITS: Argument = Argument::Flag {
     help: "Tells the units of each superstep too",
 };
 
-// The commands, but for `console`, in the order in which help shows them.
+// The commands except `console`, in the order of the help.
 static COMMANDS: [Usage; 7] = [
     Usage {
         name: "call",
@@ -183,7 +183,7 @@ static COMMANDS: [Usage; 7] = [
     },
 ];
 
-/// The program's command, with all that it takes.
+/// Makes the program's command, with its subcommands.
 pub(crate) fn pregel<'a>(alloc: Global) -> Result<Command<'a>, AllocError>
     ensures { IfOk result (IsCommand pregel) }
 {
@@ -212,7 +212,7 @@ fn with_commands<'a>(
     Ok(command)
 }
 
-// A command with no subcommand.
+// Makes a command with no subcommand.
 fn leaf<'a>(alloc: Global, usage: &Usage) -> Result<Command<'a>, AllocError>
     ensures { IfOk result (IsLeaf (shape_in usage.now)) }
 {
@@ -235,7 +235,7 @@ fn with_arguments<'a>(
 }
 
 impl Argument {
-    // What it is to `clap`.
+    // Makes the argument for `clap`.
     fn arg<'a>(self, alloc: Global) -> Arg<'a>
         ensures { IsArg (rule_in self) result }
     {
@@ -272,7 +272,7 @@ fn console<'a>(alloc: Global) -> Command<'a>
         )
 }
 
-// An argument that is given by its place.
+// Makes an argument that is given by its place.
 fn positional<'a>(alloc: Global, name: &'a str, value_name: &'a str, help: &'a str) -> Arg<'a>
     ensures { IsArg (positional name.entry.now) result }
 {
@@ -282,7 +282,7 @@ fn positional<'a>(alloc: Global, name: &'a str, value_name: &'a str, help: &'a s
         .required(true)
 }
 
-// An option with a value.
+// Makes an option with a value.
 fn option<'a>(alloc: Global, name: &'a str, value_name: &'a str, help: &'a str) -> Arg<'a>
     ensures { IsArg (option name.entry.now) result }
 {
@@ -292,7 +292,7 @@ fn option<'a>(alloc: Global, name: &'a str, value_name: &'a str, help: &'a str) 
         .help(help)
 }
 
-// An option with no value.
+// Makes an option with no value.
 fn flag<'a>(alloc: Global, name: &'a str, help: &'a str) -> Arg<'a>
     ensures { IsArg (flag name.entry.now) result }
 {
@@ -302,7 +302,7 @@ fn flag<'a>(alloc: Global, name: &'a str, help: &'a str) -> Arg<'a>
         .help(help)
 }
 
-// A setting of a job.
+// Makes a setting of a job.
 fn setting<'a>(alloc: Global, name: &'a str, otherwise: &'a str, help: &'a str) -> Arg<'a>
     ensures { IsArg (setting (name.entry.now, otherwise.entry.now)) result }
 {

@@ -1,3 +1,2 @@
 pub mod Letters
 pub mod Values
-pub mod Unknown

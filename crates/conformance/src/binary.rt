@@ -9,12 +9,12 @@
 mod damage;
 mod sized;
 
-use crate::cases::{is_case, named, spelled};
 use crate::modules::{printed, spelling};
 use anyhow::Result;
-use console::CommandFault;
+use conformance_cases::{is_case, named, spelled};
 use damage::damaged;
 use sized::sized_bytes;
+use sources::CommandFault;
 use std::alloc::{AllocError, Global};
 use std::fs;
 use std::rt::Files;

@@ -8,11 +8,11 @@
 pub mod alike;
 mod forms;
 
-use crate::cases::{is_case, named, spelled};
 use crate::modules::valid_of;
 use anyhow::Result;
-use console::{CommandFault, Input};
+use conformance_cases::{is_case, named, spelled};
 use forms::both_answers;
+use sources::{CommandFault, Input};
 use std::alloc::{AllocError, Global};
 use std::fs;
 use std::rt::Files;

@@ -1,8 +1,8 @@
 //! Copies, and `==`: `NAME: PART | OTHER` compares the module of `whole.wat` with a copy of the one where OTHER stands in
 //! the place of PART.
 
-use crate::cases::{is_case, named};
 use anyhow::Result;
+use conformance_cases::{is_case, named};
 use std::alloc::{AllocError, Global};
 use std::fs;
 use std::rt::Files;

@@ -3,9 +3,9 @@
 
 ghost use Rattle.cost.specs.Ranks.{IsRanking};
 
-use crate::cases::show_texts;
 use crate::modules::of_valid;
 use anyhow::Result;
+use conformance_cases::show_texts;
 use cost::{CostFault, Ranks, ranks, unfolded};
 use std::alloc::{AllocError, Global};
 use std::rt::Files;

@@ -1,8 +1,8 @@
 //! The functions of the host: `NAME` tells what the function takes and gives, and `(import ..)` which function an import
 //! brings in.
 
-use crate::cases::is_case;
 use anyhow::Result;
+use conformance_cases::is_case;
 use host_calls::HostCall;
 use std::alloc::{AllocError, Global};
 use std::fs;

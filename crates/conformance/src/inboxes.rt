@@ -8,8 +8,8 @@ ghost use Rattle.std.specs.List.{IsDistinct, list_any};
 ghost use Rattle.std.specs.List.Sorted.{IsStrictlyIncreasing};
 ghost use Rattle.inbox.specs.Merging.{are_one};
 
-use crate::cases::{named, show_cases};
 use anyhow::{Result, ensure};
+use conformance_cases::{named, show_cases};
 use inbox::{Inbox, Letter, merge};
 use std::alloc::{AllocError, Global};
 use std::num::ParseIntError;

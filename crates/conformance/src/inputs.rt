@@ -1,9 +1,9 @@
 //! Inputs of calls. `input TEXT` tells the id, the superstep, the count and the value, then the messages, and then the edges
 //! as `TARGET:VALUE`; `slots TEXT` tells what each slot was aggregated to; a text that means none tells its first bad line.
 
-use crate::cases::{is_case, spelled};
 use anyhow::Result;
-use console::{CommandFault, Input};
+use conformance_cases::{is_case, spelled};
+use sources::{CommandFault, Input};
 use std::alloc::{AllocError, Global};
 use std::fs;
 use std::rt::Files;

@@ -1,7 +1,7 @@
 //! Numbers in LEB128 (Core 1.0, 5.2.2): `u32 BYTES at PLACE` reads one, `u32 NUMBER` writes one.
 
-use crate::cases::{bytes, show_cases};
 use anyhow::Result;
+use conformance_cases::{bytes, show_cases};
 use leb::{LebFault, read_s32, read_s64, read_u32, write_s32, write_s64, write_u32};
 use std::alloc::{AllocError, Global};
 use std::fmt::Display;

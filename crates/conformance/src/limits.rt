@@ -1,9 +1,9 @@
 //! How large a module may be: both sides of each limit. Of a module it tells whether it is within the limits, and how much it
 //! holds.
 
-use crate::cases::show_texts;
 use crate::modules::of_module;
 use anyhow::Result;
+use conformance_cases::show_texts;
 use std::alloc::{AllocError, Global};
 use std::rt::Files;
 use wasm_ast::{Module, within_limits};

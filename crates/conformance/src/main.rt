@@ -1,37 +1,28 @@
-//! What the public calls answer, case by case: each line of a file of `data/` is a case, and prints one line, which
-//! `stdout` has beforehand.
+//! What the public calls on numbers, modules, compute calls, graphs and inboxes answer, case by case: each line of a file of
+//! `data/` is a case, and prints one line, which `stdout` has beforehand.
 #![tactic(auto)]
 
 mod binary;
 mod calls;
-mod cases;
-mod checkpoints;
-mod commands;
 mod copies;
 mod costs;
 mod graphs;
 mod host_functions;
 mod inboxes;
 mod inputs;
-mod jobs;
-mod keeps;
 mod leb_numbers;
 mod limits;
 mod modules;
 mod numeric;
 mod profile;
 mod samples;
-mod sessions;
-mod simulations;
 mod slow_walk;
 mod texts;
-mod threads;
 mod validation;
 mod widths;
 
 use anyhow::Result;
 use std::rt::Files;
-use std::sync::Wait;
 use std::thread::Threads;
 
 fn main(rt: HostRuntime) -> Result<()> {
@@ -64,19 +55,12 @@ fn judgements(rt: &(impl Files + Print + AllocGlobal)) -> Result<()> {
     costs::show(rt)
 }
 
-// Compute calls, graphs, inboxes, jobs, checkpoints, Keeps, simulations, threads, the console, and sessions.
-fn runs(rt: &(impl Files + Print + AllocGlobal + Threads + Wait + Sync)) -> Result<()> {
+// Compute calls, graphs, inboxes, and inputs of calls.
+fn runs(rt: &(impl Files + Print + AllocGlobal + Threads + Sync)) -> Result<()> {
     host_functions::show(rt)?;
     calls::show(rt)?;
     calls::alike::show(rt)?;
     graphs::show(rt)?;
     inboxes::show(rt)?;
-    jobs::show(rt)?;
-    checkpoints::show(rt)?;
-    keeps::show(rt)?;
-    simulations::show(rt)?;
-    threads::show(rt)?;
-    inputs::show(rt)?;
-    commands::show(rt)?;
-    sessions::show(rt)
+    inputs::show(rt)
 }

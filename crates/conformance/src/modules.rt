@@ -1,7 +1,7 @@
 //! Modules as cases spell them. Each is owned by one function here, and lent to what tells of it.
 
-use crate::cases::bytes;
-use console::CommandFault;
+use conformance_cases::bytes;
+use sources::CommandFault;
 use std::alloc::{AllocError, Global};
 use validate::{Valid, validate};
 use wasm_ast::{Module, within_limits};

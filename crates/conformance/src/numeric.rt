@@ -7,8 +7,8 @@ mod large;
 mod names;
 mod small;
 
-use crate::cases::show_cases;
 use anyhow::{Result, bail};
+use conformance_cases::show_cases;
 use names::numeric_named;
 use std::alloc::{AllocError, Global};
 use std::num::ParseIntError;

@@ -4,11 +4,11 @@
 ghost use Rattle.std.specs.Prelude.{◌≡◌};
 ghost use Rattle.wasm_ast.specs.Limits.{imported_functions};
 
-use crate::cases::show_texts;
 use crate::modules::{agreed, line_of, valid_of};
 use anyhow::Result;
 use bounded_profile::{ProfileFault, Verified, verify};
-use console::CommandFault;
+use conformance_cases::show_texts;
+use sources::CommandFault;
 use std::alloc::{AllocError, Global};
 use std::rt::Files;
 use wasm_ast::{Import, ImportDescription};

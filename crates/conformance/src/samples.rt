@@ -1,9 +1,9 @@
 //! Whole programs in files: whether what is printed of a module spells that module again, and how long the module is in the
 //! binary format.
 
-use crate::cases::show_texts;
 use crate::modules::{of_module, printed, spelling};
 use anyhow::Result;
+use conformance_cases::show_texts;
 use std::alloc::{AllocError, Global};
 use std::rt::Files;
 use wasm_ast::Module;

@@ -1,9 +1,9 @@
 //! Texts of modules (Core 1.0, section 6): the module as it is printed, on one line or with `↵` for the end of each line; or
 //! what is wrong with the text and where.
 
-use crate::cases::{one_line, show_texts};
 use crate::modules::{of_module, printed};
 use anyhow::Result;
+use conformance_cases::{one_line, show_texts};
 use std::alloc::{AllocError, Global};
 use std::rt::Files;
 use wasm_ast::Module;

@@ -1,9 +1,9 @@
 //! Which modules are valid (Core 1.0, section 3): `ok`, or `no valid`, a rule that the module breaks and the place.
 
-use crate::cases::show_texts;
 use crate::modules::{agreed, line_of, module_of};
 use anyhow::Result;
-use console::CommandFault;
+use conformance_cases::show_texts;
+use sources::CommandFault;
 use std::alloc::{AllocError, Global};
 use std::mem;
 use std::rt::Files;

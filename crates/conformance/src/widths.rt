@@ -1,8 +1,8 @@
 //! How many bytes each load and store moves, and of which type its value is (Core 1.0, 2.4.4 and 3.3.4): `i32.load8_s`
 //! prints `i32.load8_s: 1 i32`. And the types of values, and what a local begins as (4.2.1, 4.4.7).
 
-use crate::cases::show_cases;
 use anyhow::{Result, bail};
+use conformance_cases::show_cases;
 use std::alloc::Global;
 use std::rt::Files;
 use wasm_ast::{Load, Store, ValType, Value};

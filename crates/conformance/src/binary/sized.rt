@@ -1,11 +1,11 @@
 //! Bytes with sizes before them.
 
-use crate::cases::{push_digits, spelled};
+use conformance_cases::{push_digits, spelled};
 use leb::write_u32;
 use std::alloc::{AllocError, Global};
 use std::mem;
 
-/// The bytes that a line spells, as `cases::bytes` has it, where `[ .. ]` is the number of the bytes in it, in LEB128,
+/// The bytes that a line spells, as `conformance_cases::bytes` has it, where `[ .. ]` is the number of the bytes in it, in LEB128,
 /// and those bytes. Brackets stand between blanks.
 pub fn sized_bytes(alloc: Global, line: &str) -> Result<Vec<u8>, AllocError> {
     let text = spelled(alloc, line)?;

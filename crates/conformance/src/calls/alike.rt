@@ -3,12 +3,12 @@
 
 use super::forms::{fast_answer, slow_answer};
 use super::tell;
-use crate::cases::{is_case, named};
 use crate::modules::valid_of;
 use anyhow::Result;
 use bounded_profile::{Verified, verify};
-use console::{CommandFault, Input};
+use conformance_cases::{is_case, named};
 use host_calls::CallInput;
+use sources::{CommandFault, Input};
 use std::alloc::{AllocError, Global};
 use std::fs;
 use std::rt::Files;

@@ -2,9 +2,9 @@
 
 use crate::slow_walk;
 use bounded_profile::{Verified, verify};
-use console::outcome_text;
 use host_calls::{CallInput, CallOutcome};
 use interp::{Scratch, has_ids, run};
+use sources::outcome_text;
 use std::alloc::{AllocError, Global};
 use std::fmt::Debug;
 use validate::Valid;

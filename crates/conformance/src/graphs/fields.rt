@@ -1,7 +1,7 @@
 //! The fields of lines: `fields LINE` prints each in parentheses, `number FIELD` and `id FIELD` what one means.
 
-use crate::cases::{show_cases, spelled};
 use anyhow::Result;
+use conformance_cases::{show_cases, spelled};
 use graph::{Fields, id_of, number_of};
 use std::alloc::{AllocError, Global};
 use std::fmt::Display;

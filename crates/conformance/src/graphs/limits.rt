@@ -1,7 +1,7 @@
 //! How large a graph may be: `2 vertices, 5 edges` prints how many the graph of such a text has, or why there is none.
 
-use crate::cases::show_cases;
 use anyhow::Result;
+use conformance_cases::show_cases;
 use graph::Graph;
 use std::alloc::{AllocError, Global};
 use std::num::ParseIntError;

@@ -4,8 +4,8 @@
 ghost use Rattle.std.specs.Prelude.{◌<◌, IfOk};
 
 use super::{shown, tell_vertices};
-use crate::cases::show_cases;
 use anyhow::{Result, ensure};
+use conformance_cases::show_cases;
 use graph::{Graph, Part, join, part_of, split};
 use std::alloc::{AllocError, Global};
 use std::fs;

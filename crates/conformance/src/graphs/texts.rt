@@ -1,8 +1,8 @@
 //! What texts mean as graphs: `NAME: TEXT` prints the graph, or why there is none.
 
 use super::shown;
-use crate::cases::{named, show_cases, spelled};
 use anyhow::Result;
+use conformance_cases::{named, show_cases, spelled};
 use graph::Graph;
 use std::alloc::{AllocError, Global};
 use std::rt::Files;

@@ -7,8 +7,8 @@
 ghost use Rattle.std.specs.Prelude.{◌≡◌, IfOk, map};
 ghost use Rattle.graph.specs.Entry.{IsProper, entries_of};
 
-use crate::cases::{named, show_cases, spelled};
 use anyhow::Result;
+use conformance_cases::{named, show_cases, spelled};
 use graph::{Graph, PrintFault, Vertex, print_values};
 use std::alloc::{AllocError, Global};
 use std::io::{self, ErrorKind, Write};

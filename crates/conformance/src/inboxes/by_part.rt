@@ -7,8 +7,8 @@ ghost use Rattle.std.specs.List.{IsDistinct};
 ghost use Rattle.inbox.specs.Merging.{all_of, are_one};
 
 use super::{are_distinct, are_rising, ids_in, letters_in, tell_inboxes};
-use crate::cases::{named, show_cases, spelled};
 use anyhow::Result;
+use conformance_cases::{named, show_cases, spelled};
 use inbox::{Inbox, Letter, merge_parts};
 use std::alloc::{AllocError, Global};
 use std::rt::Files;

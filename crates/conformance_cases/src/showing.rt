@@ -1,0 +1,99 @@
+//! Files of cases, and a line for each.
+
+use crate::spelling::{is_case, named, spelled};
+use anyhow::Result;
+use std::alloc::{AllocError, Global};
+use std::fs;
+use std::rt::Files;
+
+/// Prints a line for each case of a file: its name, and what `answer` gives for the whole case.
+pub fn show_cases<R: Files + Print + AllocGlobal, F: Fn(Global, &str) -> Result<String>>(
+    rt: &R,
+    path: &str,
+    answer: F,
+) -> Result<()>
+    requires { F.IsAlwaysCallable answer }
+{
+    let text = fs::read_to_string(rt, path)?;
+    show_lines(rt, text.as_str(), answer)
+}
+
+fn show_lines<R: Print + AllocGlobal, F: Fn(Global, &str) -> Result<String>>(
+    rt: &R,
+    text: &str,
+    answer: F,
+) -> Result<()>
+    requires { F.IsAlwaysCallable answer }
+{
+    for line in text.lines() {
+        if is_case(line) {
+            show_case(rt, named(line).0, answer(rt.alloc(), line)?)?;
+        }
+    }
+    Ok(())
+}
+
+/// The same of a file of texts: `NAME: TEXT`, or a text that is its own name. `answer` is given the text as it is spelled, in
+/// the frame that the last line `within FRAME` has said. A text or a frame that ends in `.wat` is what that file has.
+pub fn show_texts<
+    R: Files + Print + AllocGlobal,
+    F: Fn(Global, &str) -> Result<String, AllocError>,
+>(rt: &R, path: &str, answer: F) -> Result<()>
+    requires { F.IsAlwaysCallable answer }
+{
+    let text = fs::read_to_string(rt, path)?;
+    let (first, others) = text
+        .as_str()
+        .split_once("\nwithin ")
+        .unwrap_or((text.as_str(), ""));
+    show_in_frame(rt, "…", first, &answer)?;
+    for part in others.split("\nwithin ") {
+        let (frame, lines) = part.split_once('\n').unwrap_or((part, ""));
+        show_in_frame(rt, frame, lines, &answer)?;
+    }
+    Ok(())
+}
+
+fn show_in_frame<R: Files + Print + AllocGlobal, F: Fn(Global, &str) -> Result<String, AllocError>>(
+    rt: &R,
+    frame: &str,
+    lines: &str,
+    answer: &F,
+) -> Result<()>
+    requires { F.IsAlwaysCallable answer.now }
+{
+    for line in lines.lines() {
+        if is_case(line) {
+            let (name, case) = line.split_once(": ").unwrap_or((line, line));
+            let whole = whole(rt, frame, case)?;
+            show_case(rt, name, answer(rt.alloc(), whole.as_str())?)?;
+        }
+    }
+    Ok(())
+}
+
+fn whole(rt: &(impl Files + AllocGlobal), frame: &str, case: &str) -> Result<String> {
+    let frame = text_of(rt, frame)?;
+    let text = text_of(rt, case)?;
+    Ok(framed(rt.alloc(), frame.as_str(), text.as_str())?)
+}
+
+fn text_of(rt: &(impl Files + AllocGlobal), text: &str) -> Result<String> {
+    if text.ends_with(".wat") {
+        Ok(fs::read_to_string(rt, text)?)
+    } else {
+        Ok(String::from_str(rt.alloc(), text)?)
+    }
+}
+
+// The text that a line spells where it stands in a frame, in the place of the frame's `…`.
+fn framed(alloc: Global, frame: &str, line: &str) -> Result<String, AllocError> {
+    let (before, after) = frame.split_once('…').unwrap_or((frame, ""));
+    let whole = format!(in alloc; "{before}{line}{after}")?;
+    spelled(alloc, whole.as_str())
+}
+
+fn show_case(rt: &impl Print, name: &str, answer: String) -> Result<()> {
+    println!(rt; "{name}: {answer}")?;
+    Ok(())
+}

@@ -1,0 +1,92 @@
+//! How cases are spelled, one on a line.
+
+use std::alloc::{AllocError, Global};
+
+/// Whether a line of a file is a case. Blank lines and lines that begin with `#` are none.
+pub fn is_case(line: &str) -> bool {
+    !line.trim().is_empty() && !line.starts_with('#')
+}
+
+/// A case's name, and what stands after the first `: `.
+pub fn named(line: &str) -> (&str, &str) {
+    line.split_once(": ").unwrap_or((line, ""))
+}
+
+/// The text that a line spells: `↵`, `␍`, `⇥`, `␌` and `⍽` stand for LF, CR, a tab, a form feed and a blank that does not
+/// break, and `⟦N|TEXT⟧` for N times TEXT.
+pub fn spelled(alloc: Global, line: &str) -> Result<String, AllocError> {
+    let mut text = String::new(alloc);
+    spell(line, &mut text)?;
+    Ok(text)
+}
+
+fn spell(line: &str, text: &mut String) -> Result<(), AllocError> {
+    for (place, part) in line.split('⟦').enumerate() {
+        match part.split_once('⟧') {
+            Some((repeated, rest)) if place > 0 => {
+                repeat(repeated, text)?;
+                append(rest, text)?;
+            }
+            _ => append(part, text)?,
+        }
+    }
+    Ok(())
+}
+
+fn repeat(repeated: &str, text: &mut String) -> Result<(), AllocError> {
+    let (count, part) = repeated.split_once('|').unwrap_or(("1", repeated));
+    for _ in 0..count.parse::<u32>().unwrap_or(0) {
+        append(part, text)?;
+    }
+    Ok(())
+}
+
+fn append(part: &str, text: &mut String) -> Result<(), AllocError> {
+    for character in part.chars() {
+        text.push(match character {
+            '↵' => '\n',
+            '␍' => '\r',
+            '⇥' => '\t',
+            '␌' => '\u{c}',
+            '⍽' => '\u{a0}',
+            _ => character,
+        })?;
+    }
+    Ok(())
+}
+
+/// A text on one line, with `↵` for each LF.
+pub fn one_line(alloc: Global, text: &str) -> Result<String, AllocError> {
+    text.replace(alloc, '\n', "↵")
+}
+
+/// The bytes that a line spells by two hexadecimal digits each, with blanks between them and `⟦N|..⟧` for N times.
+pub fn bytes(alloc: Global, line: &str) -> Result<Vec<u8>, AllocError> {
+    let text = spelled(alloc, line)?;
+    let mut bytes = Vec::new(alloc);
+    for word in text.as_str().split_ascii_whitespace() {
+        push_digits(word, &mut bytes)?;
+    }
+    Ok(bytes)
+}
+
+/// Appends the bytes of a word of hexadecimal digits.
+pub fn push_digits(word: &str, bytes: &mut Vec<u8>) -> Result<(), AllocError> {
+    for pair in word.as_bytes().chunks(2) {
+        let byte = pair
+            .iter()
+            .fold(0u8, |byte, digit| (byte << 4) | digit_of(*digit));
+        bytes.push(byte)?;
+    }
+    Ok(())
+}
+
+// The value of a digit, and 0 of any other byte.
+fn digit_of(digit: u8) -> u8 {
+    match digit {
+        b'0'..=b'9' => digit - b'0',
+        b'a'..=b'f' => digit - b'a' + 10,
+        b'A'..=b'F' => digit - b'A' + 10,
+        _ => 0,
+    }
+}

@@ -1,0 +1,217 @@
+//! Command lines as they are typed after `pregel`, over lent files: the status and what is told, and then each file that
+//! was written; or why the words are refused. A session reads the lines of `SESSION`. A line that ends in ` into N` tells a
+//! writer that has room for N bytes, and shows what it took where it failed. A line that ends in ` keeps FILE` is carried out
+//! in a folder whose FILE is empty, and shows what FILE is then.
+//!
+//! `body BODY` is `verify` of the module that has the body in the frame of `frame.wat`, and `engine MODULE INPUT` is what a
+//! call of a module's bytes with an input's text tells, or how it is refused.
+
+pub mod lent_files;
+
+use anyhow::Result;
+use clap::error::ErrorKind;
+use command_line::{Options, options};
+use conformance_cases::{is_case, one_line};
+use console::{call, command};
+use lent_files::{LentFiles, lent_files};
+use session::{JobRunner, ServeFault, serve};
+use sources::{Source, refusal_line};
+use std::alloc::{AllocError, Global};
+use std::io::Write;
+use std::rt::Files;
+use std::sync::Wait;
+use std::thread::Threads;
+use std::{fs, iter, str};
+use workers::NoLoss;
+
+// What a session reads.
+const SESSION: &str = "\
+module m max.wat
+graph g line.txt
+job j m g 3 2 2 1000
+run j
+values j
+quit
+";
+
+pub fn show(rt: &(impl Files + Print + AllocGlobal + Threads + Wait + Sync)) -> Result<()> {
+    let mut files = lent_files(rt)?;
+    show_cases(rt, &mut files)
+}
+
+fn show_cases(
+    rt: &(impl Files + Print + AllocGlobal + Threads + Wait + Sync),
+    files: &mut LentFiles,
+) -> Result<()> {
+    let text = fs::read_to_string(rt, "commands.txt")?;
+    for case in text.as_str().lines().filter(|line| is_case(line)) {
+        let answer = answer(rt, rt.alloc(), case, files)?;
+        println!(rt; "{case}: {answer}")?;
+    }
+    Ok(())
+}
+
+fn answer(
+    rt: &(impl Files + AllocGlobal + Threads + Wait + Sync),
+    alloc: Global,
+    case: &str,
+    files: &mut LentFiles,
+) -> Result<String> {
+    if let Some(body) = case.strip_prefix("body ") {
+        let frame = str::from_utf8(files.bytes_of("frame.wat")?)?;
+        return bounds(rt, alloc, frame, body);
+    }
+    if let Some(names) = case.strip_prefix("engine ") {
+        return called(alloc, names, files);
+    }
+    if let Some((line, file)) = case.split_once(" keeps ") {
+        return kept(rt, alloc, line, file, files);
+    }
+    let (line, room) = case.split_once(" into ").unwrap_or((case, ""));
+    carried_out(rt, alloc, line, room, files)
+}
+
+// What a file has where it was empty before.
+fn kept(
+    rt: &(impl Files + AllocGlobal + Threads + Wait + Sync),
+    alloc: Global,
+    line: &str,
+    file: &str,
+    files: &mut LentFiles,
+) -> Result<String> {
+    fs::write(rt, file, b"".as_slice())?;
+    let mut told = carried_out(rt, alloc, line, "", files)?;
+    let bytes = fs::read(rt, file)?;
+    files.tell_file(file, bytes.as_slice(), &mut told)?;
+    Ok(told)
+}
+
+fn carried_out(
+    rt: &(impl Files + AllocGlobal + Threads + Wait + Sync),
+    alloc: Global,
+    line: &str,
+    room: &str,
+    files: &mut LentFiles,
+) -> Result<String> {
+    let words: Vec<&str> = iter::once("pregel")
+        .chain(line.split_ascii_whitespace())
+        .collect(alloc)?;
+    read_and_carried_out(rt, alloc, words.as_slice(), room, files)
+}
+
+fn read_and_carried_out(
+    rt: &(impl Files + AllocGlobal + Threads + Wait + Sync),
+    alloc: Global,
+    words: &[&str],
+    room: &str,
+    files: &mut LentFiles,
+) -> Result<String> {
+    match options(alloc, words) {
+        Ok(options) if room.is_empty() => told(rt, alloc, options, files),
+        Ok(options) => told_in(rt, alloc, options, files, room),
+        Err(error) => refused(alloc, error.kind()),
+    }
+}
+
+fn refused(alloc: Global, kind: ErrorKind) -> Result<String> {
+    Ok(String::from_str(alloc, word_of(kind))?)
+}
+
+fn word_of(kind: ErrorKind) -> &'static str {
+    match kind {
+        ErrorKind::DisplayHelp => "help",
+        ErrorKind::InvalidSubcommand => "unknown command",
+        ErrorKind::MissingRequiredArgument => "missing argument",
+        ErrorKind::UnknownArgument => "unknown argument",
+        ErrorKind::ValueValidation => "bad value",
+        _ => "refused",
+    }
+}
+
+fn told(
+    rt: &(impl Files + AllocGlobal + Threads + Wait + Sync),
+    alloc: Global,
+    options: Options,
+    files: &mut LentFiles,
+) -> Result<String> {
+    files.forget_written();
+    let mut out = Vec::new(alloc);
+    let status = status_of(rt, alloc, options, files, &mut out)?;
+    shown(alloc, status, out.as_slice(), files)
+}
+
+// Does what the options ask for, and answers the status.
+fn status_of<W: Write>(
+    rt: &(impl Files + AllocGlobal + Threads + Wait + Sync),
+    alloc: Global,
+    options: Options<'_>,
+    files: &mut LentFiles,
+    out: &mut W,
+) -> Result<u8, ServeFault> {
+    match options {
+        Options::Session => {
+            let mut lines = SESSION.as_bytes();
+            serve(rt, alloc, &mut lines, out, files, &JobRunner::new(&NoLoss))?;
+            Ok(0)
+        }
+        Options::Command(request) => Ok(command(rt, alloc, request, files, out)?),
+    }
+}
+
+fn shown(alloc: Global, status: u8, out: &[u8], files: &LentFiles) -> Result<String> {
+    let told = one_line(alloc, str::from_utf8(out)?)?;
+    let mut shown = format!(in alloc; "{status} {told}")?;
+    files.tell_written(&mut shown)?;
+    Ok(shown)
+}
+
+fn told_in(
+    rt: &(impl Files + AllocGlobal + Threads + Wait + Sync),
+    alloc: Global,
+    options: Options,
+    files: &mut LentFiles,
+    room: &str,
+) -> Result<String> {
+    let mut taken = vec![in alloc; 0u8; room.parse::<usize>()?]?;
+    let ended = status_of(rt, alloc, options, files, &mut taken.as_mut_slice());
+    status_or_fault(alloc, ended, taken.as_slice())
+}
+
+// The status, or the fault and what the writer took before.
+fn status_or_fault(alloc: Global, ended: Result<u8, ServeFault>, taken: &[u8]) -> Result<String> {
+    match ended {
+        Ok(status) => Ok(format!(in alloc; "{status}")?),
+        Err(fault) => {
+            let begun = str::from_utf8(taken)?;
+            Ok(format!(in alloc; "{fault} behind `{begun}`")?)
+        }
+    }
+}
+
+fn bounds(
+    rt: &(impl Files + AllocGlobal + Threads + Wait + Sync),
+    alloc: Global,
+    frame: &str,
+    body: &str,
+) -> Result<String> {
+    let (before, after) = frame.split_once('□').unwrap_or((frame, ""));
+    let module = format!(in alloc; "{before}{body}{after}")?;
+    let mut files = LentFiles::new(alloc);
+    files.lend("built.wat", module.into_bytes())?;
+    carried_out(rt, alloc, "verify built.wat", "", &mut files)
+}
+
+fn called(alloc: Global, names: &str, files: &LentFiles) -> Result<String> {
+    let (module, input) = names.split_once(' ').unwrap_or((names, ""));
+    let module = Source::Binary(Vec::from_slice(alloc, files.bytes_of(module)?)?);
+    let input = str::from_utf8(files.bytes_of(input)?)?;
+    answered(alloc, &module, input)
+}
+
+fn answered(alloc: Global, module: &Source, input: &str) -> Result<String> {
+    let told = match call(alloc, module, input) {
+        Ok(lines) => lines,
+        Err(fault) => refusal_line(alloc, &fault)?,
+    };
+    Ok(one_line(alloc, told.as_str())?)
+}

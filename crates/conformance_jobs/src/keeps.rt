@@ -1,0 +1,60 @@
+//! Keeps: `NAME: PLACE; S BYTES, S BYTES, ..` saves the bytes before superstep S, one after another, in a Keep in a directory or
+//! in `memory`; it prints what a load answers after each, and how often the device failed. `S BYTES by FILE OTHERS` writes
+//! other bytes to a file before the load.
+
+use anyhow::Result;
+use checkpoint::{FileKeep, Keep, MemoryKeep};
+use conformance_cases::{bytes, named, show_cases};
+use std::alloc::AllocError;
+use std::fs;
+use std::rt::Files;
+
+pub fn show(rt: &(impl Files + Print + AllocGlobal)) -> Result<()> {
+    show_cases(rt, "keeps.txt", |_, case| answer(rt, case))
+}
+
+fn answer(rt: &(impl Files + AllocGlobal), case: &str) -> Result<String> {
+    let (place, steps) = named(case).1.split_once("; ").unwrap_or((case, ""));
+    if place == "memory" {
+        told(rt, &mut MemoryKeep::new(rt.alloc()), steps)
+    } else {
+        told(rt, &mut FileKeep::new(rt.alloc(), place)?, steps)
+    }
+}
+
+fn told<R: Files + AllocGlobal, K: Keep>(rt: &R, keep: &mut K, steps: &str) -> Result<String> {
+    let mut text = String::new(rt.alloc());
+    for step in steps.split(", ") {
+        match kept(rt, keep, step) {
+            Ok(bytes) => tell_bytes(bytes.as_slice(), &mut text)?,
+            Err(fault) => write!(text, "{fault} ")?,
+        }
+    }
+    write!(text, "failures {}", keep.failures())?;
+    Ok(text)
+}
+
+// What is loaded after the bytes of a step were saved, and others written.
+fn kept<R: Files + AllocGlobal, K: Keep>(rt: &R, keep: &mut K, step: &str) -> Result<Vec<u8>> {
+    let (saved, written) = step.split_once(" by ").unwrap_or((step, ""));
+    let (superstep, spelling) = saved.split_once(' ').unwrap_or((saved, ""));
+    let superstep = superstep.parse::<u32>()?;
+    keep.save(rt, superstep, &bytes(rt.alloc(), spelling)?)?;
+    write_others(rt, written)?;
+    Ok(keep.load(rt, superstep)?)
+}
+
+fn write_others(rt: &(impl Files + AllocGlobal), written: &str) -> Result<()> {
+    if let Some((file, spelling)) = written.split_once(' ') {
+        fs::write(rt, file, &bytes(rt.alloc(), spelling)?)?;
+    }
+    Ok(())
+}
+
+fn tell_bytes(bytes: &[u8], text: &mut String) -> Result<(), AllocError> {
+    text.push('[')?;
+    for byte in bytes {
+        write!(text, "{byte:02X}")?;
+    }
+    text.push_str("] ")
+}

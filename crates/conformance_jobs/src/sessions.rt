@@ -1,0 +1,120 @@
+//! Sessions over lent files: `NAME: WAY; LINES` prints what is told, and then why serving ended before the session did. WAY is
+//! `whole`; `by N`, where at most N bytes are read and written at a time; `reads N` and `writes N`, where the N-th read, and the
+//! N-th write or flush, fails; `bytes`, where the lines are spelled by hexadecimal digits; `counted`, where the count of the
+//! lines that are told is printed, and the last of them; `threads`, where jobs run in threads; `loses W:S`, where worker W is
+//! lost besides in superstep S; or `holds`, where part 0 is held besides until part 1 has begun.
+
+mod lines;
+
+use crate::commands::lent_files::{LentFiles, lent_files};
+use crate::threads::gates::{Plan, PlannedGate};
+use anyhow::Result;
+use conformance_cases::{bytes, is_case, named, one_line, spelled};
+use console::{Loss, LossGate};
+use lines::{Given, Taken};
+use session::{JobRunner, ServeFault, serve};
+use std::alloc::{AllocError, Global};
+use std::rt::Files;
+use std::sync::Wait;
+use std::thread::Threads;
+use std::{fs, str};
+use workers::{Gate, NoLoss};
+
+pub fn show(rt: &(impl Files + Print + AllocGlobal + Wait + Threads + Sync)) -> Result<()> {
+    let mut files = lent_files(rt)?;
+    let text = fs::read_to_string(rt, "sessions.txt")?;
+    for line in text.as_str().lines() {
+        if is_case(line) {
+            let (name, case) = named(line);
+            let answer = answer(rt, case, &mut files)?;
+            println!(rt; "{name}: {answer}")?;
+        }
+    }
+    Ok(())
+}
+
+fn answer(
+    rt: &(impl Wait + Threads + Sync + Files + AllocGlobal),
+    case: &str,
+    files: &mut LentFiles,
+) -> Result<String> {
+    let alloc = rt.alloc();
+    let (way, lines) = case.split_once("; ").unwrap_or((case, ""));
+    let lines = content(alloc, way, lines)?;
+    if let Some(loss) = way.strip_prefix("loses ") {
+        let gate = LossGate::new(Loss::read(loss), false);
+        return served(rt, "whole", lines.as_slice(), files, &JobRunner::new(&gate));
+    }
+    match way {
+        "threads" => {
+            let runner = JobRunner::new(&NoLoss);
+            served(rt, "whole", lines.as_slice(), files, &runner)
+        }
+        "holds" => held(rt, lines.as_slice(), files),
+        _ => {
+            let runner = JobRunner::<NoLoss>::OnOneMachine;
+            served(rt, way, lines.as_slice(), files, &runner)
+        }
+    }
+}
+
+fn held(
+    rt: &(impl Wait + Threads + Sync + Files + AllocGlobal),
+    lines: &[u8],
+    files: &mut LentFiles,
+) -> Result<String> {
+    let gate = PlannedGate::new(Plan::Holds);
+    let told = served(rt, "whole", lines, files, &JobRunner::new(&gate))?;
+    Ok(format!(in rt.alloc(); "{told} {}", gate.how_met())?)
+}
+
+fn content(alloc: Global, way: &str, lines: &str) -> Result<Vec<u8>, AllocError> {
+    if way == "bytes" {
+        return bytes(alloc, lines);
+    }
+    let text = spelled(alloc, lines)?;
+    Ok(text.into_bytes())
+}
+
+fn served<G: Gate + Sync>(
+    rt: &(impl Wait + Threads + Sync + Files + AllocGlobal),
+    way: &str,
+    lines: &[u8],
+    files: &mut LentFiles,
+    runner: &JobRunner<'_, G>,
+) -> Result<String> {
+    let (word, number) = way.split_once(' ').unwrap_or((way, "0"));
+    let number = number.parse::<u32>()?;
+    let alloc = rt.alloc();
+    let mut reader = Given::new(lines);
+    let mut writer = Taken::new(alloc);
+    match word {
+        "by" => {
+            reader.most = number;
+            writer.most = number;
+        }
+        "reads" => reader.left = number,
+        "writes" => writer.left = number,
+        _ => {}
+    }
+    let served = serve(rt, alloc, &mut reader, &mut writer, files, runner);
+    let told = str::from_utf8(writer.bytes.as_slice())?;
+    if word == "counted" {
+        return counted(alloc, told);
+    }
+    shown(alloc, told, served)
+}
+
+fn shown(alloc: Global, told: &str, served: Result<(), ServeFault>) -> Result<String> {
+    let told = one_line(alloc, told)?;
+    match served {
+        Ok(()) => Ok(told),
+        Err(fault) => Ok(format!(in alloc; "{told} {fault}")?),
+    }
+}
+
+fn counted(alloc: Global, told: &str) -> Result<String> {
+    let count = told.lines().count();
+    let last = told.lines().last().unwrap_or("");
+    Ok(format!(in alloc; "{count} lines, the last of which is {last}")?)
+}

@@ -41,12 +41,7 @@ pub fn job_in(rt: &(impl Files + AllocGlobal), case: &str) -> Result<Result<Job,
     Ok(Job::new(rt.alloc(), verified, graph, settings))
 }
 
-fn ran(
-    rt: &(impl Threads + Sync),
-    alloc: Global,
-    job: &Job,
-    is_copied: bool,
-) -> Result<String> {
+fn ran(rt: &(impl Threads + Sync), alloc: Global, job: &Job, is_copied: bool) -> Result<String> {
     Ok(if is_copied {
         first_superstep(rt, alloc, job)?
     } else {
@@ -54,11 +49,7 @@ fn ran(
     })
 }
 
-fn told_of_end(
-    rt: &(impl Threads + Sync),
-    alloc: Global,
-    job: &Job,
-) -> Result<String, AllocError> {
+fn told_of_end(rt: &(impl Threads + Sync), alloc: Global, job: &Job) -> Result<String, AllocError> {
     told(alloc, &one_machine(rt, alloc, job)?)
 }
 

@@ -203,8 +203,8 @@ fn bounds(
 
 fn called(alloc: Global, names: &str, files: &LentFiles) -> Result<String> {
     let (module, input) = names.split_once(' ').unwrap_or((names, ""));
-    let module = Source::Binary(Vec::from_slice(alloc, files.bytes_of(module)?)?);
     let input = str::from_utf8(files.bytes_of(input)?)?;
+    let module = Source::Binary(Vec::from_slice(alloc, files.bytes_of(module)?)?);
     answered(alloc, &module, input)
 }
 

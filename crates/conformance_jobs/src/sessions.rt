@@ -22,14 +22,28 @@ use workers::{Gate, NoLoss};
 
 pub fn show(rt: &(impl Files + Print + AllocGlobal + Wait + Threads + Sync)) -> Result<()> {
     let mut files = lent_files(rt)?;
+    show_cases(rt, &mut files)
+}
+
+fn show_cases(
+    rt: &(impl Files + Print + AllocGlobal + Wait + Threads + Sync),
+    files: &mut LentFiles,
+) -> Result<()> {
     let text = fs::read_to_string(rt, "sessions.txt")?;
-    for line in text.as_str().lines() {
-        if is_case(line) {
-            let (name, case) = named(line);
-            let answer = answer(rt, case, &mut files)?;
-            println!(rt; "{name}: {answer}")?;
-        }
+    for line in text.as_str().lines().filter(|line| is_case(line)) {
+        show_case(rt, line, files)?;
     }
+    Ok(())
+}
+
+fn show_case(
+    rt: &(impl Files + Print + AllocGlobal + Wait + Threads + Sync),
+    line: &str,
+    files: &mut LentFiles,
+) -> Result<()> {
+    let (name, case) = named(line);
+    let answer = answer(rt, case, files)?;
+    println!(rt; "{name}: {answer}")?;
     Ok(())
 }
 

@@ -48,18 +48,22 @@ fn answer_of<R: Files + AllocGlobal + Threads + Sync>(
 ) -> Result<String> {
     let text = spelled(alloc, steps)?;
     let steps = steps_of(alloc, text.as_str())?;
+    answer_to(rt, alloc, keep, job, steps.as_slice())
+}
+
+fn answer_to<R: Files + AllocGlobal + Threads + Sync>(
+    rt: &R,
+    alloc: Global,
+    keep: &str,
+    job: &Job,
+    steps: &[Step],
+) -> Result<String> {
     let (word, rest) = keep.split_once(' ').unwrap_or((keep, ""));
     match word {
-        "doubled" => one_line_of(alloc, doubled(rt, alloc, job, steps.as_slice())?),
-        "losses" => losses(rt, alloc, job, steps.as_slice()),
+        "doubled" => one_line_of(alloc, doubled(rt, alloc, job, steps)?),
+        "losses" => losses(rt, alloc, job, steps),
         "drawn" => drawn(rt, alloc, job, rest.parse::<u32>()?),
-        _ => simulated(
-            rt,
-            alloc,
-            job,
-            wrong_of(alloc, word, rest)?,
-            steps.as_slice(),
-        ),
+        _ => simulated(rt, alloc, job, wrong_of(alloc, word, rest)?, steps),
     }
 }
 

@@ -17,12 +17,12 @@ use conformance_cases::{bytes, named, one_line, show_cases, spelled};
 use console::{steps_of, trace_text};
 use doubles::doubled;
 use faulty_keep::{FaultyKeep, Wrong};
-use rollback::{Step, simulate};
+use rollback::{Step, Trace, simulate};
 use std::alloc::{AllocError, Global};
 use std::num::ParseIntError;
 use std::rt::Files;
 use std::thread::Threads;
-use superstep::Job;
+use superstep::{Job, JobFault};
 use sweeps::{drawn, losses};
 
 pub fn show(rt: &(impl Files + Print + AllocGlobal + Threads + Sync)) -> Result<()> {
@@ -88,12 +88,17 @@ fn simulated<R: Files + AllocGlobal + Threads + Sync>(
     steps: &[Step],
 ) -> Result<String> {
     let mut keep = FaultyKeep::new(alloc, wrong);
-    let told = match simulate(rt, alloc, job, &mut keep, steps) {
-        Ok(trace) => trace_text(alloc, &trace, true)?,
-        Err(fault) => fault_told(alloc, fault)?,
+    let end = simulate(rt, alloc, job, &mut keep, steps);
+    told(alloc, &end, keep.last())
+}
+
+fn told(alloc: Global, end: &Result<Trace, JobFault>, saved: &[u8]) -> Result<String> {
+    let lines = match end {
+        Ok(trace) => trace_text(alloc, trace, true)?,
+        Err(fault) => fault_told(alloc, *fault)?,
     };
-    let mut text = one_line(alloc, told.as_str())?;
-    tell_saved(keep.last(), &mut text)?;
+    let mut text = one_line(alloc, lines.as_str())?;
+    tell_saved(saved, &mut text)?;
     Ok(text)
 }
 

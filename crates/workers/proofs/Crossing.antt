@@ -40,6 +40,7 @@ use Rattle.bounded_profile.specs.contracts.verified.Verified.TheInside as verifi
 use Rattle.graph.specs.contracts.parts.Part as Part
 use Rattle.superstep.specs.contracts.job.Job as Job
 use Rattle.superstep.specs.contracts.job.Job.TheInside as job_inside
+use Rattle.superstep.specs.contracts.job.Kept as Kept
 use Rattle.wasm_ast.proofs.module.Export.TheSendSync as export_law
 use Rattle.wasm_ast.proofs.module.Import.TheSendSync as import_law
 use Rattle.wasm_ast.proofs.sequence.Sequence.TheSendSync as sequence
@@ -193,7 +194,10 @@ verified_sync = view_sync verified_inside.the_row _ _ _ _
     (recorded_sync (verified_inside.the_field).row _ _ (verified_inside.the_type).to_one
     (struct_sync (struct_type.shape verified_inside.the_type) (Box-sync Judged.the_row judged_sync, tt)))
 
+kept_sync : IsSync Kept.the_row
+kept_sync = recorded_sync (Kept.the_field).row _ _ (Kept.the_type).to_one
+    (struct_sync (struct_type.shape Kept.the_type) (verified_sync, (Vec-sync Part.the_row part.the_sync, (Vec-sync (Vec.the_row u64 Heap.the_row ghosts) (Vec-sync u64 u64_sync), (search sendable, (settings.the_field_sync, tt))))))
+
 pub job_sync : IsSync Job.the_row
 job_sync = view_sync job_inside.the_row _ _ _ _
-    (recorded_sync (job_inside.the_field).row _ _ (job_inside.the_type).to_one
-    (struct_sync (struct_type.shape job_inside.the_type) (verified_sync, (Vec-sync Part.the_row part.the_sync, (Vec-sync (Vec.the_row u64 Heap.the_row ghosts) (Vec-sync u64 u64_sync), (search sendable, (settings.the_field_sync, tt)))))))
+    (recorded_sync (job_inside.the_field).row _ _ (job_inside.the_type).to_one (struct_sync (struct_type.shape job_inside.the_type) (Box-sync Kept.the_row kept_sync, tt)))

@@ -1,5 +1,5 @@
 -- What one step of a command says of files, after another that wrote nothing.
-use Rattle.std.proofs.Common.{inl, inr, ◌≡◌, ◌≤◌, ℕ, List, length, subst}
+use Rattle.std.proofs.Common.{inl, inr, ◌≡◌, ◌≤◌, ℕ, true, List, length, subst}
 use Rattle.wasm_ast.specs.declared.module.Module.{Module}
 use Rattle.wasm_ast.specs.Limits.{max_module_bytes}
 use Rattle.wasm_decode.specs.Canonical.{canonical}

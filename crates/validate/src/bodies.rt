@@ -64,22 +64,20 @@ fn check_instr(
             operands.die();
             Ok(())
         }
+        // What the inner code gives is given first: it has operands of its own.
         Instr::Block(gives, body) => {
-            check_inside(alloc, *gives, *gives, body, place, frame, nesting)?;
             operands.give(*gives)?;
-            Ok(())
+            check_inside(alloc, *gives, *gives, body, place, frame, nesting)
         }
         Instr::Loop(gives, body) => {
-            check_inside(alloc, None, *gives, body, place, frame, nesting)?;
             operands.give(*gives)?;
-            Ok(())
+            check_inside(alloc, None, *gives, body, place, frame, nesting)
         }
         Instr::If(gives, body, other) => {
             at_place(operands.take(ValType::I32), place)?;
-            check_inside(alloc, *gives, *gives, body, place, frame, nesting)?;
-            check_inside(alloc, *gives, *gives, other, place, frame, nesting)?;
             operands.give(*gives)?;
-            Ok(())
+            check_inside(alloc, *gives, *gives, body, place, frame, nesting)?;
+            check_inside(alloc, *gives, *gives, other, place, frame, nesting)
         }
     }
 }

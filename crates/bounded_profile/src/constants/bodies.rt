@@ -58,22 +58,20 @@ fn check_instr(
         Instr::Call(number) => check_call(*number, setting, place, operands),
         Instr::CallIndirect(number) => check_call_indirect(*number, setting, place, operands),
         Instr::Unreachable => Ok(()),
+        // What the inner code gives is given first: it has operands of its own.
         Instr::Block(gives, body) => {
-            check_inside(alloc, *gives, body, function, setting, nesting)?;
             operands.give(*gives)?;
-            Ok(())
+            check_inside(alloc, *gives, body, function, setting, nesting)
         }
         Instr::Loop(gives, body) => {
-            check_inside(alloc, None, body, function, setting, nesting)?;
             operands.give(*gives)?;
-            Ok(())
+            check_inside(alloc, None, body, function, setting, nesting)
         }
         Instr::If(gives, body, other) => {
             let _condition = operands.pop();
-            check_inside(alloc, *gives, body, function, setting, nesting)?;
-            check_inside(alloc, *gives, other, function, setting, nesting)?;
             operands.give(*gives)?;
-            Ok(())
+            check_inside(alloc, *gives, body, function, setting, nesting)?;
+            check_inside(alloc, *gives, other, function, setting, nesting)
         }
     }
 }

@@ -27,7 +27,9 @@ pub fn options<'a, S: AsStr>(alloc: Global, words: &'a [S]) -> Result<Options<'a
         (IsRefusal (map S.text words.entry.now)) }
 {
     let mut command = pregel(alloc)?;
-    options_by(&mut command, words)
+    let options = options_by(&mut command, words);
+    drop(command);
+    options
 }
 
 // Reads the words by what a command takes.

@@ -28,6 +28,7 @@ pub fn options<'a, S: AsStr>(alloc: Global, words: &'a [S]) -> Result<Options<'a
 {
     let mut command = pregel(alloc)?;
     let options = options_by(&mut command, words);
+    // This drop is one call. At the end of the scope each field has a drop of its own.
     drop(command);
     options
 }

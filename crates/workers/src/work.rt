@@ -100,6 +100,31 @@ fn work_one<'a, J: Origin, G: Gate, R: Wait>(
     }
 }
 
+// Asks the gate before each task, works on it or is lost with it, and hands in what became of it, until the worker is stopped.
+fn work_until_stopped<'a, J: Origin, G: Gate, R: Wait>(
+    rt: &R,
+    alloc: Global,
+    job: &'a Job,
+    gate: &G,
+    pass: &mut WorkerPass<J>,
+    scratch: &mut Option<Scratch<'a>>,
+) -> Result<(), JobFault>
+    requires job { J.work ≡ job.now }
+    requires fits { IfSome scratch.old (λ scratch. scratch ≡ job.now.«module») }
+    ensures same { IsSamePass pass.old pass.new }
+{
+    let mut lost = false;
+    for _ in rt.forever() {
+        let Some(task) = pass.take(rt)? else {
+            break;
+        };
+        if !lost {
+            lost = work_one(rt, alloc, job, gate, pass, task, scratch)?;
+        }
+    }
+    Ok(())
+}
+
 /// What a worker does: it asks the gate before each task, works on it or is lost with it, and hands in what became of it.
 /// Once it is lost for good it lets all tasks go by. Where it is stopped it says bye.
 pub fn work_all<J: Origin, G: Gate, R: Wait>(
@@ -113,16 +138,12 @@ pub fn work_all<J: Origin, G: Gate, R: Wait>(
     ensures { IfOk result (IsReceipt pass) }
 {
     let mut scratch = None;
-    let mut lost = false;
-    for _ in rt.forever() {
-        let Some(task) = pass.take(rt)? else {
-            break;
-        };
-        if !lost {
-            lost = work_one(rt, alloc, job, gate, &mut pass, task, &mut scratch)?;
-        }
+    let worked = work_until_stopped(rt, alloc, job, gate, &mut pass, &mut scratch);
+    drop(scratch);
+    match worked {
+        Ok(()) => pass.bye(rt),
+        Err(fault) => Err(fault),
     }
-    pass.bye(rt)
 }
 
 /// What the ticker does: it asks the gate before each tick, until that says no or the coordinator has stopped all. Then it

@@ -26,7 +26,7 @@ use wasm_ast::Module;
 /// A valid module in the bounded profile. Only `verify` makes one, and `copy`.
 #[derive(Drop)]
 pub struct Verified {
-    // boxed, so that it is let go by one call
+    // In a box, so that an owner drops it by one call.
     judged: Box<Judged>,
 }
 

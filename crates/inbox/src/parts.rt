@@ -28,9 +28,9 @@ use std::thread::Threads;
 /// shared among threads once more.
 ///
 /// Which letters may go to a part is seen by their targets' remainders where all ids of a share are in
-/// the parts of their own remainders, as those of a job are. Else the share's thread takes all letters.
-/// So letters are read as often as there are shares, and copied and sorted once, in time of the order
-/// of n log n. An `Err` is want of memory.
+/// the parts of their own remainders, as those of a job are: then each letter is copied and sorted once.
+/// Else the share's thread copies and sorts all letters. Each share reads all letters. The time is of the
+/// order of n log n for each share. An `Err` is want of memory.
 pub fn merge_parts(
     rt: &(impl Threads + Sync),
     alloc: Global,

@@ -19,7 +19,7 @@ use wasm_ast::{Module, within_limits};
 /// A module that is typed (Core 1.0, 3.4.10). Only `validate` makes one.
 #[derive(Drop)]
 pub struct Valid {
-    // boxed, so that it is let go by one call
+    // In a box, so that an owner drops it by one call.
     module: Box<Module>,
 }
 

@@ -108,6 +108,9 @@ is_number m n d e p =
       only = λ h. let o = only_number m d h in cc;
     }
 
+pub one_number : (m : Module) → AreDistinct (map name_of_export m.exports) → (one other : HasCompute m) → one.number ≡ other.number
+one_number m d one other = let o = only_number m d one in let p = only_number m d other in cc
+
 -- where another is found, or none, there is no `compute`
 pub no_number : (m : Module) → AreDistinct (map name_of_export m.exports) → exported_compute m.exports ≡ None → HasCompute m → ⊥
 no_number m d e h = let o = only_number m d h in absurd cc

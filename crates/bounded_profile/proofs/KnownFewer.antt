@@ -32,7 +32,7 @@ use Rattle.bounded_profile.specs.inside.Tracking.{asks_of, asked, setting_of, ca
 use Rattle.bounded_profile.proofs.KnownKinds.{both_to, both_from}
 
 -- where the first is found, so is the second, and it is the same
-abbrev FoundToo : {A : Type 0} → Option A → Option A → Type 0
+abbrev pub FoundToo : {A : Type 0} → Option A → Option A → Type 0
 FoundToo {A} x y = (r : A) → x ≡ Some r → y ≡ Some r
 
 then_too : {A B : Type 0} (x y : Option A) (f g : A → Option B) → FoundToo x y → ((a : A) → FoundToo (f a) (g a)) → FoundToo (option_and_then f x) (option_and_then g y)
@@ -87,7 +87,7 @@ memory_too a m (memory.Store op x) s = second_too a (memory_bytes m) I32 (Reache
 memory_too a m memory.Size s = λ r e. e
 memory_too a m memory.Grow s = λ r e. e
 
-plain_too : (a : Asks) (m : Module) (p : Plain) (s : List Operand) → FoundToo (plain_step (setting_of All m) p s) (plain_step (setting_of a m) p s)
+pub plain_too : (a : Asks) (m : Module) (p : Plain) (s : List Operand) → FoundToo (plain_step (setting_of All m) p s) (plain_step (setting_of a m) p s)
 plain_too a m plain.Nop s = λ r e. e
 plain_too a m plain.Drop s = λ r e. e
 plain_too a m plain.Select s = λ r e. e
@@ -101,7 +101,7 @@ parameters_too a m false ps s = λ r e. e
 parameters_too a m true [] s = λ r e. e
 parameters_too a m true (slot ∷ others) s = one_too a (memory_bytes m) slot IsSlot (forget_each others s)
 
-call_too : (a : Asks) (m : Module) (f : ℕ) (s : List Operand) → FoundToo (call_step (setting_of All m) f s) (call_step (setting_of a m) f s)
+pub call_too : (a : Asks) (m : Module) (f : ℕ) (s : List Operand) → FoundToo (call_step (setting_of All m) f s) (call_step (setting_of a m) f s)
 call_too a m f s =
     let slot = takes_slot (host_called (setting_of a m) f) in
     then_too (called (setting_of All m) f) (called (setting_of a m) f)

@@ -10,18 +10,19 @@ use Rattle.validate.specs.Spaces.{spaces_of, first_type}
 use Rattle.validate.specs.Instructions as valid
 use Rattle.validate.specs.Modules.{FunctionTyped}
 use Rattle.bounded_profile.specs.declared.constants.asks.Asks.{Asks}
-use Rattle.bounded_profile.specs.declared.constants.asks.Asks.TheVariants.{All}
+use Rattle.bounded_profile.specs.declared.constants.asks.Asks.TheVariants.{Addresses, Divisors, Slots, All}
 use Rattle.bounded_profile.specs.declared.constants.fault.ConstantsFault.{ConstantsFault}
 use Rattle.bounded_profile.specs.declared.constants.fault.ConstantsFault.TheVariants as fault
 use Rattle.bounded_profile.specs.inside.ConstantsFaults.{Says, Settles}
 use Rattle.bounded_profile.specs.Kinds.{kinds}
 use Rattle.bounded_profile.specs.Known.{FunctionKnown, ConstantsKnown}
-use Rattle.bounded_profile.specs.Profile.{NoUnreachable, NothingAfterBranches, asks_all}
+use Rattle.bounded_profile.specs.Profile.{NoUnreachable, NothingAfterBranches, asks_addresses, asks_divisors, asks_slots, asks_all}
 use Rattle.bounded_profile.specs.Shapes.{Everywhere, NotUnreachable, LastIfBranch}
 use Rattle.bounded_profile.specs.inside.Tracking.{asks_of, Setting, setting_of, holds_then, check, Passes}
 use Rattle.bounded_profile.proofs.KnownSound.{Where, context_of, sound, inside_known}
 use Rattle.bounded_profile.proofs.KnownComplete.{complete}
 use Rattle.bounded_profile.proofs.KnownFewer.{all_pass_too}
+use Rattle.bounded_profile.proofs.KnownTogether.{IsOne, all_pass_together}
 
 -- where the body of a function of this type stands
 abbrev where_of : Asks → Module → Function → FuncType → Where
@@ -64,6 +65,16 @@ refused a m n (Err (fault.Breaks place)) e v l h k =
 -- where all constants are known, so are those of each rule
 pub fewer : (a : Asks) (m : Module) → AllByRecursion (FunctionTyped (spaces_of m)) m.functions → NoUnreachable m → NothingAfterBranches m → ConstantsKnown asks_all m → ConstantsKnown (asks_of a) m
 fewer a m t v l k = all_known a m m.functions t (all_pass_too a m m.functions (all_pass All m m.functions v l k))
+
+-- and where those of each rule are, so are all
+pub together : (m : Module) → AllByRecursion (FunctionTyped (spaces_of m)) m.functions → NoUnreachable m → NothingAfterBranches m → ConstantsKnown asks_addresses m → ConstantsKnown asks_divisors m → ConstantsKnown asks_slots m → ConstantsKnown asks_all m
+together m t v l addresses divisors slots = all_known All m m.functions t (all_pass_together m m.functions each)
+  where
+    each : (a : Asks) → IsOne a → AllByRecursion (Passes (setting_of a m)) m.functions
+    each Addresses o = all_pass Addresses m m.functions v l addresses
+    each Divisors o = all_pass Divisors m m.functions v l divisors
+    each Slots o = all_pass Slots m m.functions v l slots
+    each All o = absurd o
 
 -- a function of this type, by the answer for its body
 pub settled : (t : Setting) (f : Function) (u : FuncType) (outcome : Option ValType) (labels : List (Option ValType)) (r : Result (Unit {0}) ConstantsFault) → slice_get t.types f.type_number ≡ Some u → outcome ≡ first_type u.results → labels ≡ [] → Says (check f.body t (outcome ∷ reverse labels) []) r → Settles (Passes t f) r

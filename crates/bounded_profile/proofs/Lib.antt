@@ -3,6 +3,7 @@ pub mod KnownKinds
 pub mod KnownSound
 pub mod KnownComplete
 pub mod KnownFewer
+pub mod KnownTogether
 pub mod KnownVerdict
 pub mod Climbing
 pub mod Leveling

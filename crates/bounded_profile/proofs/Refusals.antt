@@ -1,37 +1,55 @@
 -- What follows from a refusal, and from the lack of one.
 use Rattle.std.proofs.Common.{◌≡◌, ℕ, refl, sym, subst}
 use Rattle.wasm_ast.specs.declared.module.Module.{Module}
+use Rattle.validate.specs.Modules.{IsTyped}
 use Rattle.cost.specs.Calls.{callees}
 use Rattle.bounded_profile.specs.declared.fault.ProfileFault.{ProfileFault}
 use Rattle.bounded_profile.specs.declared.fault.ProfileFault.TheVariants as fault
 use Rattle.bounded_profile.specs.declared.facts.Facts.{Facts}
 use Rattle.bounded_profile.specs.Compute.{IsComputeNumber}
 use Rattle.bounded_profile.specs.Facts.{AreFacts, AreFactsAt}
-use Rattle.bounded_profile.specs.Faults.{Denies, ShowsCycle, Refuses}
+use Rattle.bounded_profile.specs.declared.fault.ProfileRule.{ProfileRule}
+use Rattle.bounded_profile.specs.declared.fault.ProfileRule.TheVariants as rule
+use Rattle.bounded_profile.specs.declared.constants.asks.Asks.TheVariants.{Addresses, Divisors, Slots}
+use Rattle.bounded_profile.specs.Faults.{Denies, KeepsRule, ShowsCycle, Refuses}
 use Rattle.bounded_profile.specs.Profile.{IsBounded, AddressesWithin, AllKnown, SizeWithin}
 use Rattle.bounded_profile.specs.inside.Stages.{PartsHold, ShapesHold, CallsHold}
+use Rattle.bounded_profile.proofs.Computing.{one_number}
+use Rattle.bounded_profile.proofs.KnownVerdict.{fewer}
 
--- what is denied of a part is denied of the whole
-pub part_denied : (e : ProfileFault) (p q : Type 0) → (p → q) → Denies e q → Denies e p
-part_denied (fault.Breaks rule place) p q f d = λ h. d (f h)
-part_denied (fault.Cycle functions) p q f d = d
-part_denied fault.OutOfMemory p q f d = tt
-
-pub refused_part : (m : Module) (e : ProfileFault) (p : Type 0) → (IsBounded m → p) → Denies e p → Refuses m e
-refused_part m (fault.Breaks rule place) p f d = λ b. d (f b)
-refused_part m (fault.Cycle functions) p f d = absurd d
-refused_part m fault.OutOfMemory p f d = tt
+-- where what a rule asks is denied, the module is refused
+pub refused_rule : (m : Module) (rule : ProfileRule) (e : ProfileFault) (p : Type 0) → (KeepsRule rule m → p) → Denies rule e p → Refuses m e
+refused_rule m rule (fault.Breaks told place) p f d = λ k. d.1 (f (subst (λ r. KeepsRule r m) d.0 k))
+refused_rule m rule (fault.Cycle functions) p f d = absurd d
+refused_rule m rule fault.OutOfMemory p f d = tt
 
 pub refused_cycle : (m : Module) (e : ProfileFault) → ShowsCycle (callees m) e → Refuses m e
 refused_cycle m (fault.Breaks rule place) s = absurd s
 refused_cycle m (fault.Cycle functions) s = s
 refused_cycle m fault.OutOfMemory s = tt
 
--- a bounded module is refused for want of memory alone
-pub only_memory : (m : Module) (e : ProfileFault) → Refuses m e → IsBounded m → e ≡ fault.OutOfMemory
-only_memory m (fault.Breaks rule place) r b = absurd (r b)
-only_memory m (fault.Cycle functions) r b = absurd (b.acyclic functions.items r.0)
-only_memory m fault.OutOfMemory r b = refl
+-- a bounded module keeps each rule
+keeps : (m : Module) (told : ProfileRule) → IsTyped m → IsBounded m → KeepsRule told m
+keeps m rule.P1 t b = b.imports
+keeps m rule.P2 t b = b.compute
+keeps m rule.P3 t b = b.start
+keeps m rule.P4 t b = b.elements
+keeps m rule.P5 t b = b.direct
+keeps m rule.P6 t b = b.reached
+keeps m rule.P7 t b = b.steady
+keeps m rule.P8 t b = b.ordered
+keeps m rule.P9 t b = b.loops
+keeps m rule.P10 t b = (b.addresses, fewer Addresses m t.bodies b.reached b.ordered b.constants)
+keeps m rule.P11 t b = fewer Divisors m t.bodies b.reached b.ordered b.constants
+keeps m rule.P12 t b = b.acyclic
+keeps m rule.P13 t b = fewer Slots m t.bodies b.reached b.ordered b.constants
+keeps m rule.P14 t b = λ compute. subst (SizeWithin m) (one_number m t.names b.compute compute) b.size
+
+-- and so is refused for want of memory alone
+pub only_memory : (m : Module) (e : ProfileFault) → IsTyped m → Refuses m e → IsBounded m → e ≡ fault.OutOfMemory
+only_memory m (fault.Breaks told place) t r b = absurd (r (keeps m told t b))
+only_memory m (fault.Cycle functions) t r b = absurd (b.acyclic functions.items r.0)
+only_memory m fault.OutOfMemory t r b = refl
 
 pub bounded : (m : Module) (n : ℕ) → PartsHold m → IsComputeNumber m n → ShapesHold m → AddressesWithin m → CallsHold m n → AllKnown m → IsBounded m
 bounded m n p c s a l k = record {

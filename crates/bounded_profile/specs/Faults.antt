@@ -1,5 +1,5 @@
 -- What a refusal says.
-use Rattle.std.specs.Prelude.{ℕ, List, Result, MatchResult}
+use Rattle.std.specs.Prelude.{◌≡◌, ℕ, List, Result, MatchResult}
 use Rattle.wasm_ast.specs.declared.module.Module.{Module}
 use Rattle.cost.specs.declared.fault.CostFault.{CostFault}
 use Rattle.cost.specs.declared.fault.CostFault.TheVariants as cost
@@ -7,17 +7,37 @@ use Rattle.cost.specs.Calls.{callees}
 use Rattle.cost.specs.Cycles.{IsCycle, LeastFirst}
 use Rattle.bounded_profile.specs.declared.fault.ProfileFault.{ProfileFault}
 use Rattle.bounded_profile.specs.declared.fault.ProfileFault.TheVariants as fault
-use Rattle.bounded_profile.specs.Profile.{IsBounded}
+use Rattle.bounded_profile.specs.declared.fault.ProfileRule.{ProfileRule}
+use Rattle.bounded_profile.specs.declared.fault.ProfileRule.TheVariants as rule
+use Rattle.bounded_profile.specs.Known.{ConstantsKnown}
+use Rattle.bounded_profile.specs.Profile.{ImportsHostCalls, HasCompute, NoStart, NoElements, NoIndirectCalls, NoUnreachable, NoGrowth, NothingAfterBranches, LoopsTakeItems, AddressesWithin, NoCycles, SizeWithin, asks_addresses, asks_divisors, asks_slots}
 
--- a rule other than P12 is refused: but for want of memory that means that p is false
-abbrev pub Denies : ProfileFault → Type 0 → Type 0
-Denies (fault.Breaks rule place) p = p → ⊥
-Denies (fault.Cycle functions) p = ⊥
-Denies fault.OutOfMemory p = Unit {0}
+-- the module keeps this rule
+abbrev pub KeepsRule : ProfileRule → Module → Type 0
+KeepsRule rule.P1 m = ImportsHostCalls m
+KeepsRule rule.P2 m = HasCompute m
+KeepsRule rule.P3 m = NoStart m
+KeepsRule rule.P4 m = NoElements m
+KeepsRule rule.P5 m = NoIndirectCalls m
+KeepsRule rule.P6 m = NoUnreachable m
+KeepsRule rule.P7 m = NoGrowth m
+KeepsRule rule.P8 m = NothingAfterBranches m
+KeepsRule rule.P9 m = LoopsTakeItems m
+KeepsRule rule.P10 m = AddressesWithin m × ConstantsKnown asks_addresses m
+KeepsRule rule.P11 m = ConstantsKnown asks_divisors m
+KeepsRule rule.P12 m = NoCycles m
+KeepsRule rule.P13 m = ConstantsKnown asks_slots m
+KeepsRule rule.P14 m = (compute : HasCompute m) → SizeWithin m compute.number
 
--- whether p holds
-abbrev pub Settles : Type 0 → Result (Unit {0}) ProfileFault → Type 0
-Settles p r = MatchResult r (λ _. p) (λ e. Denies e p)
+-- this rule, other than P12, is refused: but for want of memory that means that p is false
+abbrev pub Denies : ProfileRule → ProfileFault → Type 0 → Type 0
+Denies rule (fault.Breaks told place) p = (told ≡ rule) × (p → ⊥)
+Denies rule (fault.Cycle functions) p = ⊥
+Denies rule fault.OutOfMemory p = Unit {0}
+
+-- whether p holds, where this rule asks it
+abbrev pub Settles : ProfileRule → Type 0 → Result (Unit {0}) ProfileFault → Type 0
+Settles rule p r = MatchResult r (λ _. p) (λ e. Denies rule e p)
 
 -- the functions call each other in a cycle, which begins with its least number; `calls` gives what each function calls
 abbrev pub IsToldCycle : (ℕ → List ℕ) → List ℕ → Type 0
@@ -29,9 +49,9 @@ ShowsCycle calls (fault.Breaks rule place) = ⊥
 ShowsCycle calls (fault.Cycle functions) = IsToldCycle calls functions.items
 ShowsCycle calls fault.OutOfMemory = Unit {0}
 
--- the module is refused, rightly
+-- the module is refused, rightly: it does not keep the rule that is told
 abbrev pub Refuses : Module → ProfileFault → Type 0
-Refuses m (fault.Breaks rule place) = IsBounded m → ⊥
+Refuses m (fault.Breaks rule place) = KeepsRule rule m → ⊥
 Refuses m (fault.Cycle functions) = IsToldCycle (callees m) functions.items
 Refuses m fault.OutOfMemory = Unit {0}
 

@@ -1,5 +1,5 @@
 -- Modules of which each call ends within a bound that can be told beforehand.
-use Rattle.std.specs.Prelude.{◌≡◌, ℕ, ◌-◌, ◌≤◌, Bool, true, [], slice_get, Contains, Some, None, codes}
+use Rattle.std.specs.Prelude.{◌≡◌, ℕ, ◌-◌, ◌≤◌, Bool, true, false, [], slice_get, Contains, Some, None, codes}
 use Rattle.std.specs.List.{AllByRecursion}
 use Rattle.wasm_ast.specs.declared.types.FuncType.{FuncType}
 use Rattle.wasm_ast.specs.declared.module.ExportDescription.TheVariants as export
@@ -12,6 +12,7 @@ use Rattle.cost.specs.Calls.{callees}
 use Rattle.cost.specs.Cycles.{Acyclic}
 use Rattle.cost.specs.Sizes.{AreSizes, max_size}
 use Rattle.bounded_profile.specs.declared.wants.Premise.{Premise}
+use Rattle.bounded_profile.specs.declared.wants.Premise.TheVariants.{Reaches, Divides, DividesSigned, IsSlot}
 use Rattle.bounded_profile.specs.Hosts.{IsHostImport, host_call_at}
 use Rattle.bounded_profile.specs.Known.{ConstantsKnown}
 use Rattle.bounded_profile.specs.Memory.{MinimumsWithin, SegmentsWithin}
@@ -76,6 +77,20 @@ LoopsTakeItems m = EachBody (LoopTakes (host_call_at m)) m
 pub record AddressesWithin (m : Module) : Type 0 where
   pub minimums : MinimumsWithin m
   pub segments : SegmentsWithin m
+
+-- the premises of each rule alone
+abbrev pub asks_addresses : Premise → Bool
+asks_addresses (Reaches offset width) = true
+asks_addresses _ = false
+
+abbrev pub asks_divisors : Premise → Bool
+asks_divisors Divides = true
+asks_divisors DividesSigned = true
+asks_divisors _ = false
+
+abbrev pub asks_slots : Premise → Bool
+asks_slots IsSlot = true
+asks_slots _ = false
 
 abbrev pub asks_all : Premise → Bool
 asks_all p = true

@@ -5,6 +5,7 @@ ghost use Rattle.cost.specs.Calls.{callees};
 ghost use Rattle.cost.specs.Ranks.{IsRanking};
 ghost use Rattle.bounded_profile.specs.Faults.{Denies, ShowsCycle};
 ghost use Rattle.bounded_profile.specs.Profile.{NoCycles, SizeWithin};
+ghost use Rattle.bounded_profile.specs.declared.fault.ProfileRule.TheVariants.{P14};
 ghost use Rattle.bounded_profile.specs.inside.Stages.{SizeHolds};
 
 use crate::fault::{ProfileFault, ProfileRule};
@@ -26,7 +27,7 @@ pub fn check_cycles(alloc: Global, valid: &Valid) -> Result<Ranks, ProfileFault>
 pub fn check_size(valid: &Valid, ranks: &Ranks, function: u32) -> Result<u32, ProfileFault>
     requires { IsRanking valid.now ranks.now }
     ensures { MatchResult result (SizeHolds valid.now function)
-        (λ e. Denies e (SizeWithin valid.now function)) }
+        (λ e. Denies P14 e (SizeWithin valid.now function)) }
 {
     has_one_sizing(valid, ranks);
     match unfolded(valid, ranks, function) {

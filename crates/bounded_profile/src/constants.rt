@@ -10,7 +10,7 @@ mod setting;
 
 ghost use Rattle.std.specs.Prelude.{OnOk, IsOkUnless};
 ghost use Rattle.bounded_profile.specs.Known.{ConstantsKnown};
-ghost use Rattle.bounded_profile.specs.Profile.{AllKnown, NoUnreachable, NothingAfterBranches};
+ghost use Rattle.bounded_profile.specs.Profile.{NoUnreachable, NothingAfterBranches};
 ghost use Rattle.bounded_profile.specs.inside.Tracking.{asks_of, AllPass};
 ghost use Rattle.bounded_profile.specs.inside.ConstantsFaults.{Settles};
 
@@ -35,7 +35,6 @@ pub fn check_constants(alloc: Global, valid: &Valid, asks: Asks) -> Result<(), C
     ensures accepted { OnOk result (ConstantsKnown (asks_of asks) valid.now) }
     ensures refused { ConstantsKnown (asks_of asks) valid.now
         → IsOkUnless result ConstantsFault.OutOfMemory }
-    ensures all { AllKnown valid.now → IsOkUnless result ConstantsFault.OutOfMemory }
 {
     check_module(alloc, valid.module(), asks)
 }

@@ -2,6 +2,7 @@
 
 ghost use Rattle.std.specs.Prelude.{◌≡◌, ◌↔◌, ◌*◌, IsTrue};
 ghost use Rattle.bounded_profile.specs.Faults.{Settles};
+ghost use Rattle.bounded_profile.specs.declared.fault.ProfileRule.TheVariants.{P10};
 ghost use Rattle.wasm_ast.specs.Code.{Code};
 ghost use Rattle.wasm_ast.specs.View.{then_code};
 ghost use Rattle.wasm_ast.specs.declared.plain.Variable.TheVariants.{GlobalGet};
@@ -19,7 +20,7 @@ const MAX_MINIMUM: u32 = 16;
 
 /// The memory begins with at most 16 pages.
 pub fn check_minimums(module: &Module) -> Result<(), ProfileFault>
-    ensures { Settles (MinimumsWithin «module».now) result }
+    ensures { Settles P10 (MinimumsWithin «module».now) result }
 {
     if module
         .memories
@@ -35,7 +36,7 @@ pub fn check_minimums(module: &Module) -> Result<(), ProfileFault>
 
 /// Each data segment lies within the memory as it begins.
 pub fn check_segments(module: &Module) -> Result<(), ProfileFault>
-    ensures { Settles (SegmentsWithin «module».now) result }
+    ensures { Settles P10 (SegmentsWithin «module».now) result }
 {
     for segment in module.data.as_slice() {
         if !is_segment_within(module, segment) {

@@ -6,6 +6,7 @@ ghost use Rattle.validate.specs.Modules.{IsTyped};
 ghost use Rattle.bounded_profile.specs.Compute.{exported_compute, IsDefinedPlain, IsComputeNumber};
 ghost use Rattle.bounded_profile.specs.Faults.{Denies, Settles};
 ghost use Rattle.bounded_profile.specs.Hosts.{IsHostImport};
+ghost use Rattle.bounded_profile.specs.declared.fault.ProfileRule.TheVariants.{P1, P2, P3, P4};
 ghost use Rattle.bounded_profile.specs.Profile.{ImportsHostCalls, HasCompute, HasPlainType, NoStart, NoElements, plain_type};
 
 use crate::fault::{ProfileFault, ProfileRule};
@@ -22,7 +23,7 @@ pub const NOWHERE: Place = Place {
 /// P1: each import is a function of the host, with its type. The place is the function's number, where the import is a
 /// function: those before it are all functions.
 pub fn check_imports(module: &Module) -> Result<(), ProfileFault>
-    ensures { Settles (ImportsHostCalls «module».now) result }
+    ensures { Settles P1 (ImportsHostCalls «module».now) result }
 {
     for (index, import) in module.imports.as_slice().iter().enumerate() {
         match host_import(module, import) {
@@ -62,7 +63,7 @@ fn host_import(module: &Module, import: &Import) -> Option<HostCall>
 pub fn find_compute(module: &Module) -> Result<u32, ProfileFault>
     requires { IsTyped «module».now }
     ensures { MatchResult result (IsComputeNumber «module».now)
-        (λ e. Denies e (HasCompute «module».now)) }
+        (λ e. Denies P2 e (HasCompute «module».now)) }
 {
     match exported_compute(module.exports.as_slice()) {
         Some(number) => {
@@ -133,7 +134,7 @@ fn is_plain(func_type: &FuncType) -> bool
 
 /// P3: there is no start function. The place is its number.
 pub fn check_start(module: &Module) -> Result<(), ProfileFault>
-    ensures { Settles (NoStart «module».now) result }
+    ensures { Settles P3 (NoStart «module».now) result }
 {
     match module.start {
         None => Ok(()),
@@ -149,7 +150,7 @@ pub fn check_start(module: &Module) -> Result<(), ProfileFault>
 
 /// P4: there are no elements.
 pub fn check_elements(module: &Module) -> Result<(), ProfileFault>
-    ensures { Settles (NoElements «module».now) result }
+    ensures { Settles P4 (NoElements «module».now) result }
 {
     if module.elements.as_slice().is_empty() {
         Ok(())

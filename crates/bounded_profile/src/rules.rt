@@ -1,15 +1,15 @@
 //! The rules of the bounded profile, in order.
 
-ghost use Rattle.std.specs.Prelude.{MatchResult};
+ghost use Rattle.std.specs.Prelude.{IsOkUnless, MatchResult};
 ghost use Rattle.wasm_ast.specs.Limits.{IsWithinLimits};
 ghost use Rattle.validate.specs.Modules.{IsTyped};
-ghost use Rattle.bounded_profile.specs.inside.Tracking.{asks_of};
 ghost use Rattle.bounded_profile.specs.Compute.{IsComputeNumber};
 ghost use Rattle.bounded_profile.specs.Facts.{AreFacts};
-ghost use Rattle.bounded_profile.specs.Faults.{Denies, Refuses};
+ghost use Rattle.bounded_profile.specs.Faults.{Refuses, Settles};
 ghost use Rattle.bounded_profile.specs.Known.{ConstantsKnown};
-ghost use Rattle.bounded_profile.specs.Profile.{IsBounded, AddressesWithin, NoUnreachable, NothingAfterBranches};
+ghost use Rattle.bounded_profile.specs.Profile.{IsBounded, AddressesWithin, NoUnreachable, NothingAfterBranches, asks_addresses, asks_slots};
 ghost use Rattle.bounded_profile.specs.inside.Stages.{PartsHoldAt, ShapesHold, CallsHoldWith};
+ghost use Rattle.bounded_profile.specs.inside.Tracking.{asks_of};
 
 use crate::calls::{check_cycles, check_size};
 use crate::constants::{Asks, ConstantsFault, check_constants};
@@ -26,8 +26,9 @@ use wasm_ast::Module;
 
 /// What is told of the module, where it keeps all rules.
 pub fn check_rules(alloc: Global, valid: &Valid) -> Result<Facts, ProfileFault>
-    ensures { MatchResult result (λ facts. IsBounded valid.now × AreFacts valid.now facts)
+    ensures decided { MatchResult result (λ facts. IsBounded valid.now × AreFacts valid.now facts)
         (Refuses valid.now) }
+    ensures refused { IsBounded valid.now → IsOkUnless result ProfileFault.OutOfMemory }
 {
     let module = valid.module();
     let compute = check_parts(module)?;
@@ -43,8 +44,7 @@ pub fn check_rules(alloc: Global, valid: &Valid) -> Result<Facts, ProfileFault>
 // P1 to P4, and the number of `compute`.
 fn check_parts(module: &Module) -> Result<u32, ProfileFault>
     requires { IsTyped «module».now }
-    ensures { MatchResult result (PartsHoldAt «module».now)
-        (λ e. Denies e (IsBounded «module».now)) }
+    ensures { MatchResult result (PartsHoldAt «module».now) (Refuses «module».now) }
 {
     check_imports(module)?;
     let compute = find_compute(module)?;
@@ -56,8 +56,7 @@ fn check_parts(module: &Module) -> Result<u32, ProfileFault>
 // P5 to P9.
 fn check_shapes(alloc: Global, module: &Module) -> Result<(), ProfileFault>
     requires { IsWithinLimits «module».now }
-    ensures { MatchResult result (λ _. ShapesHold «module».now)
-        (λ e. Denies e (IsBounded «module».now)) }
+    ensures { MatchResult result (λ _. ShapesHold «module».now) (Refuses «module».now) }
 {
     let hosts = host_table(alloc, module)?;
     check_shape(Shape::Direct, &hosts, module)?;
@@ -72,8 +71,9 @@ fn check_shapes(alloc: Global, module: &Module) -> Result<(), ProfileFault>
 fn check_memory(alloc: Global, valid: &Valid) -> Result<(), ProfileFault>
     requires reached { NoUnreachable valid.now }
     requires ordered { NothingAfterBranches valid.now }
-    ensures { MatchResult result (λ _. AddressesWithin valid.now)
-        (λ e. Denies e (IsBounded valid.now)) }
+    ensures { MatchResult result
+        (λ _. AddressesWithin valid.now × ConstantsKnown asks_addresses valid.now)
+        (Refuses valid.now) }
 {
     let module = valid.module();
     check_minimums(module)?;
@@ -87,7 +87,9 @@ fn check_calls(alloc: Global, valid: &Valid, compute: u32) -> Result<Facts, Prof
     requires number { IsComputeNumber valid.now compute }
     requires reached { NoUnreachable valid.now }
     requires ordered { NothingAfterBranches valid.now }
-    ensures { MatchResult result (CallsHoldWith valid.now compute) (Refuses valid.now) }
+    ensures { MatchResult result
+        (λ facts. CallsHoldWith valid.now compute facts × ConstantsKnown asks_slots valid.now)
+        (Refuses valid.now) }
 {
     let ranks = check_cycles(alloc, valid)?;
     check_known(alloc, valid, Asks::Slots, ProfileRule::P13)?;
@@ -111,8 +113,7 @@ fn check_known(
 ) -> Result<(), ProfileFault>
     requires reached { NoUnreachable valid.now }
     requires ordered { NothingAfterBranches valid.now }
-    ensures { MatchResult result (λ _. ConstantsKnown (asks_of asks) valid.now)
-        (λ e. Denies e (IsBounded valid.now)) }
+    ensures { Settles rule (ConstantsKnown (asks_of asks) valid.now) result }
 {
     match check_constants(alloc, valid, asks) {
         Ok(()) => Ok(()),

@@ -9,6 +9,7 @@ ghost use Rattle.bounded_profile.specs.Faults.{Settles};
 ghost use Rattle.bounded_profile.specs.Hosts.{call_at};
 ghost use Rattle.bounded_profile.specs.Profile.{EachBody};
 ghost use Rattle.bounded_profile.specs.Shapes.{Everywhere, Keeps, LastIfBranch};
+ghost use Rattle.bounded_profile.specs.inside.Stages.{rule_of};
 
 use crate::fault::{ProfileFault, ProfileRule};
 use crate::loops::takes_items;
@@ -32,7 +33,9 @@ pub enum Shape {
 }
 
 impl Shape {
-    fn rule(self) -> ProfileRule {
+    fn rule(self) -> ProfileRule
+        ensures { result ≡ rule_of self }
+    {
         match self {
             Shape::Direct => ProfileRule::P5,
             Shape::Reached => ProfileRule::P6,
@@ -143,7 +146,7 @@ pub fn check_shape(
     module: &Module,
 ) -> Result<(), ProfileFault>
     requires { IsWithinLimits «module».now }
-    ensures { Settles (EachBody (Keeps (call_at hosts.now) shape) «module».now) result }
+    ensures { Settles (rule_of shape) (EachBody (Keeps (call_at hosts.now) shape) «module».now) result }
 {
     for (index, function) in module.functions.as_slice().iter().enumerate() {
         let mut next = 0;

@@ -1,6 +1,6 @@
 //! What is found in a module in the bounded profile, beside the module.
 
-ghost use Rattle.std.specs.Prelude.{◌≡◌, IfOk, MatchResult};
+ghost use Rattle.std.specs.Prelude.{◌≡◌, IfOk, IsOkUnless, MatchResult};
 ghost use Rattle.bounded_profile.specs.Faults.{Refuses};
 ghost use Rattle.bounded_profile.specs.Profile.{IsBounded};
 ghost use Rattle.bounded_profile.specs.inside.Tables.{AreTables};
@@ -30,8 +30,9 @@ pub struct Tables {
 impl Tables {
     /// Tries the rules in order, and finds the tables where the module keeps all.
     pub fn of(alloc: Global, valid: &Valid) -> Result<Tables, ProfileFault>
-        ensures { MatchResult result (λ tables. IsBounded valid.now × AreTables valid.now tables)
-            (Refuses valid.now) }
+        ensures decided { MatchResult result
+            (λ tables. IsBounded valid.now × AreTables valid.now tables) (Refuses valid.now) }
+        ensures refused { IsBounded valid.now → IsOkUnless result ProfileFault.OutOfMemory }
     {
         let facts = check_rules(alloc, valid)?;
         let module = valid.module();

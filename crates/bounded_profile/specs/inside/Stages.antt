@@ -2,6 +2,10 @@
 use Rattle.std.specs.Prelude.{ℕ}
 use Rattle.wasm_ast.specs.declared.module.Module.{Module}
 use Rattle.bounded_profile.specs.declared.facts.Facts.{Facts}
+use Rattle.bounded_profile.specs.declared.fault.ProfileRule.{ProfileRule}
+use Rattle.bounded_profile.specs.declared.fault.ProfileRule.TheVariants.{P5, P6, P7, P8, P9}
+use Rattle.bounded_profile.specs.declared.shapes.Shape.{Shape}
+use Rattle.bounded_profile.specs.declared.shapes.Shape.TheVariants.{Direct, Reached, Steady, Ordered, Taking}
 use Rattle.bounded_profile.specs.Compute.{IsComputeNumber}
 use Rattle.bounded_profile.specs.Facts.{IsSizeAt, AreFactsAt}
 use Rattle.bounded_profile.specs.Profile.{ImportsHostCalls, NoStart, NoElements, NoIndirectCalls, NoUnreachable, NoGrowth, NothingAfterBranches, LoopsTakeItems, NoCycles, SizeWithin}
@@ -19,6 +23,14 @@ pub record ShapesHold (m : Module) : Type 0 where
   pub steady : NoGrowth m
   pub ordered : NothingAfterBranches m
   pub loops : LoopsTakeItems m
+
+-- the rule that each shape is of
+abbrev pub rule_of : Shape → ProfileRule
+rule_of Direct = P5
+rule_of Reached = P6
+rule_of Steady = P7
+rule_of Ordered = P8
+rule_of Taking = P9
 
 -- P12 and P14, where `compute` has this number
 pub record CallsHold (m : Module) (compute : ℕ) : Type 0 where

@@ -44,21 +44,7 @@ use Rattle.bounded_profile.specs.Kinds.{minus_one}
 use Rattle.bounded_profile.specs.inside.ConstantsFaults.{Finds, FalseBut}
 use Rattle.bounded_profile.specs.Known.{division_premise, takes_slot}
 use Rattle.bounded_profile.specs.Memory.{memory_bytes, number_of}
-use Rattle.bounded_profile.specs.Profile.{asks_all}
-
--- the premises of each rule alone
-abbrev pub asks_addresses : Premise → Bool
-asks_addresses (Reaches offset width) = true
-asks_addresses _ = false
-
-abbrev pub asks_divisors : Premise → Bool
-asks_divisors Divides = true
-asks_divisors DividesSigned = true
-asks_divisors _ = false
-
-abbrev pub asks_slots : Premise → Bool
-asks_slots IsSlot = true
-asks_slots _ = false
+use Rattle.bounded_profile.specs.Profile.{asks_addresses, asks_divisors, asks_slots, asks_all}
 
 -- which premises are asked
 abbrev pub asks_of : Asks → Premise → Bool

@@ -1,4 +1,4 @@
-use Rattle.std.proofs.Common.{sym, ap, ◌∙◌}
+use Rattle.std.proofs.Common.{refl, sym, ap, ◌∙◌}
 use Rattle.bounded_profile.specs.Compute.{exported_compute}
 use Rattle.bounded_profile.proofs.Computing.{is_number, not_plain, no_number}
 use Rattle.bounded_profile.proofs.module_rules.find_compute.Goals as goal
@@ -9,8 +9,8 @@ returns-then-is_defined_plain c =
 
 pub returns-else-is_defined_plain : goal.returns-else-is_defined_plain
 returns-else-is_defined_plain c =
-    not_plain c.args.module.now c.in-Some.number c.requires.names (sym (c.in-Some.ensures ∙ ap exported_compute c.as_slice.ensures)) (λ p. let t = c.is_defined_plain.ensures.1 p in let f = c.if-is_defined_plain.false in absurd cc)
+    (refl, not_plain c.args.module.now c.in-Some.number c.requires.names (sym (c.in-Some.ensures ∙ ap exported_compute c.as_slice.ensures)) (λ p. let t = c.is_defined_plain.ensures.1 p in let f = c.if-is_defined_plain.false in absurd cc))
 
 pub returns-in-None : goal.returns-in-None
 returns-in-None c =
-    no_number c.args.module.now c.requires.names (sym (c.in-None.ensures ∙ ap exported_compute c.as_slice.ensures))
+    (refl, no_number c.args.module.now c.requires.names (sym (c.in-None.ensures ∙ ap exported_compute c.as_slice.ensures)))

@@ -1,50 +1,81 @@
-use Rattle.std.proofs.Common.{rules, subst}
+use Rattle.std.proofs.Common.{◌≡◌, rules, subst}
+use Rattle.validate.specs.Modules.{IsTyped}
+use Rattle.bounded_profile.specs.declared.fault.ProfileFault.TheVariants as fault
+use Rattle.bounded_profile.specs.declared.fault.ProfileRule.TheVariants.{P10, P11}
 use Rattle.bounded_profile.specs.Compute.{IsComputeNumber}
-use Rattle.bounded_profile.specs.Faults.{Denies, Refuses}
-use Rattle.bounded_profile.specs.Profile.{IsBounded}
+use Rattle.bounded_profile.specs.Faults.{Refuses}
+use Rattle.bounded_profile.specs.Known.{ConstantsKnown}
+use Rattle.bounded_profile.specs.Profile.{asks_all, asks_divisors}
 use Rattle.bounded_profile.specs.inside.Stages.{PartsHold, ShapesHold}
-use Rattle.bounded_profile.proofs.Refusals.{refused_part, bounded, facts_hold}
+use Rattle.bounded_profile.proofs.KnownVerdict.{together}
+use Rattle.bounded_profile.proofs.Refusals.{refused_rule, only_memory, bounded, facts_hold}
 use Rattle.bounded_profile.proofs.rules.check_rules.Goals as goal
 
-pub returns-in_err-compute : goal.returns-in_err-compute
-returns-in_err-compute c =
+pub returns-in_err-compute-clause-refused : goal.returns-in_err-compute-clause-refused
+returns-in_err-compute-clause-refused c keeps =
     let m = c.args.valid.now in
     let e = c.in_err-compute.field-0.0 in
-    let refused : Refuses m e = refused_part m e (IsBounded m) (λ b. b) (subst (λ n. Denies e (IsBounded n)) c.module-module.ensures.value c.in_err-compute.ensures) in
+    let typed : IsTyped m = c.module-module.ensures.typed in
+    let memory : e ≡ fault.OutOfMemory = only_memory m e typed (subst (λ n. Refuses n e) c.module-module.ensures.value c.in_err-compute.ensures) keeps in
     search rules
 
-pub returns-in_err-check_shapes : goal.returns-in_err-check_shapes
-returns-in_err-check_shapes c =
+pub returns-in_err-check_shapes-clause-refused : goal.returns-in_err-check_shapes-clause-refused
+returns-in_err-check_shapes-clause-refused c keeps =
     let m = c.args.valid.now in
     let e = c.in_err-check_shapes.field-0.0 in
-    let refused : Refuses m e = refused_part m e (IsBounded m) (λ b. b) (subst (λ n. Denies e (IsBounded n)) c.module-module.ensures.value c.in_err-check_shapes.ensures) in
+    let typed : IsTyped m = c.module-module.ensures.typed in
+    let memory : e ≡ fault.OutOfMemory = only_memory m e typed (subst (λ n. Refuses n e) c.module-module.ensures.value c.in_err-check_shapes.ensures) keeps in
     search rules
 
-pub returns-in_err-check_memory : goal.returns-in_err-check_memory
-returns-in_err-check_memory c =
+pub returns-in_err-check_memory-clause-refused : goal.returns-in_err-check_memory-clause-refused
+returns-in_err-check_memory-clause-refused c keeps =
     let m = c.args.valid.now in
     let e = c.in_err-check_memory.field-0.0 in
-    let refused : Refuses m e = refused_part m e (IsBounded m) (λ b. b) c.in_err-check_memory.ensures in
+    let typed : IsTyped m = c.module-module.ensures.typed in
+    let memory : e ≡ fault.OutOfMemory = only_memory m e typed c.in_err-check_memory.ensures keeps in
     search rules
 
-pub returns-in_err-check_known : goal.returns-in_err-check_known
-returns-in_err-check_known c =
+pub returns-in_err-check_known-clause-refused : goal.returns-in_err-check_known-clause-refused
+returns-in_err-check_known-clause-refused c keeps =
     let m = c.args.valid.now in
     let e = c.in_err-check_known.field-0.0 in
-    let refused : Refuses m e = refused_part m e (IsBounded m) (λ b. b) c.in_err-check_known.ensures in
+    let typed : IsTyped m = c.module-module.ensures.typed in
+    let refused : Refuses m e = refused_rule m P11 e (ConstantsKnown asks_divisors m) (λ k. k) c.in_err-check_known.ensures in
+    let memory : e ≡ fault.OutOfMemory = only_memory m e typed refused keeps in
     search rules
 
-pub returns-in_err-check_known-2 : goal.returns-in_err-check_known-2
-returns-in_err-check_known-2 c =
+pub returns-in_err-facts-clause-refused : goal.returns-in_err-facts-clause-refused
+returns-in_err-facts-clause-refused c keeps =
+    let m = c.args.valid.now in
+    let e = c.in_err-facts.field-0.0 in
+    let typed : IsTyped m = c.module-module.ensures.typed in
+    let memory : e ≡ fault.OutOfMemory = only_memory m e typed c.in_err-facts.ensures keeps in
+    search rules
+
+pub returns-in_err-check_known-2-clause-decided : goal.returns-in_err-check_known-2-clause-decided
+returns-in_err-check_known-2-clause-decided c =
     let m = c.args.valid.now in
     let e = c.in_err-check_known-2.field-0.0 in
-    let refused : Refuses m e = refused_part m e (IsBounded m) (λ b. b) c.in_err-check_known-2.ensures in
+    let typed : IsTyped m = c.module-module.ensures.typed in
+    let shapes : ShapesHold m = subst ShapesHold c.module-module.ensures.value c.in_ok-check_shapes.ensures in
+    let known : ConstantsKnown asks_all m = together m typed.bodies shapes.reached shapes.ordered c.in_ok-check_memory.ensures.1 c.in_ok-check_known.ensures c.in_ok-facts.ensures.1 in
+    let refused : Refuses m e = refused_rule m P10 e (ConstantsKnown asks_all m) (λ _. known) c.in_err-check_known-2.ensures in
     search rules
 
-pub returns : goal.returns
-returns c =
+pub returns-in_err-check_known-2-clause-refused : goal.returns-in_err-check_known-2-clause-refused
+returns-in_err-check_known-2-clause-refused c keeps =
+    let m = c.args.valid.now in
+    let e = c.in_err-check_known-2.field-0.0 in
+    let typed : IsTyped m = c.module-module.ensures.typed in
+    let refused : Refuses m e = refused_rule m P10 e (ConstantsKnown asks_all m) (λ _. keeps.constants) c.in_err-check_known-2.ensures in
+    let memory : e ≡ fault.OutOfMemory = only_memory m e typed refused keeps in
+    search rules
+
+pub returns-clause-decided : goal.returns-clause-decided
+returns-clause-decided c =
     let m = c.args.valid.now in
     let n = c.in_ok-compute.compute in
     let parts : PartsHold m × IsComputeNumber m n = subst (λ k. PartsHold k × IsComputeNumber k n) c.module-module.ensures.value c.in_ok-compute.ensures in
     let shapes : ShapesHold m = subst ShapesHold c.module-module.ensures.value c.in_ok-check_shapes.ensures in
-    (bounded m n parts.0 parts.1 shapes c.in_ok-check_memory.ensures c.in_ok-facts.ensures.0 c.in_ok-check_known-2.ensures, facts_hold m n c.in_ok-facts.facts parts.1 c.in_ok-facts.ensures.1)
+    let calls = c.in_ok-facts.ensures.0 in
+    (bounded m n parts.0 parts.1 shapes c.in_ok-check_memory.ensures.0 calls.0 c.in_ok-check_known-2.ensures, facts_hold m n c.in_ok-facts.facts parts.1 calls.1)

@@ -1,39 +1,40 @@
 use Rattle.std.proofs.Common.{rules, ◌∙◌}
-use Rattle.bounded_profile.specs.Faults.{Denies}
-use Rattle.bounded_profile.specs.Profile.{IsBounded, NoIndirectCalls, NoUnreachable, NoGrowth, NothingAfterBranches, EachBody}
+use Rattle.bounded_profile.specs.declared.fault.ProfileRule.TheVariants.{P5, P6, P7, P8, P9}
+use Rattle.bounded_profile.specs.Faults.{Refuses}
+use Rattle.bounded_profile.specs.Profile.{NoIndirectCalls, NoUnreachable, NoGrowth, NothingAfterBranches, EachBody}
 use Rattle.bounded_profile.specs.Hosts.{call_at}
 use Rattle.bounded_profile.specs.Shapes.{Keeps}
 use Rattle.bounded_profile.specs.declared.shapes.Shape.TheVariants.{Taking}
 use Rattle.bounded_profile.proofs.HostTable.{by_table}
-use Rattle.bounded_profile.proofs.Refusals.{part_denied}
+use Rattle.bounded_profile.proofs.Refusals.{refused_rule}
 use Rattle.bounded_profile.proofs.rules.check_shapes.Goals as goal
 
 pub returns-in_err-check_shape : goal.returns-in_err-check_shape
 returns-in_err-check_shape c =
     let m = c.args.module.now in
     let e = c.in_err-check_shape.field-0.0 in
-    let denied : Denies e (IsBounded m) = part_denied e (IsBounded m) (NoIndirectCalls m) (λ b. b.direct) c.in_err-check_shape.ensures in
+    let refused : Refuses m e = refused_rule m P5 e (NoIndirectCalls m) (λ k. k) c.in_err-check_shape.ensures in
     search rules
 
 pub returns-in_err-check_shape-2 : goal.returns-in_err-check_shape-2
 returns-in_err-check_shape-2 c =
     let m = c.args.module.now in
     let e = c.in_err-check_shape-2.field-0.0 in
-    let denied : Denies e (IsBounded m) = part_denied e (IsBounded m) (NoUnreachable m) (λ b. b.reached) c.in_err-check_shape-2.ensures in
+    let refused : Refuses m e = refused_rule m P6 e (NoUnreachable m) (λ k. k) c.in_err-check_shape-2.ensures in
     search rules
 
 pub returns-in_err-check_shape-3 : goal.returns-in_err-check_shape-3
 returns-in_err-check_shape-3 c =
     let m = c.args.module.now in
     let e = c.in_err-check_shape-3.field-0.0 in
-    let denied : Denies e (IsBounded m) = part_denied e (IsBounded m) (NoGrowth m) (λ b. b.steady) c.in_err-check_shape-3.ensures in
+    let refused : Refuses m e = refused_rule m P7 e (NoGrowth m) (λ k. k) c.in_err-check_shape-3.ensures in
     search rules
 
 pub returns-in_err-check_shape-4 : goal.returns-in_err-check_shape-4
 returns-in_err-check_shape-4 c =
     let m = c.args.module.now in
     let e = c.in_err-check_shape-4.field-0.0 in
-    let denied : Denies e (IsBounded m) = part_denied e (IsBounded m) (NothingAfterBranches m) (λ b. b.ordered) c.in_err-check_shape-4.ensures in
+    let refused : Refuses m e = refused_rule m P8 e (NothingAfterBranches m) (λ k. k) c.in_err-check_shape-4.ensures in
     search rules
 
 pub returns-in_err-check_shape-5 : goal.returns-in_err-check_shape-5
@@ -42,7 +43,7 @@ returns-in_err-check_shape-5 c =
     let e = c.in_err-check_shape-5.field-0.0 in
     let table = c.deref-5.result.now in
     let same = by_table m table (c.deref-5.ensures.value ∙ c.in_ok-hosts.ensures) in
-    let denied : Denies e (IsBounded m) = part_denied e (IsBounded m) (EachBody (Keeps (call_at table) Taking) m) (λ b. same.1 b.loops) c.in_err-check_shape-5.ensures in
+    let refused : Refuses m e = refused_rule m P9 e (EachBody (Keeps (call_at table) Taking) m) (λ k. same.1 k) c.in_err-check_shape-5.ensures in
     search rules
 
 pub returns : goal.returns

@@ -1,8 +1,8 @@
 # Functions that pregel, test and dist/update share. `top` is the folder of the repository.
 
-# Prints the crates that the program stands on and its own, one a line, in the order of crates.txt.
-crates_of_program() {
-    awk -F ': *' '
+# Prints these crates and all that they stand on, one a line, in the order of crates.txt.
+crates_below() {
+    awk -F ': *' -v tops="$*" '
         function want(name,    below, count, i) {
             if (name in wanted || !(name in needs)) return
             wanted[name]
@@ -10,7 +10,11 @@ crates_of_program() {
             for (i = 1; i <= count; i++) want(below[i])
         }
         /^[a-z]/ { names[++last] = $1; needs[$1] = $2 }
-        END { want("pregel"); for (i = 1; i <= last; i++) if (names[i] in wanted) print names[i] }
+        END {
+            count = split(tops, top, " ")
+            for (i = 1; i <= count; i++) want(top[i])
+            for (i = 1; i <= last; i++) if (names[i] in wanted) print names[i]
+        }
     ' "$top/crates.txt"
 }
 
@@ -19,7 +23,7 @@ sources_sum() {
     (
         cd "$top"
         folders=()
-        for name in $(crates_of_program); do
+        for name in $(crates_below pregel); do
             for part in src specs proofs; do
                 [ ! -d "crates/$name/$part" ] || folders+=("crates/$name/$part")
             done
@@ -61,48 +65,83 @@ require_kit() {
     fi
 }
 
-# Proves all that the program stands on, side by side, as the gate does but with no must-fail edits and no cases, and
-# leaves the program at $program. It works in a temporary folder. What is proved is kept for later runs and for the gate.
+# Succeeds where rt keeps what it has proved for later runs: beside the kit, for the owner of that folder.
+keeps_proofs() {
+    local kept
+    kept=$(dirname "$(dirname "$(rt doc)")")/rattle-kept
+    mkdir -p "$kept" 2>/dev/null && [ -O "$kept" ]
+}
+
+# Proves these crates and all that they stand on, in a copy in this folder, as the gate does but with no must-fail edits.
+prove_copy() {
+    local copy=$1 name part
+    shift
+    mkdir "$copy"
+    cp "$top/HANDLES" "$copy/"
+    for name in $(crates_below "$@"); do
+        grep "^$name:" "$top/crates.txt" >>"$copy/crates.txt"
+        mkdir -p "$copy/crates/$name"
+        for part in src specs proofs stdin stdout args status data; do
+            [ ! -e "$top/crates/$name/$part" ] || cp -r "$top/crates/$name/$part" "$copy/crates/$name/"
+        done
+    done
+    (cd "$copy" && exec rt ci)
+}
+
+# Proves all that the program stands on, and builds it in the folder $1/whole.
+prove_in_stages() {
+    local job
+    # (each job in a process group of its own, which ends with all that it has started)
+    set -m
+    trap 'for job in $(jobs -p); do kill -- "-$job" 2>/dev/null || true; done; wait; exit 143' TERM
+    if [ "$(free_memory)" -lt 20 ]; then
+        # rt reckons with more memory than there may be
+        export RT_JOBS=${RT_JOBS:-$(checks_that_fit)}
+    elif [ -z "${RT_JOBS:-}" ] && [ "$(nproc)" -ge 4 ] && keeps_proofs; then
+        # rt gives a check several processors only where no other check waits, and fewer where the memory that it reckons with is
+        # taken. So the longest chain of crates has a run of its own, beside one for the largest crates at its side. Each run takes
+        # over what another has proved, or waits for it.
+        prove_copy "$1/first" wasm_ast leb graph inbox
+        (RT_JOBS=2 prove_copy "$1/beside" wat_asm wasm_decode && RT_JOBS=2 prove_copy "$1/next" sources command_line) &
+        prove_copy "$1/chain" workers &
+        wait
+    fi
+    prove_copy "$1/whole" pregel &
+    wait $!
+}
+
+# Proves the program, builds it at $program, and says how far that is. It works in a temporary folder.
 prove_program() {
     require_kit pregel
-    local name part room log total count=0 began=$SECONDS status=0 line rt=
+    local room log total began=$SECONDS status=0 line rt= built
+    local -A told=()
     room=$(mktemp -d)
     trap '[ -z "$rt" ] || { kill "$rt" && wait "$rt"; } 2>/dev/null || true; rm -rf "$room"' EXIT
     trap 'exit 130' INT
     trap 'exit 143' TERM HUP
     log=$room/log
-    mkdir "$room/copy"
-    cp "$top/HANDLES" "$room/copy/"
-    for name in $(crates_of_program); do
-        grep "^$name:" "$top/crates.txt" >>"$room/copy/crates.txt"
-        mkdir -p "$room/copy/crates/$name"
-        for part in src specs proofs stdin stdout args status data; do
-            [ ! -e "$top/crates/$name/$part" ] || cp -r "$top/crates/$name/$part" "$room/copy/crates/$name/"
-        done
-    done
-    total=$(wc -l <"$room/copy/crates.txt")
+    built=$room/whole/crates/pregel/out/pregel
+    total=$(crates_below pregel | wc -l)
     echo "pregel: proving $total crates and building the program" >&2
-    # rt shares the machine out better by itself, but reckons with more memory than there may be
-    [ -n "${RT_JOBS:-}" ] || [ "$(free_memory)" -ge 20 ] || export RT_JOBS=$(checks_that_fit)
-    exec {lines}< <(cd "$room/copy" && exec rt ci 2>&1)
+    exec {lines}< <(prove_in_stages "$room" 2>&1)
     rt=$!
     while IFS= read -r -u "$lines" line; do
         printf '%s\n' "$line" >>"$log"
-        if [[ $line =~ ^rt:\ ([a-z_0-9]+)\ (proved|is\ kept) ]]; then
-            count=$((count + 1))
-            echo "pregel: ${BASH_REMATCH[1]} ${BASH_REMATCH[2]}, $count of $total, $(((SECONDS - began) / 60)) min" >&2
+        if [[ $line =~ ^rt:\ ([a-z_0-9]+)\ (proved|is\ kept) ]] && [ -z "${told[${BASH_REMATCH[1]}]:-}" ]; then
+            told[${BASH_REMATCH[1]}]=yes
+            echo "pregel: ${BASH_REMATCH[1]} ${BASH_REMATCH[2]}, ${#told[@]} of $total, $(((SECONDS - began) / 60)) min" >&2
         fi
     done
     wait "$rt" || status=$?
     rt=
-    if [ "$status" != 0 ] || [ ! -x "$room/copy/crates/pregel/out/pregel" ]; then
+    if [ "$status" != 0 ] || [ ! -x "$built" ]; then
         mv "$log" "$room.log"
         grep -E '^rt: .*(NOT PROVED|FAILED|disk|memory)' "$room.log" >&2 || tail -5 "$room.log" >&2
         echo "pregel: the program is not proved; $room.log has all that rt said" >&2
         exit 1
     fi
     mkdir -p "$(dirname "$program")"
-    mv "$room/copy/crates/pregel/out/pregel" "$program.new"
+    mv "$built" "$program.new"
     mv "$program.new" "$program"
     trap - EXIT INT TERM HUP
     rm -rf "$room"

@@ -22,15 +22,16 @@ use std::thread::Threads;
 /// source and in the order of sending.
 ///
 /// Parts that follow one another are shared out, in as many shares as there are parts, but no more
-/// than there are processors, nor than 16. A thread for each share goes over all letters, copies those
+/// than there are processors, nor than 16. Fewer than 10,000 letters and ids together are one share, and
+/// the calling thread does all of it. Else a thread for each share goes over all letters, copies those
 /// that may go to an id of its parts and sorts them. Then it looks up each id's letters and makes its
 /// inbox, with no more room than its messages where they are more than four; many ids of one part are
 /// shared among threads once more.
 ///
 /// Which letters may go to a part is seen by their targets' remainders where all ids of a share are in
-/// the parts of their own remainders, as those of a job are: then each letter is copied and sorted once.
-/// Else the share's thread copies and sorts all letters. Each share reads all letters. The time is of the
-/// order of n log n for each share. An `Err` is want of memory.
+/// the parts of their own remainders, as those of a job are: then the share's thread copies and sorts the
+/// letters of its own targets. Else it copies and sorts all letters. Each share reads all letters. The
+/// time is of the order of n log n for each share. An `Err` is want of memory.
 pub fn merge_parts(
     rt: &(impl Threads + Sync),
     alloc: Global,
@@ -47,8 +48,10 @@ pub fn merge_parts(
     ensures dropped { IfOk result (λ merged.
         merged.1 ≡ dropped_of (all_of lists.now) (all_of ids.now)) }
 {
-    let shares = shares(alloc, ids, current_num_threads(rt))?;
-    let room = room_for(lists, shares.len());
+    let letters = length_of_all(lists);
+    let most = most_shares(rt, letters.saturating_add(length_of_all(ids)));
+    let shares = shares(alloc, ids, most)?;
+    let room = room_for(letters, shares.len());
     let by_share = delivered_to_all(rt, alloc, lists, &shares, room)?;
     let delivered = together(alloc, by_share)?;
     let dropped = letter_count(lists) - delivered_count(&delivered);
@@ -70,14 +73,30 @@ fn letter_count(lists: &[Vec<Letter>]) -> u128
     lists.iter().map(|list| list.len() as u128).sum()
 }
 
-// How many letters a share has if all have as many, and a sixteenth more, so that most need not grow.
-// A count past all memory stops at the largest number, for which there is no memory either.
-fn room_for(lists: &[Vec<Letter>], shares: usize) -> usize {
-    let count = lists
+// How long all lists are together. A count past all memory stops at the largest number.
+fn length_of_all<T>(lists: &[Vec<T>]) -> usize {
+    lists
         .iter()
-        .fold(0usize, |count, list| count.saturating_add(list.len()));
-    let share = count / shares.max(1);
-    share.saturating_add(share / 16)
+        .fold(0usize, |count, list| count.saturating_add(list.len()))
+}
+
+// Fewer letters and ids together are not worth a thread, nor a look at how many processors there are.
+const LEAST_WORK: usize = 10_000;
+
+// How many shares are worth it, where there are so many letters and ids together.
+fn most_shares(rt: &impl Threads, work: usize) -> usize {
+    if work < LEAST_WORK {
+        1
+    } else {
+        current_num_threads(rt)
+    }
+}
+
+// How many letters a share has if all have as many, and a sixteenth more, so that most need not grow; but no
+// more than there are.
+fn room_for(letters: usize, shares: usize) -> usize {
+    let share = letters / shares.max(1);
+    share.saturating_add(share / 16).min(letters)
 }
 
 // What goes to the parts of each share.

@@ -139,6 +139,21 @@ fn delivered(
     merge_parts(rt, alloc, letters, ids)
 }
 
+// Fewer vertices are not worth a thread.
+const LEAST_VERTICES: usize = 10_000;
+
+// How few parts are worth a thread of their own: one, few as there are, or none where they have few vertices together.
+fn least_parts(parts: &[Vec<VertexState>]) -> usize {
+    let vertices = parts
+        .iter()
+        .fold(0usize, |count, part| count.saturating_add(part.len()));
+    if vertices < LEAST_VERTICES {
+        usize::MAX
+    } else {
+        1
+    }
+}
+
 // The vertices of each part, each with its inbox, where there are as many of these.
 fn all_filled(
     rt: &(impl Threads + Sync),
@@ -151,14 +166,14 @@ fn all_filled(
         → map vec_items parts.items
         ≡ all_filled (map vec_items vertices.items) (map vec_items inboxes.items)) }
 {
+    let least = least_parts(&vertices);
     let pairs: Vec<(Vec<VertexState>, Vec<Inbox>)> = vertices
         .into_iter()
         .zip(inboxes)
         .collect(alloc)?;
-    // A part is worth a thread of its own, few as there are.
     pairs
         .into_par_iter()
-        .with_min_len(1)
+        .with_min_len(least)
         .map(
             |pair: (Vec<VertexState>, Vec<Inbox>)| -> Vec<VertexState>
                 ensures { length pair.0.items ≡ length pair.1.items

@@ -17,7 +17,7 @@ pub use fault::{JobFault, Place};
 pub use job::Job;
 pub use run::{Ended, How, one_machine, tell_end};
 pub use settings::{Setting, Settings};
-pub use slice::{Origin, Slice, slices};
+pub use slice::{Apart, Origin, Slice, slices, take_apart};
 pub use state::{State, VertexState};
 pub use task::{Done, Task, TaskLost, run_task};
 pub use totals::Totals;

@@ -9,10 +9,9 @@ ghost use Rattle.superstep.specs.inside.Running.{is_over};
 
 use crate::closing::barrier;
 use crate::job::Job;
-use crate::slice::{Origin, Slice, slices};
+use crate::slice::{Apart, Origin, Slice, take_apart};
 use crate::state::{State, VertexState};
 use crate::task::{Done, Task, run_task};
-use crate::totals::Totals;
 use interp::Scratch;
 use std::alloc::{AllocError, Global};
 use std::marker::Brand;
@@ -106,9 +105,11 @@ fn run_superstep<J: Origin>(
     ensures since { IfOk result (λ next. next.since ≡ state.since) }
     ensures ids { IfOk result (HasIdsOf job.now) }
 {
-    let totals = Totals::of(alloc, &state)?;
-    let aggregates = state.aggregates();
-    let slices = slices::<J>(alloc, job, state)?;
+    let Apart {
+        totals,
+        aggregates,
+        slices,
+    } = take_apart::<J>(alloc, job, state)?;
     let dones = run_slices(alloc, job, slices, aggregates, scratch)?;
     barrier(rt, alloc, job, totals, dones)
 }

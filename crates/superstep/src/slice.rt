@@ -1,12 +1,15 @@
 //! Slices: the parts of a state, which move to workers and back.
 
 ghost use Rattle.std.specs.Prelude.{◌≡◌, ◌≤◌, true, length, map, vec_items, IfOk};
+ghost use Rattle.superstep.specs.Job.{Work};
 ghost use Rattle.superstep.specs.State.{HasIdsOf, IsStateAt};
 ghost use Rattle.superstep.specs.Tasks.{stamps_of};
+ghost use Rattle.superstep.specs.Totals.{AreTotals, AreTotalsOf, IsTotalsOf};
 ghost use Rattle.superstep.specs.inside.Rows.{AreSlices};
 
 use crate::job::Job;
 use crate::state::{State, VertexState};
+use crate::totals::Totals;
 use std::alloc::{AllocError, Global};
 use std::marker::{Brand, Model, PhantomData};
 
@@ -68,6 +71,41 @@ impl<J: Origin> Slice<J> {
     }
 }
 
+/// A state that was taken apart, for the superstep that comes next.
+#[derive(Drop)]
+pub struct Apart<J: Origin> {
+    /// What was summed up before that superstep.
+    pub totals: Totals,
+    /// What each slot was aggregated to in the superstep before.
+    pub aggregates: [i64; 8],
+    /// One for each part and in order.
+    pub slices: Vec<Slice<J>>,
+}
+
+/// Takes a state apart. All of it is moved, not copied: the time does not depend on how many supersteps there were. The only
+/// refusal is that there is no memory.
+pub fn take_apart<J: Origin>(alloc: Global, job: &Job, state: State) -> Result<Apart<J>, AllocError>
+    requires job { J.work ≡ job.now }
+    requires fits { HasIdsOf job.now state }
+    requires at { J.honest ≡ true → IsStateAt J.work state.superstep state }
+    ensures of { IfOk result (λ apart. IsTotalsOf state apart.totals) }
+    ensures totals { IfOk result (λ apart. AreTotals apart.totals) }
+    ensures at { IfOk result (λ apart. (work : Work)
+        → IsStateAt work state.superstep state → AreTotalsOf work apart.totals) }
+    ensures aggregates { IfOk result (λ apart. apart.aggregates ≡ state.aggregates) }
+    ensures slices { IfOk result (λ apart.
+        apart.slices.items ≡ stamps_of state.superstep job.now.settings.parts) }
+{
+    let aggregates = state.aggregates();
+    let (totals, parts) = state.into_parts(alloc, job.settings().parts)?;
+    let slices = label(alloc, totals.superstep, parts)?;
+    Ok(Apart {
+        totals,
+        aggregates,
+        slices,
+    })
+}
+
 /// The slices of a state, one for each part and in order. The vertices are moved, not copied.
 pub fn slices<J: Origin>(
     alloc: Global,
@@ -80,9 +118,8 @@ pub fn slices<J: Origin>(
     ensures { IfOk result (λ slices.
         slices.items ≡ stamps_of state.superstep job.now.settings.parts) }
 {
-    let superstep = state.superstep();
-    let cut = state.into_parts(alloc, job.settings().parts)?;
-    label(alloc, superstep, cut)
+    let apart = take_apart(alloc, job, state)?;
+    Ok(apart.slices)
 }
 
 // Each part with its number.

@@ -1,12 +1,13 @@
 //! States: what is kept of a job between two supersteps.
 
-ghost use Rattle.std.specs.Prelude.{◌≡◌, ◌<◌, IfOk, map, not, vec_items};
+ghost use Rattle.std.specs.Prelude.{◌≡◌, ◌<◌, IfOk, length, map, not, vec_items};
 ghost use Rattle.std.specs.List.{list_any};
+ghost use Rattle.std.specs.List.Sorted.{IsStrictlyIncreasing};
 ghost use Rattle.graph.specs.Cutting.{joined, parts_by};
 ghost use Rattle.graph.specs.Entry.{entry_of};
 ghost use Rattle.superstep.specs.State.{HasIdsOf, IsState, IsStateAt, in_order, state_id};
 ghost use Rattle.superstep.specs.State.{is_due, is_settled};
-ghost use Rattle.superstep.specs.Totals.{standing_of};
+ghost use Rattle.superstep.specs.Totals.{AreTotals, IsTotalsOf, standing_of};
 ghost use Rattle.superstep.specs.inside.Closing.{with_inbox};
 ghost use Rattle.superstep.specs.inside.Rows.{IsKept, first_state, first_states};
 
@@ -204,22 +205,36 @@ impl State {
         true
     }
 
-    // The vertices of each of so many parts. They are moved, not copied.
+    // What is summed up in the state, and the vertices of each of so many parts. All of it is moved, not copied.
     pub(crate) fn into_parts(
         self,
         alloc: Global,
         parts: u32,
-    ) -> Result<Vec<Vec<VertexState>>, AllocError>
+    ) -> Result<(Totals, Vec<Vec<VertexState>>), AllocError>
         requires { 0 < parts }
-        ensures { IfOk result (λ cut. map vec_items cut.items
+        ensures of { IfOk result (λ cut. IsTotalsOf self cut.0) }
+        ensures totals { IfOk result (λ cut. AreTotals cut.0) }
+        ensures parts { IfOk result (λ cut. map vec_items cut.1.items
             ≡ parts_by state_id parts self.vertices) }
     {
-        if self.parts.len() == parts as usize {
-            return Ok(self.parts);
-        }
-        let mut vertices = together(alloc, self.parts)?;
-        merge_by_id(&mut vertices)?;
-        cut_by_id(alloc, vertices, parts)
+        let State {
+            superstep,
+            since,
+            by_superstep,
+            units,
+            dropped,
+            aggregates: _,
+            parts: lists,
+        } = self;
+        let cut = cut_anew(alloc, lists, parts)?;
+        let totals = Totals {
+            superstep,
+            since,
+            by_superstep,
+            units,
+            dropped,
+        };
+        Ok((totals, cut))
     }
 
     /// The vertices, by rising id. The only refusal is that there is no memory.
@@ -235,6 +250,27 @@ impl State {
         vertices.sort_by_cached_key(|vertex| vertex.id)?;
         Ok(vertices)
     }
+}
+
+// The vertices of all parts, in so many parts. They are moved, not copied.
+fn cut_anew(
+    alloc: Global,
+    lists: Vec<Vec<VertexState>>,
+    parts: u32,
+) -> Result<Vec<Vec<VertexState>>, AllocError>
+    requires some { 0 < parts }
+    requires rising { IsStrictlyIncreasing (map state_id (in_order (map vec_items lists.items))) }
+    requires lie { map vec_items lists.items ≡ parts_by state_id
+        (length (map vec_items lists.items)) (in_order (map vec_items lists.items)) }
+    ensures { IfOk result (λ cut. map vec_items cut.items
+        ≡ parts_by state_id parts (in_order (map vec_items lists.items))) }
+{
+    if lists.len() == parts as usize {
+        return Ok(lists);
+    }
+    let mut vertices = together(alloc, lists)?;
+    merge_by_id(&mut vertices)?;
+    cut_by_id(alloc, vertices, parts)
 }
 
 // The vertices of all parts, one part after another.

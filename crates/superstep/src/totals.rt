@@ -25,7 +25,8 @@ pub struct Totals {
 }
 
 impl Totals {
-    /// What is summed up in a state. The only refusal is that there is no memory.
+    /// What is summed up in a state, which stays: the units of each superstep are copied. The only refusal is that there is no
+    /// memory.
     pub fn of(alloc: Global, state: &State) -> Result<Totals, AllocError>
         ensures of { IfOk result (IsTotalsOf state.now) }
         ensures totals { IfOk result AreTotals }

@@ -2,21 +2,20 @@ use Rattle.std.proofs.Common.{suc, subst, ◌∙◌}
 use Rattle.std.proofs.lemmas.Result.{IfOk-weaker}
 use Rattle.superstep.specs.Job.{Work}
 use Rattle.superstep.specs.State.{IsStateAt}
-use Rattle.superstep.proofs.Runs.{sums}
 use Rattle.superstep.proofs.run.run_superstep.Goals as goal
 
-pub slices-requires-clause-at : goal.slices-requires-clause-at
-slices-requires-clause-at g c = λ honest. rw c.requires.job c.requires.at
+pub take_apart-requires-clause-at : goal.take_apart-requires-clause-at
+take_apart-requires-clause-at g c = λ honest. rw c.requires.job c.requires.at
 
 pub run_slices-requires-clause-all : goal.run_slices-requires-clause-all
 run_slices-requires-clause-all g c = (
   c.args.state.superstep,
-  c.in_ok-slices.ensures,
-  λ honest. rw (c.requires.job, c.aggregates-aggregates.ensures) (λ meaning. (c.requires.at meaning).aggregates),
+  c.in_ok-totals.ensures.slices,
+  λ honest. rw (c.requires.job, c.in_ok-totals.ensures.aggregates) (λ meaning. (c.requires.at meaning).aggregates),
 )
 
 pub barrier-requires-clause-at : goal.barrier-requires-clause-at
-barrier-requires-clause-at g c κs within = λ honest. rw c.requires.job (λ meaning. sums c.args.job.now meaning c.args.state c.in_ok-totals.totals c.in_ok-totals.ensures.of (c.requires.at meaning))
+barrier-requires-clause-at g c κs within = λ honest. rw c.requires.job (c.in_ok-totals.ensures.at c.args.job.now c.requires.at)
 
 pub returns-clause-next : goal.returns-clause-next
 returns-clause-next g c =

@@ -3,16 +3,16 @@ use Rattle.std.specs.List.Sorted.{IsStrictlyIncreasing}
 use Rattle.graph.specs.Cutting.{parts_by}
 use Rattle.graph.specs.Rising.{order_is}
 use Rattle.superstep.specs.Ordering.{by_key}
-use Rattle.superstep.specs.State.{Standing, state_id}
+use Rattle.superstep.specs.State.{state_id}
 use Rattle.superstep.specs.declared.state.VertexState.{VertexState}
 use Rattle.superstep.proofs.Ordering.{by_key_same}
-use Rattle.superstep.proofs.state.State.into_parts.Goals as goal
+use Rattle.superstep.proofs.state.cut_anew.Goals as goal
 
 pub returns : goal.returns
 returns c =
     let all = c.in_ok-vertices.vertices.items in
     let put = ap (by_key state_id) c.in_ok-vertices.ensures in
-    let rising = subst (λ (xs : List VertexState). IsStrictlyIncreasing (map state_id xs)) (sym put) c.self.invariant.state.rising in
+    let rising = subst (λ (xs : List VertexState). IsStrictlyIncreasing (map state_id xs)) (sym put) c.requires.rising in
     let sorted = order_is state_id all _ (by_key state_id all) c.in_ok-merge_by_id.ensures.permutation c.in_ok-merge_by_id.ensures.sorted (by_key_same state_id all) rising in
     subst (λ (xs : List VertexState). IfOk c.cut_by_id.result (λ cut. map vec_items cut.items ≡ parts_by state_id c.args.parts xs))
-    (sorted ∙ put ∙ ap (λ (state : Standing). state.vertices) c.self.view_is) c.cut_by_id.ensures
+    (sorted ∙ put) c.cut_by_id.ensures

@@ -9,6 +9,7 @@ mod laws;
 mod memory;
 mod numbers;
 mod reading;
+mod replacing;
 mod vertices;
 mod writing;
 
@@ -18,4 +19,5 @@ pub use keep::{Keep, KeepFault};
 pub use laws::{a_checkpoint_is_of_one_state, a_checkpoint_is_so_long, what_is_written_is_read};
 pub use memory::MemoryKeep;
 pub use reading::read;
+pub use replacing::replace;
 pub use writing::write;

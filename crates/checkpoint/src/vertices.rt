@@ -1,7 +1,7 @@
 //! Vertices as they stand in a checkpoint.
 
 ghost use Rattle.std.specs.Prelude.{◌≡◌, map};
-ghost use Rattle.checkpoint.specs.Reading.{Gives, is_rising, vertex_at, vertices_at};
+ghost use Rattle.checkpoint.specs.Reading.{Gives, is_rising, items_at, signed_at, vertex_at, vertices_at};
 ghost use Rattle.superstep.specs.State.{state_id};
 
 use crate::fault::CheckFault;
@@ -9,6 +9,33 @@ use crate::numbers::{Item, items, u8_at, u64_at};
 use inbox::Inbox;
 use std::alloc::Global;
 use superstep::VertexState;
+
+// So many messages lie in an inbox itself.
+const FEW: u64 = 4;
+
+// So many messages, of which a few take no memory.
+fn read_inbox(alloc: Global, count: u64, bytes: &[u8]) -> Result<(Inbox, &[u8]), CheckFault>
+    ensures { Gives (λ x. (x.0, x.1.now)) result (items_at signed_at count bytes.now) }
+{
+    if count <= FEW {
+        return read_few(alloc, count, bytes);
+    }
+    let (messages, rest) = items::<i64>(alloc, count, bytes)?;
+    Ok((Inbox::from(messages), rest))
+}
+
+fn read_few(alloc: Global, count: u64, bytes: &[u8]) -> Result<(Inbox, &[u8]), CheckFault>
+    ensures { Gives (λ x. (x.0, x.1.now)) result (items_at signed_at count bytes.now) }
+{
+    let mut inbox = Inbox::empty(alloc);
+    let mut rest = bytes;
+    for _ in 0..count {
+        let (message, after) = i64::read(rest)?;
+        inbox.push(message)?;
+        rest = after;
+    }
+    Ok((inbox, rest))
+}
 
 // A vertex, and whether 0 or 1 says that it is active.
 #[tactic(auto, unfolding(crate::specs::Reading::vertex_at))]
@@ -19,12 +46,12 @@ fn read_vertex(alloc: Global, bytes: &[u8]) -> Result<((VertexState, bool), &[u8
     let (value, rest) = i64::read(rest)?;
     let (active, rest) = u8_at(rest)?;
     let (count, rest) = u64_at(rest)?;
-    let (messages, rest) = items::<i64>(alloc, count, rest)?;
+    let (inbox, rest) = read_inbox(alloc, count, rest)?;
     let vertex = VertexState {
         id,
         value,
         active: active == 1,
-        inbox: Inbox::from(messages),
+        inbox,
     };
     Ok(((vertex, active <= 1), rest))
 }

@@ -1,0 +1,53 @@
+//! Files that are replaced as a whole.
+
+use std::fs::{File, OpenFile};
+use std::io::Write;
+use std::rt::Files;
+use std::{fs, io};
+
+/// Makes these bytes the whole of a file, which may be there or not. They are written to `part`, an empty file of the same
+/// folder that is open as `file`; once the device has them it takes the place of `whole`. So `whole` holds all of them, or
+/// what it held before.
+///
+/// Where it fails, `part` is removed. The folder is synced too, as far as its file system can do that.
+pub fn replace<R: Files>(
+    rt: &R,
+    file: R::File,
+    part: &str,
+    whole: &str,
+    bytes: &[u8],
+) -> io::Result<()> {
+    let replaced = fill_and_rename(rt, file, part, whole, bytes);
+    match replaced {
+        Ok(()) => {
+            let _ = sync_folder(rt, whole);
+        }
+        Err(_) => {
+            let _ = fs::remove_file(rt, part);
+        }
+    }
+    replaced
+}
+
+fn fill_and_rename<R: Files>(
+    rt: &R,
+    file: R::File,
+    part: &str,
+    whole: &str,
+    bytes: &[u8],
+) -> io::Result<()> {
+    let mut file = file;
+    file.write_all(bytes)?;
+    file.sync_all()?;
+    fs::rename(rt, part, whole)
+}
+
+// Has the device keep which names the folder of a file has.
+fn sync_folder<R: Files>(rt: &R, path: &str) -> io::Result<()> {
+    let folder = match path.rsplit_once('/') {
+        Some(("", _)) => "/",
+        Some((folder, _)) => folder,
+        None => ".",
+    };
+    File::open(rt, folder)?.sync_all()
+}

@@ -9,7 +9,7 @@ use Rattle.workers.specs.Steps.{Move, Steps, after, events, moved, stamps_in}
 use Rattle.workers.specs.Steps.Move.{Hand, Take}
 use Rattle.workers.specs.Units.{cut, units_by}
 use Rattle.workers.specs.declared.message.Message.{Message}
-use Rattle.workers.specs.declared.message.Order.{Order}
+use Rattle.channels.specs.declared.order.Order.{Order}
 use Rattle.workers.proofs.Spent.{IsAccount, account, accepted_account, accepted_ending, accounts_after, is_faulty, spent_at, spent_sum}
 
 -- ---- an end stays

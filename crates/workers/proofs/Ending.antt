@@ -12,10 +12,10 @@ use Rattle.rollback.specs.Book.{IsReport}
 use Rattle.rollback.specs.Keeping.{KeepsFor}
 use Rattle.rollback.specs.Machine.{Machine, has_answer, opened}
 use Rattle.workers.specs.Answers.{HasSpent, IsAnswerAt, IsDriveFault, IsOpened, IsRunFault, IsTold, Ran, WhereEnded, WhereOpened, WhereRefused, WhereRun, has_ended}
-use Rattle.workers.specs.Hub.{at}
+use Rattle.channels.specs.Orders.{at}
 use Rattle.workers.specs.Steps.{AreMoves, Steps, after, events, hands, outs_in, stamps_in}
 use Rattle.workers.specs.declared.message.Message.{Message}
-use Rattle.workers.specs.declared.message.Order.{Order}
+use Rattle.channels.specs.declared.order.Order.{Order}
 use Rattle.workers.proofs.Accounts.{spent_of}
 use Rattle.workers.proofs.Faults.{is_own, is_own_fault, steps_own}
 

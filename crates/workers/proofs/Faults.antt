@@ -19,7 +19,7 @@ use Rattle.rollback.specs.Events.Stamp.{DoneBy, FailedBy, JoinedBy, LostBy, Tick
 use Rattle.workers.specs.Steps.{Move, Steps, after, moved}
 use Rattle.workers.specs.Steps.Move.{Hand, Take}
 use Rattle.workers.specs.declared.message.Message.{Message}
-use Rattle.workers.specs.declared.message.Order.{Order}
+use Rattle.channels.specs.declared.order.Order.{Order}
 
 -- a fault of the book's own: there is no memory, or no worker
 abbrev pub is_own_fault : JobFault → Bool

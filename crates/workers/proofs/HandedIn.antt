@@ -10,7 +10,7 @@ use Rattle.workers.specs.Answers.{HasSpent, WhereEnded}
 use Rattle.workers.specs.Hub.{HasByes, received, staff}
 use Rattle.workers.specs.Messages.{event_sender, sender_of}
 use Rattle.workers.specs.Passes.{handed_in_by}
-use Rattle.workers.specs.Rule.{of}
+use Rattle.channels.specs.Rule.{of}
 use Rattle.workers.specs.Steps.{stamps_in}
 use Rattle.workers.specs.Threads.{AreCharged, AreSettled, HasHandedIn, HasSettled, IsSettledHub}
 use Rattle.workers.specs.Units.{cut, units_by, units_of}

@@ -1,16 +1,17 @@
 -- Rows of passes, one shorter, and of threads and of receipts, one longer.
 use Rattle.std.proofs.Common.{◌≡◌, ℕ, ◌≤◌, ◌+◌, vec_capacity, List, [], ◌∷◌, ◌++◌, length, sym, ◌∙◌, subst, arith}
 use Rattle.std.specs.declared.thread.PromisedHandle.{PromisedHandle}
-use Rattle.workers.specs.Hub.{AreNewPasses, Channels, IsNewPass, IsReceiptOn, IsSameHub, IsSettled, IsTickReceiptOn, IsTickerSettled, at, channels_of, handed, received}
-use Rattle.workers.specs.Messages.{closes, coordinator, sender_of, stops}
+use Rattle.workers.specs.Hub.{AreNewPasses, Channels, IsNewPass, IsReceiptOn, IsSameHub, IsSettled, IsTickReceiptOn, IsTickerSettled, channels_of, handed, received}
+use Rattle.channels.specs.Orders.{at, coordinator, stops}
+use Rattle.workers.specs.Messages.{closes, sender_of}
 use Rattle.workers.specs.Passes as pass
-use Rattle.workers.specs.Rule.{IsOnceInOrder}
+use Rattle.channels.specs.Rule.{IsOnceInOrder}
 use Rattle.workers.specs.Threads.{AreHired, AreSettled, AreThreadsOf, IsHired}
 use Rattle.workers.specs.declared.ends.Ends.{Ends}
 use Rattle.workers.specs.declared.hired.Hired.{Hired}
 use Rattle.workers.specs.declared.hired.HiredWorker.{HiredWorker}
 use Rattle.workers.specs.declared.message.Message.{Message}
-use Rattle.workers.specs.declared.message.Order.{Order}
+use Rattle.channels.specs.declared.order.Order.{Order}
 use Rattle.workers.specs.declared.pass.TickReceipt.{TickReceipt}
 use Rattle.workers.specs.declared.pass.WorkerPass.{WorkerPass}
 use Rattle.workers.specs.declared.pass.WorkerReceipt.{WorkerReceipt}

@@ -1,15 +1,11 @@
 pub mod Accounts
-pub mod Byes
-pub mod Crossing
 pub mod Ending
 pub mod Faults
 pub mod HandedIn
 pub mod Handing
 pub mod Hiring
-pub mod InOrder
 pub mod Moving
 pub mod Opening
 pub mod Passing
-pub mod Rules
 pub mod Spent
 pub mod Told

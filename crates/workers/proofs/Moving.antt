@@ -9,15 +9,16 @@ use Rattle.rollback.specs.declared.event.Event.{Event}
 use Rattle.rollback.specs.Machine.{Machine, hand, handed, task_of}
 use Rattle.rollback.specs.Events.{Heard, accepted}
 use Rattle.rollback.specs.Book.{stamp_of, task_out}
-use Rattle.workers.specs.Hub.{at, events_in, tasks_in, with_order}
+use Rattle.channels.specs.Orders.{at, tasks_in, with_order}
+use Rattle.workers.specs.Hub.{events_in}
 use Rattle.workers.specs.Steps.{AreMoves, IsMove, Move, Steps, after, event_of, events, hand_of, hands, moved, outs_in, stamps_in}
 use Rattle.workers.specs.Steps.Move.{Hand, Take}
 use Rattle.workers.specs.declared.message.Message.{Message}
 use Rattle.workers.specs.declared.message.Message.TheVariants as message
-use Rattle.workers.specs.declared.message.Order.{Order}
-use Rattle.workers.specs.declared.message.Order.TheVariants.{Do}
+use Rattle.channels.specs.declared.order.Order.{Order}
+use Rattle.channels.specs.declared.order.Order.TheVariants.{Do}
 use Rattle.workers.specs.declared.message.Sender.{Sender}
-use Rattle.workers.proofs.Handing.{at_set_else, at_set_here, tasks-append}
+use Rattle.channels.proofs.Handing.{at_set_else, at_set_here, tasks-append}
 
 -- ---- lists of moves
 

@@ -2,11 +2,11 @@
 use Rattle.std.proofs.Common.{◌≡◌, ℕ, zero, suc, ◌+◌, List, [], ◌∷◌, ◌++◌, map, length, slice_get, slice_index_or, Some, sym, refl, subst, arith}
 use Rattle.workers.specs.Hub.{AreNewPasses, Channels, IsNewPass}
 use Rattle.workers.specs.declared.message.Message.{Message}
-use Rattle.workers.specs.declared.message.Order.{Order}
+use Rattle.channels.specs.declared.order.Order.{Order}
 use Rattle.workers.specs.declared.pass.WorkerPass.{WorkerPass}
-use Rattle.workers.specs.Channel.{Channel}
+use Rattle.channels.specs.Channel.{Channel}
 use Rattle.workers.specs.inside.Opening.{IsNewPassOf}
-use Rattle.workers.proofs.Handing.{get_end, get_more}
+use Rattle.channels.proofs.Handing.{get_end, get_more}
 
 -- one more that nothing was handed to
 pub at_more : {A C : Type 0} (f : A → List C) (xs : List A) (x : A) → f x ≡ [] → ((w : ℕ) → slice_index_or (map f xs) w [] ≡ []) → (w : ℕ) → slice_index_or (map f (xs ++ x ∷ [])) w [] ≡ []

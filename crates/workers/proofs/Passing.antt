@@ -1,9 +1,9 @@
 -- Passes that are used one after another.
 use Rattle.std.proofs.Common.{◌∙◌, refl}
-use Rattle.workers.specs.Mail.{IsSameReader, IsSameSender}
+use Rattle.channels.specs.Mail.{IsSameReader, IsSameSender}
 use Rattle.workers.specs.Passes.{IsReceipt, IsSamePass}
-use Rattle.workers.specs.declared.mail.ReceivingEnd.{ReceivingEnd}
-use Rattle.workers.specs.declared.mail.SendingEnd.{SendingEnd}
+use Rattle.channels.specs.declared.mail.ReceivingEnd.{ReceivingEnd}
+use Rattle.channels.specs.declared.mail.SendingEnd.{SendingEnd}
 use Rattle.workers.specs.declared.pass.WorkerPass.{WorkerPass}
 use Rattle.workers.specs.declared.pass.WorkerReceipt.{WorkerReceipt}
 

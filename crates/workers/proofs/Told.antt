@@ -6,7 +6,7 @@ use Rattle.superstep.specs.declared.fault.JobFault.{JobFault}
 use Rattle.rollback.specs.declared.report.Report.{Report}
 use Rattle.workers.specs.Answers.{Ran, WhereRun}
 use Rattle.workers.specs.declared.message.Message.{Message}
-use Rattle.workers.specs.declared.message.Order.{Order}
+use Rattle.channels.specs.declared.order.Order.{Order}
 use Rattle.workers.proofs.Ending.{answers_report}
 
 module _ {J : Type 0} (work : Work) (honest : Bool) (received : List (Message J)) (handed : List (List (Order J))) where

@@ -10,11 +10,11 @@ use Rattle.rollback.specs.declared.ending.End.TheVariants.{Fault, Finished, Limi
 use Rattle.rollback.specs.declared.report.Report.{Report}
 use Rattle.rollback.specs.Book.{IsQuietAt, IsReport}
 use Rattle.rollback.specs.Machine.{Machine, opened}
-use Rattle.workers.specs.Hub.{at}
+use Rattle.channels.specs.Orders.{at}
 use Rattle.workers.specs.Steps.{AreMoves, Move, after, events, hands, outs_in, stamps_in}
 use Rattle.workers.specs.Units.{cut, units_by}
 use Rattle.workers.specs.declared.message.Message.{Message}
-use Rattle.workers.specs.declared.message.Order.{Order}
+use Rattle.channels.specs.declared.order.Order.{Order}
 
 -- ---- what is answered
 

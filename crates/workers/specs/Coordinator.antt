@@ -3,14 +3,14 @@ use Rattle.std.specs.Prelude.{◌≡◌, ℕ, Option, Some, None, List, [], true
 use Rattle.std.specs.Global.{Vec}
 use Rattle.rollback.specs.declared.report.Report.{Report}
 use Rattle.workers.specs.Hub as hub
-use Rattle.workers.specs.Messages.{stops}
-use Rattle.workers.specs.Rule.{has_bye}
+use Rattle.channels.specs.Orders.{at, stops}
+use Rattle.channels.specs.Rule.{has_bye}
 use Rattle.workers.specs.Threads as threads
 use Rattle.workers.specs.declared.coordinator.Coordinator.{Coordinator}
 use Rattle.workers.specs.declared.coordinator.Receipts.{Receipts}
 use Rattle.workers.specs.declared.ends.Ends.{Ends}
 use Rattle.workers.specs.declared.message.Message.{Message}
-use Rattle.workers.specs.declared.message.Order.{Order}
+use Rattle.channels.specs.declared.order.Order.{Order}
 use Rattle.workers.specs.declared.pass.TickPass.{TickPass}
 use Rattle.workers.specs.declared.pass.TickReceipt.{TickReceipt}
 use Rattle.workers.specs.declared.pass.WorkerPass.{WorkerPass}
@@ -81,7 +81,7 @@ module _ {J : Type 0} where
 
   -- worker w was told that no task comes any more
   abbrev pub IsStopped : Coordinator J → ℕ → Type 0
-  IsStopped coordinator w = has_bye stops (hub.at (handed coordinator) w) ≡ true
+  IsStopped coordinator w = has_bye stops (at (handed coordinator) w) ≡ true
 
   -- it has its ends, and has received and handed out nothing
   abbrev pub IsUnused : Coordinator J → Type 0

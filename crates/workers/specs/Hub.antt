@@ -1,23 +1,22 @@
 -- What belongs to one hub, and what its coordinator received and handed out.
 use Rattle.std.specs.Global.{Vec}
-use Rattle.std.specs.Prelude.{◌≡◌, ◌<◌, ◌+◌, ℕ, true, List, [], ◌∷◌, ◌++◌, map, vec_len, slice_get, slice_index_or, slice_set, Some}
-use Rattle.superstep.specs.declared.task.Task.{Task}
+use Rattle.std.specs.Prelude.{◌≡◌, ◌<◌, ◌+◌, ℕ, true, List, [], ◌∷◌, map, vec_len, slice_get, Some}
 use Rattle.rollback.specs.declared.event.Event.{Event}
-use Rattle.workers.specs.Mail.{channel_of, received_by, sent_by, source_of}
-use Rattle.workers.specs.Messages.{closes, coordinator, sender_of, stops}
+use Rattle.channels.specs.Mail.{channel_of, received_by, sent_by, source_of}
+use Rattle.workers.specs.Messages.{closes, sender_of}
+use Rattle.channels.specs.Lines.{channel_on, sent_on}
+use Rattle.channels.specs.Orders.{at, coordinator, stops}
 use Rattle.workers.specs.Passes as pass
-use Rattle.workers.specs.Rule.{IsOnceInOrder, has_bye, of}
+use Rattle.channels.specs.Rule.{IsOnceInOrder, has_bye, of}
 use Rattle.workers.specs.declared.ends.Ends.{Ends}
-use Rattle.workers.specs.declared.line.Line.{Line}
 use Rattle.workers.specs.declared.message.Message.{Message}
 use Rattle.workers.specs.declared.message.Message.TheVariants as message
-use Rattle.workers.specs.declared.message.Order.{Order}
-use Rattle.workers.specs.declared.message.Order.TheVariants.{Do, Stop}
+use Rattle.channels.specs.declared.order.Order.{Order}
 use Rattle.workers.specs.declared.pass.TickPass.{TickPass}
 use Rattle.workers.specs.declared.pass.TickReceipt.{TickReceipt}
 use Rattle.workers.specs.declared.pass.WorkerPass.{WorkerPass}
 use Rattle.workers.specs.declared.pass.WorkerReceipt.{WorkerReceipt}
-use Rattle.workers.specs.Channel.{Channel}
+use Rattle.channels.specs.Channel.{Channel}
 
 -- the channels of a hub: that of events, and that of each worker's tasks
 pub record Channels (J : Type 0) : Type 0 where
@@ -25,7 +24,7 @@ pub record Channels (J : Type 0) : Type 0 where
   pub orders : List (Channel (Order J))
 
 module _ {J : Type 0} where
-  -- ---- lists of messages and orders
+  -- ---- lists of messages
 
   -- without byes
   abbrev pub events_in : List (Message J) → List (Event J)
@@ -33,32 +32,11 @@ module _ {J : Type 0} where
   events_in (message.Event event ∷ messages) = event ∷ events_in messages
   events_in (message.Bye sender ∷ messages) = events_in messages
 
-  -- without stops
-  abbrev pub tasks_in : List (Order J) → List (Task J)
-  tasks_in [] = []
-  tasks_in (Do task ∷ orders) = task ∷ tasks_in orders
-  tasks_in (Stop ∷ orders) = tasks_in orders
-
-  -- what was handed to worker w, of what was handed to each
-  abbrev pub at : List (List (Order J)) → ℕ → List (Order J)
-  at handed w = slice_index_or handed w []
-
-  -- one order more for worker w
-  abbrev pub with_order : List (List (Order J)) → ℕ → Order J → List (List (Order J))
-  with_order handed w order = slice_set handed w (at handed w ++ order ∷ [])
-
   -- all that send to the coordinator, so many workers and the ticker, said bye
   abbrev pub HasByes : ℕ → List (Message J) → Type 0
   HasByes workers received = (p : ℕ) → p < workers + 1 → has_bye closes (of sender_of p received) ≡ true
 
   -- ---- the coordinator's ends
-
-  -- what was sent to the worker, in order
-  abbrev pub sent_on : Line J → List (Order J)
-  sent_on line = sent_by line.orders
-
-  abbrev pub channel_on : Line J → Channel (Order J)
-  channel_on line = channel_of line.orders
 
   -- what was received, in order
   abbrev pub received : Ends J → List (Message J)

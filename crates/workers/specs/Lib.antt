@@ -1,9 +1,5 @@
--- What a reader has to believe, in this order: the rule of a channel, and what its ends show.
-pub mod Views
-pub mod Rule
-pub mod Channel
-pub mod Mail
--- the messages of a job, and what its passes and its ends show
+-- What a reader has to believe, in this order, behind the definitions of `channels`: the messages of a job, and what its passes and
+-- its ends show.
 pub mod Messages
 pub mod Passes
 pub mod Hub

@@ -1,12 +1,9 @@
 -- Whose a message is, and which is a sender's last.
-use Rattle.std.specs.Prelude.{ℕ, ◌+◌, Bool, true, false, Option, Some, None}
-use Rattle.superstep.specs.declared.task.Task.{Task}
+use Rattle.std.specs.Prelude.{ℕ, ◌+◌, Bool, true, false}
 use Rattle.rollback.specs.declared.event.Event.{Event}
 use Rattle.rollback.specs.declared.event.Event.TheVariants.{Done, Failed, Joined, Lost, Tick}
 use Rattle.workers.specs.declared.message.Message.{Message}
 use Rattle.workers.specs.declared.message.Message.TheVariants as message
-use Rattle.workers.specs.declared.message.Order.{Order}
-use Rattle.workers.specs.declared.message.Order.TheVariants.{Do, Stop}
 use Rattle.workers.specs.declared.message.Sender.{Sender}
 use Rattle.workers.specs.declared.message.Sender.TheVariants.{Ticker, Worker}
 
@@ -31,17 +28,3 @@ sender_of (message.Bye sender) = sender_number sender
 abbrev pub closes : {J : _} → Message J → Bool
 closes (message.Event event) = false
 closes (message.Bye sender) = true
-
--- ---- the channel of a worker's tasks, whose one sender has the number 0
-
-abbrev pub coordinator : {J : _} → Order J → ℕ
-coordinator order = 0
-
-abbrev pub stops : {J : _} → Order J → Bool
-stops (Do task) = false
-stops Stop = true
-
--- what a worker took, as the order that it was
-abbrev pub order_of : {J : _} → Option (Task J) → Order J
-order_of (Some task) = Do task
-order_of None = Stop

@@ -1,8 +1,8 @@
 -- What passes and receipts show.
 use Rattle.std.specs.Prelude.{◌≡◌, ℕ, List}
-use Rattle.workers.specs.Mail.{IsSameReader, IsSameSender, received_by, sent_by}
+use Rattle.channels.specs.Mail.{IsSameReader, IsSameSender, received_by, sent_by}
 use Rattle.workers.specs.declared.message.Message.{Message}
-use Rattle.workers.specs.declared.message.Order.{Order}
+use Rattle.channels.specs.declared.order.Order.{Order}
 use Rattle.workers.specs.declared.pass.TickPass.{TickPass}
 use Rattle.workers.specs.declared.pass.TickReceipt.{TickReceipt}
 use Rattle.workers.specs.declared.pass.WorkerPass.{WorkerPass}

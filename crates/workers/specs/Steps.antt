@@ -5,9 +5,10 @@ use Rattle.rollback.specs.declared.control.Out.{Out}
 use Rattle.rollback.specs.Machine.{Machine, hand, handed, task_of}
 use Rattle.rollback.specs.Events.{Heard, Stamp, accepted}
 use Rattle.rollback.specs.Book.{IsQuietAt, stamp_of, task_out}
-use Rattle.workers.specs.Hub.{at, events_in, tasks_in}
+use Rattle.channels.specs.Orders.{at, tasks_in}
+use Rattle.workers.specs.Hub.{events_in}
 use Rattle.workers.specs.declared.message.Message.{Message}
-use Rattle.workers.specs.declared.message.Order.{Order}
+use Rattle.channels.specs.declared.order.Order.{Order}
 
 -- ---- hands and events
 

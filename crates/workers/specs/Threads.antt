@@ -2,7 +2,8 @@
 use Rattle.std.specs.Prelude.{◌≡◌, ◌≤◌, ◌+◌, ℕ, Option, Some, None, List, [], ◌∷◌, vec_len, vec_capacity, slice_index_or}
 use Rattle.std.specs.declared.thread.PromisedHandle.{PromisedHandle}
 use Rattle.rollback.specs.declared.report.Report.{Report}
-use Rattle.workers.specs.Hub.{IsSettled, IsTickerSettled, at, channels_of, handed, received, staff, tasks_in}
+use Rattle.workers.specs.Hub.{IsSettled, IsTickerSettled, channels_of, handed, received, staff}
+use Rattle.channels.specs.Orders.{at, tasks_in}
 use Rattle.workers.specs.Passes.{handed_in_by}
 use Rattle.workers.specs.Steps.{stamps_in}
 use Rattle.workers.specs.Units.{cut, units_by}

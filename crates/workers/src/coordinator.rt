@@ -4,7 +4,7 @@ ghost use Rattle.std.specs.Prelude.{◌≡◌, ◌<◌, ◌+◌, ◌++◌, ◌�
 ghost use Rattle.superstep.specs.declared.fault.JobFault.TheVariants.{Closed};
 ghost use Rattle.workers.specs.Answers.{HasSpent, IsDriveFault, IsOpened, Ran, WhereEnded};
 ghost use Rattle.workers.specs.Messages.{sender_of};
-ghost use Rattle.workers.specs.declared.message.Order.TheVariants.{Do};
+ghost use Rattle.channels.specs.declared.order.Order.TheVariants.{Do};
 
 use crate::ends::Ends;
 use crate::message::Message;
@@ -35,7 +35,8 @@ pub struct Coordinator<J: Origin> {
 
 impl<J: Origin> Coordinator<J> {
     ghost use Rattle.workers.specs.Coordinator.{IsReceiptOf, IsSameHub, IsSettledBy, IsStopped, IsTickReceiptOf, IsTickerSettledBy, IsUnused, handed, received, staff};
-    ghost use Rattle.workers.specs.Hub.{HasByes, at, tasks_in, with_order};
+    ghost use Rattle.workers.specs.Hub.{HasByes};
+    ghost use Rattle.channels.specs.Orders.{at, tasks_in, with_order};
     ghost use Rattle.workers.specs.Passes.{handed_in_by, taken_by, ticked_by};
 
     // The one that has these ends.

@@ -6,9 +6,9 @@ ghost use Rattle.rollback.specs.Machine.{is_running};
 ghost use Rattle.workers.specs.Answers.{HasSpent, IsAnswerAt, IsDriveFault, IsOpened, Ran, WhereEnded};
 ghost use Rattle.workers.specs.Steps.{Steps};
 
-use crate::closed::Closed;
 use crate::ends::Ends;
 use crate::message::Message;
+use channels::Closed;
 use checkpoint::Keep;
 use rollback::{Answer, Book, End, Event, Report};
 use std::rt::Files;
@@ -64,7 +64,8 @@ fn answer_of<J: Origin>(book: Book<J>) -> Result<Report, JobFault>
 }
 
 impl<J: Origin> Ends<J> {
-    ghost use Rattle.workers.specs.Hub.{HasByes, IsSameHub, IsStopped, IsUnused, at, handed, received, staff, tasks_in};
+    ghost use Rattle.workers.specs.Hub.{HasByes, IsSameHub, IsStopped, IsUnused, handed, received, staff};
+    ghost use Rattle.channels.specs.Orders.{at, tasks_in};
 
     // Hands the worker its next task, if the book has one for it.
     fn offer_next<R: Wait>(&mut self, rt: &R, book: &mut Book<J>, worker: u32) -> Result<(), Closed>

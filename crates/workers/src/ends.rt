@@ -1,16 +1,15 @@
 //! The coordinator's ends of all channels.
 
 ghost use Rattle.std.specs.Prelude.{◌≡◌, ◌<◌, ◌≤◌, ◌+◌, ◌++◌, ◌∷◌, [], ℕ, false, true, vec_len, slice_index_or, IfOk, OnOk, OnErr};
-ghost use Rattle.workers.specs.Mail.{received_by, senders_of};
-ghost use Rattle.workers.specs.Messages.{closes, sender_of, stops};
-ghost use Rattle.workers.specs.Rule.{has_bye, of};
-ghost use Rattle.workers.specs.declared.message.Order.TheVariants.{Do};
+ghost use Rattle.channels.specs.Mail.{received_by, senders_of};
+ghost use Rattle.workers.specs.Messages.{closes, sender_of};
+ghost use Rattle.channels.specs.Orders.{stops};
+ghost use Rattle.channels.specs.Rule.{has_bye, of};
+ghost use Rattle.channels.specs.declared.order.Order.TheVariants.{Do};
 
-use crate::closed::Closed;
-use crate::line::Line;
-use crate::mail::ReceivingEnd;
-use crate::message::{Message, Order};
+use crate::message::Message;
 use crate::pass::{TickReceipt, WorkerReceipt};
+use channels::{Closed, Line, Order, ReceivingEnd};
 use std::alloc::Global;
 use std::sync::atomic::{AtomicBool, Ordering};
 use std::sync::{Arc, Wait};
@@ -35,7 +34,8 @@ pub struct Ends<J: Origin> {
 
 impl<J: Origin> Ends<J> {
     ghost use Rattle.workers.specs.Passes.{handed_in_by, taken_by, ticked_by};
-    ghost use Rattle.workers.specs.Hub.{HasByes, IsReceiptOn, IsSameHub, IsSettled, IsStopped, IsTickReceiptOn, IsTickerSettled, at, channels_of, handed, received, staff, tasks_in, with_order};
+    ghost use Rattle.workers.specs.Hub.{HasByes, IsReceiptOn, IsSameHub, IsSettled, IsStopped, IsTickReceiptOn, IsTickerSettled, channels_of, handed, received, staff};
+    ghost use Rattle.channels.specs.Orders.{at, tasks_in, with_order};
 
     /// Sends a task to a worker, and waits while its channel is full. What was handed to the others stays.
     pub fn offer<R: Wait>(&mut self, rt: &R, worker: usize, task: Task<J>) -> Result<(), Closed>

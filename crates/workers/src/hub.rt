@@ -3,15 +3,16 @@
 ghost use Rattle.std.specs.Prelude.{◌≡◌, ◌<◌, ◌≤◌, ◌+◌, ◌⊎◌, [], ℕ, true, false, map, replicate, vec_len, vec_capacity, IfOk, IfErr, OnOk};
 ghost use Rattle.superstep.specs.declared.fault.JobFault.TheVariants.{OutOfMemory};
 ghost use Rattle.superstep.specs.declared.fault.Place.TheVariants.{Channel, Open};
-ghost use Rattle.workers.specs.Hub.{IsNewHubOf, at, channel_on, sent_on};
-ghost use Rattle.workers.specs.Mail.{channel_of, received_by, senders_of, source_of};
+ghost use Rattle.workers.specs.Hub.{IsNewHubOf};
+ghost use Rattle.channels.specs.Orders.{at};
+ghost use Rattle.channels.specs.Lines.{channel_on, sent_on};
+ghost use Rattle.channels.specs.Mail.{channel_of, received_by, senders_of, source_of};
 
 use crate::coordinator::Coordinator;
 use crate::ends::Ends;
-use crate::line::Line;
-use crate::mail::{ReceivingEnd, SendingEnd};
 use crate::message::Message;
 use crate::pass::{TickPass, WorkerPass};
+use channels::{Line, ReceivingEnd, SendingEnd};
 use checkpoint::Keep;
 use std::alloc::{AllocError, Global};
 use std::sync::Arc;
@@ -55,13 +56,10 @@ fn open_line<J: Origin>(
     ensures received { received_by events.new ≡ received_by events.old }
     ensures channel { source_of events.new ≡ source_of events.old }
 {
-    let (orders, to) = ReceivingEnd::open(alloc, 2)?;
+    let (orders, line) = Line::open(alloc, 2)?;
     let mine = events.add_sender(ticks)?;
     Ok((
-        Line {
-            orders: to,
-            stopped: false,
-        },
+        line,
         WorkerPass {
             worker,
             events: mine,

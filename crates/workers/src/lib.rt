@@ -1,23 +1,18 @@
 //! Jobs in threads: a coordinator, workers that can be lost, and a ticker.
 #![tactic(auto)]
 
-mod closed;
 mod coordinator;
 mod driving;
 mod ends;
 mod gate;
 mod hired;
 mod hub;
-mod line;
-mod mail;
 mod message;
 mod pass;
-mod rule;
 mod run;
 mod settling;
 mod staffing;
 mod threads;
-mod view;
 mod work;
 
 pub use coordinator::Coordinator;

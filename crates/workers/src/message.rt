@@ -1,8 +1,8 @@
-//! What the coordinator receives, and what workers are sent.
+//! What the coordinator receives.
 
-use crate::rule::Signed;
+use channels::Signed;
 use rollback::Event;
-use superstep::{Origin, Task};
+use superstep::Origin;
 
 /// Who sends to the coordinator.
 #[derive(Clone, Copy)]
@@ -21,14 +21,6 @@ pub enum Message<J: Origin> {
     Bye(Sender),
 }
 
-/// What a worker is sent.
-#[derive(Drop)]
-pub enum Order<J: Origin> {
-    Do(Task<J>),
-    /// No task comes any more.
-    Stop,
-}
-
 impl Sender {
     ghost use Rattle.std.specs.Prelude.{◌≡◌};
     ghost use Rattle.workers.specs.Messages.{sender_number};
@@ -44,33 +36,10 @@ impl Sender {
     }
 }
 
-impl<J: Origin> Order<J> {
-    ghost use Rattle.std.specs.Prelude.{◌≡◌};
-    ghost use Rattle.workers.specs.Messages.{stops};
-
-    /// Whether no task comes any more.
-    pub(crate) fn stops(&self) -> bool
-        ensures { result ≡ stops self.now }
-    {
-        match self {
-            Order::Do(_) => false,
-            Order::Stop => true,
-        }
-    }
-}
-
 impl<J: Origin> Signed for Message<J> {
     ghost use Rattle.workers.specs.Messages.{closes, sender_of};
 
     ghost from = { sender_of };
 
     ghost closes = { closes };
-}
-
-impl<J: Origin> Signed for Order<J> {
-    ghost use Rattle.workers.specs.Messages.{coordinator, stops};
-
-    ghost from = { coordinator };
-
-    ghost closes = { stops };
 }

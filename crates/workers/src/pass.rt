@@ -3,14 +3,15 @@
 ghost use Rattle.std.specs.Prelude.{◌≡◌, ◌+◌, ◌++◌, ◌∷◌, [], false, IfOk, IfErr, OnOk, OnErr};
 ghost use Rattle.superstep.specs.declared.fault.JobFault.TheVariants.{Closed};
 ghost use Rattle.rollback.specs.declared.event.Event.TheVariants.{Tick};
-ghost use Rattle.workers.specs.Mail.{number_of, sent_by};
-ghost use Rattle.workers.specs.Messages.{closes, event_sender, order_of};
-ghost use Rattle.workers.specs.Rule.{has_bye};
+ghost use Rattle.channels.specs.Mail.{number_of, sent_by};
+ghost use Rattle.workers.specs.Messages.{closes, event_sender};
+ghost use Rattle.channels.specs.Orders.{order_of};
+ghost use Rattle.channels.specs.Rule.{has_bye};
 ghost use Rattle.workers.specs.declared.message.Message.TheVariants.{Bye, Event as Happened};
 ghost use Rattle.workers.specs.declared.message.Sender.TheVariants.{Ticker, Worker};
 
-use crate::mail::{ReceivingEnd, SendingEnd};
-use crate::message::{Message, Order, Sender};
+use crate::message::{Message, Sender};
+use channels::{Order, ReceivingEnd, SendingEnd};
 use rollback::Event;
 use std::alloc::Global;
 use std::sync::atomic::{AtomicBool, Ordering};

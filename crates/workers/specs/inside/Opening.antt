@@ -1,13 +1,15 @@
 -- How a hub is opened.
 use Rattle.std.specs.Prelude.{◌≡◌, ◌≤◌, ◌+◌, ℕ, false, [], map, replicate, vec_len, vec_capacity}
-use Rattle.workers.specs.Hub.{AreNewPasses, at, channel_on, sent_on}
-use Rattle.workers.specs.Mail.{channel_of, source_of}
+use Rattle.workers.specs.Hub.{AreNewPasses}
+use Rattle.channels.specs.Orders.{at}
+use Rattle.channels.specs.Lines.{channel_on, sent_on}
+use Rattle.channels.specs.Mail.{channel_of, source_of}
 use Rattle.workers.specs.Passes as pass
 use Rattle.workers.specs.declared.hub.Rows.{Rows}
 use Rattle.workers.specs.declared.message.Message.{Message}
-use Rattle.workers.specs.declared.message.Order.{Order}
+use Rattle.channels.specs.declared.order.Order.{Order}
 use Rattle.workers.specs.declared.pass.WorkerPass.{WorkerPass}
-use Rattle.workers.specs.Channel.{Channel}
+use Rattle.channels.specs.Channel.{Channel}
 
 module _ {J : Type 0} where
   -- there is room for so many workers

@@ -1,9 +1,10 @@
 use Rattle.std.proofs.Common.{◌∷◌, [], ap, arith, map, rules, subst, sym, ◌∙◌}
 use mathlib.Core.List.{map-append}
-use Rattle.workers.specs.Hub.{at, channel_on, sent_on}
-use Rattle.workers.specs.Mail.{source_of}
+use Rattle.channels.specs.Orders.{at}
+use Rattle.channels.specs.Lines.{channel_on, sent_on}
+use Rattle.channels.specs.Mail.{source_of}
 use Rattle.workers.specs.inside.Opening.{IsNewPassOf}
-use Rattle.workers.proofs.Handing.{length_map}
+use Rattle.channels.proofs.Handing.{length_map}
 use Rattle.workers.proofs.Opening.{at_more, passes_more}
 use Rattle.workers.proofs.hub.open_lines.Goals as goal
 

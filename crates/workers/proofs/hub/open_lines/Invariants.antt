@@ -1,6 +1,8 @@
 use Rattle.std.proofs.Common.{◌≡◌, ◌≤◌, ◌+◌, [], map, ℕ, vec_len, vec_capacity}
-use Rattle.workers.specs.Hub.{AreNewPasses, at, channel_on, sent_on}
-use Rattle.workers.specs.Mail.{channel_of, received_by, senders_of, source_of}
+use Rattle.workers.specs.Hub.{AreNewPasses}
+use Rattle.channels.specs.Orders.{at}
+use Rattle.channels.specs.Lines.{channel_on, sent_on}
+use Rattle.channels.specs.Mail.{channel_of, received_by, senders_of, source_of}
 use Rattle.workers.proofs.hub.open_lines.Given as goal
 
 abbrev pub invariant-loop-worker : goal.invariant-loop-worker

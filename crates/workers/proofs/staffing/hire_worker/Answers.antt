@@ -1,6 +1,6 @@
 use denote.Param.Send.{sendable}
 use Rattle.std.proofs.Crossing.{crosses}
-use Rattle.workers.proofs.Crossing.{job_sync}
+use Rattle.channels.proofs.Crossing.{job_sync}
 use Rattle.workers.proofs.pass.WorkerPass.TheSendSync as pass
 use Rattle.workers.proofs.staffing.hire_worker.Goals as goal
 

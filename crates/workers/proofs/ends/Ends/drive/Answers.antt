@@ -1,7 +1,9 @@
 use Rattle.std.proofs.Common.{◌≡◌, length, arith, ◌∙◌}
-use Rattle.workers.specs.Hub.{handed, received, sent_on, staff}
+use Rattle.workers.specs.Hub.{handed, received, staff}
+use Rattle.channels.specs.Lines.{sent_on}
 use Rattle.workers.proofs.Ending.{drive_fault, has_spent, keeps_first, ran_of, where_ended}
-use Rattle.workers.proofs.Handing.{hub_then, length_map}
+use Rattle.workers.proofs.Handing.{hub_then}
+use Rattle.channels.proofs.Handing.{length_map}
 use Rattle.workers.proofs.ends.Ends.drive.Goals as goal
 
 pub run_out-requires-clause-keep : goal.run_out-requires-clause-keep

@@ -1,7 +1,8 @@
 use Rattle.std.proofs.Common.{arith, refl}
-use Rattle.workers.specs.Hub.{channel_on, sent_on}
-use Rattle.workers.specs.declared.message.Order.TheVariants.{Do}
-use Rattle.workers.proofs.Handing.{channels_as, map_one, map_same, on_err, on_ok}
+use Rattle.channels.specs.Lines.{channel_on, sent_on}
+use Rattle.channels.specs.declared.order.Order.TheVariants.{Do}
+use Rattle.workers.proofs.Handing.{channels_as}
+use Rattle.channels.proofs.Handing.{map_one, map_same, on_err, on_ok}
 use Rattle.workers.proofs.ends.Ends.offer.Goals as goal
 
 pub returns-clause-handed : goal.returns-clause-handed

@@ -1,6 +1,7 @@
 use Rattle.std.proofs.Common.{arith, refl}
-use Rattle.workers.specs.Hub.{handed, received, sent_on}
-use Rattle.workers.proofs.Handing.{length_map, on_ok}
+use Rattle.workers.specs.Hub.{handed, received}
+use Rattle.channels.specs.Lines.{sent_on}
+use Rattle.channels.proofs.Handing.{length_map, on_ok}
 use Rattle.workers.proofs.Moving.{steps_hand, steps_same}
 use Rattle.workers.proofs.ends.Ends.offer_next.Goals as goal
 

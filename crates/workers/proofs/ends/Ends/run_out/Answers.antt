@@ -1,9 +1,10 @@
 use Rattle.std.proofs.Common.{◌<◌, ℕ, ap, ◌∙◌, subst}
-use Rattle.workers.specs.Hub.{at, handed, received}
-use Rattle.workers.specs.Messages.{stops}
-use Rattle.workers.specs.Rule.{has_bye}
+use Rattle.channels.specs.Orders.{at, stops}
+use Rattle.workers.specs.Hub.{handed, received}
+use Rattle.channels.specs.Rule.{has_bye}
 use Rattle.workers.proofs.Accounts.{steps_over}
-use Rattle.workers.proofs.Handing.{handed_wide, hub_then, on_ok}
+use Rattle.workers.proofs.Handing.{handed_wide, hub_then}
+use Rattle.channels.proofs.Handing.{on_ok}
 use Rattle.workers.proofs.Moving.{steps_still, steps_then}
 use Rattle.workers.proofs.ends.Ends.run_out.Goals as goal
 

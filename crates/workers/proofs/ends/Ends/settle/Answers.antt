@@ -1,8 +1,10 @@
 use Rattle.std.proofs.Common.{arith, ap, refl, sym, ◌∙◌, ◌<◌, length, slice_get, Some}
-use Rattle.workers.specs.Hub.{at, channel_on, sent_on}
-use Rattle.workers.specs.Messages.{closes, coordinator, sender_of, stops}
-use Rattle.workers.proofs.Handing.{at_map, channels_as, get_map, map_same}
-use Rattle.workers.proofs.InOrder.{in_order_as}
+use Rattle.channels.specs.Orders.{at, coordinator, stops}
+use Rattle.channels.specs.Lines.{channel_on, sent_on}
+use Rattle.workers.specs.Messages.{closes, sender_of}
+use Rattle.channels.proofs.Handing.{at_map, get_map, map_same}
+use Rattle.workers.proofs.Handing.{channels_as}
+use Rattle.channels.proofs.InOrder.{in_order_as}
 use Rattle.workers.proofs.ends.Ends.settle.Goals as goal
 
 pub compare-orders-requires : goal.compare-orders-requires

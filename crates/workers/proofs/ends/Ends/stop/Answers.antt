@@ -1,6 +1,7 @@
 use Rattle.std.proofs.Common.{sym, ◌∙◌}
 use Rattle.workers.specs.Hub.{IsStopped}
-use Rattle.workers.proofs.Handing.{below_more, hub_then, ok_gives}
+use Rattle.channels.proofs.Handing.{below_more, ok_gives}
+use Rattle.workers.proofs.Handing.{hub_then}
 use Rattle.workers.proofs.ends.Ends.stop.Goals as goal
 use Rattle.workers.proofs.ends.Ends.stop.Goals.{then-is_err, else-is_err}
 

@@ -1,5 +1,6 @@
 use Rattle.std.proofs.Common.{◌≡◌, ◌<◌, ℕ, OnOk}
-use Rattle.workers.specs.Hub.{IsSameHub, IsStopped, at, handed, received, staff, tasks_in}
+use Rattle.workers.specs.Hub.{IsSameHub, IsStopped, handed, received, staff}
+use Rattle.channels.specs.Orders.{at, tasks_in}
 use Rattle.workers.proofs.ends.Ends.stop.Given as goal
 
 abbrev pub invariant-loop-worker : goal.invariant-loop-worker

@@ -1,9 +1,11 @@
 use Rattle.std.proofs.Common.{arith, ap, refl, ◌∙◌, ◌<◌, length}
-use Rattle.workers.specs.Hub.{channel_on, handed, sent_on}
-use Rattle.workers.specs.Messages.{stops}
-use Rattle.workers.specs.Rule.{has_bye}
-use Rattle.workers.specs.declared.message.Order.TheVariants.{Stop}
-use Rattle.workers.proofs.Handing.{at_map_set, channels_as, length_map, map_maybe, map_same, on_ok, stops_keep, stops_tasks}
+use Rattle.channels.specs.Lines.{channel_on, sent_on}
+use Rattle.workers.specs.Hub.{handed}
+use Rattle.channels.specs.Orders.{stops}
+use Rattle.channels.specs.Rule.{has_bye}
+use Rattle.channels.specs.declared.order.Order.TheVariants.{Stop}
+use Rattle.channels.proofs.Handing.{at_map_set, length_map, map_maybe, map_same, on_ok, stops_keep, stops_tasks}
+use Rattle.workers.proofs.Handing.{channels_as}
 use Rattle.workers.proofs.ends.Ends.stop_one.Goals as goal
 
 pub returns-clause-stopped : goal.returns-clause-stopped

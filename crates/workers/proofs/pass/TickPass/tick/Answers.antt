@@ -1,6 +1,6 @@
 use Rattle.std.proofs.Common.{refl}
 use Rattle.workers.specs.Messages.{closes}
-use Rattle.workers.proofs.Byes.{open_after}
+use Rattle.channels.proofs.Byes.{open_after}
 use Rattle.workers.proofs.pass.TickPass.tick.Goals as goal
 
 pub invariant_of-self-clause-open : goal.invariant_of-self-clause-open

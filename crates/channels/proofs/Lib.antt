@@ -1,0 +1,5 @@
+pub mod Byes
+pub mod Crossing
+pub mod Handing
+pub mod InOrder
+pub mod Rules

@@ -1,0 +1,15 @@
+-- What tells one channel from another.
+use Rattle.std.specs.Prelude.{Option}
+use Rattle.std.specs.Global.{Global}
+use Rattle.atomic_table.specs.declared.badge.Badge.{Badge}
+use Rattle.crossbeam_channel.specs.declared.flavors.array.Doing.{Doing}
+use Rattle.crossbeam_channel.specs.declared.flavors.array.Key.{Key}
+use Rattle.crossbeam_channel.specs.declared.flavors.array.Lockers.{Lockers}
+use Rattle.crossbeam_channel.specs.declared.flavors.array.Rounds.{Rounds}
+use Rattle.crossbeam_channel.specs.declared.flavors.array.Rows.{Rows}
+use Rattle.crossbeam_channel.specs.declared.flavors.array.Whole.{Whole}
+use Rattle.channels.specs.declared.rule.InOrder.{InOrder}
+use Rattle.channels.specs.declared.view.View.{View}
+
+abbrev pub Channel : Type 0 → Type 0
+Channel M = Rows (Badge (Key M)) (Doing M (View M)) (Rounds InOrder) (Option M) (Key M) (Lockers Whole) Global

@@ -6,6 +6,7 @@ pub mod Handing
 pub mod Hiring
 pub mod Moving
 pub mod Opening
+pub mod Over
 pub mod Passing
 pub mod Spent
 pub mod Told

@@ -65,7 +65,10 @@ impl<J: Origin> Coordinator<J> {
                 Ok(()) => Ok(()),
                 Err(_) => Err(JobFault::Closed),
             },
-            None => Err(JobFault::Closed),
+            None => {
+                drop(task);
+                Err(JobFault::Closed)
+            }
         }
     }
 
@@ -167,7 +170,10 @@ impl<J: Origin> Coordinator<J> {
     {
         match &mut self.ends {
             Some(ends) => ends.drive(rt, book, keep),
-            None => Err(JobFault::Closed),
+            None => {
+                drop(book);
+                Err(JobFault::Closed)
+            }
         }
     }
 }

@@ -5,6 +5,7 @@ ghost use Rattle.rollback.specs.Keeping.{KeepsFor};
 ghost use Rattle.rollback.specs.Machine.{is_running};
 ghost use Rattle.workers.specs.Answers.{HasSpent, IsAnswerAt, IsDriveFault, IsOpened, Ran, WhereEnded};
 ghost use Rattle.workers.specs.Steps.{Steps};
+ghost use Rattle.workers.specs.inside.Driving.{IsOver};
 
 use crate::ends::Ends;
 use crate::message::Message;
@@ -59,7 +60,10 @@ fn answer_of<J: Origin>(book: Book<J>) -> Result<Report, JobFault>
             let report = book.report()?;
             Ok(report)
         }
-        End::Fault(fault) => Err(fault),
+        End::Fault(fault) => {
+            drop(book);
+            Err(fault)
+        }
     }
 }
 
@@ -140,58 +144,33 @@ impl<J: Origin> Ends<J> {
         }
     }
 
-    // Hands out tasks and takes messages until the job has ended.
-    fn run_to_end<K: Keep, R: Wait + Threads + Sync + Files + AllocGlobal>(
+    // Hands those that are free their next tasks while the job runs. Once it has ended, it stops all, if they were not stopped.
+    fn offer_or_stop<R: Wait>(
         &mut self,
         rt: &R,
         book: &mut Book<J>,
-        keep: &mut K,
+        free: Free,
+        stopped: &mut bool,
     ) -> Result<(), Closed>
-        requires keep { KeepsFor J.work J.honest (K.honest keep.old) (K.saved keep.old)
-            (K.may_load keep.old) book.old }
+        requires stopped { stopped.old ≡ true → IsOver book.old self.old }
         ensures steps { OnOk result (Steps J.work J.honest book.old book.new
             (received self.old) (received self.new) (handed self.old) (handed self.new)) }
-        ensures ended { OnOk result (is_running book.new.ending ≡ false) }
-        ensures keep { OnOk result (KeepsFor J.work J.honest (K.honest keep.new) (K.saved keep.new)
-            (K.may_load keep.new) book.new) }
+        ensures saved { book.new.saved ≡ book.old.saved }
+        ensures stopped { OnOk result (stopped.new ≡ true → IsOver book.new self.new) }
         ensures hub { IsSameHub self.old self.new }
     {
-        let mut free = Free::All;
-        for _ in rt.forever() {
-            if !goes_on(book) {
-                return Ok(());
-            }
-            self.offer_free(rt, book, free)?;
-            free = self.take_one(rt, book, keep)?;
+        if goes_on(book) {
+            return self.offer_free(rt, book, free);
         }
-        unreachable!()
+        if !*stopped {
+            self.stop(rt)?;
+            *stopped = true;
+        }
+        Ok(())
     }
 
-    // Takes messages until every sender said bye.
-    fn take_byes<K: Keep, R: Wait + Threads + Sync + Files + AllocGlobal>(
-        &mut self,
-        rt: &R,
-        book: &mut Book<J>,
-        keep: &mut K,
-    ) -> Result<(), Closed>
-        requires keep { KeepsFor J.work J.honest (K.honest keep.old) (K.saved keep.old)
-            (K.may_load keep.old) book.old }
-        ensures steps { OnOk result (Steps J.work J.honest book.old book.new
-            (received self.old) (received self.new) (handed self.old) (handed self.new)) }
-        ensures byes { OnOk result (HasByes (staff self.new) (received self.new)) }
-        ensures handed { handed self.new ≡ handed self.old }
-        ensures hub { IsSameHub self.old self.new }
-    {
-        for _ in rt.forever() {
-            if self.all_gone() {
-                return Ok(());
-            }
-            self.take_one(rt, book, keep)?;
-        }
-        unreachable!()
-    }
-
-    // Runs the job to its end, stops all, and takes every bye.
+    // Runs the job to its end: it hands out tasks and takes messages. Then it stops all, and takes messages until every sender said
+    // bye.
     fn run_out<K: Keep, R: Wait + Threads + Sync + Files + AllocGlobal>(
         &mut self,
         rt: &R,
@@ -207,9 +186,16 @@ impl<J: Origin> Ends<J> {
         ensures stopped { OnOk result ((w : ℕ) → w < staff self.new → IsStopped self.new w) }
         ensures hub { IsSameHub self.old self.new }
     {
-        self.run_to_end(rt, book, keep)?;
-        self.stop(rt)?;
-        self.take_byes(rt, book, keep)
+        let mut free = Free::All;
+        let mut stopped = false;
+        for _ in rt.forever() {
+            self.offer_or_stop(rt, book, free, &mut stopped)?;
+            if stopped && self.all_gone() {
+                return Ok(());
+            }
+            free = self.take_one(rt, book, keep)?;
+        }
+        unreachable!()
     }
 
     /// Drives a job to its end, stops all, takes every bye, and answers. Where a channel is closed it stops all and answers so.
@@ -235,6 +221,7 @@ impl<J: Origin> Ends<J> {
         match self.run_out(rt, &mut book, keep) {
             Ok(()) => answer_of(book),
             Err(_) => {
+                drop(book);
                 let _closed = self.stop(rt);
                 Err(JobFault::Closed)
             }

@@ -56,11 +56,15 @@ fn drive_all<J: Origin, K: Keep, R: Wait + Threads + Sync + Files + AllocGlobal>
 {
     let answer = ends.drive(rt, book, keep);
     if !was_driven(&answer) {
+        drop(hired);
         return (None, answer);
     }
     match settle_all(rt, ends, hired) {
         Ok(receipts) => (Some(receipts), answer),
-        Err(_) => (None, Err(JobFault::Closed)),
+        Err(_) => {
+            drop(answer);
+            (None, Err(JobFault::Closed))
+        }
     }
 }
 
@@ -123,6 +127,7 @@ fn run_hired<
                     (mine, receipts, answer)
                 }
                 Err(fault) => {
+                    drop(book);
                     let _stopped = mine.stop(rt);
                     (mine, None, Err(fault))
                 }

@@ -1,31 +1,38 @@
-use Rattle.std.proofs.Common.{◌<◌, ℕ, ap, ◌∙◌, subst}
-use Rattle.channels.specs.Orders.{at, stops}
+use Rattle.rollback.proofs.Keeps.{keeps_same}
+use Rattle.std.proofs.Common.{true≢false, sym, ◌∙◌}
 use Rattle.workers.specs.Hub.{handed, received}
-use Rattle.channels.specs.Rule.{has_bye}
-use Rattle.workers.proofs.Accounts.{steps_over}
-use Rattle.workers.proofs.Handing.{handed_wide, hub_then}
-use Rattle.channels.proofs.Handing.{on_ok}
-use Rattle.workers.proofs.Moving.{steps_still, steps_then}
+use Rattle.workers.proofs.Handing.{hub_same, hub_then}
+use Rattle.workers.proofs.Moving.{steps_none, steps_then}
+use Rattle.workers.proofs.Over.{over_still}
 use Rattle.workers.proofs.ends.Ends.run_out.Goals as goal
 
-pub returns-clause-steps : goal.returns-clause-steps
-returns-clause-steps g c =
-    let s = c.stop.new.self in
-    let o = c.in_ok-stop.ensures in
-    let wide = handed_wide c.run_to_end.new.self s o.hub.workers in
-    on_ok _ _ c.take_byes.result c.take_byes.ensures.steps
-    (λ p. steps_then g.J.Origin.work g.J.Origin.honest (steps_still g.J.Origin.work g.J.Origin.honest (received s) (handed s) c.in_ok-run_to_end.ensures.steps o.received o.tasks wide) p)
+pub loop-init : goal.loop-init
+loop-init g c =
+    let s = c.args.self.now in
+    record {
+      steps = steps_none g.J.Origin.work g.J.Origin.honest c.args.book.now (received s) (handed s);
+      keep = c.requires.keep;
+      over = λ e. absurd (true≢false (sym e));
+      hub = hub_same s;
+    }
 
-pub returns-clause-ended : goal.returns-clause-ended
-returns-clause-ended g c =
-    on_ok _ _ c.take_byes.result c.take_byes.ensures.steps
-    (λ p. steps_over g.J.Origin.work g.J.Origin.honest p c.in_ok-run_to_end.ensures.ended)
+pub take_one-requires-clause-keep : goal.take_one-requires-clause-keep
+take_one-requires-clause-keep g c κs within =
+    let k = c.loop.keep in
+    keeps_same g.J.Origin.work g.J.Origin.honest (g.K.Keep.honest k) (g.K.Keep.saved k) (g.K.Keep.may_load k) c.loop.book c.offer_or_stop.new.book c.offer_or_stop.ensures.saved c.loop.invariant.keep
 
-pub returns-clause-stopped : goal.returns-clause-stopped
-returns-clause-stopped g c =
-    let t = c.take_byes.ensures in
-    on_ok _ _ c.take_byes.result t.steps
-    (λ p w h. ap (λ l. has_bye stops (at l w)) t.handed ∙ c.in_ok-stop.ensures.stopped w (subst (λ (n : ℕ). w < n) t.hub.workers h))
+pub loop-preserved : goal.loop-preserved
+loop-preserved g c =
+    let i = c.loop.invariant in
+    let o = c.in_ok-offer_or_stop.ensures in
+    let t = c.in_ok-free.ensures in
+    record {
+      steps = steps_then g.J.Origin.work g.J.Origin.honest i.steps (steps_then g.J.Origin.work g.J.Origin.honest o.steps t.steps);
+      keep = t.keep;
+      over = λ e. over_still g.J.Origin.work g.J.Origin.honest t.steps t.handed t.hub (o.stopped e);
+      hub = hub_then i.hub (hub_then c.offer_or_stop.ensures.hub t.hub);
+    }
 
-pub returns-clause-hub : goal.returns-clause-hub
-returns-clause-hub g c = hub_then c.in_ok-run_to_end.ensures.hub (hub_then c.in_ok-stop.ensures.hub c.take_byes.ensures.hub)
+pub returns-then-all_gone-clause-steps : goal.returns-then-all_gone-clause-steps
+returns-then-all_gone-clause-steps g c =
+    steps_then g.J.Origin.work g.J.Origin.honest c.loop.invariant.steps c.in_ok-offer_or_stop.ensures.steps

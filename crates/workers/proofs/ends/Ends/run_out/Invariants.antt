@@ -1,13 +1,14 @@
-use Rattle.std.proofs.Common.{◌≡◌}
+use Rattle.std.proofs.Common.{◌≡◌, true}
 use Rattle.rollback.specs.Keeping.{KeepsFor}
 use Rattle.workers.specs.Hub.{IsSameHub, handed, received}
 use Rattle.workers.specs.Steps.{Steps}
-use Rattle.workers.proofs.ends.Ends.take_byes.Given as goal
+use Rattle.workers.specs.inside.Driving.{IsOver}
+use Rattle.workers.proofs.ends.Ends.run_out.Given as goal
 
 abbrev pub invariant-loop : goal.invariant-loop
 invariant-loop g l = record {
   steps : Steps g.J.Origin.work g.J.Origin.honest l.fn.book l.book (received l.fn.self) (received l.self) (handed l.fn.self) (handed l.self);
   keep : KeepsFor g.J.Origin.work g.J.Origin.honest (g.K.Keep.honest l.keep) (g.K.Keep.saved l.keep) (g.K.Keep.may_load l.keep) l.book;
-  handed : handed l.self ≡ handed l.fn.self;
+  over : l.stopped ≡ true → IsOver l.book l.self;
   hub : IsSameHub l.fn.self l.self;
 }

@@ -20,6 +20,10 @@
 #error "a vertex program is compiled for WebAssembly: use pregel-cc, or clang --target=wasm32"
 #endif
 
+#ifdef __cplusplus
+extern "C" {
+#endif
+
 #define PREGEL_IMPORT(name) __attribute__((import_module("pregel"), import_name(#name)))
 #define PREGEL_INLINE static inline __attribute__((always_inline, unused))
 
@@ -185,8 +189,12 @@ PREGEL_INLINE int64_t aggregated(int32_t aggregator)
         }                                                                                                                          \
     })
 
+#ifdef __cplusplus
+#define PREGEL_ARRAY(array) static_assert(!__is_same(__typeof__(array), __typeof__(&(array)[0])), "an array is wanted, not a pointer")
+#else
 #define PREGEL_ARRAY(array)                                                                                                        \
     _Static_assert(!__builtin_types_compatible_p(__typeof__(array), __typeof__(&(array)[0])), "an array is wanted, not a pointer")
+#endif
 
 /* Returns n / d, rounded down, for a d that is not a constant (rule P11), and 0 where d is 0. Both are read without signs. A
  * division by a constant is written as usual.
@@ -215,5 +223,9 @@ PREGEL_INLINE uint64_t modulo(uint64_t n, uint64_t d)
 {
     return n - divide(n, d) * d;
 }
+
+#ifdef __cplusplus
+}
+#endif
 
 #endif

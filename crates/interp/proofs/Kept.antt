@@ -321,11 +321,11 @@ kept-masked [] (b ∷ bs) = kept-masked [] bs ∙ none_before (length bs)
 kept-masked (true ∷ ms) (b ∷ bs) = ap suc (kept-masked ms bs)
 kept-masked (false ∷ ms) (b ∷ bs) = kept-masked ms bs
 
-pub kept-spread : (ms : List Bool) (bs : List ℕ) → count_kept (spread ms bs) ≤ length bs
-kept-spread [] bs = omega arith
-kept-spread (false ∷ ms) bs = kept-spread ms bs
-kept-spread (true ∷ ms) [] = kept-spread ms []
-kept-spread (true ∷ ms) (b ∷ bs) = let h = kept-spread ms bs in omega (arith, h)
+-- where there are no bytes, none are kept
+pub kept-none : (ms : List Bool) → count_kept (spread ms []) ≡ 0
+kept-none [] = refl
+kept-none (false ∷ ms) = kept-none ms
+kept-none (true ∷ ms) = kept-none ms
 
 module _ (m : Module) where
   length-marks_from : (byte count : ℕ) → length (marks_from m byte count) ≡ count
@@ -367,14 +367,12 @@ module _ (m : Module) where
       ∙ spread_zeros (marks m) _ (omega arith)
       ∙ ap (λ (n : ℕ). masked (marks m) (replicate n 0)) length-marks
 
+  -- as many as are reached
+  pub all_reached : reached_bytes m ≡ marked_before (marks m) (memory_bytes m)
+  all_reached = place_told (memory_bytes m) (omega arith)
+
   pub kept_fresh : count_kept (masked (marks m) (replicate (memory_bytes m) 0)) ≡ marked_before (marks m) (memory_bytes m)
   kept_fresh = kept-masked (marks m) (replicate (memory_bytes m) 0) ∙ ap (marked_before (marks m)) (length-replicate {A = ℕ} (memory_bytes m) 0)
-
-  -- the same in as many places as there were bytes that were kept, or more
-  pub fresh_places : (n : ℕ) → marked_before (marks m) (memory_bytes m) ≤ n → spread (marks m) (replicate n 0) ≡ masked (marks m) (replicate (memory_bytes m) 0)
-  fresh_places n h =
-      let e = ap (marked_before (marks m)) length-marks in
-      spread_zeros (marks m) n (omega (arith, h, e)) ∙ ap (λ (k : ℕ). masked (marks m) (replicate k 0)) length-marks
 
   -- what is kept lies in the memory
   pub place_within : (bs : List ℕ) (place width : ℕ) → is_kept place width (spread (marks m) bs) ≡ true → place + width ≤ memory_bytes m

@@ -4,7 +4,7 @@ use Rattle.std.proofs.lemmas.Bool.{leb-true, ltb-true}
 use Rattle.std.proofs.lemmas.List.{map-append}
 use Rattle.std.proofs.lemmas.Option.{slice_get-map}
 use Rattle.std.specs.Option.{option_and_then}
-use Rattle.std.specs.Prelude.{OnOk, slice_set}
+use Rattle.std.specs.Prelude.{OnErr, OnOk, slice_set}
 use Rattle.wasm_ast.specs.declared.types.Value.{Value}
 use Rattle.wasm_ast.specs.declared.types.Value.TheVariants.{I32, I64}
 use Rattle.wasm_ast.specs.declared.plain.Plain.{Plain}
@@ -23,7 +23,7 @@ use Rattle.bounded_profile.specs.Memory.{memory_bytes}
 use Rattle.interp.specs.Machine.{Layer}
 use Rattle.interp.specs.Memory.{laid}
 use Rattle.interp.specs.Start.{Starts, before, constant_plain, constant_value, initial_globals, initial_memory, laid_at, laid_in, segment_laid, start_state}
-use Rattle.interp.specs.inside.Begun.{AreInitial, AreInitialBytes, BeginsWith, IsBeginning, cell_laid_at, cell_memory_laid, cell_segment_laid, cells_laid_in}
+use Rattle.interp.specs.inside.Begun.{AreInitial, AreInitialBytes, BeginsWith, HasInitial, IsBeginning, cell_laid_at, cell_memory_laid, cell_segment_laid, cells_laid_in}
 use Rattle.interp.specs.inside.Cells.{cell_of, cells_place, in_width, zero_cells}
 use Rattle.interp.specs.inside.Fits.{AreFit, IsFit}
 use Rattle.interp.specs.inside.Kept.{laid_over, marks, masked}
@@ -40,6 +40,11 @@ use Rattle.interp.proofs.Values.{some_is}
 pub on_ok : {T E : Type 0} {P Q : Type 0} (r : Result T E) → OnOk r P → (P → Q) → OnOk r Q
 on_ok (Ok x) p f = f p
 on_ok (Err e) p f = p
+
+-- a fact that holds at either answer
+pub at_either : {T E : Type 0} {P Q R : Type 0} (r : Result T E) → OnOk r P → OnErr r Q → (P → R) → (Q → R) → R
+at_either (Ok x) p q f g = f p
+at_either (Err e) p q f g = g q
 
 -- ---- globals
 
@@ -153,23 +158,23 @@ module _ (ms : List Bool) (gs : List Value) where
   segments_lie [] bytes r e = ap (λ (o : Option (List ℕ)). option_map (masked ms) o) e
   segments_lie (d ∷ ds) bytes r e = others_lie d ds bytes r (segment_laid gs d bytes) (λ b. segments_lie ds b r) refl e
 
-module _ (m : Module) (f : Function) (begins : BeginsWith m f) (cells : List Value) (a : AreInitial m.globals cells) where
-  same_values : a.values ≡ begins.globals
-  same_values = some_is a.values begins.globals (sym a.initial ∙ begins.begins.initial_values)
+module _ (m : Module) (has : HasInitial m) (cells : List Value) (a : AreInitial m.globals cells) where
+  same_values : a.values ≡ has.globals
+  same_values = some_is a.values has.globals (sym a.initial ∙ has.initial_values)
 
-  memory_lies : cell_memory_laid cells m ≡ Some (masked (marks m) begins.bytes)
+  memory_lies : cell_memory_laid cells m ≡ Some (masked (marks m) has.bytes)
   memory_lies =
       ap (λ (l : List Value). cell_memory_laid l m) (sym a.are) ∙ ap (λ (vs : List Value). cell_memory_laid (map cell_of vs) m) same_values
-      ∙ segments_lie (marks m) begins.globals m.data (replicate (memory_bytes m) 0) begins.bytes begins.begins.initial_bytes
+      ∙ segments_lie (marks m) has.globals m.data (replicate (memory_bytes m) 0) has.bytes has.initial_bytes
 
   pub memory_there : IsSome (cell_memory_laid cells m)
   memory_there = subst (λ (o : Option (List ℕ)). IsSome o) (sym memory_lies) refl
 
   pub memory_is : (bytes : List ℕ) → cell_memory_laid cells m ≡ Some bytes → AreInitialBytes m a.values bytes
   memory_is bytes e = record {
-    whole = begins.bytes;
-    initial = ap (λ (vs : List Value). initial_memory vs m) same_values ∙ begins.begins.initial_bytes;
-    are = some_is (masked (marks m) begins.bytes) bytes (sym memory_lies ∙ e);
+    whole = has.bytes;
+    initial = ap (λ (vs : List Value). initial_memory vs m) same_values ∙ has.initial_bytes;
+    are = some_is (masked (marks m) has.bytes) bytes (sym memory_lies ∙ e);
   }
 
 -- ---- the first configuration

@@ -33,6 +33,7 @@ use Rattle.bounded_profile.specs.Memory.{number_of, memory_bytes, bytes_of, Data
 use Rattle.bounded_profile.specs.Compute.{has_its_name, exported_function, exported_compute}
 use Rattle.bounded_profile.specs.Profile.{IsBounded, HasCompute, compute_export, plain_type}
 use Rattle.interp.specs.Machine.{defined}
+use Rattle.interp.specs.inside.Begun.{HasInitial}
 use Rattle.interp.specs.Start.{Begins, constant_value, constant_plain, initial_globals, before, laid_at, laid_in}
 use Rattle.interp.proofs.Values.{HasTypes, some_is, none_some}
 use Rattle.interp.proofs.Sound.{global_types}
@@ -155,6 +156,14 @@ module _ (m : Module) where
               ∙ rest.1,
           rest.2,
         )
+
+-- what its calls begin with is there
+pub has_initial : (m : Module) → IsTyped m → IsBounded m → HasInitial m
+has_initial m typed b =
+    let only = no_globals m m.imports b.imports in
+    let gs = globals_begin m (outer_spaces_of m) only m.globals typed.globals in
+    let after = segments_laid m gs.0 gs.2 only m.«data» typed.segments b.addresses.segments (replicate (memory_bytes m) 0) (zeroed m m.memories) in
+    record { globals = gs.0; bytes = after.0; initial_values = gs.1; initial_bytes = after.1 }
 
 -- the module begins with globals of their types and a memory that is as long as it is
 pub record Begun (m : Module) (function : Function) : Type 0 where

@@ -48,6 +48,14 @@ impl Globals {
         self.cells[place] = cell;
     }
 
+    /// Becomes the same as others, of which there are as many.
+    pub fn copy_from(&mut self, others: &Globals)
+        requires { length self.old ≡ length others.now }
+        ensures { self.new ≡ others.now }
+    {
+        self.cells.copy_from_slice(others.cells.as_slice());
+    }
+
     /// The global with this number, if there is one.
     pub fn find(&self, number: u32) -> Option<u64>
         ensures { option_map I64 result ≡ slice_get self.now number }

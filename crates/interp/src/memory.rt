@@ -1,6 +1,6 @@
 //! The memory of a call (Core 1.0, 4.2.8).
 
-ghost use Rattle.std.specs.Prelude.{◌≡◌, ◌++◌, ◌+◌, ◌*◌, ◌/◌, ◌<◌, ◌≤◌, Some, length, replicate, option_map, take, drop, true, OnOk};
+ghost use Rattle.std.specs.Prelude.{◌≡◌, ◌++◌, ◌+◌, ◌*◌, ◌/◌, ◌<◌, ◌≤◌, [], Some, length, replicate, option_map, take, drop, true, OnErr, OnOk};
 ghost use Rattle.wasm_ast.specs.Widths.{load_type, load_width, store_width};
 ghost use Rattle.bounded_profile.specs.Memory.{bytes_of, max_minimum, memory_bytes, page};
 ghost use Rattle.interp.specs.Effects.{value};
@@ -23,12 +23,16 @@ pub struct Memory<'a> {
 }
 
 impl<'a> Model for Memory<'a> {
-    ghost use Rattle.std.specs.Prelude.{ℕ, List};
-    ghost use Rattle.interp.specs.inside.Kept.{marks, spread};
+    ghost use Rattle.std.specs.Prelude.{◌≡◌, ℕ, List, length};
+    ghost use Rattle.interp.specs.inside.Kept.{count_kept, marks, spread};
 
     ghost Value = { List ℕ };
 
     ghost view = { λ a. spread (marks a.verified.now) a.bytes.items };
+
+    // There are no bytes beside those that are kept.
+    ghost invariant = { λ a. count_kept (spread (marks a.verified.now) a.bytes.items)
+        ≡ length a.bytes.items };
 }
 
 impl<'a> Memory<'a> {
@@ -40,25 +44,24 @@ impl<'a> Memory<'a> {
         }
     }
 
-    /// Makes a place for each byte that the module reaches.
+    /// Keeps a 0 for each byte that the module reaches.
     pub fn extend(&mut self, verified: &'a Verified) -> Result<(), AllocError>
-        ensures { OnOk result (count_kept self.new
+        ensures zeros { OnOk result (self.new
+            ≡ masked (marks verified.now) (replicate (memory_bytes verified.now) 0)) }
+        ensures kept { OnOk result (count_kept self.new
             ≡ marked_before (marks verified.now) (memory_bytes verified.now)) }
     {
         self.verified = verified;
         clear_to_zeros(&mut self.bytes, verified.reach() as usize)
     }
 
-    /// Keeps a 0 for each byte that the module reaches, for which there are places.
-    pub fn renew(&mut self, verified: &'a Verified)
-        requires { count_kept self.old
-            ≡ marked_before (marks verified.now) (memory_bytes verified.now) }
-        ensures zeros { self.new
-            ≡ masked (marks verified.now) (replicate (memory_bytes verified.now) 0) }
-        ensures kept { count_kept self.new ≡ count_kept self.old }
+    /// Becomes the same as another one that keeps as many bytes.
+    pub fn copy_from(&mut self, other: &Memory<'a>)
+        requires { count_kept self.old ≡ count_kept other.now }
+        ensures { self.new ≡ other.now }
     {
-        self.verified = verified;
-        fill_with_zeros(&mut self.bytes);
+        self.verified = other.verified;
+        self.bytes.copy_from_slice(other.bytes.as_slice());
     }
 
     /// How many pages there are (Core 1.0, 4.4.4, memory.size).
@@ -185,19 +188,13 @@ fn kept_place(verified: &Verified, byte: u64) -> usize
     verified.place(byte as u32) as usize
 }
 
-// Zeros alone, so many, in the stead of all bytes.
+// Zeros alone, so many, in the stead of all bytes; none where there is no memory for them.
 fn clear_to_zeros(bytes: &mut Vec<u8>, count: usize) -> Result<(), AllocError>
-    ensures { OnOk result (bytes.new.items ≡ replicate count 0) }
+    ensures zeros { OnOk result (bytes.new.items ≡ replicate count 0) }
+    ensures none { OnErr result (bytes.new.items ≡ []) }
 {
     bytes.clear();
     bytes.resize(count, 0)
-}
-
-// Zeros in the stead of all bytes.
-fn fill_with_zeros(bytes: &mut Vec<u8>)
-    ensures { bytes.new.items ≡ replicate (length bytes.old.items) 0 }
-{
-    bytes.fill(0);
 }
 
 // Others in the stead of the bytes from an index on.

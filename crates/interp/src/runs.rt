@@ -14,7 +14,8 @@ ghost use Rattle.interp.specs.inside.Walk.{LeadsWithin, SendsFrom};
 use crate::program::Program;
 use crate::rooms::Rooms;
 use crate::scratch::Scratch;
-use crate::start::{begin, lay};
+use crate::start::begin;
+use crate::start::image::Image;
 use crate::walk::Walk;
 use bounded_profile::Verified;
 use host_calls::{CallInput, CallOutcome};
@@ -67,14 +68,14 @@ fn most_units(size: u32, input: &CallInput) -> u128
 /// A call of the function in these lists, which keep their room.
 pub(crate) fn call_in<'a>(
     alloc: Global,
-    verified: &'a Verified,
+    image: &Image<'a>,
     program: Program<'a>,
     function: &'a Function,
     input: &CallInput,
     most: u128,
     rooms: &mut Rooms<'a>,
 ) -> Result<CallOutcome, AllocError>
-    requires own { verified.now ≡ program.«module».now }
+    requires own { image.now ≡ program.«module».now }
     requires calls { AreImports program.calls.now program.«module».now }
     requires begins { BeginsWith program.«module».now function.now }
     requires within { IsWithinLimits program.«module».now }
@@ -84,8 +85,8 @@ pub(crate) fn call_in<'a>(
     ensures sends { OnErr result (Sends program.entry.«module».now input.now) }
     ensures outcome { IfOk result (IsOutcome program.entry.«module».now input.now) }
 {
-    lay(alloc, verified, program.module, function, rooms);
-    let laid = replace(rooms, Rooms::new(alloc, verified));
+    image.lay(function, rooms);
+    let laid = replace(rooms, Rooms::new(alloc, image.verified()));
     let walk = begin(alloc, program.module, function, input, laid);
     let (ended, left) = finish(walk, program, function.body.as_slice(), most);
     *rooms = left;

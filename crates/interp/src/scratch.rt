@@ -12,23 +12,33 @@ ghost use Rattle.interp.specs.inside.Meaning.{AreImports};
 use crate::program::Program;
 use crate::rooms::Rooms;
 use crate::runs::call_in;
+use crate::start::image::Image;
 use bounded_profile::Verified;
 use host_calls::{CallInput, CallOutcome};
 use std::alloc::{AllocError, Global};
 use std::marker::Model;
 use wasm_ast::{Function, MAX_LOCALS, MAX_NESTING};
 
-/// What the calls of one module have in common: lists that they take over from one another. Contracts see it as the
-/// module.
+/// What the calls of one module have in common: what each begins with, and lists that they take over from one another.
+/// Contracts see it as the module.
 #[derive(Drop)]
 pub struct Scratch<'a> {
     verified: &'a Verified,
-    rooms: Box<Rooms<'a>>,
+    // In a box, so that an owner drops it by one call.
+    lists: Box<Lists<'a>>,
+}
+
+/// What each call begins with, and the lists of the last one.
+#[derive(Drop)]
+pub struct Lists<'a> {
+    image: Image<'a>,
+    rooms: Rooms<'a>,
 }
 
 impl<'a> Model for Scratch<'a> {
     ghost use Rattle.wasm_ast.specs.declared.module.Module.{Module as AnyModule};
     ghost use Rattle.wasm_ast.specs.contracts.module.Module as module_type;
+    ghost use Rattle.std.specs.Prelude.{◌≡◌};
     ghost use Rattle.interp.specs.inside.Begun.{HasRoom, room_in};
 
     ghost Value = { AnyModule };
@@ -37,7 +47,8 @@ impl<'a> Model for Scratch<'a> {
 
     ghost view = { λ scratch. scratch.verified.now };
 
-    ghost invariant = { λ scratch. HasRoom scratch.verified.now (room_in scratch.rooms.value) };
+    ghost invariant = { λ scratch. (scratch.lists.value.image ≡ scratch.verified.now)
+        × HasRoom scratch.verified.now (room_in scratch.lists.value.rooms) };
 }
 
 impl<'a> Scratch<'a> {
@@ -46,9 +57,11 @@ impl<'a> Scratch<'a> {
     pub fn new(alloc: Global, verified: &'a Verified) -> Result<Scratch<'a>, AllocError>
         ensures { IfOk result (λ scratch. scratch ≡ verified.now) }
     {
-        let mut rooms = Box::new(alloc, Rooms::new(alloc, verified))?;
-        make_room(verified, &mut rooms)?;
-        Ok(Scratch { verified, rooms })
+        let image = Image::new(alloc, verified)?;
+        let rooms = Rooms::new(alloc, verified);
+        let mut lists = Box::new(alloc, Lists { image, rooms })?;
+        make_room(verified, &mut lists.rooms)?;
+        Ok(Scratch { verified, lists })
     }
 
     /// Whether it was made for this module or for one that is equal to it, as a copy is; it takes no memory.
@@ -91,14 +104,15 @@ impl<'a> Scratch<'a> {
         ensures sends { OnErr result (Sends program.entry.«module».now input.now) }
         ensures outcome { IfOk result (IsOutcome program.entry.«module».now input.now) }
     {
+        let lists = &mut *self.lists;
         call_in(
             alloc,
-            self.verified,
+            &lists.image,
             program,
             function,
             input,
             most,
-            &mut self.rooms,
+            &mut lists.rooms,
         )
     }
 }

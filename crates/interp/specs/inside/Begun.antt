@@ -24,7 +24,7 @@ use Rattle.interp.specs.declared.rooms.Rooms.{Rooms}
 use Rattle.interp.specs.inside.Cells.{cell_of, zero_cells}
 use Rattle.interp.specs.inside.Given.{HasGiven}
 use Rattle.interp.specs.inside.Fits.{AreFit}
-use Rattle.interp.specs.inside.Kept.{laid_over, marked_before, marks, masked}
+use Rattle.interp.specs.inside.Kept.{count_kept, laid_over, marked_before, marks, masked}
 use Rattle.interp.specs.inside.Walk.{EndsWithin, Finishes, Follows, IsWithinRoom}
 
 -- the module defines the function with this number
@@ -76,6 +76,20 @@ pub record AreInitialBytes (m : Module) (globals : List Value) (kept : List ℕ)
   pub initial : initial_memory globals m ≡ Some whole
   pub are : masked (marks m) whole ≡ kept
 
+-- the globals as cells and the kept bytes that each call of the module begins with, as many as it has and reaches
+pub record IsImage (m : Module) (cells : List Value) (kept : List ℕ) : Type 0 where
+  pub globals : AreInitial m.globals cells
+  pub bytes : AreInitialBytes m globals.values kept
+  pub long : length cells ≡ length m.globals
+  pub count : count_kept kept ≡ marked_before (marks m) (memory_bytes m)
+
+-- the module's globals and its memory have initial values
+pub record HasInitial (m : Module) : Type 0 where
+  pub globals : List Value
+  pub bytes : List ℕ
+  pub initial_values : initial_globals m.globals ≡ Some globals
+  pub initial_bytes : initial_memory globals m ≡ Some bytes
+
 -- the lists hold what a call of the function begins with
 pub record AreLaid (m : Module) (function : Function) (rooms : Rooms) : Type 0 where
   pub layers : rooms.layers.items ≡ []
@@ -83,8 +97,7 @@ pub record AreLaid (m : Module) (function : Function) (rooms : Rooms) : Type 0 w
   pub operands_below : rooms.operands.below.values ≡ []
   pub locals : rooms.locals.here ≡ zero_cells function.locals
   pub locals_below : rooms.locals.below.values ≡ []
-  pub globals : AreInitial m.globals rooms.globals
-  pub bytes : AreInitialBytes m globals.values rooms.memory
+  pub image : IsImage m rooms.globals rooms.memory
 
 -- a call begins with this code where a run stands so
 pub record IsBeginning (m : Module) (code : Code) (input : CallInput) (s : Standing) : Type 0 where

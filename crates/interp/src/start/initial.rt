@@ -1,15 +1,14 @@
-//! Globals and memory as a call begins (Core 1.0, 4.5.4).
+//! Globals and memory as each call begins (Core 1.0, 4.5.4).
 
-ghost use Rattle.std.specs.Prelude.{◌≡◌, Some, length, IsSome};
+ghost use Rattle.std.specs.Prelude.{◌≡◌, Some, length, replicate, IsSome};
 ghost use Rattle.bounded_profile.specs.Memory.{memory_bytes};
 ghost use Rattle.interp.specs.Start.{constant_value, constant_plain, initial_globals};
 ghost use Rattle.interp.specs.inside.Begun.{AreInitial, cells_laid_in, cell_memory_laid, cell_segment_laid};
-ghost use Rattle.interp.specs.inside.Kept.{count_kept, marked_before, marks};
+ghost use Rattle.interp.specs.inside.Kept.{count_kept, marks, masked};
 
 use crate::cell::of_value;
 use crate::globals::Globals;
 use crate::memory::Memory;
-use bounded_profile::Verified;
 use std::alloc::Global;
 use wasm_ast::{Body, Data, Global as GlobalDefinition, Instr, Module, Plain, Value, Variable};
 
@@ -31,21 +30,14 @@ pub fn lay_globals(alloc: Global, definitions: &[GlobalDefinition], globals: &mu
     }
 }
 
-/// Zeros, and the data segments in order, where they are kept.
-pub fn lay_memory<'a>(
-    verified: &'a Verified,
-    module: &Module,
-    globals: &Globals,
-    memory: &mut Memory<'a>,
-)
-    requires own { verified.now ≡ «module».now }
-    requires room { count_kept memory.old
-        ≡ marked_before (marks «module».now) (memory_bytes «module».now) }
+/// The data segments in order over zeros, where they are kept.
+pub fn lay_memory(module: &Module, globals: &Globals, memory: &mut Memory)
+    requires zeros { memory.old
+        ≡ masked (marks «module».now) (replicate (memory_bytes «module».now) 0) }
     requires there { IsSome (cell_memory_laid globals.now «module».now) }
     ensures laid { cell_memory_laid globals.now «module».now ≡ Some memory.new }
     ensures kept { count_kept memory.new ≡ count_kept memory.old }
 {
-    memory.renew(verified);
     lay_segments(module.data.as_slice(), globals, memory);
 }
 

@@ -1,16 +1,16 @@
 -- What one step says of files, after another that wrote nothing.
-use Rattle.std.proofs.Common.{inl, inr, ℕ, Bool, true, false, List, Some, None, Result, Ok, Err, subst}
-use Rattle.std.specs.Prelude.{OnErr}
+use Rattle.std.proofs.Common.{inl, inr, ◌≡◌, ◌⊎◌, ◌<◌, ◌≤◌, ◌∙◌, ℕ, zero, suc, Bool, true, false, List, [], ◌∷◌, length, take, Some, None, ap, arith, refl, subst, sym}
 use Rattle.wasm_ast.specs.declared.module.Module.{Module}
-use Rattle.wasm_ast.specs.Limits.{IsWithinLimits}
+use Rattle.wasm_ast.specs.Limits.{IsWithinLimits, max_module_bytes}
+use Rattle.wasm_decode.specs.declared.fault.DecodeFault.{DecodeFault}
 use Rattle.sources.specs.declared.fault.CommandFault.{CommandFault}
 use Rattle.sources.specs.declared.fault.CommandFault.TheVariants as command
 use Rattle.sources.specs.declared.sources.Source.{Source}
-use Rattle.sources.specs.Disk.{Disk, HoldsAt, Stays, Tries, Writes, unknown}
+use Rattle.sources.specs.Disk.{Disk, HoldsAt, Stays, Tries, Writes}
 use Rattle.sources.specs.Modules.{IsModuleAt, MeansBy, is_text_path}
-use Rattle.sources.specs.Source.{content, is_text}
+use Rattle.sources.specs.Source.{RefusesModule, content, is_text}
 use Rattle.sources.specs.Jobs.{RefusesGraph}
-use Rattle.sources.specs.Reading.{HoldsSource, IsNoFile, IsNoGraphAt, IsRefusedAt, IsUnread, IsUnwritable}
+use Rattle.sources.specs.Reading.{HoldsSource, IsNoBinary, IsNoFile, IsNoGraphAt, IsNoSource, IsRefusedAt, IsUnread, IsUnwritable}
 
 -- nothing was done
 pub stays_same : (disk : Disk) → Stays disk disk
@@ -76,6 +76,15 @@ pub refused_at : (disk : Disk) (path : List ℕ) (read : Source) (refuses : Bool
 refused_at disk path read refuses holds fault refused =
     inr (content read, holds.held, subst (λ b. refuses b (content read) fault) holds.kind refused)
 
+-- where a module's file is not read, no module is found in it
+pub no_source : (is_text : Bool) (disk : Disk) (path : List ℕ) (refuses : Bool → List ℕ → CommandFault → Type 0)
+    → ((content : List ℕ) (fault : CommandFault) → RefusesModule is_text content fault → refuses is_text content fault)
+    → (fault : CommandFault) → IsNoSource is_text disk path fault
+    → IsUnread is_text disk path fault ⊎ HoldsAt disk path (λ content. refuses is_text content fault)
+no_source true disk path refuses more fault unread = inl unread
+no_source false disk path refuses more fault (inl unread) = inl unread
+no_source false disk path refuses more fault (inr (bytes, held, refused)) = inr (bytes, held, more bytes fault refused.1)
+
 within_by : (is_text : Bool) (content : List ℕ) (m : Module) → MeansBy is_text content m → IsWithinLimits m
 within_by true content m means = means.within
 within_by false content m means = means.limited
@@ -83,8 +92,30 @@ within_by false content m means = means.limited
 pub within_at : (disk : Disk) (path : List ℕ) (m : Module) → IsModuleAt disk path m → IsWithinLimits m
 within_at disk path m read = within_by (is_text_path path) read.0 m read.2
 
--- ---- files of which nothing is known
+-- ---- fronts of files
 
-pub tries_unknown : {A E : Type 0} (result : Result A E) (path bytes : List ℕ) → OnErr result (Tries path bytes unknown unknown)
-tries_unknown (Ok value) path bytes = tt
-tries_unknown (Err error) path bytes = λ writes before. inl tt
+-- a front that is shorter than it may be is all
+pub all_of : {A : Type 0} (n : ℕ) (xs : List A) → length (take n xs) < n → take n xs ≡ xs
+all_of zero xs lt = absurd (omega (arith, lt))
+all_of (suc n) [] lt = refl
+all_of (suc n) (x ∷ xs) lt = ap (λ ys. x ∷ ys) (all_of n xs (omega (arith, lt)))
+
+no_longer : {A : Type 0} (n : ℕ) (xs : List A) → length (take n xs) ≤ length xs
+no_longer zero xs = omega arith
+no_longer (suc n) [] = omega arith
+no_longer (suc n) (x ∷ xs) = omega (arith, no_longer n xs)
+
+-- a front of a file that is shorter than it may be is the file's content
+pub whole : (disk : Disk) (path front : List ℕ) (n : ℕ) → length front < n → HoldsAt disk path (λ content. front ≡ take n content)
+    → disk.holds path (Some front)
+whole disk path front n few (content, held, is) =
+    let all = all_of n content (subst (λ (bytes : List ℕ). length bytes < n) is few) in
+    subst (λ (bytes : List ℕ). disk.holds path (Some bytes)) (sym (is ∙ all)) held
+
+-- a file with a front that is longer than any module's bytes has none
+pub too_long : (disk : Disk) (path front : List ℕ) (n : ℕ) (fault : DecodeFault) → max_module_bytes < length front
+    → HoldsAt disk path (λ content. front ≡ take n content) → IsNoBinary disk path (command.Decode fault)
+too_long disk path front n fault long (content, held, is) =
+    let of_front = subst (λ (bytes : List ℕ). max_module_bytes < length bytes) is long in
+    let more : max_module_bytes < length content = omega (arith, of_front, no_longer n content) in
+    inr (content, held, (more, λ m spells. absurd (omega (arith, more, spells.small))))

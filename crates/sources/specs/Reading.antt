@@ -1,14 +1,15 @@
 -- What reading a file gives, and why reading or writing one fails.
-use Rattle.std.specs.Prelude.{◌≡◌, ◌⊎◌, ℕ, Bool, true, false, List, Some, None}
+use Rattle.std.specs.Prelude.{◌≡◌, ◌<◌, ◌⊎◌, ℕ, Bool, true, false, List, length, Some, None}
 use Rattle.std.specs.Str.{IsUtf8}
 use Rattle.wasm_ast.specs.declared.module.Module.{Module}
+use Rattle.wasm_ast.specs.Limits.{max_module_bytes}
 use Rattle.graph.specs.Entry.{Entry}
 use Rattle.sources.specs.declared.fault.CommandFault.{CommandFault}
 use Rattle.sources.specs.declared.fault.CommandFault.TheVariants as command
 use Rattle.sources.specs.declared.sources.Source.{Source}
 use Rattle.sources.specs.Disk.{Disk, HoldsAt}
 use Rattle.sources.specs.Modules.{Loads, is_text_path}
-use Rattle.sources.specs.Source.{content, is_text}
+use Rattle.sources.specs.Source.{RefusesModule, content, is_text}
 use Rattle.sources.specs.Jobs.{IsGraphIn, RefusesGraph}
 
 -- ---- what a file has
@@ -38,6 +39,17 @@ abbrev pub IsUnread : (is_text : Bool) → Disk → List ℕ → CommandFault �
 IsUnread is_text disk path (command.Unread missing) = (missing.now ≡ path) × IsNoFile is_text disk path
 IsUnread is_text disk path command.OutOfMemory = Unit {0}
 IsUnread is_text disk path _ = ⊥
+
+-- the file of a module's bytes is not read, or it has more bytes than any module, and is refused for that
+abbrev pub IsNoBinary : Disk → (path : List ℕ) → CommandFault → Type 0
+IsNoBinary disk path fault =
+    IsUnread false disk path fault
+    ⊎ HoldsAt disk path (λ bytes. (max_module_bytes < length bytes) × RefusesModule false bytes fault)
+
+-- the file of a module is not read, as a text or as bytes
+abbrev pub IsNoSource : (is_text : Bool) → Disk → (path : List ℕ) → CommandFault → Type 0
+IsNoSource true disk path fault = IsUnread true disk path fault
+IsNoSource false disk path fault = IsNoBinary disk path fault
 
 -- the module's file is not read, or what is in it is refused like this
 abbrev pub IsRefusedAt : Disk → (module_path : List ℕ) → (refuses : (is_text : Bool) → List ℕ → CommandFault → Type 0)

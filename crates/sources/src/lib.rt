@@ -11,6 +11,7 @@ mod modules;
 mod reading;
 mod refusal;
 mod sources;
+mod system;
 
 pub use fault::{CommandFault, status_of};
 pub use files::{FileFault, Files, SystemFiles};

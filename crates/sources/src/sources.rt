@@ -1,13 +1,15 @@
 //! What a command reads of files, and writes to them.
 
-ghost use Rattle.std.specs.Prelude.{◌≡◌, Some, OnErr, OnOk, IfErr, MatchResult, false, string_bytes, true};
-ghost use Rattle.sources.specs.Disk.{Stays, Tries, Writes};
+ghost use Rattle.std.specs.Prelude.{◌≡◌, Some, OnErr, OnOk, IfErr, MatchResult, false, string_bytes, take, true};
+ghost use Rattle.sources.specs.Disk.{HoldsAt, Stays, Tries, Writes};
 ghost use Rattle.sources.specs.Modules.{is_text_path};
-ghost use Rattle.sources.specs.Reading.{HoldsSource, IsUnread, IsUnwritable};
+ghost use Rattle.sources.specs.Reading.{HoldsSource, IsNoBinary, IsNoSource, IsUnread, IsUnwritable};
 
 use crate::fault::CommandFault;
 use crate::files::{FileFault, Files};
 use std::alloc::Global;
+use wasm_ast::MAX_MODULE_BYTES;
+use wasm_decode::{DecodeFault, DecodeRule};
 
 /// What a file has of a module.
 #[derive(Drop)]
@@ -18,23 +20,65 @@ pub enum Source {
     Binary(Vec<u8>),
 }
 
-/// What the file of a module has: one whose path ends in `.wat` has its text, and any other its bytes.
+/// What the file of a module has: one whose path ends in `.wat` has its text, and any other its bytes. Of more bytes than any
+/// module has no more is read, and they are refused as `decode` refuses them.
 pub fn read_source<'a, F: Files>(
     alloc: Global,
     path: &'a str,
     files: &mut F,
 ) -> Result<Source, CommandFault<'a>>
     ensures found { MatchResult result (HoldsSource (F.disk files.old) path.now)
-        (IsUnread (is_text_path path.now) (F.disk files.old) path.now) }
+        (IsNoSource (is_text_path path.now) (F.disk files.old) path.now) }
     ensures kept { Stays (F.disk files.old) (F.disk files.new) }
 {
     if is_text_path(path) {
         let text = read_text(alloc, path, files)?;
         Ok(Source::Text(text))
     } else {
-        let bytes = read_bytes(alloc, path, files)?;
+        let bytes = read_binary(alloc, path, files)?;
         Ok(Source::Binary(bytes))
     }
+}
+
+// The bytes of a module's file.
+fn read_binary<'a, F: Files>(
+    alloc: Global,
+    path: &'a str,
+    files: &mut F,
+) -> Result<Vec<u8>, CommandFault<'a>>
+    ensures found { MatchResult result
+        (λ bytes. (F.disk files.old).holds path.now (Some bytes.items))
+        (IsNoBinary (F.disk files.old) path.now) }
+    ensures kept { Stays (F.disk files.old) (F.disk files.new) }
+{
+    let bytes = read_front(alloc, path, MAX_MODULE_BYTES + 1, files)?;
+    if bytes.len() > MAX_MODULE_BYTES {
+        return Err(CommandFault::Decode(TOO_LONG));
+    }
+    Ok(bytes)
+}
+
+// What `decode` says of more bytes than a module has.
+const TOO_LONG: DecodeFault = DecodeFault::Refused(DecodeRule::OverLimit, MAX_MODULE_BYTES);
+
+// The first bytes of a file, so many at most.
+fn read_front<'a, F: Files>(
+    alloc: Global,
+    path: &'a str,
+    most: usize,
+    files: &mut F,
+) -> Result<Vec<u8>, CommandFault<'a>>
+    ensures found { MatchResult result
+        (λ bytes. HoldsAt (F.disk files.old) path.now (λ content. bytes.items ≡ take most content))
+        (IsUnread false (F.disk files.old) path.now) }
+    ensures kept { Stays (F.disk files.old) (F.disk files.new) }
+{
+    files
+        .read_front(alloc, path, most)
+        .map_err(|fault| match fault {
+            FileFault::Device => CommandFault::Unread(path),
+            FileFault::OutOfMemory => CommandFault::OutOfMemory,
+        })
 }
 
 /// Whether the file of a module has its text: where its path ends in `.wat`.
@@ -59,7 +103,10 @@ pub fn read_text<'a, F: Files>(
     let bytes = read_bytes(alloc, path, files)?;
     match String::from_utf8(bytes) {
         Ok(text) => Ok(text),
-        Err(_) => Err(CommandFault::Unread(path)),
+        Err(_) => {
+            files.warn(format_args!("{path}: it is no text in UTF-8"));
+            Err(CommandFault::Unread(path))
+        }
     }
 }
 

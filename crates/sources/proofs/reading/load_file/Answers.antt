@@ -1,12 +1,15 @@
 use Rattle.std.proofs.Common.{inl, subst}
 use Rattle.sources.specs.Source.{RefusesLoad, content}
-use Rattle.sources.specs.Modules.{Loads}
+use Rattle.sources.specs.Modules.{Loads, is_text_path}
 use Rattle.sources.proofs.Faults.{is_fault, told_both}
-use Rattle.sources.proofs.Disks.{refused_at}
+use Rattle.sources.proofs.Disks.{no_source, refused_at}
 use Rattle.sources.proofs.reading.load_file.Goals as goal
 
 pub returns-in_err-source-clause-found : goal.returns-in_err-source-clause-found
-returns-in_err-source-clause-found g c = rw (is_fault _ _ c.from_residual.ensures.1) (inl c.in_err-source.ensures.found)
+returns-in_err-source-clause-found g c =
+    rw (is_fault _ _ c.from_residual.ensures.1)
+    (no_source (is_text_path c.args.path.now) (g.F.Files.disk c.args.files.now) c.args.path.now RefusesLoad (λ content fault refused. inl refused) _
+    c.in_err-source.ensures.found)
 
 pub returns-clause-found : goal.returns-clause-found
 returns-clause-found g c =

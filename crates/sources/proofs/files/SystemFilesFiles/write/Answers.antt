@@ -1,5 +1,5 @@
-use Rattle.sources.proofs.Disks.{tries_unknown}
+use Rattle.std.proofs.Common.{inl}
 use Rattle.sources.proofs.files.SystemFilesFiles.write.Goals as goal
 
-pub returns-clause-tried : goal.returns-clause-tried
-returns-clause-tried g c = tries_unknown c.map_err.result c.args.path.now c.args.bytes.now
+pub returns-in-Err-clause-tried : goal.returns-in-Err-clause-tried
+returns-in-Err-clause-tried g c = λ writes wrote. inl tt

@@ -1,4 +1,4 @@
-/* The C interface of vertex programs: the fourteen functions that a program may call, and macros for what the verifier requires.
+/* The C and C++ interface of vertex programs: the fourteen functions that a program may call, and macros for what the verifier requires.
  *
  *     #include "pregel.h"
  *
@@ -57,7 +57,7 @@ PREGEL_IMPORT(vote_to_halt) void vote_to_halt(void);
 
 /* Takes the next message of this vertex: true, or false where none is left. Messages come by the sender's id, rising, and those of
  * one sender in the order in which it sent them. Each can be taken once in a call.
- * noduplicate: the call stays at the head of its loop, where the verifier wants it (rule P9). */
+ * noduplicate keeps the call at the head of its loop, where the verifier requires it (rule P9). */
 PREGEL_IMPORT(next_message) bool next_message(void) __attribute__((noduplicate));
 
 /* Returns the value of the message that was taken last, and 0 before the first. */
@@ -87,20 +87,22 @@ PREGEL_IMPORT(edge_value) int64_t edge_value(void);
  *         ..
  *     }
  *
- * It does what `while (next_message()) ..` does, `break`, `continue` and `return` included, and is accepted more often: the verifier
- * wants the call at the head of its loop and one place from which the loop goes back (rule P9), and compilers move both. An empty
- * asm behind the loop keeps the code that follows from being laid out within it. With PREGEL_STEP defined a second one, at the end
- * of the body, keeps parts of the body from being made loops of their own; pregel-cc tries both ways. */
+ * It does what `while (next_message()) ..` does, `break`, `continue` and `return` included, and is accepted more often. The verifier
+ * requires the call at the head of its loop and one place from which the loop goes back (rule P9), and compilers move both. An empty
+ * asm behind the loop keeps the code that follows from being laid out within it.
+ *
+ * PREGEL_STEP puts a second one at the end of the body, which keeps parts of the body from becoming loops of their own. PREGEL_PLAIN
+ * takes both away, which suits -Oz. pregel-cc tries these ways. */
 #define EACH_MESSAGE PREGEL_EACH(next_message())
 #define EACH_EDGE PREGEL_EACH(next_edge())
-#define PREGEL_EACH(next)                                                                                                          \
-    UNROLL for (bool pregel_once_ = true; pregel_once_; __extension__({ __asm__ volatile(""); pregel_once_ = false; }))            \
-        for (; next; PREGEL_BACK)
-#ifdef PREGEL_STEP
-#define PREGEL_BACK __extension__({ __asm__ volatile(""); })
+#if defined(PREGEL_PLAIN)
+#define PREGEL_EACH(next) while (next)
+#elif defined(PREGEL_STEP)
+#define PREGEL_EACH(next) PREGEL_ONCE for (; next; __extension__({ __asm__ volatile(""); }))
 #else
-#define PREGEL_BACK (void)0
+#define PREGEL_EACH(next) PREGEL_ONCE while (next)
 #endif
+#define PREGEL_ONCE for (bool pregel_once_ = true; pregel_once_; __extension__({ __asm__ volatile(""); pregel_once_ = false; }))
 
 /* ---- Aggregators --------------------------------------------------------------------------------------------------------- */
 
@@ -113,8 +115,9 @@ PREGEL_IMPORT(edge_value) int64_t edge_value(void);
  *     | 4 and 5    | greatest            | INT64_MIN                                   |
  *     | 6 and 7    | or, bit by bit      | 0                                           |
  *
- * The verifier wants the aggregator's number as a constant in each call (rule P13). These two choose among eight calls where it is
- * not one; where it is one, one call is left. nomerge keeps the compiler from merging two calls into one with a computed number. */
+ * The verifier requires the aggregator's number to be a constant in each call (rule P13). The two functions below choose among eight
+ * calls; where the number is a constant, one of them is left. nomerge keeps the compiler from merging two calls into one with a
+ * computed number. */
 #define AGGREGATOR_SUM 0
 #define AGGREGATOR_LEAST 2
 #define AGGREGATOR_GREATEST 4
@@ -123,7 +126,7 @@ PREGEL_IMPORT(edge_value) int64_t edge_value(void);
 PREGEL_IMPORT(aggregate) void pregel_aggregate_(int32_t aggregator, int64_t value) __attribute__((nomerge));
 PREGEL_IMPORT(aggregated) int64_t pregel_aggregated_(int32_t aggregator) __attribute__((nomerge));
 
-/* Contributes `value` to an aggregator, 0 to 7. Of another number nothing comes. */
+/* Contributes `value` to an aggregator, 0 to 7. Another number contributes nothing. */
 PREGEL_INLINE void aggregate(int32_t aggregator, int64_t value)
 {
     switch (aggregator) {
@@ -163,8 +166,8 @@ PREGEL_INLINE int64_t aggregated(int32_t aggregator)
  */
 #define UNROLL _Pragma("clang loop unroll(full)")
 
-/* Reads `array[index]` for an index that is not a constant (rule P10 wants constant addresses), and 0 where the index is outside.
- * `array` is a variable of array type, not a pointer. It costs some 6 units an item. */
+/* Reads `array[index]` for an index that is not a constant (rule P10 requires constant addresses), and 0 where the index is outside.
+ * `array` is a variable of array type, not a pointer. It costs some 6 units for each item of the array. */
 #define AT(array, index)                                                                                                           \
     __extension__({                                                                                                                \
         PREGEL_ARRAY(array);                                                                                                       \
@@ -190,10 +193,10 @@ PREGEL_INLINE int64_t aggregated(int32_t aggregator)
     })
 
 #ifdef __cplusplus
-#define PREGEL_ARRAY(array) static_assert(!__is_same(__typeof__(array), __typeof__(&(array)[0])), "an array is wanted, not a pointer")
+#define PREGEL_ARRAY(array) static_assert(!__is_same(__typeof__(array), __typeof__(&(array)[0])), "AT and SET_AT take an array, not a pointer")
 #else
 #define PREGEL_ARRAY(array)                                                                                                        \
-    _Static_assert(!__builtin_types_compatible_p(__typeof__(array), __typeof__(&(array)[0])), "an array is wanted, not a pointer")
+    _Static_assert(!__builtin_types_compatible_p(__typeof__(array), __typeof__(&(array)[0])), "AT and SET_AT take an array, not a pointer")
 #endif
 
 /* Returns n / d, rounded down, for a d that is not a constant (rule P11), and 0 where d is 0. Both are read without signs. A

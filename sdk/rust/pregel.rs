@@ -170,7 +170,7 @@ mod pregel {
 
     /// Contributes `value` to aggregator A: 0 and 1 take the sum (wrapping, from 0), 2 and 3 the least (from `i64::MAX`), 4 and 5 the
     /// greatest (from `i64::MIN`), 6 and 7 the or of all bits (from 0). Every vertex reads the result in the next superstep. The number
-    /// is written as a constant, `aggregate::<0>(1)`, since the verifier wants it so (rule P13).
+    /// is written as a constant, `aggregate::<0>(1)`, since the verifier requires it (rule P13).
     #[inline(always)]
     pub fn aggregate<const A: i32>(value: i64) {
         unsafe { host::aggregate(A, value) }

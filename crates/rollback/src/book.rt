@@ -312,8 +312,9 @@ impl<'a, J: Origin> Book<'a, J> {
         if !self.control.is_alive(worker) {
             return Ok(Answer::Stale);
         }
+        // What it holds is of no use: it makes room for the state that is loaded.
+        self.holding = Holding::Nothing;
         if !self.control.lose(worker) {
-            self.holding = Holding::Nothing;
             return Err(JobFault::NoWorkers);
         }
         self.holding = put_back(rt, self.alloc, self.job, &self.ids, &mut self.control, keep);
@@ -338,8 +339,9 @@ impl<'a, J: Origin> Book<'a, J> {
         if !self.control.is_some_overdue() {
             return Ok(Answer::Taken);
         }
+        // What it holds is of no use: it makes room for the state that is loaded.
+        self.holding = Holding::Nothing;
         if !self.control.lose_overdue() {
-            self.holding = Holding::Nothing;
             return Err(JobFault::NoWorkers);
         }
         self.holding = put_back(rt, self.alloc, self.job, &self.ids, &mut self.control, keep);

@@ -11,7 +11,7 @@ use std::alloc::{AllocError, Global};
 use std::marker::Model;
 use std::mem;
 use std::thread::Threads;
-use superstep::{Done, Job, Origin, State, Task, Totals, barrier, slices};
+use superstep::{Apart, Done, Job, Origin, State, Task, Totals, barrier, take_apart};
 
 /// The parts of a running job between two barriers: slices are moved out with tasks, and none is copied. Contracts see the
 /// superstep and where each part is.
@@ -39,7 +39,7 @@ impl<J: Origin> Model for Parts<J> {
 }
 
 impl<J: Origin> Parts<J> {
-    /// The parts of a state, whose vertices are moved. The only refusal is that there is no memory.
+    /// The parts of a state. All of it is moved, not copied. The only refusal is that there is no memory.
     pub fn of(alloc: Global, job: &Job, state: State) -> Result<Parts<J>, AllocError>
         requires job { J.work ≡ job.now }
         requires fits { HasIdsOf job.now state }
@@ -47,9 +47,11 @@ impl<J: Origin> Parts<J> {
         ensures { IfOk result (λ parts.
             parts ≡ all_home state.superstep state.since job.now.settings.parts) }
     {
-        let totals = Totals::of(alloc, &state)?;
-        let aggregates = state.aggregates();
-        let slices = slices::<J>(alloc, job, state)?;
+        let Apart {
+            totals,
+            aggregates,
+            slices,
+        } = take_apart::<J>(alloc, job, state)?;
         let seats = seated(alloc, slices)?;
         Ok(Parts {
             totals,

@@ -5,16 +5,18 @@ use Rattle.rollback.proofs.parts.Parts.of.Goals as goal
 
 pub invariant_of-result : goal.invariant_of-result
 invariant_of-result g c =
-    let of = c.in_ok-totals.ensures.of in
+    let apart = c.in_ok-totals.ensures in
+    let of = apart.of in
     record {
-      telling = c.in_ok-totals.ensures.totals;
-      sums = λ sure. c.in_ok-totals.ensures.at g.J.Origin.work (c.requires.at sure).at;
+      telling = apart.totals;
+      sums = λ sure. apart.at g.J.Origin.work (c.requires.at sure).at;
       since = λ sure. of.since ∙ (c.requires.at sure).since;
-      slots = λ sure. rw (of.superstep, c.aggregates-aggregates.ensures) (λ meaning. ((c.requires.at sure).at meaning).aggregates);
-      seated = rw of.superstep (seated_home c.in_ok-seats.seats.items c.args.state.superstep c.args.job.now.settings.parts (c.in_ok-seats.ensures ∙ ap (λ xs. map Here xs) c.in_ok-slices.ensures));
+      slots = λ sure. rw (of.superstep, apart.aggregates) (λ meaning. ((c.requires.at sure).at meaning).aggregates);
+      seated = rw of.superstep (seated_home c.in_ok-seats.seats.items c.args.state.superstep c.args.job.now.settings.parts (c.in_ok-seats.ensures ∙ ap (λ xs. map Here xs) apart.slices));
     }
 
 pub returns : goal.returns
 returns g c =
-    let of = c.in_ok-totals.ensures.of in
-    rw (of.superstep, of.since, spots_home c.in_ok-seats.seats.items c.args.state.superstep c.args.job.now.settings.parts (c.in_ok-seats.ensures ∙ ap (λ xs. map Here xs) c.in_ok-slices.ensures)) refl
+    let apart = c.in_ok-totals.ensures in
+    let of = apart.of in
+    rw (of.superstep, of.since, spots_home c.in_ok-seats.seats.items c.args.state.superstep c.args.job.now.settings.parts (c.in_ok-seats.ensures ∙ ap (λ xs. map Here xs) apart.slices)) refl

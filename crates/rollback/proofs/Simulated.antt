@@ -29,7 +29,7 @@ use Rattle.rollback.specs.Machine.{Machine, hand, handed, has_answer, is_free, i
 use Rattle.rollback.specs.Events.{Heard, Stamp, accepted, reply_of}
 use Rattle.rollback.specs.Events.Stamp.{JoinedBy, LostBy, Ticked}
 use Rattle.rollback.specs.Book.{IsQuietAt, IsReport, IsStep, done_out, task_out}
-use Rattle.rollback.specs.inside.Simulating.{HasSameCounts}
+use Rattle.rollback.specs.inside.Simulating.{HasSameCounts, with_none_held}
 use Rattle.rollback.specs.Simulation.{IsCalm, IsEnded, IsOutcomeAt, IsSimStep, IsSimulated, IsTrace, Ran, Sim, Told, brought, does, dropped, emptied, held_or_new, holds, in_time, new_task, said, sim_opened, sim_step, stamps, taken, takes, work_on, worked}
 
 pub ran_snoc : (work : AnyWork) (honest : Bool) (xs : List Step) (s : Sim) (answers : List StepAnswer) (mid : Sim) (x : Step) (a : StepAnswer) (after : Sim) → Ran work honest xs s answers mid → IsSimStep work honest x mid after a → Ran work honest (xs ++ (x ∷ [])) s (answers ++ (a ∷ [])) after
@@ -205,6 +205,10 @@ saved_handed m m' w p e = ap (λ (x : Machine). x.saved) e
 -- a list that was written over from its start
 pub overwritten : {A : Type 0} (n : ℕ) (ys xs : List A) → length ys ≡ n → take n (ys ++ drop (length ys) xs) ≡ ys
 overwritten n ys xs e = rw (← e) (take-append_seam ys (drop (length ys) xs))
+
+-- no worker holds a task
+pub held_none : (m : Machine) (held : List (Option Out)) (workers : ℕ) → held ≡ replicate workers None → record { machine = m; held = held } ≡ with_none_held workers m
+held_none m held workers e = rw e refl
 
 pub opened_is : (work : AnyWork) (m : Machine) (held : List (Option Out)) (quiet : Bool) → m ≡ opened work.settings quiet → held ≡ replicate work.settings.workers None → record { machine = m; held = held } ≡ sim_opened work quiet
 opened_is work m held quiet e f = rw (e, f) refl

@@ -9,7 +9,7 @@ ghost use Rattle.rollback.specs.Events.{accepted};
 ghost use Rattle.rollback.specs.Keeping.{KeepsFor};
 ghost use Rattle.rollback.specs.Machine.{is_free};
 ghost use Rattle.rollback.specs.Simulation.{CallsStayWithin, IsCalm, IsOutcomeAt, IsSimStep, IsSimulated, NeverFails, Ran, brought, emptied, said, sim_of, stamps};
-ghost use Rattle.rollback.specs.inside.Simulating.{HasSameCounts, IsRunnerOf};
+ghost use Rattle.rollback.specs.inside.Simulating.{AreAnswersTo, HasSameCounts, IsRunnerOf};
 ghost use Rattle.rollback.specs.declared.event.Answer.{Answer};
 ghost use Rattle.rollback.specs.declared.simulation.Step.TheVariants.{Join, Take, Work};
 
@@ -299,6 +299,51 @@ fn empty_hands<J: Origin>(alloc: Global, workers: u32) -> Result<Vec<Option<Task
     Ok(held)
 }
 
+// The answers to the steps, before which no worker holds a task.
+fn answers_to<J: Origin, K: Keep, R: Threads + Sync + Files + AllocGlobal>(
+    rt: &R,
+    runner: &mut TaskRunner,
+    book: &mut Book<J>,
+    keep: &mut K,
+    steps: &[Step],
+) -> Result<Vec<StepAnswer>, AllocError>
+    requires runner { IsRunnerOf J.work runner.old }
+    requires keep { KeepsFor J.work J.honest (K.honest keep.old) (K.saved keep.old)
+        (K.may_load keep.old) book.old }
+    ensures answered { IfOk result (λ answers.
+        AreAnswersTo J.work J.honest steps.now book.old book.new answers.items) }
+    ensures keep { KeepsFor J.work J.honest (K.honest keep.new) (K.saved keep.new)
+        (K.may_load keep.new) book.new }
+    ensures counts { J.honest ≡ true → NeverFails K.faults → HasSameCounts book.old book.new }
+{
+    let mut held = empty_hands(runner.alloc, runner.job.settings().workers)?;
+    let mut answers = vec![in runner.alloc; StepAnswer::Idle; steps.len()]?;
+    run(rt, runner, book, &mut held, keep, steps, &mut answers);
+    Ok(answers)
+}
+
+// The run of the job whose tasks the runner does.
+fn simulate_by<J: Origin, K: Keep, R: Threads + Sync + Files + AllocGlobal>(
+    rt: &R,
+    runner: &mut TaskRunner,
+    keep: &mut K,
+    steps: &[Step],
+) -> Result<Trace, JobFault>
+    requires runner { IsRunnerOf J.work runner.old }
+    requires honest { J.honest ≡ K.honest keep.old }
+    ensures simulated { IsSimulated J.work J.honest steps.now result }
+    ensures calm { J.honest ≡ true → NeverFails K.faults
+        → IfOk result (λ trace. IsCalm trace.outcome) }
+    ensures trust { J.honest ≡ true → K.honest keep.new ≡ true }
+{
+    let mut book = Book::<J>::open(runner.alloc, runner.job)?;
+    let Ok(answers) = answers_to(rt, runner, &mut book, keep, steps) else {
+        return Err(JobFault::OutOfMemory(Place::Open));
+    };
+    let outcome = outcome_of(book)?;
+    Ok(Trace { answers, outcome })
+}
+
 // The same for a job that a type names.
 fn simulate_as<J: Origin, K: Keep, R: Threads + Sync + Files + AllocGlobal>(
     rt: &R,
@@ -322,24 +367,7 @@ fn simulate_as<J: Origin, K: Keep, R: Threads + Sync + Files + AllocGlobal>(
         job,
         scratch,
     };
-    let mut book = Book::<J>::open(alloc, job)?;
-    let Ok(mut held) = empty_hands(alloc, job.settings().workers) else {
-        return Err(JobFault::OutOfMemory(Place::Open));
-    };
-    let Ok(mut answers) = vec![in alloc; StepAnswer::Idle; steps.len()] else {
-        return Err(JobFault::OutOfMemory(Place::Open));
-    };
-    run(
-        rt,
-        &mut runner,
-        &mut book,
-        &mut held,
-        keep,
-        steps,
-        &mut answers,
-    );
-    let outcome = outcome_of(book)?;
-    Ok(Trace { answers, outcome })
+    simulate_by::<J, K, R>(rt, &mut runner, keep, steps)
 }
 
 // What the calls of the job's module come to, whatever they are given.

@@ -1,8 +1,12 @@
 -- What simulating goes by, and what a step leaves of the counts.
-use Rattle.std.specs.Prelude.{◌≡◌}
+use Rattle.std.specs.Prelude.{◌≡◌, ℕ, Bool, List, Option, None, replicate}
 use Rattle.superstep.specs.Job.{Work}
+use Rattle.rollback.specs.declared.control.Out.{Out}
+use Rattle.rollback.specs.declared.simulation.Step.{Step}
+use Rattle.rollback.specs.declared.simulation.StepAnswer.{StepAnswer}
 use Rattle.rollback.specs.declared.simulation.TaskRunner.{TaskRunner}
 use Rattle.rollback.specs.Machine.{Machine}
+use Rattle.rollback.specs.Simulation.{Ran, Sim}
 
 -- it does the tasks of this job
 pub record IsRunnerOf (work : Work) (runner : TaskRunner) : Type 0 where
@@ -13,3 +17,12 @@ pub record IsRunnerOf (work : Work) (runner : TaskRunner) : Type 0 where
 pub record HasSameCounts (before after : Machine) : Type 0 where
   pub missed : after.missed ≡ before.missed
   pub restarts : after.restarts ≡ before.restarts
+
+-- the machine, where none of so many workers holds a task
+abbrev pub with_none_held : ℕ → Machine → Sim
+with_none_held workers m = record { machine = m; held = replicate workers None }
+
+-- these are the answers to the steps, before which no worker held a task
+pub record AreAnswersTo (work : Work) (honest : Bool) (steps : List Step) (before after : Machine) (answers : List StepAnswer) : Type 0 where
+  pub held : List (Option Out)
+  pub ran : Ran work honest steps (with_none_held work.settings.workers before) answers (record { machine = after; held = held })

@@ -48,10 +48,8 @@ pub fn merge_parts(
     ensures dropped { IfOk result (λ merged.
         merged.1 ≡ dropped_of (all_of lists.now) (all_of ids.now)) }
 {
-    let letters = length_of_all(lists);
-    let most = most_shares(rt, letters.saturating_add(length_of_all(ids)));
-    let shares = shares(alloc, ids, most)?;
-    let room = room_for(letters, shares.len());
+    let shares = shares(alloc, ids, most_shares(rt, lists, ids))?;
+    let room = room_for(lists, shares.len());
     let by_share = delivered_to_all(rt, alloc, lists, &shares, room)?;
     let delivered = together(alloc, by_share)?;
     let dropped = letter_count(lists) - delivered_count(&delivered);
@@ -83,8 +81,9 @@ fn length_of_all<T>(lists: &[Vec<T>]) -> usize {
 // Fewer letters and ids together are not worth a thread, nor a look at how many processors there are.
 const LEAST_WORK: usize = 10_000;
 
-// How many shares are worth it, where there are so many letters and ids together.
-fn most_shares(rt: &impl Threads, work: usize) -> usize {
+// How many shares are worth it.
+fn most_shares(rt: &impl Threads, lists: &[Vec<Letter>], ids: &[Vec<u64>]) -> usize {
+    let work = length_of_all(lists).saturating_add(length_of_all(ids));
     if work < LEAST_WORK {
         1
     } else {
@@ -94,7 +93,8 @@ fn most_shares(rt: &impl Threads, work: usize) -> usize {
 
 // How many letters a share has if all have as many, and a sixteenth more, so that most need not grow; but no
 // more than there are.
-fn room_for(letters: usize, shares: usize) -> usize {
+fn room_for(lists: &[Vec<Letter>], shares: usize) -> usize {
+    let letters = length_of_all(lists);
     let share = letters / shares.max(1);
     share.saturating_add(share / 16).min(letters)
 }

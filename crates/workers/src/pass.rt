@@ -114,7 +114,11 @@ impl<J: Origin> WorkerPass<J> {
                 events,
                 orders,
             }),
-            Err(_) => Err(JobFault::Closed),
+            Err(_) => {
+                drop(events);
+                drop(orders);
+                Err(JobFault::Closed)
+            }
         }
     }
 }
@@ -153,7 +157,10 @@ impl<J: Origin> TickPass<J> {
         } = self;
         match events.send(rt, Message::Bye(Sender::Ticker)) {
             Ok(()) => Ok(TickReceipt { events }),
-            Err(_) => Err(JobFault::Closed),
+            Err(_) => {
+                drop(events);
+                Err(JobFault::Closed)
+            }
         }
     }
 }

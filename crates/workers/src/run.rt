@@ -175,8 +175,16 @@ pub fn run_job<
     ensures refused { IfErr result IsRunFault }
     ensures hub { lent.IsSameHub coordinator.old coordinator.new }
 {
-    let book = Book::open(alloc, job)?;
+    let book = match Book::open(alloc, job) {
+        Ok(book) => book,
+        Err(fault) => {
+            drop(ticker);
+            return Err(fault);
+        }
+    };
     let Some(ends) = coordinator.ends.take() else {
+        drop(book);
+        drop(ticker);
         return Err(JobFault::Closed);
     };
     let (ends, receipts, answer) = run_hired(

@@ -36,9 +36,16 @@ pub fn hire_all<'s, E, J: Origin + Send + Sync + 's, G: Gate + Sync + 's, R: Wai
     ensures refused { IfErr result (λ fault. fault ≡ ThreadRefused) }
 {
     let Ok(receipts) = Vec::with_capacity(alloc, passes.len()) else {
+        drop(ticker);
         return Err(JobFault::ThreadRefused);
     };
-    let workers = hire_workers(scope, rt, alloc, job, gate, ends, passes)?;
+    let workers = match hire_workers(scope, rt, alloc, job, gate, ends, passes) {
+        Ok(workers) => workers,
+        Err(fault) => {
+            drop(ticker);
+            return Err(fault);
+        }
+    };
     let ticker = hire_ticker(scope, rt, gate, ends, ticker)?;
     Ok(Hired {
         ticker,

@@ -30,7 +30,9 @@ fn run_as<
     ensures refused { IfErr result IsRunFault }
 {
     let (mut coordinator, passes, ticker) = Hub::open::<J, K>(alloc, job, &keep)?;
-    run_job(rt, alloc, job, &mut coordinator, passes, ticker, keep, gate)
+    let answer = run_job(rt, alloc, job, &mut coordinator, passes, ticker, keep, gate);
+    drop(coordinator);
+    answer
 }
 
 /// Runs a job in threads over a hub of its own, its states kept here and its workers lost as the gate says, and answers what it

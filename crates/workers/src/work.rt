@@ -142,7 +142,10 @@ pub fn work_all<J: Origin, G: Gate, R: Wait>(
     drop(scratch);
     match worked {
         Ok(()) => pass.bye(rt),
-        Err(fault) => Err(fault),
+        Err(fault) => {
+            drop(pass);
+            Err(fault)
+        }
     }
 }
 

@@ -3,8 +3,8 @@ use Rattle.workers.proofs.threads.run_as.Goals as goal
 
 pub returns-clause-answer : goal.returns-clause-answer
 returns-clause-answer g c = λ sure.
-    answer_told g.J.Origin.work g.J.Origin.honest _ _ c.run_job.result c.run_job.ensures.ran sure
+    answer_told g.J.Origin.work g.J.Origin.honest _ _ c.run_job-answer.result c.run_job-answer.ensures.ran sure
 
 pub returns-clause-since : goal.returns-clause-since
 returns-clause-since g c = λ sure.
-    since_told g.J.Origin.work g.J.Origin.honest _ _ c.run_job.result c.run_job.ensures.ran sure
+    since_told g.J.Origin.work g.J.Origin.honest _ _ c.run_job-answer.result c.run_job-answer.ensures.ran sure

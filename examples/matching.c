@@ -4,9 +4,9 @@
  * In the graph file a vertex on the left has the value -1 and one on the right -2, and edges lead from left to right. Four supersteps
  * make a round:
  *
- *     0  a left vertex without a partner asks all its neighbours
- *     1  a right vertex without a partner accepts one of those that ask, and refuses the others
- *     2  a left vertex that was accepted takes one of those, and tells it
+ *     0  a left vertex without a partner sends a request to all its neighbours
+ *     1  a right vertex without a partner accepts one of those requests, and refuses the others
+ *     2  a left vertex that was accepted takes one of those, and says so
  *     3  a right vertex that was taken notes its partner
  *
  * The paper draws lots where there is a choice. Here the first message decides, which is that of the least id, so that a job has the

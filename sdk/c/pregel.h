@@ -29,7 +29,7 @@ extern "C" {
 
 /* Your program. In superstep 0 the engine calls it once for each vertex; in each later superstep, for each vertex that has not
  * voted to halt or that has messages. A vertex keeps its value from call to call, and whether it has voted to halt. Static
- * variables begin anew in each call. */
+ * variables have their first values again in each call. */
 __attribute__((export_name("compute"))) void compute(void);
 
 /* ---- The vertex and the job ---------------------------------------------------------------------------------------------- */
@@ -50,7 +50,7 @@ PREGEL_IMPORT(get_value) int64_t get_value(void);
 PREGEL_IMPORT(set_value) void set_value(int64_t value);
 
 /* Makes this vertex inactive after this call. A message makes it active again. The job ends when every vertex is inactive and no
- * message is under way. The call goes on behind vote_to_halt(), and may still send. */
+ * message is under way. The call goes on behind vote_to_halt(), and may still send messages. */
 PREGEL_IMPORT(vote_to_halt) void vote_to_halt(void);
 
 /* ---- Messages ------------------------------------------------------------------------------------------------------------ */

@@ -115,8 +115,6 @@ mod pregel {
 
         #[inline(always)]
         fn next(&mut self) -> Option<i64> {
-            #[cfg(pregel_step)]
-            fence();
             unsafe {
                 if host::next_message() != 0 {
                     Some(host::message_value())
@@ -132,8 +130,6 @@ mod pregel {
 
         #[inline(always)]
         fn next(&mut self) -> Option<Edge> {
-            #[cfg(pregel_step)]
-            fence();
             unsafe {
                 if host::next_edge() != 0 {
                     Some(Edge { target: host::edge_target(), value: host::edge_value() })
@@ -144,9 +140,8 @@ mod pregel {
         }
     }
 
-    // Keeps code on its side, and becomes no instruction. One stands behind each loop over items, so that the code that follows is not
-    // laid out within the loop, where the verifier would refuse it (rule P9). With the option `--cfg pregel_step` one stands at the
-    // head too; pregel-cc tries both ways.
+    // Keeps code on its side, and becomes no instruction. Each loop over items ends with one, so that the code that follows is not laid
+    // out within the loop, where the verifier would refuse it (rule P9).
     #[inline(always)]
     fn fence() {
         core::sync::atomic::compiler_fence(core::sync::atomic::Ordering::SeqCst);

@@ -1,6 +1,6 @@
 -- What a job tells, and why it does not.
 use denote.Bor.{Bor}
-use Rattle.std.specs.Prelude.{◌≡◌, ℕ, Bool, List, map, Option, Some, None}
+use Rattle.std.specs.Prelude.{◌≡◌, ◌⊎◌, ℕ, Bool, List, map, Option, Some, None}
 use Rattle.std.specs.List.{range_with_len}
 use Rattle.superstep.specs.declared.run.Ended.{Ended}
 use Rattle.superstep.specs.Job.{Meaning, Work}
@@ -37,3 +37,14 @@ abbrev pub IsFaultOfRun : CommandFault → Type 0
 IsFaultOfRun (command.Job fault) = IsRunFault fault
 IsFaultOfRun command.OutOfMemory = Unit {0}
 IsFaultOfRun _ = ⊥
+
+-- no file can be made in the folder, or there is no memory to try it
+abbrev pub IsNoFolder : (folder : List ℕ) → CommandFault → Type 0
+IsNoFolder folder (command.Unwritable refused) = refused.now ≡ folder
+IsNoFolder folder command.OutOfMemory = Unit {0}
+IsNoFolder folder _ = ⊥
+
+-- the run came to a fault, or no file can be made in the folder where its states are to be kept
+abbrev pub IsFaultOfKept : (folder : Option (Bor (List ℕ))) → CommandFault → Type 0
+IsFaultOfKept None fault = IsFaultOfRun fault
+IsFaultOfKept (Some folder) fault = IsNoFolder folder.now fault ⊎ IsFaultOfRun fault

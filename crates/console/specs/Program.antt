@@ -31,7 +31,7 @@ use Rattle.sources.specs.Source.{RefusesLoad, RefusesModule}
 use Rattle.sources.specs.Reading.{IsLoadedAt, IsNoGraphAt, IsReadAt, IsRefusedAt, IsUnread, IsUnwritable}
 use Rattle.console.specs.Engine.{IsAnswer, RefusesText}
 use Rattle.sources.specs.Jobs.{IsJobOf, RefusesSettings}
-use Rattle.console.specs.Jobs.{AreRunLines, IsFaultOfRun}
+use Rattle.console.specs.Jobs.{AreRunLines, IsFaultOfKept}
 use Rattle.console.specs.Loss.{NamesLoss, RefusesLoss}
 use Rattle.console.specs.Replays.{AreReplayLines, IsFaultOfReplay}
 use Rattle.console.specs.Steps.{RefusesSteps, steps_of}
@@ -155,14 +155,16 @@ IsUnopened disk asked fault =
     IsRefusedAt disk asked.«module».now RefusesLoad fault
     ⊎ ((m : Module) × IsLoadedAt disk asked.«module».now m × RefusesJob disk asked fault)
 
--- why a run of which the worker that is lost is named tells nothing: there is no job, or it ends by a fault
-abbrev pub RefusesRun : Disk → JobRequest → CommandFault → Type 0
-RefusesRun disk asked fault = IsUnopened disk asked fault ⊎ ((job : Work) × IsJobAt disk asked job × IsFaultOfRun fault)
+-- why a run of which the worker that is lost is named tells nothing: there is no job, or no folder for its states, or it ends
+-- by a fault
+abbrev pub RefusesRun : Disk → RunRequest → CommandFault → Type 0
+RefusesRun disk asked fault =
+    IsUnopened disk asked.job fault ⊎ ((job : Work) × IsJobAt disk asked.job job × IsFaultOfKept asked.keep fault)
 
 -- why nothing is told of a run: the text names no worker that is lost, or the run tells nothing
 abbrev pub IsUnrun : Disk → RunRequest → CommandFault → Type 0
 IsUnrun disk asked fault =
-    RefusesLoss fault asked.lose ⊎ ((loss : Option Loss) × NamesLoss asked.lose loss × RefusesRun disk asked.job fault)
+    RefusesLoss fault asked.lose ⊎ ((loss : Option Loss) × NamesLoss asked.lose loss × RefusesRun disk asked fault)
 
 -- the file of steps is not read, or what is in it means none
 abbrev pub IsNoStepsAt : Disk → (path : List ℕ) → CommandFault → Type 0

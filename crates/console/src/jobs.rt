@@ -2,6 +2,7 @@
 
 ghost use Rattle.std.specs.Prelude.{◌≡◌, true, IfOk, IfErr, MatchResult, OnOk, string_bytes};
 ghost use Rattle.superstep.specs.Ending.{answer_of};
+ghost use Rattle.sources.specs.Disk.{Stays};
 ghost use Rattle.sources.specs.Lines.{Gains, IfTold, end_line, ended_lines, numbered_line, numbered_lines};
 ghost use Rattle.sources.specs.Jobs.{IsJobOf, RefusesSettings};
 ghost use Rattle.console.specs.Jobs.{AreEndLines, AreJobLines, IsFaultOfRun};
@@ -10,9 +11,8 @@ ghost use Rattle.console.specs.inside.Answering.{opening_fault};
 use bounded_profile::Verified;
 use checkpoint::Keep;
 use graph::Graph;
-use sources::{CommandFault, how_word, push_values};
+use sources::{CommandFault, Files, how_word, push_values};
 use std::alloc::{AllocError, Global};
-use std::rt::Files;
 use std::sync::Wait;
 use std::thread::Threads;
 use superstep::{Ended, Job, JobFault, Settings};
@@ -46,25 +46,39 @@ fn opening_fault<'a>(fault: JobFault) -> CommandFault<'a>
 
 /// What a job prints that is run in threads, its states kept here and its workers lost as the gate says: a line `v ID VALUE` for
 /// each vertex, by rising id, then `end finished supersteps S units U dropped D`, or `end limit ..` where the limit came
-/// before; and, where `tells_units` says so, a line `units S U` for each superstep.
-pub fn run<'a, K: Keep + Drop, G: Gate + Sync, R: Wait + Threads + Sync + Files + AllocGlobal>(
-    rt: &R,
+/// before; and, where `tells_units` says so, a line `units S U` for each superstep. Saves that failed are a warning.
+pub fn run<'a, K: Keep + Drop, G: Gate + Sync, F: Files>(
+    rt: &(impl Wait + Threads + Sync + std::rt::Files + AllocGlobal),
     alloc: Global,
     job: &Job,
     keep: K,
     gate: &G,
+    files: &mut F,
     tells_units: bool,
 ) -> Result<String, CommandFault<'a>>
     ensures told { IfTold result (AreEndLines tells_units) }
     ensures answered { K.honest keep ≡ true → IfTold result (AreJobLines job.now tells_units) }
+    ensures kept { Stays (F.disk files.old) (F.disk files.new) }
     ensures refused { IfErr result IsFaultOfRun }
 {
     match run_in_threads(rt, alloc, job, keep, gate) {
         Ok(report) => {
+            warn_of_missed(report.missed, files);
             let text = ended_text(alloc, &report.ended, tells_units)?;
             Ok(text)
         }
         Err(fault) => Err(CommandFault::Job(fault)),
+    }
+}
+
+// Warns of states that the device failed to save, where there are any.
+fn warn_of_missed<F: Files>(missed: u64, files: &mut F)
+    ensures { Stays (F.disk files.old) (F.disk files.new) }
+{
+    match missed {
+        0 => {}
+        1 => files.warn("1 save failed; the job went on without it"),
+        _ => files.warn(format_args!("{missed} saves failed; the job went on without them")),
     }
 }
 

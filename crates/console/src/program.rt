@@ -5,7 +5,7 @@ ghost use Rattle.wasm_ast.specs.Limits.{IsWithinLimits};
 ghost use Rattle.wasm_decode.specs.Canonical.{canonical};
 ghost use Rattle.checkpoint.specs.Checkpoint.{checkpoint_bytes};
 ghost use Rattle.sources.specs.Disk.{Stays, Tries};
-ghost use Rattle.console.specs.Jobs.{AreRunLines, IsFaultOfRun};
+ghost use Rattle.console.specs.Jobs.{AreRunLines, IsFaultOfKept, IsNoFolder};
 ghost use Rattle.sources.specs.Lines.{IfTold};
 ghost use Rattle.console.specs.Loss.{NamesLoss, RefusesLoss};
 ghost use Rattle.sources.specs.Source.{RefusesLoad, RefusesModule};
@@ -28,6 +28,7 @@ use sources::{
     read_text, refusal_line, status_of, write,
 };
 use std::alloc::{AllocError, Global};
+use std::io::ErrorKind;
 use std::sync::Wait;
 use std::thread::Threads;
 use superstep::{Job, State};
@@ -46,7 +47,7 @@ use wat_asm::print;
 /// `call` answers with the outcome's lines; the module is looked at before it is told that the input's file cannot be read.
 /// `run` answers with the values of a job's vertices and how it ended; the text of the worker that is lost is looked at first,
 /// then the module, the graph, and the settings. Where it keeps its states in a folder, their files are the system's, not
-/// `files`. `replay` answers with a line for each of the steps and where they lead, and looks at the steps after the settings.
+/// `files`, and one in which no file can be made is refused before the job begins. `replay` answers with a line for each of the steps and where they lead, and looks at the steps after the settings.
 /// `verify` answers `ok size S operands M frames F`. `upgrade` reads a checkpoint of any version, writes it to the other file
 /// as one of version 2, and answers `ok LENGTH`. `asm` writes the module's canonical spelling to the other file, and answers
 /// `ok LENGTH`. `print` answers with the module's text. `asm` and `print` do not ask that the module is valid; `call`, `run`,
@@ -151,7 +152,8 @@ fn run_files<'a, F: Files>(
 {
     let loss = loss_of(asked)?;
     let job = job_of(alloc, asked.job, files)?;
-    run_kept(rt, alloc, &job, asked, &LossGate::new(loss, asked.again))
+    let gate = LossGate::new(loss, asked.again);
+    run_kept(rt, alloc, &job, asked, &gate, files)
 }
 
 // Which worker is lost, if one is.
@@ -170,23 +172,49 @@ fn loss_of<'a>(asked: RunRequest<'a>) -> Result<Option<Loss>, CommandFault<'a>>
 }
 
 // Runs a job, its states kept in a folder where one is named, else in memory.
-fn run_kept<'a>(
+fn run_kept<'a, F: Files>(
     rt: &(impl Wait + Threads + Sync + std::rt::Files + AllocGlobal),
     alloc: Global,
     job: &Job,
     asked: RunRequest<'a>,
     gate: &LossGate,
+    files: &mut F,
 ) -> Result<String, CommandFault<'a>>
     ensures told { IfTold result
         (AreRunLines job.now asked.entry.keep asked.entry.job.tells_units) }
-    ensures refused { IfErr result IsFaultOfRun }
+    ensures kept { Stays (F.disk files.old) (F.disk files.new) }
+    ensures refused { IfErr result (IsFaultOfKept asked.entry.keep) }
 {
     let tells_units = asked.job.tells_units;
     match asked.keep {
-        None => run(rt, alloc, job, MemoryKeep::new(alloc), gate, tells_units),
+        None => {
+            let keep = MemoryKeep::new(alloc);
+            run(rt, alloc, job, keep, gate, files, tells_units)
+        }
         Some(folder) => {
-            let keep = FileKeep::new(alloc, folder)?;
-            run(rt, alloc, job, keep, gate, tells_units)
+            let keep = keep_in(rt, alloc, folder, files)?;
+            run(rt, alloc, job, keep, gate, files, tells_units)
+        }
+    }
+}
+
+// A Keep in a folder, in which a file can be made.
+fn keep_in<'a, F: Files>(
+    rt: &impl std::rt::Files,
+    alloc: Global,
+    folder: &'a str,
+    files: &mut F,
+) -> Result<FileKeep, CommandFault<'a>>
+    ensures kept { Stays (F.disk files.old) (F.disk files.new) }
+    ensures refused { IfErr result (IsNoFolder folder.now) }
+{
+    let keep = FileKeep::new(alloc, folder)?;
+    match keep.try_directory(rt) {
+        Ok(()) => Ok(keep),
+        Err(error) if error.kind() == ErrorKind::OutOfMemory => Err(CommandFault::OutOfMemory),
+        Err(error) => {
+            files.warn(format_args!("{folder}: {error}"));
+            Err(CommandFault::Unwritable(folder))
         }
     }
 }

@@ -1,10 +1,18 @@
 use Rattle.std.proofs.Common.{inl, inr, true}
 use Rattle.std.specs.String.{string_bytes}
 use Rattle.console.specs.Program.{RefusesCalled}
-use Rattle.sources.proofs.Disks.{refused_at, unread_before}
-use Rattle.sources.proofs.Faults.{IfErr-along}
+use Rattle.sources.specs.Modules.{is_text_path}
+use Rattle.sources.proofs.Disks.{no_source, refused_at, unread_before}
+use Rattle.sources.proofs.Faults.{IfErr-along, is_fault}
 use Rattle.console.proofs.Telling.{refused_in_text}
 use Rattle.console.proofs.program.call_files.Goals as goal
+
+pub returns-in_err-source-clause-refused : goal.returns-in_err-source-clause-refused
+returns-in_err-source-clause-refused g c =
+    let disk = g.F.Files.disk c.args.files.now in
+    rw (is_fault _ _ c.from_residual.ensures.1)
+    (no_source (is_text_path c.args.module.now) disk c.args.module.now (RefusesCalled disk c.args.input.now) (λ content fault refused. inl (inl refused)) _
+    c.in_err-source.ensures.found)
 
 pub returns-in-Ok-clause-refused : goal.returns-in-Ok-clause-refused
 returns-in-Ok-clause-refused g c =

@@ -4,11 +4,14 @@
 ghost use Rattle.std.specs.Prelude.{◌≡◌, ◌⊎◌, IfOk, OnErr};
 ghost use Rattle.std.specs.Process.{exit_status};
 
+mod noting;
 mod program;
 
+use crate::noting::Noting;
 use crate::program::carry_out;
 use clap::error::ErrorKind;
-use command_line::options;
+use command_line::{Options, options};
+use session::ServeFault;
 use sources::{CommandFault, SystemFiles};
 use std::process::ExitCode;
 use std::rt::{Env, Files};
@@ -55,19 +58,35 @@ fn read_and_carry_out(
             return Ok(if error.use_stderr() { 2 } else { 0 });
         }
     };
-    let status = carry_out(
-        rt,
-        alloc,
-        options,
-        &mut SystemFiles(rt),
-        &mut rt.reader(),
-        &mut io::writer(rt),
-    );
-    status.map_err(|_| io::Error::from(io::ErrorKind::Other))
+    // (what goes wrong with the files of a session is told by its replies alone)
+    let tells = matches!(options, Options::Command(_));
+    let mut files = SystemFiles::new(rt, tells);
+    let mut reader = Noting::new(rt.reader());
+    let mut writer = Noting::new(io::writer(rt));
+    match carry_out(rt, alloc, options, &mut files, &mut reader, &mut writer) {
+        Ok(status) => Ok(status),
+        Err(ServeFault::Read) => Ok(unserved(rt, "standard input", reader.failure())),
+        Err(ServeFault::Write) => Ok(unserved(rt, "standard output", writer.failure())),
+        Err(ServeFault::OutOfMemory) => {
+            let _ = eprintln!(rt; "pregel: out of memory");
+            Ok(4)
+        }
+    }
+}
+
+// Tells which stream failed, and why where that is known. The status is 4.
+fn unserved(rt: &impl Eprint, stream: &str, failure: Option<io::Error>) -> u8
+    ensures { result ≡ 4 }
+{
+    let _ = match failure {
+        Some(error) => eprintln!(rt; "pregel: {stream}: {error}"),
+        None => eprintln!(rt; "pregel: {stream} failed"),
+    };
+    4
 }
 
 // The process ends with the status; where there is none, with 1 for want of memory and 4 for a writer that failed.
-fn exit_code(rt: &impl Print, outcome: io::Result<u8>) -> ExitCode
+fn exit_code(rt: &(impl Print + Eprint), outcome: io::Result<u8>) -> ExitCode
     ensures ended { IfOk outcome (λ status. exit_status result ≡ status) }
     ensures failed { OnErr outcome ((exit_status result ≡ 1) ⊎ (exit_status result ≡ 4)) }
 {
@@ -77,14 +96,16 @@ fn exit_code(rt: &impl Print, outcome: io::Result<u8>) -> ExitCode
     }
 }
 
-// Want of memory is told, and of a writer that failed nothing can be.
-fn failed(rt: &impl Print, error: &io::Error) -> ExitCode
+// Want of memory is told on standard output, and what failed else on standard error: what else is asked of the system here is
+// to write there.
+fn failed(rt: &(impl Print + Eprint), error: &io::Error) -> ExitCode
     ensures { (exit_status result ≡ 1) ⊎ (exit_status result ≡ 4) }
 {
-    if error.kind() == io::ErrorKind::OutOfMemory
-        && println!(rt; "{}", CommandFault::OutOfMemory).is_ok()
-    {
-        return ExitCode::from(1);
+    if error.kind() != io::ErrorKind::OutOfMemory {
+        return ExitCode::from(unserved(rt, "standard output", Some(*error)));
     }
-    ExitCode::from(4)
+    match println!(rt; "{}", CommandFault::OutOfMemory) {
+        Ok(()) => ExitCode::from(1),
+        Err(error) => ExitCode::from(unserved(rt, "standard output", Some(error))),
+    }
 }

@@ -2,40 +2,34 @@
 //! brings in.
 
 use anyhow::Result;
-use conformance_cases::is_case;
+use conformance_cases::show_cases;
 use host_calls::HostCall;
 use std::alloc::{AllocError, Global};
-use std::fs;
 use std::rt::Files;
 use wasm_ast::{Import, ImportDescription, Module, ValType};
 use wat_asm::assemble;
 
 pub fn show(rt: &(impl Files + Print + AllocGlobal)) -> Result<()> {
-    let text = fs::read_to_string(rt, "host-functions.txt")?;
-    for case in text.as_str().lines().filter(|line| is_case(line)) {
-        let answer = answer(rt.alloc(), case)?;
-        println!(rt; "{answer}")?;
-    }
-    Ok(())
+    show_cases(rt, "host-functions.txt", answer)
 }
 
 fn answer(alloc: Global, case: &str) -> Result<String> {
-    if !case.starts_with('(') {
-        return Ok(row_of(alloc, case)?);
+    if case.starts_with('(') {
+        return import_told(alloc, case);
     }
-    let name = name_of_import(alloc, case)?;
-    Ok(format!(in alloc; "{case}: {name}")?)
+    match HostCall::named("pregel", case) {
+        Some(call) => Ok(type_told(alloc, case, call)?),
+        None => Ok(String::from_str(alloc, "none")?),
+    }
 }
 
-// The function's own name, with what it takes and gives.
-fn row_of(alloc: Global, name: &str) -> Result<String, AllocError> {
-    let Some(call) = HostCall::named("pregel", name) else {
-        return format!(in alloc; "{name}: none");
-    };
+// What the function takes and gives, and its own name where that is another.
+fn type_told(alloc: Global, name: &str, call: HostCall) -> Result<String, AllocError> {
     let call_type = call.type_of();
     let parameters = words_of(alloc, call_type.parameters)?;
     let results = words_of(alloc, call_type.results)?;
-    format!(in alloc; "{}: [{parameters}] -> [{results}]", call.name())
+    let own = if call.name() == name { "" } else { call.name() };
+    format!(in alloc; "{own}[{parameters}] -> [{results}]")
 }
 
 fn words_of(alloc: Global, types: &[ValType]) -> Result<String, AllocError> {
@@ -52,11 +46,11 @@ fn words_of(alloc: Global, types: &[ValType]) -> Result<String, AllocError> {
     Ok(words)
 }
 
-// The function that the import brings in.
-fn name_of_import(alloc: Global, import: &str) -> Result<&'static str> {
+// The name of the function that the import brings in.
+fn import_told(alloc: Global, import: &str) -> Result<String> {
     let text = format!(in alloc; "(module {import})")?;
     let module = assemble(alloc, text.as_str())?;
-    Ok(first_name(&module))
+    Ok(String::from_str(alloc, first_name(&module))?)
 }
 
 fn first_name(module: &Module) -> &'static str {

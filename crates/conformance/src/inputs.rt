@@ -2,25 +2,19 @@
 //! as `TARGET:VALUE`; `slots TEXT` tells what each slot was aggregated to; a text that means none tells its first bad line.
 
 use anyhow::Result;
-use conformance_cases::{is_case, spelled};
+use conformance_cases::{show_cases, spelled};
 use sources::{CommandFault, Input};
 use std::alloc::{AllocError, Global};
-use std::fs;
 use std::rt::Files;
 
 pub fn show(rt: &(impl Files + Print + AllocGlobal)) -> Result<()> {
-    let text = fs::read_to_string(rt, "inputs.txt")?;
-    for case in text.as_str().lines().filter(|line| is_case(line)) {
-        let answer = answer(rt.alloc(), case)?;
-        println!(rt; "{case}: {answer}")?;
-    }
-    Ok(())
+    show_cases(rt, "inputs.txt", answer)
 }
 
-fn answer(alloc: Global, case: &str) -> Result<String, AllocError> {
+fn answer(alloc: Global, case: &str) -> Result<String> {
     let (kind, spelling) = case.split_once(' ').unwrap_or((case, ""));
     let text = spelled(alloc, spelling)?;
-    told(alloc, kind, text.as_str())
+    Ok(told(alloc, kind, text.as_str())?)
 }
 
 fn told(alloc: Global, kind: &str, text: &str) -> Result<String, AllocError> {

@@ -1,15 +1,18 @@
-//! What the public calls on numbers, modules, compute calls, graphs and inboxes answer, case by case: each line of a file of
-//! `data/` is a case, and prints one line, which `stdout` has beforehand.
+//! What the public calls on numbers, modules, compute calls, graphs, inboxes, jobs on one machine and checkpoints answer, case by
+//! case: each line of a file of `data/` is a case, and prints one line, which `stdout` has beforehand.
 #![tactic(auto)]
 
 mod binary;
 mod calls;
+mod checkpoints;
 mod copies;
 mod costs;
 mod graphs;
 mod host_functions;
 mod inboxes;
 mod inputs;
+mod jobs;
+mod keeps;
 mod leb_numbers;
 mod limits;
 mod modules;
@@ -29,7 +32,8 @@ fn main(rt: HostRuntime) -> Result<()> {
     syntax(&rt)?;
     formats(&rt)?;
     judgements(&rt)?;
-    runs(&rt)
+    runs(&rt)?;
+    states(&rt)
 }
 
 // Values and copies of the syntax.
@@ -63,4 +67,11 @@ fn runs(rt: &(impl Files + Print + AllocGlobal + Threads + Sync)) -> Result<()> 
     graphs::show(rt)?;
     inboxes::show(rt)?;
     inputs::show(rt)
+}
+
+// Jobs on one machine, their states as bytes, and where these are kept.
+fn states(rt: &(impl Files + Print + AllocGlobal + Threads + Sync)) -> Result<()> {
+    jobs::show(rt)?;
+    checkpoints::show(rt)?;
+    keeps::show(rt)
 }

@@ -8,7 +8,7 @@
 
 pub mod lent_files;
 
-use anyhow::Result;
+use anyhow::{Result, bail};
 use clap::error::ErrorKind;
 use command_line::{Options, options};
 use conformance_cases::{is_case, one_line};
@@ -96,20 +96,10 @@ fn carried_out(
     let words: Vec<&str> = iter::once("pregel")
         .chain(line.split_ascii_whitespace())
         .collect(alloc)?;
-    read_and_carried_out(rt, alloc, words.as_slice(), room, files)
-}
-
-fn read_and_carried_out(
-    rt: &(impl Files + AllocGlobal + Threads + Wait + Sync),
-    alloc: Global,
-    words: &[&str],
-    room: &str,
-    files: &mut LentFiles,
-) -> Result<String> {
-    match options(alloc, words) {
-        Ok(options) if room.is_empty() => told(rt, alloc, options, files),
-        Ok(options) => told_in(rt, alloc, options, files, room),
-        Err(error) => refused(alloc, error.kind()),
+    if room.is_empty() {
+        told(rt, alloc, &words, files)
+    } else {
+        told_in(rt, alloc, &words, room.parse::<usize>()?, files)
     }
 }
 
@@ -131,16 +121,43 @@ fn word_of(kind: ErrorKind) -> &'static str {
 fn told(
     rt: &(impl Files + AllocGlobal + Threads + Wait + Sync),
     alloc: Global,
-    options: Options,
+    words: &[&str],
     files: &mut LentFiles,
 ) -> Result<String> {
     files.forget_written();
     let mut out = Vec::new(alloc);
-    let status = status_of(rt, alloc, options, files, &mut out)?;
-    shown(alloc, status, out.as_slice(), files)
+    match done(rt, alloc, words, files, &mut out) {
+        Fate::Status(status) => shown(alloc, status, &out, files),
+        Fate::Fault(fault) => bail!("{fault}"),
+        Fate::Refused(kind) => refused(alloc, kind),
+    }
 }
 
-// Does what the options ask for, and answers the status.
+// What becomes of a command line.
+#[derive(Clone, Copy)]
+enum Fate {
+    Status(u8),
+    Fault(ServeFault),
+    Refused(ErrorKind),
+}
+
+// Does what the words ask for.
+fn done<W: Write>(
+    rt: &(impl Files + AllocGlobal + Threads + Wait + Sync),
+    alloc: Global,
+    words: &[&str],
+    files: &mut LentFiles,
+    out: &mut W,
+) -> Fate {
+    match options(alloc, words) {
+        Ok(options) => match status_of(rt, alloc, options, files, out) {
+            Ok(status) => Fate::Status(status),
+            Err(fault) => Fate::Fault(fault),
+        },
+        Err(error) => Fate::Refused(error.kind()),
+    }
+}
+
 fn status_of<W: Write>(
     rt: &(impl Files + AllocGlobal + Threads + Wait + Sync),
     alloc: Global,
@@ -165,27 +182,25 @@ fn shown(alloc: Global, status: u8, out: &[u8], files: &LentFiles) -> Result<Str
     Ok(shown)
 }
 
+// The same with a writer that has room for so many bytes: the status, or the fault and what the writer took before.
 fn told_in(
     rt: &(impl Files + AllocGlobal + Threads + Wait + Sync),
     alloc: Global,
-    options: Options,
+    words: &[&str],
+    room: usize,
     files: &mut LentFiles,
-    room: &str,
 ) -> Result<String> {
-    let mut taken = vec![in alloc; 0u8; room.parse::<usize>()?]?;
-    let ended = status_of(rt, alloc, options, files, &mut taken.as_mut_slice());
-    status_or_fault(alloc, ended, taken.as_slice())
+    let mut taken = vec![in alloc; 0u8; room]?;
+    match done(rt, alloc, words, files, &mut taken.as_mut_slice()) {
+        Fate::Status(status) => Ok(format!(in alloc; "{status}")?),
+        Fate::Fault(fault) => shown_fault(alloc, fault, &taken),
+        Fate::Refused(kind) => refused(alloc, kind),
+    }
 }
 
-// The status, or the fault and what the writer took before.
-fn status_or_fault(alloc: Global, ended: Result<u8, ServeFault>, taken: &[u8]) -> Result<String> {
-    match ended {
-        Ok(status) => Ok(format!(in alloc; "{status}")?),
-        Err(fault) => {
-            let begun = str::from_utf8(taken)?;
-            Ok(format!(in alloc; "{fault} behind `{begun}`")?)
-        }
-    }
+fn shown_fault(alloc: Global, fault: ServeFault, taken: &[u8]) -> Result<String> {
+    let begun = str::from_utf8(taken)?;
+    Ok(format!(in alloc; "{fault} behind `{begun}`")?)
 }
 
 fn bounds(

@@ -52,24 +52,35 @@ fn answer(
     case: &str,
     files: &mut LentFiles,
 ) -> Result<String> {
-    let alloc = rt.alloc();
     let (way, lines) = case.split_once("; ").unwrap_or((case, ""));
-    let lines = content(alloc, way, lines)?;
+    let lines = content(rt.alloc(), way, lines)?;
+    answer_to(rt, way, &lines, files)
+}
+
+fn answer_to(
+    rt: &(impl Wait + Threads + Sync + Files + AllocGlobal),
+    way: &str,
+    lines: &[u8],
+    files: &mut LentFiles,
+) -> Result<String> {
     if let Some(loss) = way.strip_prefix("loses ") {
         let gate = LossGate::new(Loss::read(loss), false);
-        return served(rt, "whole", lines.as_slice(), files, &JobRunner::new(&gate));
+        return in_threads(rt, lines, files, &gate);
     }
     match way {
-        "threads" => {
-            let runner = JobRunner::new(&NoLoss);
-            served(rt, "whole", lines.as_slice(), files, &runner)
-        }
-        "holds" => held(rt, lines.as_slice(), files),
-        _ => {
-            let runner = JobRunner::<NoLoss>::OnOneMachine;
-            served(rt, way, lines.as_slice(), files, &runner)
-        }
+        "threads" => in_threads(rt, lines, files, &NoLoss),
+        "holds" => held(rt, lines, files),
+        _ => served(rt, way, lines, files, &JobRunner::<NoLoss>::OnOneMachine),
     }
+}
+
+fn in_threads<G: Gate + Sync>(
+    rt: &(impl Wait + Threads + Sync + Files + AllocGlobal),
+    lines: &[u8],
+    files: &mut LentFiles,
+    gate: &G,
+) -> Result<String> {
+    served(rt, "whole", lines, files, &JobRunner::new(gate))
 }
 
 fn held(
@@ -78,7 +89,7 @@ fn held(
     files: &mut LentFiles,
 ) -> Result<String> {
     let gate = PlannedGate::new(Plan::Holds);
-    let told = served(rt, "whole", lines, files, &JobRunner::new(&gate))?;
+    let told = in_threads(rt, lines, files, &gate)?;
     Ok(format!(in rt.alloc(); "{told} {}", gate.how_met())?)
 }
 
@@ -112,18 +123,18 @@ fn served<G: Gate + Sync>(
         _ => {}
     }
     let served = serve(rt, alloc, &mut reader, &mut writer, files, runner);
-    let told = str::from_utf8(writer.bytes.as_slice())?;
+    told(alloc, word, &writer.bytes, served)
+}
+
+fn told(alloc: Global, word: &str, bytes: &[u8], served: Result<(), ServeFault>) -> Result<String> {
+    let told = str::from_utf8(bytes)?;
     if word == "counted" {
         return counted(alloc, told);
     }
-    shown(alloc, told, served)
-}
-
-fn shown(alloc: Global, told: &str, served: Result<(), ServeFault>) -> Result<String> {
-    let told = one_line(alloc, told)?;
+    let line = one_line(alloc, told)?;
     match served {
-        Ok(()) => Ok(told),
-        Err(fault) => Ok(format!(in alloc; "{told} {fault}")?),
+        Ok(()) => Ok(line),
+        Err(fault) => Ok(format!(in alloc; "{line} {fault}")?),
     }
 }
 

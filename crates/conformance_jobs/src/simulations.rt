@@ -11,9 +11,8 @@ mod doubles;
 pub mod faulty_keep;
 pub mod sweeps;
 
-use crate::jobs::{fault_told, job_in};
 use anyhow::Result;
-use conformance_cases::{bytes, named, one_line, show_cases, spelled};
+use conformance_cases::{bytes, fault_told, job_in, named, one_line, show_cases, spelled};
 use console::{steps_of, trace_text};
 use doubles::doubled;
 use faulty_keep::{FaultyKeep, Wrong};
@@ -94,10 +93,10 @@ fn simulated<R: Files + AllocGlobal + Threads + Sync>(
 
 fn told(alloc: Global, end: &Result<Trace, JobFault>, saved: &[u8]) -> Result<String> {
     let lines = match end {
-        Ok(trace) => trace_text(alloc, trace, true)?,
-        Err(fault) => fault_told(alloc, *fault)?,
+        Ok(trace) => trace_text(alloc, trace, true),
+        Err(fault) => fault_told(alloc, *fault),
     };
-    let mut text = one_line(alloc, lines.as_str())?;
+    let mut text = one_line(alloc, lines?.as_str())?;
     tell_saved(saved, &mut text)?;
     Ok(text)
 }

@@ -8,16 +8,15 @@
 
 pub mod gates;
 
-use crate::jobs::{fault_told, job_in};
 use crate::simulations::faulty_keep::{FaultyKeep, Wrong};
 use crate::simulations::sweeps::are_alike;
 use anyhow::Result;
-use checkpoint::MemoryKeep;
-use conformance_cases::{named, show_cases};
+use checkpoint::{Keep, MemoryKeep};
+use conformance_cases::{fault_told, job_in, named, show_cases};
 use console::{Loss, LossGate};
 use gates::{Plan, PlannedGate, WatchedGate};
 use rollback::Report;
-use std::alloc::Global;
+use std::alloc::{AllocError, Global};
 use std::rt::Files;
 use std::sync::Wait;
 use std::thread::Threads;
@@ -40,6 +39,71 @@ fn answer<R: Files + AllocGlobal + Threads + Wait + Sync>(rt: &R, case: &str) ->
     }
 }
 
+// How a job in threads ended, beside the run on one machine.
+#[derive(Clone, Copy)]
+enum End {
+    Alike(Counts),
+    Otherwise(Counts),
+    NoWorkers,
+    AnotherFault,
+}
+
+// What became of the workers of a job that has an answer.
+#[derive(Clone, Copy)]
+struct Counts {
+    epoch: u64,
+    missed: u64,
+    restarts: u64,
+}
+
+impl End {
+    fn of(ended: &Result<Report, JobFault>, plain: &Ended) -> End {
+        match ended {
+            Ok(report) => End::of_report(report, plain),
+            Err(JobFault::NoWorkers) => End::NoWorkers,
+            Err(_) => End::AnotherFault,
+        }
+    }
+
+    fn of_report(report: &Report, plain: &Ended) -> End {
+        let counts = Counts {
+            epoch: report.epoch,
+            missed: report.missed,
+            restarts: report.restarts,
+        };
+        if are_alike(&report.ended, plain) {
+            End::Alike(counts)
+        } else {
+            End::Otherwise(counts)
+        }
+    }
+
+    fn is_alike(self) -> bool {
+        matches!(self, End::Alike(_))
+    }
+
+    fn word(self) -> &'static str {
+        match self {
+            End::Alike(_) => "alike",
+            End::Otherwise(_) => "otherwise",
+            End::NoWorkers => "no workers",
+            End::AnotherFault => "another fault",
+        }
+    }
+
+    // The word, with the counts of the report.
+    fn counted(self, alloc: Global) -> Result<String, AllocError> {
+        let word = self.word();
+        match self {
+            End::Alike(counts) | End::Otherwise(counts) => {
+                let (epoch, missed, restarts) = (counts.epoch, counts.missed, counts.restarts);
+                format!(in alloc; "{word}, epoch {epoch} missed {missed} restarts {restarts}")
+            }
+            _ => String::from_str(alloc, word),
+        }
+    }
+}
+
 fn ran<R: Files + AllocGlobal + Threads + Wait + Sync>(
     rt: &R,
     alloc: Global,
@@ -47,45 +111,78 @@ fn ran<R: Files + AllocGlobal + Threads + Wait + Sync>(
     job: &Job,
 ) -> Result<String> {
     let plain = one_machine(rt, alloc, job)?;
+    ran_beside(rt, alloc, gate, job, &plain)
+}
+
+fn ran_beside<R: Files + AllocGlobal + Threads + Wait + Sync>(
+    rt: &R,
+    alloc: Global,
+    gate: &str,
+    job: &Job,
+    plain: &Ended,
+) -> Result<String> {
     if let Some((times, gate)) = gate.split_once(" times ") {
-        return repeated(rt, alloc, job, gate, times.parse::<u32>()?, &plain);
+        let times = times.parse::<u32>()?;
+        return Ok(repeated(rt, alloc, job, gate, times, plain)?);
     }
     if let Some(words) = gate.strip_prefix("watched ") {
-        return watched(rt, alloc, job, words, &plain);
+        return Ok(watched(rt, alloc, job, words, plain)?);
     }
+    Ok(ended_at(rt, alloc, gate, job, plain)?)
+}
+
+fn ended_at<R: Files + AllocGlobal + Threads + Wait + Sync>(
+    rt: &R,
+    alloc: Global,
+    gate: &str,
+    job: &Job,
+    plain: &Ended,
+) -> Result<String, AllocError> {
     match gate {
-        "holds" => held(rt, alloc, job, &plain),
-        "ticks" => ticked(rt, alloc, job, &plain),
-        "losses" => lost_in_turn(rt, alloc, job, &plain),
-        _ => {
-            let end = ended_by(rt, alloc, job, gate);
-            counted(alloc, &end, &plain)
-        }
+        "holds" => held(rt, alloc, job, plain),
+        "ticks" => ticked(rt, alloc, job, plain),
+        "losses" => lost_in_turn(rt, alloc, job, plain),
+        _ => ended_by(rt, alloc, job, gate, plain).counted(alloc),
     }
 }
 
-// Runs a job with its states in memory.
-fn run<G: Gate + Sync, R: Files + AllocGlobal + Threads + Wait + Sync>(
+// The end of a job whose states are in this Keep.
+fn end_with<K: Keep + Drop, G: Gate + Sync, R: Files + AllocGlobal + Threads + Wait + Sync>(
+    rt: &R,
+    alloc: Global,
+    job: &Job,
+    keep: K,
+    gate: &G,
+    plain: &Ended,
+) -> End {
+    let ended = run_in_threads(rt, alloc, job, keep, gate);
+    End::of(&ended, plain)
+}
+
+// The end of a job whose states are in memory.
+fn end_of<G: Gate + Sync, R: Files + AllocGlobal + Threads + Wait + Sync>(
     rt: &R,
     alloc: Global,
     job: &Job,
     gate: &G,
-) -> Result<Report, JobFault> {
-    run_in_threads(rt, alloc, job, MemoryKeep::new(alloc), gate)
+    plain: &Ended,
+) -> End {
+    end_with(rt, alloc, job, MemoryKeep::new(alloc), gate, plain)
 }
 
-// Runs a job whose worker is lost as the words say.
+// The end of a job whose worker is lost as the words say.
 fn ended_by<R: Files + AllocGlobal + Threads + Wait + Sync>(
     rt: &R,
     alloc: Global,
     job: &Job,
     words: &str,
-) -> Result<Report, JobFault> {
+    plain: &Ended,
+) -> End {
     let gate = gate_of(words);
     if gate.loss.is_some() {
-        run(rt, alloc, job, &gate)
+        end_of(rt, alloc, job, &gate, plain)
     } else {
-        run(rt, alloc, job, &NoLoss)
+        end_of(rt, alloc, job, &NoLoss, plain)
     }
 }
 
@@ -95,28 +192,6 @@ fn gate_of(words: &str) -> LossGate {
     LossGate::new(Loss::read(loss), again == "again")
 }
 
-// How a job ended, beside the run on one machine.
-fn told(end: &Result<Report, JobFault>, plain: &Ended) -> &'static str {
-    match end {
-        Ok(report) if are_alike(&report.ended, plain) => "alike",
-        Ok(_) => "otherwise",
-        Err(JobFault::NoWorkers) => "no workers",
-        Err(_) => "another fault",
-    }
-}
-
-// The same, with the counts of its report.
-fn counted(alloc: Global, end: &Result<Report, JobFault>, plain: &Ended) -> Result<String> {
-    let word = told(end, plain);
-    Ok(match end {
-        Ok(report) => {
-            let (epoch, missed, restarts) = (report.epoch, report.missed, report.restarts);
-            format!(in alloc; "{word}, epoch {epoch} missed {missed} restarts {restarts}")?
-        }
-        Err(_) => String::from_str(alloc, word)?,
-    })
-}
-
 fn repeated<R: Files + AllocGlobal + Threads + Wait + Sync>(
     rt: &R,
     alloc: Global,
@@ -124,15 +199,13 @@ fn repeated<R: Files + AllocGlobal + Threads + Wait + Sync>(
     gate: &str,
     times: u32,
     plain: &Ended,
-) -> Result<String> {
+) -> Result<String, AllocError> {
     let mut alike = 0u32;
     for _ in 0..times {
-        let end = ended_by(rt, alloc, job, gate);
-        if told(&end, plain) == "alike" {
-            alike = alike.saturating_add(1);
-        }
+        let end = ended_by(rt, alloc, job, gate, plain);
+        alike = alike.saturating_add(u32::from(end.is_alike()));
     }
-    Ok(format!(in alloc; "{alike} of {times} alike")?)
+    format!(in alloc; "{alike} of {times} alike")
 }
 
 fn held<R: Files + AllocGlobal + Threads + Wait + Sync>(
@@ -140,10 +213,10 @@ fn held<R: Files + AllocGlobal + Threads + Wait + Sync>(
     alloc: Global,
     job: &Job,
     plain: &Ended,
-) -> Result<String> {
+) -> Result<String, AllocError> {
     let gate = PlannedGate::new(Plan::Holds);
-    let end = run(rt, alloc, job, &gate);
-    Ok(format!(in alloc; "{}, {}", gate.how_met(), told(&end, plain))?)
+    let end = end_of(rt, alloc, job, &gate, plain);
+    format!(in alloc; "{}, {}", gate.how_met(), end.word())
 }
 
 // Whether a worker that is lost has come back.
@@ -153,15 +226,15 @@ fn watched<R: Files + AllocGlobal + Threads + Wait + Sync>(
     job: &Job,
     words: &str,
     plain: &Ended,
-) -> Result<String> {
+) -> Result<String, AllocError> {
     let gate = WatchedGate::new(gate_of(words));
-    let end = run(rt, alloc, job, &gate);
+    let end = end_of(rt, alloc, job, &gate, plain);
     let came = if gate.has_come_back() {
         "back again"
     } else {
         "gone for good"
     };
-    Ok(format!(in alloc; "{came}, {}", told(&end, plain))?)
+    format!(in alloc; "{came}, {}", end.word())
 }
 
 // Whether a job ends alike, with no save missed, or without workers.
@@ -170,22 +243,14 @@ fn ticked<R: Files + AllocGlobal + Threads + Wait + Sync>(
     alloc: Global,
     job: &Job,
     plain: &Ended,
-) -> Result<String> {
+) -> Result<String, AllocError> {
     let gate = PlannedGate::new(Plan::Ticks);
-    let end = run(rt, alloc, job, &gate);
-    let word = if may_tick(&end, plain) {
-        "alike or no workers"
-    } else {
-        "otherwise"
+    let word = match end_of(rt, alloc, job, &gate, plain) {
+        End::Alike(counts) if counts.missed == 0 => "alike or no workers",
+        End::NoWorkers => "alike or no workers",
+        _ => "otherwise",
     };
-    Ok(String::from_str(alloc, word)?)
-}
-
-fn may_tick(end: &Result<Report, JobFault>, plain: &Ended) -> bool {
-    match end {
-        Ok(report) => report.missed == 0 && are_alike(&report.ended, plain),
-        Err(fault) => matches!(fault, JobFault::NoWorkers),
-    }
+    String::from_str(alloc, word)
 }
 
 // Where whoever takes a part in a superstep is lost with it, for each part in each superstep.
@@ -194,17 +259,26 @@ fn lost_in_turn<R: Files + AllocGlobal + Threads + Wait + Sync>(
     alloc: Global,
     job: &Job,
     plain: &Ended,
-) -> Result<String> {
+) -> Result<String, AllocError> {
     let mut text = String::new(alloc);
+    tell_losses(rt, alloc, job, plain, &mut text)?;
+    Ok(text)
+}
+
+fn tell_losses<R: Files + AllocGlobal + Threads + Wait + Sync>(
+    rt: &R,
+    alloc: Global,
+    job: &Job,
+    plain: &Ended,
+    text: &mut String,
+) -> Result<(), AllocError> {
     for superstep in 0..plain.superstep {
         for part in 0..job.settings().parts {
-            let gate = Plan::Loses { superstep, part };
-            let alike = failing(rt, alloc, job, gate, plain);
-            write!(text, "{alike} ")?;
+            let plan = Plan::Loses { superstep, part };
+            write!(text, "{} ", failing(rt, alloc, job, plan, plain))?;
         }
     }
-    write!(text, "of {CALLS} alike each")?;
-    Ok(text)
+    write!(text, "of {CALLS} alike each")
 }
 
 // With how many devices that fail at one call a job ends alike.
@@ -218,10 +292,9 @@ fn failing<R: Files + AllocGlobal + Threads + Wait + Sync>(
     let mut alike = 0u64;
     for call in 0..CALLS {
         let keep = FaultyKeep::new(alloc, Wrong::Fails(call));
-        let end = run_in_threads(rt, alloc, job, keep, &PlannedGate::new(plan));
-        if told(&end, plain) == "alike" {
-            alike = alike.saturating_add(1);
-        }
+        let gate = PlannedGate::new(plan);
+        let end = end_with(rt, alloc, job, keep, &gate, plain);
+        alike = alike.saturating_add(u64::from(end.is_alike()));
     }
     alike
 }

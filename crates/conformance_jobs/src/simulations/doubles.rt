@@ -8,34 +8,31 @@ use checkpoint::{Keep, MemoryKeep};
 use console::trace_text;
 use interp::Scratch;
 use rollback::{Answer, Book, End, Event, Outcome, Report, Step, StepAnswer, Trace};
-use std::alloc::Global;
+use std::alloc::{AllocError, Global};
 use std::marker::Brand;
+use std::mem;
 use std::rt::Files;
 use std::thread::Threads;
 use superstep::{Done, Job, Origin, Task, run_task};
 
-// What tasks are done with, and what was answered so far.
+// What tasks are done with, what was answered so far, and the copies that are still to come.
 #[derive(Drop)]
-struct Hand<'a> {
+struct Hand<'a, J: Origin> {
     alloc: Global,
     job: &'a Job,
     scratch: Scratch<'a>,
     answers: Vec<StepAnswer>,
+    // those that come right behind their results
+    again: Vec<Copied<J>>,
+    // those that come after the next loss
+    late: Vec<Copied<J>>,
 }
 
-// A result that comes again after the next loss.
+// A copy of what a worker brought back.
 #[derive(Drop)]
-struct Late<J: Origin> {
+struct Copied<J: Origin> {
     worker: u32,
     done: Done<J>,
-}
-
-// A result, and two copies of it.
-#[derive(Drop)]
-struct Tripled<J: Origin> {
-    done: Done<J>,
-    again: Done<J>,
-    late: Done<J>,
 }
 
 /// What becomes of these works and losses. A copy of each result comes right behind it, and another one after the next loss.
@@ -95,19 +92,27 @@ fn answers_of<J: Origin, K: Keep, R: Files + AllocGlobal + Threads + Sync>(
     requires keep { KeepsFor J.work J.honest (K.honest keep.old) (K.saved keep.old)
         (K.may_load keep.old) book.old }
 {
+    let scratch = Scratch::new(alloc, job.verified())?;
     let mut hand = Hand {
         alloc,
         job,
-        scratch: Scratch::new(alloc, job.verified())?,
+        scratch,
         answers: Vec::new(alloc),
+        again: Vec::new(alloc),
+        late: Vec::new(alloc),
     };
-    go_over(rt, &mut hand, book, keep, steps)?;
-    Ok(hand.answers)
+    let gone = go_over(rt, &mut hand, book, keep, steps);
+    let answers = mem::replace(&mut hand.answers, Vec::new(alloc));
+    drop(hand);
+    match gone {
+        Ok(()) => Ok(answers),
+        Err(error) => Err(error),
+    }
 }
 
 fn go_over<J: Origin, K: Keep, R: Files + AllocGlobal + Threads + Sync>(
     rt: &R,
-    hand: &mut Hand,
+    hand: &mut Hand<J>,
     book: &mut Book<J>,
     keep: &mut K,
     steps: &[Step],
@@ -117,18 +122,10 @@ fn go_over<J: Origin, K: Keep, R: Files + AllocGlobal + Threads + Sync>(
     requires keep { KeepsFor J.work J.honest (K.honest keep.old) (K.saved keep.old)
         (K.may_load keep.old) book.old }
 {
-    let mut late = Vec::new(hand.alloc);
     for step in steps {
         match *step {
-            Step::Work(worker) => {
-                if let Some(done) = work(rt, hand, book, keep, worker)? {
-                    late.push(Late { worker, done })?;
-                }
-            }
-            Step::Lose(worker) => {
-                tell(rt, hand, book, keep, Event::Lost(worker))?;
-                come(rt, hand, book, keep, &mut late)?;
-            }
+            Step::Work(worker) => work(rt, hand, book, keep, worker)?,
+            Step::Lose(worker) => lose(rt, hand, book, keep, worker)?,
             _ => {}
         }
     }
@@ -138,11 +135,11 @@ fn go_over<J: Origin, K: Keep, R: Files + AllocGlobal + Threads + Sync>(
 // The worker's next task is done, and its result comes twice. One more copy is left.
 fn work<J: Origin, K: Keep, R: Files + AllocGlobal + Threads + Sync>(
     rt: &R,
-    hand: &mut Hand,
+    hand: &mut Hand<J>,
     book: &mut Book<J>,
     keep: &mut K,
     worker: u32,
-) -> Result<Option<Done<J>>>
+) -> Result<()>
     requires job { J.work ≡ hand.old.job.now }
     requires fits { hand.old.scratch ≡ hand.old.job.now.«module» }
     requires keep { KeepsFor J.work J.honest (K.honest keep.old) (K.saved keep.old)
@@ -153,37 +150,21 @@ fn work<J: Origin, K: Keep, R: Files + AllocGlobal + Threads + Sync>(
         (K.may_load keep.new) book.new }
 {
     let Some(task) = book.next_task(worker) else {
-        return Ok(None);
+        return Ok(());
     };
-    let results = done_three_times(hand, task)?;
-    tell(rt, hand, book, keep, Event::Done(worker, results.done))?;
-    tell(rt, hand, book, keep, Event::Done(worker, results.again))?;
-    Ok(Some(results.late))
+    let done = done_with(hand, worker, task)?;
+    tell(rt, hand, book, keep, Event::Done(worker, done))?;
+    let mut again = mem::replace(&mut hand.again, Vec::new(hand.alloc));
+    come(rt, hand, book, keep, &mut again)
 }
 
-fn done_three_times<J: Origin>(hand: &mut Hand, task: Task<J>) -> Result<Tripled<J>>
-    requires job { J.work ≡ hand.old.job.now }
-    requires fits { hand.old.scratch ≡ hand.old.job.now.«module» }
-    ensures job { J.work ≡ hand.new.job.now }
-    ensures fits { hand.new.scratch ≡ hand.new.job.now.«module» }
-{
-    match run_task(hand.alloc, hand.job, task, &mut hand.scratch) {
-        Ok(done) => {
-            let again = done.copy(hand.alloc)?;
-            let late = done.copy(hand.alloc)?;
-            Ok(Tripled { done, again, late })
-        }
-        Err(_) => bail!("no memory for a task"),
-    }
-}
-
-// The copies that were left come.
-fn come<J: Origin, K: Keep, R: Files + AllocGlobal + Threads + Sync>(
+// The worker is lost, and the copies that were left come.
+fn lose<J: Origin, K: Keep, R: Files + AllocGlobal + Threads + Sync>(
     rt: &R,
-    hand: &mut Hand,
+    hand: &mut Hand<J>,
     book: &mut Book<J>,
     keep: &mut K,
-    late: &mut Vec<Late<J>>,
+    worker: u32,
 ) -> Result<()>
     requires job { J.work ≡ hand.old.job.now }
     requires fits { hand.old.scratch ≡ hand.old.job.now.«module» }
@@ -194,7 +175,56 @@ fn come<J: Origin, K: Keep, R: Files + AllocGlobal + Threads + Sync>(
     ensures keep { KeepsFor J.work J.honest (K.honest keep.new) (K.saved keep.new)
         (K.may_load keep.new) book.new }
 {
-    while let Some(copy) = late.pop() {
+    tell(rt, hand, book, keep, Event::Lost(worker))?;
+    let mut late = mem::replace(&mut hand.late, Vec::new(hand.alloc));
+    come(rt, hand, book, keep, &mut late)
+}
+
+// The result of a task, of which two copies are left.
+fn done_with<J: Origin>(hand: &mut Hand<J>, worker: u32, task: Task<J>) -> Result<Done<J>>
+    requires job { J.work ≡ hand.old.job.now }
+    requires fits { hand.old.scratch ≡ hand.old.job.now.«module» }
+    ensures job { J.work ≡ hand.new.job.now }
+    ensures fits { hand.new.scratch ≡ hand.new.job.now.«module» }
+{
+    let alloc = hand.alloc;
+    let Ok(done) = run_task(alloc, hand.job, task, &mut hand.scratch) else {
+        bail!("no memory for a task");
+    };
+    push_copy(alloc, worker, &done, &mut hand.again)?;
+    push_copy(alloc, worker, &done, &mut hand.late)?;
+    Ok(done)
+}
+
+fn push_copy<J: Origin>(
+    alloc: Global,
+    worker: u32,
+    done: &Done<J>,
+    copies: &mut Vec<Copied<J>>,
+) -> Result<(), AllocError> {
+    let done = done.copy(alloc)?;
+    copies.push(Copied { worker, done })?;
+    Ok(())
+}
+
+// The copies come, the last one first.
+fn come<J: Origin, K: Keep, R: Files + AllocGlobal + Threads + Sync>(
+    rt: &R,
+    hand: &mut Hand<J>,
+    book: &mut Book<J>,
+    keep: &mut K,
+    copies: &mut Vec<Copied<J>>,
+) -> Result<()>
+    requires job { J.work ≡ hand.old.job.now }
+    requires fits { hand.old.scratch ≡ hand.old.job.now.«module» }
+    requires keep { KeepsFor J.work J.honest (K.honest keep.old) (K.saved keep.old)
+        (K.may_load keep.old) book.old }
+    ensures job { J.work ≡ hand.new.job.now }
+    ensures fits { hand.new.scratch ≡ hand.new.job.now.«module» }
+    ensures keep { KeepsFor J.work J.honest (K.honest keep.new) (K.saved keep.new)
+        (K.may_load keep.new) book.new }
+{
+    while let Some(copy) = copies.pop() {
         tell(rt, hand, book, keep, Event::Done(copy.worker, copy.done))?;
     }
     Ok(())
@@ -203,7 +233,7 @@ fn come<J: Origin, K: Keep, R: Files + AllocGlobal + Threads + Sync>(
 // What is answered to an event, with a fault as the end.
 fn tell<J: Origin, K: Keep, R: Files + AllocGlobal + Threads + Sync>(
     rt: &R,
-    hand: &mut Hand,
+    hand: &mut Hand<J>,
     book: &mut Book<J>,
     keep: &mut K,
     event: Event<J>,

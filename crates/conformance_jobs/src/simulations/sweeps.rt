@@ -9,15 +9,26 @@ use std::thread::Threads;
 use superstep::{Ended, How, Job, JobFault, one_machine};
 
 // How many steps a list of the second sweep has.
-const STEPS: u32 = 64;
+const STEPS: usize = 64;
+
+// Where a list of steps leads.
+#[derive(Clone, Copy)]
+enum Way {
+    Open,
+    // to the end of the run on one machine
+    Alike,
+    WithoutWorkers,
+    Other,
+}
 
 // Where lists of steps lead.
-#[derive(Drop)]
+#[derive(Clone, Copy)]
 struct Tally {
     lists: u64,
     open: u64,
     alike: u64,
     without_workers: u64,
+    others: u64,
 }
 
 impl Tally {
@@ -27,31 +38,19 @@ impl Tally {
             open: 0,
             alike: 0,
             without_workers: 0,
+            others: 0,
         }
     }
 
-    fn count(&mut self, end: Result<Outcome, JobFault>, plain: &Ended) {
+    fn count(&mut self, way: Way) {
         self.lists = self.lists.saturating_add(1);
-        match end {
-            Ok(Outcome::Open(_)) => self.open = self.open.saturating_add(1),
-            Ok(Outcome::Ended(report)) if are_alike(&report.ended, plain) => {
-                self.alike = self.alike.saturating_add(1);
-            }
-            Err(JobFault::NoWorkers) => {
-                self.without_workers = self.without_workers.saturating_add(1);
-            }
-            _ => {}
+        match way {
+            Way::Open => self.open = self.open.saturating_add(1),
+            Way::Alike => self.alike = self.alike.saturating_add(1),
+            Way::WithoutWorkers => self.without_workers = self.without_workers.saturating_add(1),
+            Way::Other => self.others = self.others.saturating_add(1),
         }
     }
-}
-
-// How many ended otherwise than the run on one machine.
-fn others(tally: &Tally) -> u64 {
-    tally
-        .lists
-        .saturating_sub(tally.open)
-        .saturating_sub(tally.alike)
-        .saturating_sub(tally.without_workers)
 }
 
 /// Before each of the steps worker 0 or 1 is lost, and then the other works for as long as it takes.
@@ -62,12 +61,21 @@ pub fn losses<R: Files + AllocGlobal + Threads + Sync>(
     steps: &[Step],
 ) -> Result<String> {
     let plain = one_machine(rt, alloc, job)?;
+    losses_beside(rt, alloc, job, steps, &plain)
+}
+
+fn losses_beside<R: Files + AllocGlobal + Threads + Sync>(
+    rt: &R,
+    alloc: Global,
+    job: &Job,
+    steps: &[Step],
+    plain: &Ended,
+) -> Result<String> {
     let mut tally = Tally::new();
     for place in 0..steps.len() {
         for worker in 0..2 {
             let lossy = lossy(alloc, &steps[..place], worker)?;
-            let end = end_of(rt, alloc, job, lossy.as_slice());
-            tally.count(end, &plain);
+            tally.count(way_of(rt, alloc, job, &lossy, plain));
         }
     }
     Ok(format!(in alloc; "{} of {} end alike", tally.alike, tally.lists)?)
@@ -77,21 +85,33 @@ pub fn losses<R: Files + AllocGlobal + Threads + Sync>(
 fn lossy(alloc: Global, steps: &[Step], worker: u32) -> Result<Vec<Step>, AllocError> {
     let mut lossy = Vec::from_slice(alloc, steps)?;
     lossy.push(Step::Lose(worker))?;
-    for _ in 0..STEPS {
-        lossy.push(Step::Work(u32::from(worker == 0)))?;
-    }
+    let length = lossy.len().saturating_add(STEPS);
+    lossy.resize(length, Step::Work(u32::from(worker == 0)))?;
     Ok(lossy)
 }
 
-fn end_of<R: Files + AllocGlobal + Threads + Sync>(
+// Where the steps lead, beside the run on one machine.
+fn way_of<R: Files + AllocGlobal + Threads + Sync>(
     rt: &R,
     alloc: Global,
     job: &Job,
     steps: &[Step],
-) -> Result<Outcome, JobFault> {
+    plain: &Ended,
+) -> Way {
     let mut keep = MemoryKeep::new(alloc);
-    let trace = simulate(rt, alloc, job, &mut keep, steps)?;
-    Ok(trace.outcome)
+    match simulate(rt, alloc, job, &mut keep, steps) {
+        Ok(trace) => way_to(&trace.outcome, plain),
+        Err(JobFault::NoWorkers) => Way::WithoutWorkers,
+        Err(_) => Way::Other,
+    }
+}
+
+fn way_to(outcome: &Outcome, plain: &Ended) -> Way {
+    match outcome {
+        Outcome::Open(_) => Way::Open,
+        Outcome::Ended(report) if are_alike(&report.ended, plain) => Way::Alike,
+        Outcome::Ended(_) => Way::Other,
+    }
 }
 
 /// Whether a job ended as another.
@@ -116,34 +136,35 @@ pub fn drawn<R: Files + AllocGlobal + Threads + Sync>(
     lists: u32,
 ) -> Result<String> {
     let plain = one_machine(rt, alloc, job)?;
+    Ok(drawn_beside(rt, alloc, job, lists, &plain)?)
+}
+
+fn drawn_beside<R: Files + AllocGlobal + Threads + Sync>(
+    rt: &R,
+    alloc: Global,
+    job: &Job,
+    lists: u32,
+    plain: &Ended,
+) -> Result<String, AllocError> {
     let mut draw = Draw { state: 1 };
     let mut tally = Tally::new();
     for _ in 0..lists {
         let steps = draw.steps(alloc)?;
-        let end = end_of(rt, alloc, job, steps.as_slice());
-        tally.count(end, &plain);
+        tally.count(way_of(rt, alloc, job, &steps, plain));
     }
-    told(alloc, &tally)
+    told(alloc, tally)
 }
 
-fn told(alloc: Global, tally: &Tally) -> Result<String> {
-    let mut text = format!(in alloc; "{} lists", tally.lists)?;
-    tell_if(tally.open > 0, ", some are open", &mut text)?;
-    tell_if(tally.alike > 0, ", some end alike", &mut text)?;
-    tell_if(
-        tally.without_workers > 0,
-        ", some lose all workers",
-        &mut text,
-    )?;
-    write!(text, ", {} end otherwise", others(tally))?;
-    Ok(text)
+fn told(alloc: Global, tally: Tally) -> Result<String, AllocError> {
+    let open = words_if(tally.open, ", some are open");
+    let alike = words_if(tally.alike, ", some end alike");
+    let without = words_if(tally.without_workers, ", some lose all workers");
+    let (lists, others) = (tally.lists, tally.others);
+    format!(in alloc; "{lists} lists{open}{alike}{without}, {others} end otherwise")
 }
 
-fn tell_if(is_so: bool, words: &str, text: &mut String) -> Result<(), AllocError> {
-    if is_so {
-        text.push_str(words)?;
-    }
-    Ok(())
+fn words_if(count: u64, words: &'static str) -> &'static str {
+    if count > 0 { words } else { "" }
 }
 
 // Numbers by a linear congruence, with Knuth's multiplier for 64 bits.

@@ -10,4 +10,4 @@ invariant-loop-copy g l = record {
 }
 
 abbrev pub decreases-loop-copy : goal.decreases-loop-copy
-decreases-loop-copy g l = vec_len l.late
+decreases-loop-copy g l = vec_len l.copies

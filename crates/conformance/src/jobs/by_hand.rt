@@ -2,8 +2,9 @@
 
 ghost use Rattle.std.specs.Prelude.{◌≡◌, false, IfOk};
 ghost use Rattle.superstep.specs.Tasks.{IsRow, stamps_of};
+ghost use Rattle.superstep.specs.inside.Running.{slice_of};
 
-use crate::checkpoints::tell_state;
+use crate::checkpoints::shown_state;
 use interp::Scratch;
 use std::alloc::{AllocError, Global};
 use std::marker::Brand;
@@ -16,19 +17,21 @@ pub fn first_superstep(
     alloc: Global,
     job: &Job,
 ) -> Result<String, AllocError> {
-    let state = state_of_copies::<Brand>(rt, alloc, job)?;
-    let mut text = String::new(alloc);
-    tell_state(alloc, &state, &mut text)?;
-    Ok(text)
+    let mut scratch = Scratch::new(alloc, job.verified())?;
+    let state = state_of_copies::<Brand>(rt, alloc, job, &mut scratch);
+    drop(scratch);
+    shown_state(alloc, &state?)
 }
 
 fn state_of_copies<J: Origin>(
     rt: &(impl Threads + Sync),
     alloc: Global,
     job: &Job,
+    scratch: &mut Scratch,
 ) -> Result<State, AllocError>
     requires job { J.work ≡ job.now }
     requires honest { J.honest ≡ false }
+    requires fits { scratch.old ≡ job.now.«module» }
 {
     // Each of them is in its range: so superstep 0 comes before the limit.
     let _settings = job.settings();
@@ -36,7 +39,7 @@ fn state_of_copies<J: Origin>(
     let totals = Totals::of(alloc, &state)?;
     let aggregates = state.aggregates();
     let slices = slices::<J>(alloc, job, state)?;
-    let copies = copies(alloc, job, slices, aggregates)?;
+    let copies = copies(alloc, job, slices, aggregates, scratch)?;
     barrier(rt, alloc, job, totals, copies)
 }
 
@@ -46,20 +49,39 @@ fn copies<J: Origin>(
     job: &Job,
     slices: Vec<Slice<J>>,
     aggregates: [i64; 8],
+    scratch: &mut Scratch,
 ) -> Result<Vec<Done<J>>, AllocError>
     requires job { J.work ≡ job.now }
     requires honest { J.honest ≡ false }
+    requires fits { scratch.old ≡ job.now.«module» }
     requires all { slices.items ≡ stamps_of 0 job.now.settings.parts }
     ensures { IfOk result (λ copies. IsRow job.now.settings.parts 0 copies.items) }
 {
-    let mut scratch = Scratch::new(alloc, job.verified())?;
     let mut copies = Vec::with_capacity(alloc, slices.len())?;
     for slice in slices {
-        let task = Task::new(0, slice, aggregates);
-        match run_task(alloc, job, task, &mut scratch) {
-            Ok(done) => copies.push(done.copy(alloc)?)?,
-            Err(_) => return Err(AllocError),
-        }
+        let copy = copy_of(alloc, job, slice, aggregates, scratch)?;
+        copies.push(copy)?;
     }
     Ok(copies)
+}
+
+// A copy of what comes back of a slice.
+fn copy_of<J: Origin>(
+    alloc: Global,
+    job: &Job,
+    slice: Slice<J>,
+    aggregates: [i64; 8],
+    scratch: &mut Scratch,
+) -> Result<Done<J>, AllocError>
+    requires job { J.work ≡ job.now }
+    requires honest { J.honest ≡ false }
+    requires fits { scratch.old ≡ job.now.«module» }
+    ensures kept { scratch.new ≡ scratch.old }
+    ensures same { IfOk result (λ copy. slice_of copy ≡ slice) }
+{
+    let task = Task::new(0, slice, aggregates);
+    match run_task(alloc, job, task, scratch) {
+        Ok(done) => done.copy(alloc),
+        Err(_) => Err(AllocError),
+    }
 }

@@ -84,28 +84,38 @@ fn state_or_fault(alloc: Global, case: &str) -> Result<String, AllocError> {
 }
 
 fn told(alloc: Global, state: &State, bytes: &[u8]) -> Result<String, AllocError> {
+    let state_shown = shown_state(alloc, state)?;
+    let written = write(alloc, state)?;
+    let alike = if written.as_slice() == bytes {
+        " alike"
+    } else {
+        ""
+    };
+    format!(in alloc; "{state_shown}, written {}{alike}", written.len())
+}
+
+/// What stands in a state, but for what its slots hold.
+pub fn shown_state(alloc: Global, state: &State) -> Result<String, AllocError> {
     let mut text = String::new(alloc);
     tell_state(alloc, state, &mut text)?;
-    tell_written(alloc, state, bytes, &mut text)?;
     Ok(text)
 }
 
-/// Tells what stands in a state, but for what its slots hold.
-pub fn tell_state(alloc: Global, state: &State, text: &mut String) -> Result<(), AllocError> {
-    tell_sums(state, text)?;
-    for vertex in state.in_order(alloc)? {
-        tell_vertex(vertex, text)?;
-    }
-    Ok(())
-}
-
-fn tell_sums(state: &State, text: &mut String) -> Result<(), AllocError> {
+fn tell_state(alloc: Global, state: &State, text: &mut String) -> Result<(), AllocError> {
     let (superstep, since) = (state.superstep(), state.since());
     let (units, dropped) = (state.units(), state.dropped());
     write!(
         text,
         "superstep {superstep} since {since} units {units} dropped {dropped}"
-    )
+    )?;
+    tell_vertices(&state.in_order(alloc)?, text)
+}
+
+fn tell_vertices(vertices: &[&VertexState], text: &mut String) -> Result<(), AllocError> {
+    for vertex in vertices {
+        tell_vertex(vertex, text)?;
+    }
+    Ok(())
 }
 
 fn tell_vertex(vertex: &VertexState, text: &mut String) -> Result<(), AllocError> {
@@ -115,19 +125,4 @@ fn tell_vertex(vertex: &VertexState, text: &mut String) -> Result<(), AllocError
         write!(text, " {message}")?;
     }
     Ok(())
-}
-
-fn tell_written(
-    alloc: Global,
-    state: &State,
-    bytes: &[u8],
-    text: &mut String,
-) -> Result<(), AllocError> {
-    let written = write(alloc, state)?;
-    let alike = if written.as_slice() == bytes {
-        " alike"
-    } else {
-        ""
-    };
-    write!(text, ", written {}{alike}", written.len())
 }

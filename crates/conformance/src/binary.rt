@@ -6,8 +6,10 @@
 //! `length` how long that of a text's module is, and `damage` what becomes of the fronts of the bytes and of their
 //! changes.
 
+mod bounded;
 mod damage;
 mod sized;
+pub mod sweep;
 
 use crate::modules::{printed, spelling};
 use anyhow::Result;
@@ -186,12 +188,29 @@ fn push_blank(line: &mut String) -> Result<(), AllocError> {
 fn alike(alloc: Global, frame: Frame, text: &str) -> Answer {
     let (first, others) = text.split_once(' ').unwrap_or((text, ""));
     let told = told_of(alloc, frame, first)?;
+    match first_otherwise(alloc, frame, others, told.as_str())? {
+        Some(byte) => Ok(format!(in alloc; "otherwise at {byte}")?),
+        None => Ok(told),
+    }
+}
+
+fn first_otherwise<'a>(
+    alloc: Global,
+    frame: Frame,
+    others: &'a str,
+    told: &str,
+) -> Result<Option<&'a str>, AllocError> {
     for byte in others.split_ascii_whitespace() {
-        if told_of(alloc, frame, byte)?.as_str() != told.as_str() {
-            return Ok(format!(in alloc; "otherwise at {byte}")?);
+        if is_otherwise(alloc, frame, byte, told)? {
+            return Ok(Some(byte));
         }
     }
-    Ok(told)
+    Ok(None)
+}
+
+fn is_otherwise(alloc: Global, frame: Frame, byte: &str, told: &str) -> Result<bool, AllocError> {
+    let other = told_of(alloc, frame, byte)?;
+    Ok(other.as_str() != told)
 }
 
 fn told_of(alloc: Global, frame: Frame, text: &str) -> Result<String, AllocError> {

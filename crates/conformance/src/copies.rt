@@ -52,9 +52,17 @@ fn compared_with(
 fn compared(alloc: Global, module: &Module, other: &Module) -> Result<&'static str, AllocError> {
     let are_copied = are_bodies_copied(alloc, other)?;
     match other.copy(alloc) {
-        Ok(copy) if are_copied && copy == *other => Ok(told(module, &copy)),
+        Ok(copy) if are_copied => Ok(copy_told(module, other, &copy)),
         Ok(_) => Ok("no copy"),
         Err(error) => Err(error),
+    }
+}
+
+fn copy_told(module: &Module, other: &Module, copy: &Module) -> &'static str {
+    if copy == other {
+        told(module, copy)
+    } else {
+        "no copy"
     }
 }
 

@@ -49,8 +49,11 @@ fn words_of(alloc: Global, types: &[ValType]) -> Result<String, AllocError> {
 // The name of the function that the import brings in.
 fn import_told(alloc: Global, import: &str) -> Result<String> {
     let text = format!(in alloc; "(module {import})")?;
-    let module = assemble(alloc, text.as_str())?;
-    Ok(String::from_str(alloc, first_name(&module))?)
+    let name = match assemble(alloc, text.as_str()) {
+        Ok(module) => first_name(&module),
+        Err(_) => "no module",
+    };
+    Ok(String::from_str(alloc, name)?)
 }
 
 fn first_name(module: &Module) -> &'static str {

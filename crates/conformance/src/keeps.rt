@@ -16,22 +16,35 @@ pub fn show(rt: &(impl Files + Print + AllocGlobal)) -> Result<()> {
 fn answer(rt: &(impl Files + AllocGlobal), case: &str) -> Result<String> {
     let (place, steps) = named(case).1.split_once("; ").unwrap_or((case, ""));
     if place == "memory" {
-        told(rt, &mut MemoryKeep::new(rt.alloc()), steps)
+        Ok(told(rt, &mut MemoryKeep::new(rt.alloc()), steps)?)
     } else {
-        told(rt, &mut FileKeep::new(rt.alloc(), place)?, steps)
+        Ok(told(rt, &mut FileKeep::new(rt.alloc(), place)?, steps)?)
     }
 }
 
-fn told<R: Files + AllocGlobal, K: Keep>(rt: &R, keep: &mut K, steps: &str) -> Result<String> {
+fn told<R: Files + AllocGlobal, K: Keep>(
+    rt: &R,
+    keep: &mut K,
+    steps: &str,
+) -> Result<String, AllocError> {
     let mut text = String::new(rt.alloc());
+    tell(rt, keep, steps, &mut text)?;
+    Ok(text)
+}
+
+fn tell<R: Files + AllocGlobal, K: Keep>(
+    rt: &R,
+    keep: &mut K,
+    steps: &str,
+    text: &mut String,
+) -> Result<(), AllocError> {
     for step in steps.split(", ") {
         match kept(rt, keep, step) {
-            Ok(bytes) => tell_bytes(bytes.as_slice(), &mut text)?,
-            Err(fault) => write!(text, "{fault} ")?,
-        }
+            Ok(bytes) => tell_bytes(bytes.as_slice(), text),
+            Err(fault) => write!(text, "{fault} "),
+        }?;
     }
-    write!(text, "failures {}", keep.failures())?;
-    Ok(text)
+    write!(text, "failures {}", keep.failures())
 }
 
 // What is loaded after the bytes of a step were saved, and others written.

@@ -18,9 +18,12 @@ pub fn show(rt: &(impl Files + Print + AllocGlobal)) -> Result<()> {
     show_texts(rt, "profile-constants.txt", answer)?;
     let told = told(rt.alloc(), ProfileFault::OutOfMemory)?;
     println!(rt; "want of memory: {told}")?;
+    show_measures(rt)
+}
+
+fn show_measures(rt: &(impl Files + Print + AllocGlobal)) -> Result<()> {
     show_texts(rt, "cells.txt", cells)?;
-    show_texts(rt, "reach.txt", reach)?;
-    Ok(())
+    show_texts(rt, "reach.txt", reach)
 }
 
 fn answer(alloc: Global, text: &str) -> Result<String, AllocError> {

@@ -1,6 +1,7 @@
 //! Damaged bytes: their proper fronts, and each change of one byte to another.
 
 use super::Answer;
+use super::bounded::is_bounded;
 use crate::modules::spelling;
 use std::alloc::{AllocError, Global};
 use std::fmt;
@@ -68,13 +69,13 @@ impl Fronts {
     }
 }
 
-// What becomes of bytes.
+/// What becomes of bytes.
 #[derive(Clone, Copy)]
-enum Fate {
+pub enum Fate {
     Refused(DecodeFault),
-    // a module that its shortest spelling gives back
+    /// They are a module that its shortest spelling gives back and, where it is in the profile, whose calls are bounded.
     Kept,
-    // a module that it does not give back, or bytes for which memory runs out
+    /// They are another module, or memory runs out.
     Lost,
 }
 
@@ -125,22 +126,24 @@ impl Changes {
     }
 }
 
-fn change(bytes: &mut [u8], place: usize, difference: u8) {
+/// Changes the byte at this place, if there is one. The same change once more gives it back.
+pub fn change(bytes: &mut [u8], place: usize, difference: u8) {
     if let Some(byte) = bytes.get_mut(place) {
         *byte ^= difference;
     }
 }
 
-fn fate_of(alloc: Global, bytes: &[u8]) -> Fate {
+/// What becomes of these bytes.
+pub fn fate_of(alloc: Global, bytes: &[u8]) -> Fate {
     match decode(alloc, bytes) {
-        Ok(module) => fate_of_module(alloc, &module),
+        Ok(module) => fate_of_module(alloc, module),
         Err(DecodeFault::OutOfMemory) => Fate::Lost,
         Err(fault) => Fate::Refused(fault),
     }
 }
 
-fn fate_of_module(alloc: Global, module: &Module) -> Fate {
-    if comes_back(alloc, module) {
+fn fate_of_module(alloc: Global, module: Module) -> Fate {
+    if comes_back(alloc, &module) && is_bounded(alloc, module) {
         Fate::Kept
     } else {
         Fate::Lost

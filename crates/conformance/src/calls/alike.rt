@@ -6,7 +6,7 @@ use super::tell;
 use crate::modules::valid_of;
 use anyhow::Result;
 use bounded_profile::{Verified, verify};
-use conformance_cases::{is_case, named};
+use conformance_cases::{is_case, named, spelled};
 use host_calls::CallInput;
 use sources::{CommandFault, Input};
 use std::alloc::{AllocError, Global};
@@ -41,7 +41,7 @@ fn show_program(
 
 fn text_of(rt: &(impl Files + AllocGlobal), name: &str, text: &str) -> Result<String> {
     if !text.is_empty() {
-        return Ok(String::from_str(rt.alloc(), text)?);
+        return Ok(spelled(rt.alloc(), text)?);
     }
     let path = format!(in rt.alloc(); "{name}.wat")?;
     Ok(fs::read_to_string(rt, path.as_str())?)

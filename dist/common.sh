@@ -101,7 +101,9 @@ prove_in_stages() {
         # rt gives a check several processors only where no other check waits, and fewer where the memory that it reckons with is
         # taken. So the longest chain of crates has a run of its own, beside one for the largest crates at its side. Each run takes
         # over what another has proved, or waits for it.
-        prove_copy "$1/first" wasm_ast leb graph inbox
+        prove_copy "$1/first" wasm_ast &
+        RT_JOBS=2 prove_copy "$1/small" graph inbox &
+        wait
         (RT_JOBS=2 prove_copy "$1/beside" wat_asm wasm_decode && RT_JOBS=2 prove_copy "$1/next" sources command_line) &
         prove_copy "$1/chain" workers &
         wait

@@ -1,8 +1,7 @@
 -- What is answered, by what each step of an answer says.
-use Rattle.std.proofs.Common.{inl, inr, ◌≡◌, ◌∙◌, ◌≢◌, ℕ, Bool, true, false, List, length, Option, None, Some, Result, Ok, Err, refl, ap, sym, subst}
+use Rattle.std.proofs.Common.{inl, inr, ◌≡◌, ◌∙◌, ◌≢◌, ℕ, true, false, List, length, Option, None, Some, Result, Ok, Err, refl, ap, sym, subst}
 use Rattle.std.specs.Prelude.{IfOk, String, is_some, string_bytes}
 use Rattle.std.specs.Option.{option_copied}
-use Rattle.std.specs.Str.{IsUtf8}
 use Rattle.std.specs.Borrow.{Bor}
 use Rattle.wasm_ast.specs.declared.module.Module.{Module}
 use Rattle.graph.specs.Entry.{Entry, edge_count}
@@ -11,15 +10,10 @@ use Rattle.superstep.specs.declared.fault.JobFault.{JobFault}
 use Rattle.superstep.specs.Job.{Work}
 use Rattle.superstep.specs.Ending.{IsEndOf}
 use Rattle.sources.specs.declared.fault.CommandFault.{CommandFault}
-use Rattle.sources.specs.declared.fault.CommandFault.TheVariants as command
-use Rattle.sources.specs.declared.files.FileFault.{FileFault}
-use Rattle.sources.specs.declared.files.FileFault.TheVariants as file_fault
-use Rattle.sources.specs.declared.sources.Source.{Source}
 use Rattle.sources.specs.Disk.{Disk, unknown as any_disk}
-use Rattle.sources.specs.Source.{RefusesLoad, content, is_text}
-use Rattle.sources.specs.Jobs.{IsGraphIn, IsJobOf, RefusesGraph, RefusesSettings}
-use Rattle.sources.specs.Modules.{Loads, is_text_path}
-use Rattle.sources.specs.Reading.{IsLoadedAt, IsNoFile, IsNoGraphAt, IsReadAt, IsRefusedAt}
+use Rattle.sources.specs.Source.{RefusesLoad}
+use Rattle.sources.specs.Jobs.{IsJobOf, RefusesSettings}
+use Rattle.sources.specs.Reading.{IsLoadedAt, IsNoGraphAt, IsReadAt, IsRefusedAt}
 use Rattle.session.specs.declared.held.Ending.{Ending}
 use Rattle.session.specs.declared.held.Ending.TheVariants as ending
 use Rattle.session.specs.declared.held.HeldJob.{HeldJob}
@@ -32,7 +26,7 @@ use Rattle.session.specs.Runs.{Runs}
 use Rattle.session.specs.Replies.{graph_line, job_line, memory_line, not_waiting_line, refusal_line, status_line, taken_line, unknown_line, values_text}
 use Rattle.session.specs.Transcript.{Answers}
 use Rattle.session.specs.inside.Answered.{GivesName, IsSet, IsSoundAt, NamesJob, TellsHeldValues, is_waiting, never}
-use Rattle.session.specs.inside.Seen.{IsModuleLine, IsNoGraph, IsNoModule, IsReplyOf, IsSourceOf, IsToldOf, IsToldOrNoMemory, end_line, ending_of, reply_text, unread_text}
+use Rattle.session.specs.inside.Seen.{IsModuleLine, IsReplyOf, IsToldOf, IsToldOrNoMemory, end_line, ending_of, reply_text}
 
 -- ---- what is found
 
@@ -59,69 +53,6 @@ copied_none found held same is = sym same ∙ ap option_copied is
 pub told_of : (Cause : CommandFault → Type 0) (fault : CommandFault) (told : List ℕ) → Cause fault → IsToldOrNoMemory (refusal_line fault) told → IsToldOf Cause told
 told_of Cause fault told because (inl is) = inl (record { fault = fault; because = because; told = is })
 told_of Cause fault told because (inr memory) = inr memory
-
--- causes that imply another
-told_by : (Cause Other : CommandFault → Type 0) (told : List ℕ) → ((fault : CommandFault) → Cause fault → Other fault) → IsToldOf Cause told → IsToldOf Other told
-told_by Cause Other told along (inl tells) = inl (record { fault = tells.fault; because = along tells.fault tells.because; told = tells.told })
-told_by Cause Other told along (inr memory) = inr memory
-
--- a path at which nothing can be read, as what could not be
-abbrev missing : List ℕ → CommandFault
-missing path = command.Unread (record { ref_ptr = (0, 0); now = path })
-
-no_text_file : (kind : Bool) (disk : Disk) (path bytes : List ℕ) → kind ≡ true → disk.holds path (Some bytes) → ¬ (IsUtf8 bytes) → IsNoFile kind disk path
-no_text_file true disk path bytes is held none = inr (bytes, held, none)
-no_text_file false disk path bytes is held none = cc
-
-no_file : (kind : Bool) (disk : Disk) (path : List ℕ) → disk.holds path None → IsNoFile kind disk path
-no_file true disk path none = inl none
-no_file false disk path none = none
-
-pub module_found : (disk : Disk) (path bytes : List ℕ) (m : Module) → disk.holds path (Some bytes) → Loads (is_text_path path) bytes m → IsLoadedAt disk path m
-module_found disk path bytes m held loads = (bytes, held, loads)
-
-pub module_lost : (disk : Disk) (path bytes told : List ℕ) → disk.holds path (Some bytes) → IsNoModule path bytes told → IsToldOf (IsRefusedAt disk path RefusesLoad) told
-module_lost disk path bytes told held (inl (none, is)) = inl (record {
-  fault = missing path;
-  because = inl (refl, no_text_file (is_text_path path) disk path bytes none.kind held none.none);
-  told = is;
-})
-module_lost disk path bytes told held (inr refused) =
-    told_by (RefusesLoad (is_text_path path) bytes) (IsRefusedAt disk path RefusesLoad) told (λ fault because. inr (bytes, held, because)) refused
-
-pub module_unread : (disk : Disk) (path told : List ℕ) (fault : FileFault) → (fault ≡ file_fault.Device → disk.holds path None) → told ≡ unread_text fault
-    → IsToldOf (IsRefusedAt disk path RefusesLoad) told
-module_unread disk path told file_fault.Device none is =
-    inl (record { fault = missing path; because = inl (refl, no_file (is_text_path path) disk path (none refl)); told = is })
-module_unread disk path told file_fault.OutOfMemory none is = inr is
-
-pub graph_found : (disk : Disk) (path bytes : List ℕ) (graph : List Entry) → disk.holds path (Some bytes) → IsGraphIn bytes graph → IsReadAt disk path graph
-graph_found disk path bytes graph held means = (bytes, held, means)
-
-pub graph_lost : (disk : Disk) (path bytes told : List ℕ) → disk.holds path (Some bytes) → IsNoGraph bytes told → IsToldOf (IsNoGraphAt disk path) told
-graph_lost disk path bytes told held (inl (none, is)) = inl (record {
-  fault = missing path;
-  because = inl (refl, inr (bytes, held, none));
-  told = is;
-})
-graph_lost disk path bytes told held (inr refused) =
-    told_by (RefusesGraph bytes) (IsNoGraphAt disk path) told (λ fault because. inr (bytes, held, because)) refused
-
-pub graph_unread : (disk : Disk) (path told : List ℕ) (fault : FileFault) → (fault ≡ file_fault.Device → disk.holds path None) → told ≡ unread_text fault
-    → IsToldOf (IsNoGraphAt disk path) told
-graph_unread disk path told file_fault.Device none is =
-    inl (record { fault = missing path; because = inl (refl, inl (none refl)); told = is })
-graph_unread disk path told file_fault.OutOfMemory none is = inr is
-
--- what a text or bytes are refused for
-pub source_refused : (path bytes told : List ℕ) (source : Source) → IsSourceOf path bytes source → IsToldOf (RefusesLoad (is_text source) (content source)) told
-    → IsToldOf (RefusesLoad (is_text_path path) bytes) told
-source_refused path bytes told source is refused = told_by (RefusesLoad (is_text source) (content source)) (RefusesLoad (is_text_path path) bytes) told
-    (λ fault because. subst (λ kind. RefusesLoad kind bytes fault) is.kind (subst (λ held. RefusesLoad (is_text source) held fault) is.held because)) refused
-
-pub source_loaded : (path bytes : List ℕ) (m : Module) (source : Source) → IsSourceOf path bytes source → Loads (is_text source) (content source) m
-    → Loads (is_text_path path) bytes m
-source_loaded path bytes m source is loads = subst (λ kind. Loads kind bytes m) is.kind (subst (λ held. Loads (is_text source) held m) is.held loads)
 
 -- ---- modules and graphs
 

@@ -1,18 +1,10 @@
 -- What commands, replies and what is held show, without where they lie in memory.
-use Rattle.std.specs.Prelude.{◌≡◌, ◌⊎◌, ℕ, true, List, Result, Ok, Err, String, string_bytes, MatchResult}
-use Rattle.std.specs.Str.{IsUtf8}
+use Rattle.std.specs.Prelude.{◌≡◌, ◌⊎◌, ℕ, List, Result, Ok, Err, String, string_bytes}
 use Rattle.std.specs.BTreeMap.{get_by_text}
 use Rattle.wasm_ast.specs.declared.module.Module.{Module}
 use Rattle.bounded_profile.specs.Facts.{IsSizeOfCompute}
-use Rattle.graph.specs.Entry.{Entry}
 use Rattle.superstep.specs.declared.fault.JobFault.{JobFault}
 use Rattle.sources.specs.declared.fault.CommandFault.{CommandFault}
-use Rattle.sources.specs.declared.files.FileFault.{FileFault}
-use Rattle.sources.specs.declared.files.FileFault.TheVariants as file_fault
-use Rattle.sources.specs.declared.sources.Source.{Source}
-use Rattle.sources.specs.Source.{RefusesLoad, content, is_text}
-use Rattle.sources.specs.Jobs.{IsGraphIn, RefusesGraph}
-use Rattle.sources.specs.Modules.{Loads, is_text_path}
 use Rattle.session.specs.declared.command.Command.{Command}
 use Rattle.session.specs.declared.command.Command.TheVariants as command
 use Rattle.session.specs.declared.held.Ending.{Ending}
@@ -56,37 +48,6 @@ IsToldOrNoMemory line told = (told ≡ line) ⊎ (told ≡ memory_line)
 -- a fault is told that has this cause, or that memory ran out
 abbrev pub IsToldOf : (Cause : CommandFault → Type 0) → (told : List ℕ) → Type 0
 IsToldOf Cause told = TellsFault Cause told ⊎ (told ≡ memory_line)
-
--- ---- files
-
--- how it is told that a file was not read
-abbrev pub unread_text : FileFault → List ℕ
-unread_text file_fault.Device = file_line
-unread_text file_fault.OutOfMemory = memory_line
-
--- the file should be a text, and is none
-pub record IsNoText (path bytes : List ℕ) : Type 0 where
-  pub kind : is_text_path path ≡ true
-  pub none : ¬ (IsUtf8 bytes)
-
--- it is what these bytes of the file have of a module
-pub record IsSourceOf (path bytes : List ℕ) (source : Source) : Type 0 where
-  pub kind : is_text source ≡ is_text_path path
-  pub held : content source ≡ bytes
-
--- it is no text, or is refused like this
-abbrev pub IsNoModule : (path bytes : List ℕ) → (told : List ℕ) → Type 0
-IsNoModule path bytes told =
-    (IsNoText path bytes × (told ≡ file_line)) ⊎ IsToldOf (RefusesLoad (is_text_path path) bytes) told
-
-abbrev pub IsModuleFound : (path bytes : List ℕ) → Result Module Reply → Type 0
-IsModuleFound path bytes result = MatchResult result (Loads (is_text_path path) bytes) (λ told. IsNoModule path bytes (reply_text told))
-
-abbrev pub IsNoGraph : (bytes : List ℕ) → (told : List ℕ) → Type 0
-IsNoGraph bytes told = (¬ (IsUtf8 bytes) × (told ≡ file_line)) ⊎ IsToldOf (RefusesGraph bytes) told
-
-abbrev pub IsGraphFound : (bytes : List ℕ) → Result (List Entry) Reply → Type 0
-IsGraphFound bytes result = MatchResult result (IsGraphIn bytes) (λ told. IsNoGraph bytes (reply_text told))
 
 -- ---- what is told
 

@@ -1,17 +1,9 @@
-use Rattle.std.proofs.lemmas.Result.{MatchResult-weaker}
+use Rattle.sources.specs.Reading.{IsNoGraphAt}
 use Rattle.session.specs.inside.Seen.{reply_text}
-use Rattle.session.proofs.Answering.{graph_found, graph_lost, graph_unread}
+use Rattle.session.proofs.Answering.{told_of}
 use Rattle.session.proofs.reading.graph_at.Goals as goal
-
-pub returns-in-Ok-clause-found : goal.returns-in-Ok-clause-found
-returns-in-Ok-clause-found g c =
-    let disk = g.F.Files.disk c.args.files.now in
-    let path = c.args.path.now in
-    let bytes = c.in-Ok.bytes.items in
-    MatchResult-weaker c.graph_of.result c.graph_of.ensures
-    (λ m loads. graph_found disk path bytes m c.in-Ok.ensures.found loads)
-    (λ told lost. graph_lost disk path bytes (reply_text told) c.in-Ok.ensures.found lost)
 
 pub returns-in-Err-clause-found : goal.returns-in-Err-clause-found
 returns-in-Err-clause-found g c =
-    graph_unread (g.F.Files.disk c.args.files.now) c.args.path.now (reply_text c.unread.result) c.in-Err.fault c.in-Err.ensures.found c.unread.ensures
+    told_of (IsNoGraphAt (g.F.Files.disk c.args.files.now) c.args.path.now) c.in-Err.fault (reply_text c.refusal.result)
+    c.in-Err.ensures.found c.refusal.ensures

@@ -3,9 +3,11 @@
 //!
 //! GATE is `lets`; or `W:S` where worker W is lost in superstep S, and `W:S again` where it joins again; or `watched W:S` and
 //! `watched W:S again`, where it is told besides whether that worker has begun a task since; or `holds` where part 0 is held until
-//! part 1 has begun; or `ticks`; or `losses`, where whoever takes a part in a superstep is lost with it, for each part in each
+//! part 1 has begun; or `ticks`; or `driven`, where a coordinator is driven that has no thread beside it; or `led`, where its calls and a
+//! worker's are made one after another; or `losses`, where whoever takes a part in a superstep is lost with it, for each part in each
 //! superstep, and a device fails at each call in turn. `N times GATE` runs the job so often.
 
+mod by_hand;
 pub mod gates;
 
 use crate::simulations::faulty_keep::{FaultyKeep, Wrong};
@@ -141,6 +143,8 @@ fn ended_at<R: Files + AllocGlobal + Threads + Wait + Sync>(
     match gate {
         "holds" => held(rt, alloc, job, plain),
         "ticks" => ticked(rt, alloc, job, plain),
+        "driven" => driven(rt, alloc, job, plain),
+        "led" => led(rt, alloc, job),
         "losses" => lost_in_turn(rt, alloc, job, plain),
         _ => ended_by(rt, alloc, job, gate, plain).counted(alloc),
     }
@@ -251,6 +255,27 @@ fn ticked<R: Files + AllocGlobal + Threads + Wait + Sync>(
         _ => "otherwise",
     };
     String::from_str(alloc, word)
+}
+
+fn driven<R: Files + AllocGlobal + Threads + Wait + Sync>(
+    rt: &R,
+    alloc: Global,
+    job: &Job,
+    plain: &Ended,
+) -> Result<String, AllocError> {
+    End::of(&by_hand::driven(rt, alloc, job), plain).counted(alloc)
+}
+
+fn led<R: Files + AllocGlobal + Threads + Wait + Sync>(
+    rt: &R,
+    alloc: Global,
+    job: &Job,
+) -> Result<String, AllocError> {
+    let mut words = Vec::new(alloc);
+    match by_hand::led(rt, alloc, job, &mut words) {
+        Ok(()) => words.join(alloc, ", "),
+        Err(_) => String::from_str(alloc, "a fault"),
+    }
 }
 
 // Where whoever takes a part in a superstep is lost with it, for each part in each superstep.

@@ -6,7 +6,7 @@ ghost use Rattle.interp.specs.inside.Begun.{AreLaid, HasStartRoom, room_in};
 use crate::globals::Globals;
 use crate::memory::Memory;
 use crate::rooms::Rooms;
-use crate::start::initial::{lay_globals, lay_memory};
+use crate::start::initial::{initial_cells, lay_memory};
 use bounded_profile::Verified;
 use std::alloc::{AllocError, Global};
 use std::marker::Model;
@@ -41,12 +41,9 @@ impl<'a> Image<'a> {
         ensures { IfOk result (λ image. image ≡ verified.now) }
     {
         let module = verified.module();
-        let definitions = module.globals.as_slice();
-        let mut globals = Globals::new(alloc);
-        globals.extend(definitions.len())?;
+        let globals = initial_cells(alloc, module.globals.as_slice())?;
         let mut memory = Memory::new(alloc, verified);
         memory.extend(verified)?;
-        lay_globals(alloc, definitions, &mut globals);
         lay_memory(module, &globals, &mut memory);
         Ok(Image {
             verified,

@@ -1,6 +1,6 @@
 //! Globals and memory as each call begins (Core 1.0, 4.5.4).
 
-ghost use Rattle.std.specs.Prelude.{◌≡◌, Some, length, replicate, IsSome};
+ghost use Rattle.std.specs.Prelude.{◌≡◌, Some, length, replicate, IfOk, IsSome};
 ghost use Rattle.bounded_profile.specs.Memory.{memory_bytes};
 ghost use Rattle.interp.specs.Start.{constant_value, constant_plain, initial_globals};
 ghost use Rattle.interp.specs.inside.Begun.{AreInitial, cells_laid_in, cell_memory_laid, cell_segment_laid};
@@ -9,11 +9,22 @@ ghost use Rattle.interp.specs.inside.Kept.{count_kept, marks, masked};
 use crate::cell::of_value;
 use crate::globals::Globals;
 use crate::memory::Memory;
-use std::alloc::Global;
+use std::alloc::{AllocError, Global};
 use wasm_ast::{Body, Data, Global as GlobalDefinition, Instr, Module, Plain, Value, Variable};
 
-/// The initial value of each global, as a cell.
-pub fn lay_globals(alloc: Global, definitions: &[GlobalDefinition], globals: &mut Globals)
+/// The initial value of each global, as a cell. The only refusal is that there is no memory.
+pub fn initial_cells(alloc: Global, definitions: &[GlobalDefinition]) -> Result<Globals, AllocError>
+    requires { IsSome (initial_globals definitions.now) }
+    ensures initial { IfOk result (AreInitial definitions.now) }
+    ensures long { IfOk result (λ cells. length cells ≡ length definitions.now) }
+{
+    let mut globals = Globals::new(alloc);
+    globals.extend(definitions.len())?;
+    lay_globals(alloc, definitions, &mut globals);
+    Ok(globals)
+}
+
+fn lay_globals(alloc: Global, definitions: &[GlobalDefinition], globals: &mut Globals)
     requires long { length definitions.now ≡ length globals.old }
     requires there { IsSome (initial_globals definitions.now) }
     ensures initial { AreInitial definitions.now globals.new }

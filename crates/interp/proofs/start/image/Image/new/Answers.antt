@@ -8,34 +8,34 @@ use Rattle.interp.proofs.Laying.{memory_is, memory_there}
 use Rattle.interp.proofs.Starting.{has_initial}
 use Rattle.interp.proofs.start.image.Image.new.Goals as goal
 
-pub lay_globals-requires-clause-there : goal.lay_globals-requires-clause-there
-lay_globals-requires-clause-there c =
+pub initial_cells-requires : goal.initial_cells-requires
+initial_cells-requires c =
     let told = c.module-module.ensures in
     let has = has_initial c.args.verified.now told.typed told.bounded in
-    let same = c.as_slice-definitions.ensures ∙ ap (λ (k : Module). k.globals) told.value in
+    let same = c.as_slice.ensures ∙ ap (λ (k : Module). k.globals) told.value in
     subst (λ (o : Option (List Value)). IsSome o) (sym (ap initial_globals same ∙ has.initial_values)) refl
 
 pub lay_memory-requires-clause-there : goal.lay_memory-requires-clause-there
 lay_memory-requires-clause-there c =
     let m = c.args.verified.now in
     let told = c.module-module.ensures in
-    let cells = c.lay_globals.new.globals in
-    let same = c.as_slice-definitions.ensures ∙ ap (λ (k : Module). k.globals) told.value in
-    let a = subst (λ (gs : List Global). AreInitial gs cells) same c.lay_globals.ensures.initial in
+    let cells = c.in_ok-globals.globals in
+    let same = c.as_slice.ensures ∙ ap (λ (k : Module). k.globals) told.value in
+    let a = subst (λ (gs : List Global). AreInitial gs cells) same c.in_ok-globals.ensures.initial in
     subst (λ (k : Module). IsSome (cell_memory_laid cells k)) (sym told.value) (memory_there m (has_initial m told.typed told.bounded) cells a)
 
 pub invariant_of-result : goal.invariant_of-result
 invariant_of-result c =
     let m = c.args.verified.now in
     let told = c.module-module.ensures in
-    let cells = c.lay_globals.new.globals in
+    let cells = c.in_ok-globals.globals in
     let bytes = c.lay_memory.new.memory in
-    let same = c.as_slice-definitions.ensures ∙ ap (λ (k : Module). k.globals) told.value in
-    let a = subst (λ (gs : List Global). AreInitial gs cells) same c.lay_globals.ensures.initial in
+    let same = c.as_slice.ensures ∙ ap (λ (k : Module). k.globals) told.value in
+    let a = subst (λ (gs : List Global). AreInitial gs cells) same c.in_ok-globals.ensures.initial in
     let laid = subst (λ (k : Module). cell_memory_laid cells k ≡ Some bytes) told.value c.lay_memory.ensures.laid in
     record {
       globals = a;
       bytes = memory_is m (has_initial m told.typed told.bounded) cells a bytes laid;
-      long = c.lay_globals.ensures.kept ∙ c.in_ok-extend.ensures ∙ ap length same;
-      count = c.lay_memory.ensures.kept ∙ c.in_ok-extend-2.ensures.kept;
+      long = c.in_ok-globals.ensures.long ∙ ap length same;
+      count = c.lay_memory.ensures.kept ∙ c.in_ok-extend.ensures.kept;
     }

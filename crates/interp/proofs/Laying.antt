@@ -75,6 +75,11 @@ all_laid all left cells e s = record {
   fit = s.fit;
 }
 
+-- they are the same
+pub same_initial : (globals : List Global) (cells others : List Value) → AreInitial globals cells → AreInitial globals others → cells ≡ others
+same_initial globals cells others a b =
+    sym a.are ∙ ap (λ (vs : List Value). map cell_of vs) (some_is a.values b.values (sym a.initial ∙ b.initial)) ∙ b.are
+
 -- the next one is set
 pub take-set_next : (n : ℕ) (vs : List Value) (v : Value) → n < length vs → take (suc n) (slice_set vs n v) ≡ take n vs ++ v ∷ []
 take-set_next n [] v h = absurd (omega (arith, h))

@@ -41,6 +41,7 @@ pub mod Sending
 pub mod Cells
 pub mod Fits
 pub mod Stored
+pub mod Renewing
 pub mod Following
 pub mod Laying
 pub mod Piles

@@ -3,6 +3,8 @@
 -- operands and locals in two parts, operands in a list with room, and where a run is
 pub mod Split
 pub mod Pile
+-- globals that are renewed by the numbers of those that were set
+pub mod Renewed
 pub mod Place
 -- what the walk's lists mean
 pub mod Meaning

@@ -1,6 +1,6 @@
-//! The globals of a call.
+//! Globals in one list.
 
-ghost use Rattle.std.specs.Prelude.{◌≡◌, ◌<◌, [], Some, length, map, option_map, slice_get, slice_set, IsSome, OnOk};
+ghost use Rattle.std.specs.Prelude.{◌≡◌, ◌<◌, [], Some, length, map, option_map, slice_get, slice_set, IfOk, IsSome, OnOk};
 ghost use Rattle.wasm_ast.specs.declared.types.Value.TheVariants.{I64};
 
 use std::alloc::{AllocError, Global};
@@ -38,6 +38,24 @@ impl Globals {
     {
         self.cells.resize(count, 0)?;
         Ok(())
+    }
+
+    /// As many as these, and the same.
+    pub fn copy_of(alloc: Global, others: &Globals) -> Result<Globals, AllocError>
+        ensures { IfOk result (λ globals. globals ≡ others.now) }
+    {
+        let mut globals = Globals::new(alloc);
+        globals.extend(others.len())?;
+        globals.copy_from(others);
+        Ok(globals)
+    }
+
+    /// How many there are.
+    #[inline]
+    pub fn len(&self) -> usize
+        ensures { result ≡ length self.now }
+    {
+        self.cells.len()
     }
 
     /// Sets the global at a place.

@@ -1,6 +1,7 @@
 //! Compute calls: the reduction of WebAssembly (Core 1.0, section 4) over modules in the bounded profile.
 #![tactic(auto)]
 
+mod call_globals;
 mod cell;
 mod globals;
 mod host;

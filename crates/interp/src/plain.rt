@@ -15,8 +15,8 @@ ghost use Rattle.interp.specs.inside.Kept.{count_kept};
 ghost use Rattle.interp.specs.inside.Pile.{pile};
 ghost use Rattle.interp.specs.Effects.{variable_effect};
 
+use crate::call_globals::CallGlobals;
 use crate::cell::{as_i32, as_number, of_i32, of_value};
-use crate::globals::Globals;
 use crate::locals::{local, set_local};
 use crate::memory::Memory;
 use crate::numeric::act_numeric;
@@ -52,18 +52,18 @@ pub fn act_plain(
     cells: &mut [u64],
     top: usize,
     locals: &mut [u64],
-    globals: &mut Globals,
+    globals: &mut CallGlobals,
     bytes: &mut Memory,
 ) -> Acted
     requires room { top < length cells.old }
     requires asks { plain_asks instruction
-        (pile cells.old top) (map I64 locals.old) globals.old bytes.old ≡ true }
+        (pile cells.old top) (map I64 locals.old) globals.old.here bytes.old ≡ true }
     ensures acts { ActsOn (cell_effect in_width instruction)
         (pile cells.old top) (pile cells.new result.top)
-        (map I64 locals.old) (map I64 locals.new) globals.old globals.new bytes.old bytes.new }
+        (map I64 locals.old) (map I64 locals.new) globals.old.here globals.new.here bytes.old bytes.new }
     ensures units { result.units ≡ plain_units instruction }
     ensures within { result.top ≤ length cells.new }
-    ensures kept_globals { length globals.new ≡ length globals.old }
+    ensures kept_globals { globals.new.initial ≡ globals.old.initial }
     ensures kept_bytes { count_kept bytes.new ≡ count_kept bytes.old }
 {
     match instruction {
@@ -106,16 +106,16 @@ fn act_variable(
     cells: &mut [u64],
     top: usize,
     locals: &mut [u64],
-    globals: &mut Globals,
+    globals: &mut CallGlobals,
 ) -> usize
     requires room { top < length cells.old }
     requires asks { variable_asks instruction
-        (pile cells.old top) (map I64 locals.old) globals.old ≡ true }
+        (pile cells.old top) (map I64 locals.old) globals.old.here ≡ true }
     ensures acts { ActsOnVariables (variable_effect instruction)
         (pile cells.old top) (pile cells.new result)
-        (map I64 locals.old) (map I64 locals.new) globals.old globals.new }
+        (map I64 locals.old) (map I64 locals.new) globals.old.here globals.new.here }
     ensures within { result ≤ length cells.new }
-    ensures kept_globals { length globals.new ≡ length globals.old }
+    ensures kept_globals { globals.new.initial ≡ globals.old.initial }
 {
     match instruction {
         Variable::LocalGet(number) => push(cells, top, local(locals, number)),

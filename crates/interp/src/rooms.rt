@@ -1,6 +1,6 @@
 //! The lists of a call, which the next call takes over.
 
-use crate::globals::Globals;
+use crate::call_globals::CallGlobals;
 use crate::layers::Layer;
 use crate::locals::Locals;
 use crate::memory::Memory;
@@ -8,13 +8,13 @@ use crate::operands::Operands;
 use bounded_profile::Verified;
 use std::alloc::Global;
 
-/// The lists of a call. What they hold as it begins says nothing: it begins by clearing them.
+/// The lists of a call. What they hold as it begins says nothing but what the globals begin with: it begins by clearing them.
 #[derive(Drop)]
 pub struct Rooms<'a> {
     pub layers: Vec<Layer<'a>>,
     pub operands: Operands,
     pub locals: Locals,
-    pub globals: Globals,
+    pub globals: CallGlobals,
     pub memory: Memory<'a>,
 }
 
@@ -25,7 +25,7 @@ impl<'a> Rooms<'a> {
             layers: Vec::new(alloc),
             operands: Operands::new(alloc),
             locals: Locals::new(alloc),
-            globals: Globals::new(alloc),
+            globals: CallGlobals::new(alloc),
             memory: Memory::new(alloc, verified),
         }
     }

@@ -6,7 +6,7 @@ ghost use Rattle.validate.specs.Modules.{IsTyped};
 ghost use Rattle.bounded_profile.specs.Profile.{IsBounded};
 ghost use Rattle.interp.specs.Call.{IsOutcome};
 ghost use Rattle.interp.specs.Room.{most_layers, most_locals};
-ghost use Rattle.interp.specs.inside.Begun.{BeginsWith, EndsEachWithin, HasRoom, Sends, room_in};
+ghost use Rattle.interp.specs.inside.Begun.{AreInitial, BeginsWith, EndsEachWithin, HasRoom, Sends, room_in};
 ghost use Rattle.interp.specs.inside.Meaning.{AreImports};
 
 use crate::program::Program;
@@ -60,7 +60,7 @@ impl<'a> Scratch<'a> {
         let image = Image::new(alloc, verified)?;
         let rooms = Rooms::new(alloc, verified);
         let mut lists = Box::new(alloc, Lists { image, rooms })?;
-        make_room(verified, &mut lists.rooms)?;
+        make_room(alloc, verified, &mut lists)?;
         Ok(Scratch { verified, lists })
     }
 
@@ -118,17 +118,23 @@ impl<'a> Scratch<'a> {
 }
 
 // Room in the lists for all that may stand at a time.
-fn make_room<'a>(verified: &'a Verified, rooms: &mut Rooms<'a>) -> Result<(), AllocError>
-    ensures { OnOk result (HasRoom verified.now (room_in rooms.new)) }
+fn make_room<'a>(
+    alloc: Global,
+    verified: &'a Verified,
+    lists: &mut Lists<'a>,
+) -> Result<(), AllocError>
+    requires { lists.old.image ≡ verified.now }
+    ensures same { lists.new.image ≡ lists.old.image }
+    ensures room { OnOk result (HasRoom verified.now (room_in lists.new.rooms)) }
 {
+    let rooms = &mut lists.rooms;
     let frames = verified.max_frames() as usize;
-    let module = verified.module();
     rooms.layers.reserve(most_layers(frames) + 1)?;
     rooms
         .operands
         .reserve(verified.max_operands() as usize + 1)?;
     rooms.locals.reserve(most_locals(frames + 1))?;
-    rooms.globals.extend(module.globals.as_slice().len())?;
+    rooms.globals.begin_with(alloc, lists.image.globals())?;
     rooms.memory.extend(verified)
 }
 

@@ -15,7 +15,7 @@ ghost use Rattle.interp.specs.inside.Meaning.{AreImports};
 ghost use Rattle.interp.specs.inside.Split.{HasSpare};
 ghost use Rattle.interp.specs.inside.Straight.{GoesStraight, LeadsAmid, Passes, SendsAmid, spot, straight_asks, straight_effect, straight_gives, straight_units};
 
-use crate::globals::Globals;
+use crate::call_globals::CallGlobals;
 use crate::host::call_host;
 use crate::locals::Locals;
 use crate::memory::Memory;
@@ -58,25 +58,25 @@ pub fn go_straight<'a>(
     most: u128,
     operands: &mut Operands,
     locals: &mut Locals,
-    globals: &mut Globals,
+    globals: &mut CallGlobals,
     bytes: &mut Memory,
     host: &mut CallState,
 ) -> Result<Stop<'a>, AllocError>
     requires calls { AreImports program.calls.now program.«module».now }
     requires leads { LeadsAmid program.«module».now (spot operands.old.here (code_of code.now)
-        locals.old.here globals.old bytes.old host.old count) most }
+        locals.old.here globals.old.here bytes.old host.old count) most }
     ensures passes { IfOk result (λ stop. Passes program.entry.«module».now most
         (spot operands.old.here (code_of code.entry.now)
-        locals.old.here globals.old bytes.old host.old count)
+        locals.old.here globals.old.here bytes.old host.old count)
         (spot operands.new.here (code_of stop.code.now)
-        locals.new.here globals.new bytes.new host.new stop.count)) }
+        locals.new.here globals.new.here bytes.new host.new stop.count)) }
     ensures sends { OnErr result (SendsAmid program.entry.«module».now most
         (spot operands.old.here (code_of code.entry.now)
-        locals.old.here globals.old bytes.old host.old count)) }
+        locals.old.here globals.old.here bytes.old host.old count)) }
     ensures more { IfOk result (λ stop. count ≤ stop.count) }
     ensures below { operands.new.below ≡ operands.old.below }
     ensures locals_below { locals.new.below ≡ locals.old.below }
-    ensures kept_globals { length globals.new ≡ length globals.old }
+    ensures kept_globals { globals.new.initial ≡ globals.old.initial }
     ensures kept_bytes { count_kept bytes.new ≡ count_kept bytes.old }
 {
     let floor = operands.floor;
@@ -107,25 +107,25 @@ fn run_straight<'a>(
     cells: &mut [u64],
     top: usize,
     locals: &mut [u64],
-    globals: &mut Globals,
+    globals: &mut CallGlobals,
     bytes: &mut Memory,
     host: &mut CallState,
 ) -> Result<Stop<'a>, AllocError>
     requires calls { AreImports program.calls.now program.«module».now }
     requires within { top ≤ length cells.old }
     requires leads { LeadsAmid program.«module».now (spot (pile cells.old top) (code_of code.now)
-        (map I64 locals.old) globals.old bytes.old host.old count) most }
+        (map I64 locals.old) globals.old.here bytes.old host.old count) most }
     ensures passes { IfOk result (λ stop. Passes program.entry.«module».now most
         (spot (pile cells.old top) (code_of code.entry.now)
-        (map I64 locals.old) globals.old bytes.old host.old count)
+        (map I64 locals.old) globals.old.here bytes.old host.old count)
         (spot (pile cells.new stop.top) (code_of stop.code.now)
-        (map I64 locals.new) globals.new bytes.new host.new stop.count)) }
+        (map I64 locals.new) globals.new.here bytes.new host.new stop.count)) }
     ensures sends { OnErr result (SendsAmid program.entry.«module».now most
         (spot (pile cells.old top) (code_of code.entry.now)
-        (map I64 locals.old) globals.old bytes.old host.old count)) }
+        (map I64 locals.old) globals.old.here bytes.old host.old count)) }
     ensures more { IfOk result (λ stop. count ≤ stop.count) }
     ensures within { IfOk result (λ stop. stop.top ≤ length cells.new) }
-    ensures kept_globals { length globals.new ≡ length globals.old }
+    ensures kept_globals { globals.new.initial ≡ globals.old.initial }
     ensures kept_bytes { count_kept bytes.new ≡ count_kept bytes.old }
 {
     let mut at = Stop { code, count, top };
@@ -179,21 +179,21 @@ fn act_straight(
     cells: &mut [u64],
     top: usize,
     locals: &mut [u64],
-    globals: &mut Globals,
+    globals: &mut CallGlobals,
     bytes: &mut Memory,
     host: &mut CallState,
 ) -> Result<Acted, AllocError>
     requires room { top < length cells.old }
     requires asks { straight_asks what
-        (pile cells.old top) (map I64 locals.old) globals.old bytes.old ≡ true }
+        (pile cells.old top) (map I64 locals.old) globals.old.here bytes.old ≡ true }
     ensures acts { IfOk result (λ acted. (count : ℕ) → straight_effect in_width what
-        (pile cells.old top) (state (map I64 locals.old) globals.old bytes.old host.old count)
+        (pile cells.old top) (state (map I64 locals.old) globals.old.here bytes.old host.old count)
         ≡ Gives (pile cells.new acted.top)
-        (state (map I64 locals.new) globals.new bytes.new host.new count)) }
+        (state (map I64 locals.new) globals.new.here bytes.new host.new count)) }
     ensures units { IfOk result (λ acted. acted.units ≡ straight_units what) }
     ensures within { IfOk result (λ acted. acted.top ≤ length cells.new) }
     ensures fails { OnErr result (straight_gives what ≡ true) }
-    ensures kept_globals { length globals.new ≡ length globals.old }
+    ensures kept_globals { globals.new.initial ≡ globals.old.initial }
     ensures kept_bytes { count_kept bytes.new ≡ count_kept bytes.old }
 {
     match what {
@@ -211,18 +211,18 @@ pub fn act(
     instruction: Plain,
     operands: &mut Operands,
     locals: &mut Locals,
-    globals: &mut Globals,
+    globals: &mut CallGlobals,
     bytes: &mut Memory,
 )
     requires spare { HasSpare operands.old }
     requires asks { plain_asks instruction
-        operands.old.here locals.old.here globals.old bytes.old ≡ true }
+        operands.old.here locals.old.here globals.old.here bytes.old ≡ true }
     ensures acts { ActsOn (cell_effect in_width instruction)
         operands.old.here operands.new.here
-        locals.old.here locals.new.here globals.old globals.new bytes.old bytes.new }
+        locals.old.here locals.new.here globals.old.here globals.new.here bytes.old bytes.new }
     ensures below { operands.new.below ≡ operands.old.below }
     ensures locals_below { locals.new.below ≡ locals.old.below }
-    ensures kept_globals { length globals.new ≡ length globals.old }
+    ensures kept_globals { globals.new.initial ≡ globals.old.initial }
     ensures kept_bytes { count_kept bytes.new ≡ count_kept bytes.old }
 {
     let floor = operands.floor;

@@ -14,7 +14,7 @@ mod branches;
 mod calls;
 mod labels;
 
-use crate::globals::Globals;
+use crate::call_globals::CallGlobals;
 use crate::layers::Layer;
 use crate::locals::Locals;
 use crate::memory::Memory;
@@ -40,7 +40,7 @@ pub struct Walk<'a, 'b> {
     pub layers: Vec<Layer<'a>>,
     pub operands: Operands,
     pub locals: Locals,
-    pub globals: Globals,
+    pub globals: CallGlobals,
     pub memory: Memory<'a>,
     pub host: CallState<'b>,
 }

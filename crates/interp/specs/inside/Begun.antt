@@ -97,7 +97,7 @@ pub record AreLaid (m : Module) (function : Function) (rooms : Rooms) : Type 0 w
   pub operands_below : rooms.operands.below.values ≡ []
   pub locals : rooms.locals.here ≡ zero_cells function.locals
   pub locals_below : rooms.locals.below.values ≡ []
-  pub image : IsImage m rooms.globals rooms.memory
+  pub image : IsImage m rooms.globals.here rooms.memory
 
 -- a call begins with this code where a run stands so
 pub record IsBeginning (m : Module) (code : Code) (input : CallInput) (s : Standing) : Type 0 where
@@ -118,10 +118,10 @@ EndsInRoom m input most room =
 abbrev pub room_in : Rooms → Room
 room_in rooms = room_of rooms.layers rooms.operands rooms.locals rooms.globals rooms.memory
 
--- as many globals as the module has and bytes as it reaches, and room for the locals of a function
+-- the globals begin with what the module says, there are as many bytes as it reaches, and room for the locals of a function
 pub record HasStartRoom (m : Module) (function : Function) (room : Room) : Type 0 where
   pub locals : length function.locals ≤ room.locals
-  pub globals : length m.globals ≡ room.globals
+  pub globals : AreInitial m.globals room.globals
   pub bytes : room.bytes ≡ marked_before (marks m) (memory_bytes m)
 
 -- there is room for all that may stand at a time
@@ -133,7 +133,7 @@ pub record HasRoom (m : Module) (room : Room) : Type 0 where
   pub told_height : (compute : HasCompute m) → IsHeightAt m compute.number height
   pub few_operands : height < room.operands
   pub few_locals : most_locals frames + max_locals ≤ room.locals
-  pub globals : length m.globals ≡ room.globals
+  pub globals : AreInitial m.globals room.globals
   pub bytes : room.bytes ≡ marked_before (marks m) (memory_bytes m)
 
 -- the call sends something, or gives something to a slot

@@ -7,6 +7,7 @@ use Rattle.host_calls.specs.declared.imports.HostCall.{HostCall}
 use Rattle.interp.specs.Machine as machine
 use Rattle.interp.specs.inside.Kept.{count_kept}
 use Rattle.interp.specs.inside.Place.{Room, Standing}
+use Rattle.interp.specs.inside.Renewed.{Renewed}
 use Rattle.interp.specs.inside.Split.{Split}
 use Rattle.interp.specs.declared.layers.Layer.{Layer}
 use Rattle.interp.specs.declared.layers.Layer.TheVariants as layer
@@ -57,16 +58,16 @@ floor_of (layer.Label keeps floor target after ∷ rs) = Some floor
 floor_of (layer.Frame keeps floor base after ∷ rs) = None
 
 -- the room of a walk's lists
-abbrev pub room_of : {A : Type 0} → Vec Layer A → (operands locals : Split) → (globals : List Value) → (bytes : List ℕ) → Room
+abbrev pub room_of : {A : Type 0} → Vec Layer A → (operands locals : Split) → (globals : Renewed) → (bytes : List ℕ) → Room
 room_of layers operands locals globals bytes =
-    record { layers = vec_capacity layers; operands = operands.below.room; locals = locals.below.room; globals = length globals; bytes = count_kept bytes }
+    record { layers = vec_capacity layers; operands = operands.below.room; locals = locals.below.room; globals = globals.initial; bytes = count_kept bytes }
 
 abbrev pub standing_of : Inside → Standing
 standing_of a = record {
   values = a.operands.here;
   layers = layers_of (reverse a.layers.items) a.operands.below.values a.locals.below.values;
   locals = a.locals.here;
-  globals = a.globals;
+  globals = a.globals.here;
   memory = a.memory;
   host = a.host;
   room = room_of a.layers a.operands a.locals a.globals a.memory;

@@ -21,12 +21,12 @@ pub record Place : Type 0 where
 abbrev pub running : Place → Machine
 running p = Running p.values p.code p.layers p.state
 
--- for how many layers, operands and locals the lists have room, and how many globals and kept bytes they hold
+-- for how many layers, operands and locals the lists have room, what the globals begin with, and how many kept bytes they hold
 pub record Room : Type 0 where
   pub layers : ℕ
   pub operands : ℕ
   pub locals : ℕ
-  pub globals : ℕ
+  pub globals : List Value
   pub bytes : ℕ
 
 -- what a run has besides the code and the count
@@ -131,11 +131,11 @@ abbrev pub host_code : Coded Host
 host_code = code_by (GivenParts × LeftParts) (coded× given_code left_code) (λ h. (given_of h, left_of_host h)) host_whole (λ _. refl)
 
 abbrev pub RoomParts : Type 0
-RoomParts = ℕ × (ℕ × (ℕ × (ℕ × ℕ)))
+RoomParts = ℕ × (ℕ × (ℕ × (List Value × ℕ)))
 
 abbrev pub room_code : Coded Room
 room_code =
-    code_by RoomParts (coded× coded_ℕ (coded× coded_ℕ (coded× coded_ℕ (coded× coded_ℕ coded_ℕ)))) (λ r. (r.layers, (r.operands, (r.locals, (r.globals, r.bytes))))) (λ p. record { layers = p.0; operands = p.1.0; locals = p.1.1.0; globals = p.1.1.1.0; bytes = p.1.1.1.1 }) (λ _. refl)
+    code_by RoomParts (coded× coded_ℕ (coded× coded_ℕ (coded× coded_ℕ (coded× values_code coded_ℕ)))) (λ r. (r.layers, (r.operands, (r.locals, (r.globals, r.bytes))))) (λ p. record { layers = p.0; operands = p.1.0; locals = p.1.1.0; globals = p.1.1.1.0; bytes = p.1.1.1.1 }) (λ _. refl)
 
 abbrev pub StandingParts : Type 0
 StandingParts = List Value × (List Layer × (List Value × (List Value × (List ℕ × (Host × Room)))))

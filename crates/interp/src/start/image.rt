@@ -1,7 +1,7 @@
 //! What each call of a module begins with, made once.
 
 ghost use Rattle.std.specs.Prelude.{◌≡◌, IfOk};
-ghost use Rattle.interp.specs.inside.Begun.{AreLaid, HasStartRoom, room_in};
+ghost use Rattle.interp.specs.inside.Begun.{AreInitial, AreLaid, HasStartRoom, room_in};
 
 use crate::globals::Globals;
 use crate::memory::Memory;
@@ -59,8 +59,15 @@ impl<'a> Image<'a> {
         self.verified
     }
 
+    /// The globals that each call begins with.
+    pub fn globals(&self) -> &Globals
+        ensures { AreInitial self.now.globals result.now }
+    {
+        &self.globals
+    }
+
     /// Lays into the lists what a call of the function begins with. It takes time by the function's locals, by the globals
-    /// and by the bytes that are kept.
+    /// that the last call set and by the bytes that are kept.
     pub fn lay(&self, function: &Function, rooms: &mut Rooms<'a>)
         requires { HasStartRoom self.now function.now (room_in rooms.old) }
         ensures laid { AreLaid self.now function.now rooms.new }
@@ -70,7 +77,7 @@ impl<'a> Image<'a> {
         rooms.operands.clear();
         rooms.locals.clear();
         rooms.locals.add(function.locals.as_slice());
-        rooms.globals.copy_from(&self.globals);
+        rooms.globals.renew();
         rooms.memory.copy_from(&self.memory);
     }
 }

@@ -22,8 +22,8 @@ act_plain-acted-requires-clause-asks c =
     lent_here o.floor whole items c.deref_mut.ensures.value o.top c.operands.invariant.0 ∙ ap (λ s. s.here) c.operands.view_is in
     let cells : map I64 (lent l.base others) ≡ c.args.locals.now.here =
     lent_cells l.base others l.cells.items c.deref_mut-2.ensures.value ∙ ap (λ s. s.here) c.locals.view_is in
-    ap (λ vs. plain_asks c.args.instruction vs (map I64 (lent l.base others)) c.args.globals.now c.args.bytes.now) here
-    ∙ ap (λ vs. plain_asks c.args.instruction c.args.operands.now.here vs c.args.globals.now c.args.bytes.now) cells ∙ c.requires.asks
+    ap (λ vs. plain_asks c.args.instruction vs (map I64 (lent l.base others)) c.args.globals.now.here c.args.bytes.now) here
+    ∙ ap (λ vs. plain_asks c.args.instruction c.args.operands.now.here vs c.args.globals.now.here c.args.bytes.now) cells ∙ c.requires.asks
 
 pub returns-clause-acts : goal.returns-clause-acts
 returns-clause-acts c =
@@ -52,11 +52,11 @@ returns-clause-acts c =
       kept = omega (arith, r.auto.locals);
     } in
     λ host count.
-    ap (λ vs. cell_effect in_width op vs (state c.args.locals.now.here c.args.globals.now c.args.bytes.now host count)) (sym here)
-    ∙ ap (λ vs. cell_effect in_width op (pile (lent o.floor whole) (o.top - o.floor)) (state vs c.args.globals.now c.args.bytes.now host count)) (sym cells)
+    ap (λ vs. cell_effect in_width op vs (state c.args.locals.now.here c.args.globals.now.here c.args.bytes.now host count)) (sym here)
+    ∙ ap (λ vs. cell_effect in_width op (pile (lent o.floor whole) (o.top - o.floor)) (state vs c.args.globals.now.here c.args.bytes.now host count)) (sym cells)
     ∙ r.ensures.acts host count
-    ∙ ap (λ vs. Gives vs (state (map I64 r.new.locals) r.new.globals r.new.bytes host count)) (sym (back_here o.floor len whole r.new.cells items h r.result.top))
-    ∙ ap (λ vs. Gives (reverse (drop o.floor (map I64 (take (o.floor + r.result.top) (given_back o.floor len whole r.new.cells items))))) (state vs r.new.globals r.new.bytes host count)) (sym (back_cells l.base l.cells.len others r.new.locals l.cells.items g))
+    ∙ ap (λ vs. Gives vs (state (map I64 r.new.locals) r.new.globals.here r.new.bytes host count)) (sym (back_here o.floor len whole r.new.cells items h r.result.top))
+    ∙ ap (λ vs. Gives (reverse (drop o.floor (map I64 (take (o.floor + r.result.top) (given_back o.floor len whole r.new.cells items))))) (state vs r.new.globals.here r.new.bytes host count)) (sym (back_cells l.base l.cells.len others r.new.locals l.cells.items g))
 
 pub returns-clause-below : goal.returns-clause-below
 returns-clause-below c =

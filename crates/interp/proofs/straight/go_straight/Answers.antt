@@ -20,7 +20,7 @@ run_straight-requires-clause-leads c =
     lent_here o.floor whole o.cells.items c.deref_mut.ensures.value o.top c.operands.invariant.0 ∙ ap (λ s. s.here) c.operands.view_is in
     let cells : map I64 (lent l.base others) ≡ c.args.locals.now.here =
     lent_cells l.base others l.cells.items c.deref_mut-2.ensures.value ∙ ap (λ s. s.here) c.locals.view_is in
-    leads_same c.args.program.module.now c.args.most (code_of c.args.code.now) (code_of c.args.code.now) (pile (lent o.floor whole) (o.top - o.floor)) c.args.operands.now.here (map I64 (lent l.base others)) c.args.locals.now.here here cells c.args.globals.now c.args.bytes.now c.args.host.now c.args.host.now c.args.count c.requires.leads
+    leads_same c.args.program.module.now c.args.most (code_of c.args.code.now) (code_of c.args.code.now) (pile (lent o.floor whole) (o.top - o.floor)) c.args.operands.now.here (map I64 (lent l.base others)) c.args.locals.now.here here cells c.args.globals.now.here c.args.bytes.now c.args.host.now c.args.host.now c.args.count c.requires.leads
 
 pub returns-clause-passes : goal.returns-clause-passes
 returns-clause-passes c =
@@ -46,9 +46,9 @@ returns-clause-passes c =
       within = omega (arith, ap (λ k. length k) c.deref_mut-2.ensures.value, c.locals.invariant.0);
       kept = omega (arith, r.auto.locals);
     } in
-    passes_same c.args.program.module.now c.args.most (code_of c.args.code.now) (code_of stop.code.now) (pile (lent o.floor whole) (o.top - o.floor)) c.args.operands.now.here (map I64 (lent l.base others)) c.args.locals.now.here here cells c.args.globals.now c.args.bytes.now c.args.host.now r.new.host c.args.count
+    passes_same c.args.program.module.now c.args.most (code_of c.args.code.now) (code_of stop.code.now) (pile (lent o.floor whole) (o.top - o.floor)) c.args.operands.now.here (map I64 (lent l.base others)) c.args.locals.now.here here cells c.args.globals.now.here c.args.bytes.now c.args.host.now r.new.host c.args.count
     (reverse (drop o.floor (held (o.floor + stop.top) (given_back o.floor o.cells.len whole r.new.cells o.cells.items)))) (pile r.new.cells stop.top) (drop l.base (map I64 (given_back l.base l.cells.len others r.new.locals l.cells.items))) (map I64 r.new.locals)
-    (back_here o.floor o.cells.len whole r.new.cells o.cells.items h stop.top) (back_cells l.base l.cells.len others r.new.locals l.cells.items g) r.new.globals r.new.bytes stop.count c.in_ok-stop.ensures.passes
+    (back_here o.floor o.cells.len whole r.new.cells o.cells.items h stop.top) (back_cells l.base l.cells.len others r.new.locals l.cells.items g) r.new.globals.here r.new.bytes stop.count c.in_ok-stop.ensures.passes
 
 pub returns-clause-below : goal.returns-clause-below
 returns-clause-below c =
@@ -114,4 +114,4 @@ returns-in_err-stop-clause-sends c =
     lent_here o.floor whole o.cells.items c.deref_mut.ensures.value o.top c.operands.invariant.0 ∙ ap (λ s. s.here) c.operands.view_is in
     let cells : map I64 (lent l.base others) ≡ c.args.locals.now.here =
     lent_cells l.base others l.cells.items c.deref_mut-2.ensures.value ∙ ap (λ s. s.here) c.locals.view_is in
-    on_any _ _ (sends_same c.args.program.module.now c.args.most (code_of c.args.code.now) (code_of c.args.code.now) (pile (lent o.floor whole) (o.top - o.floor)) c.args.operands.now.here (map I64 (lent l.base others)) c.args.locals.now.here here cells c.args.globals.now c.args.bytes.now c.args.host.now c.args.host.now c.args.count c.in_err-stop.ensures.sends)
+    on_any _ _ (sends_same c.args.program.module.now c.args.most (code_of c.args.code.now) (code_of c.args.code.now) (pile (lent o.floor whole) (o.top - o.floor)) c.args.operands.now.here (map I64 (lent l.base others)) c.args.locals.now.here here cells c.args.globals.now.here c.args.bytes.now c.args.host.now c.args.host.now c.args.count c.in_err-stop.ensures.sends)

@@ -16,8 +16,8 @@ pub overflow_add-at : goal.overflow_add-at
 overflow_add-at c =
     let m = c.args.program.module.now in
     let next = c.in-Some.next in
-    let start : Spot = spot (pile c.args.cells.now c.args.top) (code_of c.args.code.now) (map I64 c.args.locals.now) c.args.globals.now c.args.bytes.now c.args.host.now c.args.count in
-    let here : Spot = spot (pile c.run.cells c.run.at.top) (code_of c.run.at.code.now) (map I64 c.run.locals) c.run.globals c.run.bytes c.run.host c.run.at.count in
+    let start : Spot = spot (pile c.args.cells.now c.args.top) (code_of c.args.code.now) (map I64 c.args.locals.now) c.args.globals.now.here c.args.bytes.now c.args.host.now c.args.count in
+    let here : Spot = spot (pile c.run.cells c.run.at.top) (code_of c.run.at.code.now) (map I64 c.run.locals) c.run.globals.here c.run.bytes c.run.host c.run.at.count in
     let room = straight_room m c.args.most here next.what (straight_units next.what) (code_of next.code.now) c.in-Some.ensures.is (leads_on m c.args.most start here c.requires.leads c.run.invariant.passes) in
     omega (arith, room, c.from.ensures, c.in_ok-acted-in-Some.ensures.units, c.ranges.most.fits)
 
@@ -25,34 +25,34 @@ pub act_straight-requires-clause-asks : goal.act_straight-requires-clause-asks
 act_straight-requires-clause-asks c =
     let m = c.args.program.module.now in
     let next = c.in-Some.next in
-    let start : Spot = spot (pile c.args.cells.now c.args.top) (code_of c.args.code.now) (map I64 c.args.locals.now) c.args.globals.now c.args.bytes.now c.args.host.now c.args.count in
-    let here : Spot = spot (pile c.run.cells c.run.at.top) (code_of c.run.at.code.now) (map I64 c.run.locals) c.run.globals c.run.bytes c.run.host c.run.at.count in
+    let start : Spot = spot (pile c.args.cells.now c.args.top) (code_of c.args.code.now) (map I64 c.args.locals.now) c.args.globals.now.here c.args.bytes.now c.args.host.now c.args.count in
+    let here : Spot = spot (pile c.run.cells c.run.at.top) (code_of c.run.at.code.now) (map I64 c.run.locals) c.run.globals.here c.run.bytes c.run.host c.run.at.count in
     straight_asked_amid m c.args.most here next.what (straight_units next.what) (code_of next.code.now) c.in-Some.ensures.is (leads_on m c.args.most start here c.requires.leads c.run.invariant.passes)
 
 pub run-preserved : goal.run-preserved
 run-preserved c =
     let m = c.args.program.module.now in
     let next = c.in-Some.next in
-    let start : Spot = spot (pile c.args.cells.now c.args.top) (code_of c.args.code.now) (map I64 c.args.locals.now) c.args.globals.now c.args.bytes.now c.args.host.now c.args.count in
-    let here : Spot = spot (pile c.run.cells c.run.at.top) (code_of c.run.at.code.now) (map I64 c.run.locals) c.run.globals c.run.bytes c.run.host c.run.at.count in
+    let start : Spot = spot (pile c.args.cells.now c.args.top) (code_of c.args.code.now) (map I64 c.args.locals.now) c.args.globals.now.here c.args.bytes.now c.args.host.now c.args.count in
+    let here : Spot = spot (pile c.run.cells c.run.at.top) (code_of c.run.at.code.now) (map I64 c.run.locals) c.run.globals.here c.run.bytes c.run.host c.run.at.count in
     let count = c.run.at.count + c.from.result in
     let a = c.act_straight in
     let values = pile a.new.cells c.in_ok-acted-in-Some.acted.top in
-    let there : Spot = spot values (code_of next.code.now) (map I64 a.new.locals) a.new.globals a.new.bytes a.new.host count in
+    let there : Spot = spot values (code_of next.code.now) (map I64 a.new.locals) a.new.globals.here a.new.bytes a.new.host count in
     record {
       within = c.in_ok-acted-in-Some.ensures.within;
       more = omega (arith, c.run.invariant.more);
       kept_globals = a.ensures.kept_globals ∙ c.run.invariant.kept_globals;
       kept_bytes = a.ensures.kept_bytes ∙ c.run.invariant.kept_bytes;
-      passes = passes_on m c.args.most start here there c.run.invariant.passes (straight_step m c.args.most here next.what (straight_units next.what) (code_of next.code.now) c.in-Some.ensures.is there (c.in_ok-acted-in-Some.ensures.acts (c.run.at.count + straight_units next.what) ∙ ap (λ n. Gives values (state (map I64 a.new.locals) a.new.globals a.new.bytes a.new.host (c.run.at.count + n))) (sym (c.from.ensures ∙ c.in_ok-acted-in-Some.ensures.units))) refl);
+      passes = passes_on m c.args.most start here there c.run.invariant.passes (straight_step m c.args.most here next.what (straight_units next.what) (code_of next.code.now) c.in-Some.ensures.is there (c.in_ok-acted-in-Some.ensures.acts (c.run.at.count + straight_units next.what) ∙ ap (λ n. Gives values (state (map I64 a.new.locals) a.new.globals.here a.new.bytes a.new.host (c.run.at.count + n))) (sym (c.from.ensures ∙ c.in_ok-acted-in-Some.ensures.units))) refl);
     }
 
 pub returns-in_err-acted-in-Some-clause-sends : goal.returns-in_err-acted-in-Some-clause-sends
 returns-in_err-acted-in-Some-clause-sends c =
     let m = c.args.program.module.now in
     let next = c.in-Some.next in
-    let start : Spot = spot (pile c.args.cells.now c.args.top) (code_of c.args.code.now) (map I64 c.args.locals.now) c.args.globals.now c.args.bytes.now c.args.host.now c.args.count in
-    let here : Spot = spot (pile c.run.cells c.run.at.top) (code_of c.run.at.code.now) (map I64 c.run.locals) c.run.globals c.run.bytes c.run.host c.run.at.count in
+    let start : Spot = spot (pile c.args.cells.now c.args.top) (code_of c.args.code.now) (map I64 c.args.locals.now) c.args.globals.now.here c.args.bytes.now c.args.host.now c.args.count in
+    let here : Spot = spot (pile c.run.cells c.run.at.top) (code_of c.run.at.code.now) (map I64 c.run.locals) c.run.globals.here c.run.bytes c.run.host c.run.at.count in
     let sends = straight_sends m c.args.most here next.what (straight_units next.what) (code_of next.code.now) c.in-Some.ensures.is c.in_err-acted-in-Some.ensures.fails in
     on_any _ _ (sends_on m c.args.most start here c.run.invariant.passes sends)
 

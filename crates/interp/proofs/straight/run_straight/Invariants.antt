@@ -10,9 +10,9 @@ abbrev pub invariant-run : goal.invariant-run
 invariant-run l = record {
   within : l.at.top ≤ length l.cells;
   more : l.fn.count ≤ l.at.count;
-  kept_globals : length l.globals ≡ length l.fn.globals;
+  kept_globals : l.globals.initial ≡ l.fn.globals.initial;
   kept_bytes : count_kept l.bytes ≡ count_kept l.fn.bytes;
-  passes : Passes l.program.«module».now l.fn.most (spot (pile l.fn.cells l.fn.top) (code_of l.fn.code) (map I64 l.fn.locals) l.fn.globals l.fn.bytes l.fn.host l.fn.count) (spot (pile l.cells l.at.top) (code_of l.at.code.now) (map I64 l.locals) l.globals l.bytes l.host l.at.count);
+  passes : Passes l.program.«module».now l.fn.most (spot (pile l.fn.cells l.fn.top) (code_of l.fn.code) (map I64 l.fn.locals) l.fn.globals.here l.fn.bytes l.fn.host l.fn.count) (spot (pile l.cells l.at.top) (code_of l.at.code.now) (map I64 l.locals) l.globals.here l.bytes l.host l.at.count);
 }
 
 abbrev pub decreases-run : goal.decreases-run

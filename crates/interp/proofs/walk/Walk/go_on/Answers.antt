@@ -23,7 +23,7 @@ returns-clause-passes c =
     ap (λ b. layers_of rs b.values a.locals.below.values) (sym c.in_ok-stop.ensures.below) ∙ ap (λ b. layers_of rs g.new.operands.below.values b.values) (sym c.in_ok-stop.ensures.locals_below) in
     λ from follows ends.
     let here = subst (λ t. Follows m from (at t (code_of c.args.code.now) c.args.count)) (sym c.self.view_is) follows in
-    subst (λ l. Follows m from (amid (spot g.new.operands.here (code_of stop.code.now) g.new.locals.here g.new.globals g.new.bytes g.new.host stop.count) l)) ls (c.in_ok-stop.ensures.passes (standing_of a).layers from here ends)
+    subst (λ l. Follows m from (amid (spot g.new.operands.here (code_of stop.code.now) g.new.locals.here g.new.globals.here g.new.bytes g.new.host stop.count) l)) ls (c.in_ok-stop.ensures.passes (standing_of a).layers from here ends)
 
 pub returns-clause-closer : goal.returns-clause-closer
 returns-clause-closer c =

@@ -1,0 +1,122 @@
+//! The globals of a call, which the next one renews.
+
+ghost use Rattle.std.specs.Prelude.{◌≡◌, ◌<◌, [], Some, length, slice_get, slice_set, IfOk, IsSome, OnOk};
+ghost use Rattle.wasm_ast.specs.declared.types.Value.TheVariants.{I64};
+ghost use Rattle.interp.specs.inside.Renewed.{put_back, put_one};
+
+use crate::globals::Globals;
+use std::alloc::{AllocError, Global};
+use std::marker::Model;
+
+/// The globals of a call, beside what they begin with. The numbers of those that are set are noted, as many as there are
+/// globals at most, so that they are renewed in time by how many were set.
+#[derive(Drop)]
+pub struct CallGlobals {
+    here: Globals,
+    initial: Globals,
+    // Where it is as long as there are globals, others may have been set too.
+    numbers: Vec<u32>,
+}
+
+impl Model for CallGlobals {
+    ghost use Rattle.std.specs.Prelude.{vec_capacity};
+    ghost use Rattle.interp.specs.inside.Renewed.{AreRenewed, Renewed};
+
+    ghost Value = { Renewed };
+
+    ghost view = { λ a. record { here = a.here; initial = a.initial } };
+
+    ghost invariant = { λ a. AreRenewed a.initial a.here a.numbers.items (vec_capacity a.numbers) };
+}
+
+impl CallGlobals {
+    /// None; it takes no memory.
+    pub fn new(alloc: Global) -> CallGlobals
+        ensures { result ≡ record { here = []; initial = [] } }
+    {
+        CallGlobals {
+            here: Globals::new(alloc),
+            initial: Globals::new(alloc),
+            numbers: Vec::new(alloc),
+        }
+    }
+
+    /// Becomes those that begin with these.
+    pub fn begin_with(&mut self, alloc: Global, initial: &Globals) -> Result<(), AllocError>
+        ensures { OnOk result (self.new.initial ≡ initial.now) }
+    {
+        *self = CallGlobals::of(alloc, initial)?;
+        Ok(())
+    }
+
+    /// Those that begin with these, and room to note as many numbers.
+    fn of(alloc: Global, initial: &Globals) -> Result<CallGlobals, AllocError>
+        ensures { IfOk result (λ globals. globals.initial ≡ initial.now) }
+    {
+        let mut numbers = Vec::new(alloc);
+        numbers.reserve(initial.len())?;
+        let here = Globals::copy_of(alloc, initial)?;
+        let initial = Globals::copy_of(alloc, initial)?;
+        Ok(CallGlobals {
+            here,
+            initial,
+            numbers,
+        })
+    }
+
+    /// A global.
+    #[inline]
+    pub fn get(&self, number: u32) -> u64
+        requires { IsSome (slice_get self.now.here number) }
+        ensures { slice_get self.now.here number ≡ Some (I64 result) }
+    {
+        self.here.get(number)
+    }
+
+    /// Sets a global.
+    #[inline]
+    pub fn set(&mut self, number: u32, cell: u64)
+        requires { number < length self.old.here }
+        ensures here { self.new.here ≡ slice_set self.old.here number (I64 cell) }
+        ensures initial { self.new.initial ≡ self.old.initial }
+    {
+        self.here.set(number, cell);
+        if self.numbers.len() < self.here.len() {
+            self.numbers.push_reserved(number);
+        }
+    }
+
+    /// Sets each to what it begins with. It takes time by how many were set since the last time, or by how many there are
+    /// where those are fewer.
+    pub fn renew(&mut self)
+        ensures here { self.new.here ≡ self.old.initial }
+        ensures initial { self.new.initial ≡ self.old.initial }
+    {
+        if self.numbers.len() < self.here.len() {
+            put_back(&mut self.here, &self.initial, self.numbers.as_slice());
+        } else {
+            self.here.copy_from(&self.initial);
+        }
+        self.numbers.clear();
+    }
+}
+
+// The others in the stead of those with these numbers.
+fn put_back(here: &mut Globals, others: &Globals, numbers: &[u32])
+    requires { length here.old ≡ length others.now }
+    ensures { here.new ≡ put_back numbers.now others.now here.old }
+{
+    for number in numbers {
+        put_one(here, others, *number);
+    }
+}
+
+fn put_one(here: &mut Globals, others: &Globals, number: u32)
+    requires { length here.old ≡ length others.now }
+    ensures put { here.new ≡ put_one number others.now here.old }
+    ensures kept { length here.new ≡ length here.old }
+{
+    if let Some(cell) = others.find(number) {
+        here.set(number, cell);
+    }
+}

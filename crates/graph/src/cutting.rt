@@ -33,8 +33,8 @@ pub fn cut_by_id<T: Identified>(
     requires { 0 < parts }
     ensures { IfOk result (λ cut. map vec_items cut.items ≡ parts_by T.id parts elements.items) }
 {
-    // As many places in each as there are on average.
-    let room = elements.len() / parts as usize;
+    // As many places in each as its part has where the ids have no gap, so that none grows.
+    let room = elements.len().div_ceil(parts as usize);
     let mut cut = empty_parts(alloc, parts, room)?;
     for element in elements {
         let part = part_of(element.id(), parts) as usize;

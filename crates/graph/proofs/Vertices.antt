@@ -5,6 +5,7 @@ use Rattle.std.specs.List.{Contains}
 use Rattle.std.specs.List.Sorted.{IsBinarySearchResult, IsStrictlyIncreasing}
 use Rattle.std.specs.Ordering.{nat_cmp}
 use Rattle.std.specs.Result.{result_ok}
+use Rattle.std.proofs.Math.Seq.{map-set_same}
 use Rattle.std.proofs.lemmas.Bool.{cases_lt}
 use Rattle.std.proofs.lemmas.List.{get_or-map, get_or_default, length-map, map-set}
 use Rattle.std.proofs.lemmas.List.Sorted.{searched}
@@ -68,3 +69,10 @@ edge_pushed vertices source old new edge below is same_id same_value pushed =
     let there : get_or (entries_of vertices) source none ≡ entry_of old = get_or-map entry_of vertices source old none below ∙ ap entry_of (sym is) in
     let made : entry_of new ≡ push_end edge (entry_of old) = entry_same new (push_end edge (entry_of old)) same_id same_value pushed in
     map-set entry_of vertices source new ∙ ap (λ e. set (entries_of vertices) source e) (made ∙ ap (push_end edge) (sym there))
+
+-- a vertex that only has room for more edges
+pub room_made : (vertices : List Vertex) (place : ℕ) (old new : Vertex) → old ≡ get_or vertices place old
+    → new.id ≡ old.id → new.value ≡ old.value → new.edges.items ≡ old.edges.items
+    → entries_of (set vertices place new) ≡ entries_of vertices
+room_made vertices place old new is same_id same_value same_edges =
+    map-set_same entry_of vertices place new old (entry_same new (entry_of old) same_id same_value same_edges ∙ ap entry_of is)

@@ -1,36 +1,22 @@
-use Rattle.std.proofs.Common.{◌≡◌, ℕ, List, ap, length, arith, map, subst, sym, ◌∙◌}
+use Rattle.std.proofs.Common.{◌≡◌, ℕ, List, ap, map, subst, sym, ◌∙◌}
 use Rattle.std.specs.List.Sorted.{IsStrictlyIncreasing}
 use Rattle.graph.specs.Entry.{entries_of, ids, vertex_id}
-use Rattle.graph.proofs.Placing.{ends_fail, no_edge, placed_next, placed_none, placed_room}
 use Rattle.graph.proofs.Vertices.{ids_entries}
 use Rattle.graph.proofs.place.place_edges.Goals as goal
 
-pub loop-index-init : goal.loop-index-init
-loop-index-init c = placed_none _ _
-
-pub source_of-requires : goal.source_of-requires
-source_of-requires c =
-    let here : c.deref-in-loop-index.result.now ≡ ids (entries_of c.args.vertices.now.items) =
-    c.deref-in-loop-index.ensures.value ∙ c.in_ok-ids.ensures ∙ ap (map vertex_id) c.deref.ensures.value ∙ sym (ids_entries c.args.vertices.now.items) in
+pub make_room-requires : goal.make_room-requires
+make_room-requires c =
+    let here : c.deref-2.result.now ≡ ids (entries_of c.args.vertices.now.items) =
+    c.deref-2.ensures.value ∙ c.in_ok-ids.ensures ∙ ap (map vertex_id) c.deref.ensures.value ∙ sym (ids_entries c.args.vertices.now.items) in
     subst (λ (numbers : List ℕ). IsStrictlyIncreasing numbers) (sym here) c.requires
 
-pub returns-in_default-clause-only : goal.returns-in_default-clause-only
-returns-in_default-clause-only c =
-    let here : c.deref-in-loop-index.result.now ≡ ids (entries_of c.args.vertices.now.items) =
-    c.deref-in-loop-index.ensures.value ∙ c.in_ok-ids.ensures ∙ ap (map vertex_id) c.deref.ensures.value ∙ sym (ids_entries c.args.vertices.now.items) in
-    λ told. ends_fail (ids (entries_of c.args.vertices.now.items)) c.args.edges.now c.loop-index.index no_edge c.loop-index-test.true (rw here at c.in_default.ensures)
+pub place_all-requires-clause-rising : goal.place_all-requires-clause-rising
+place_all-requires-clause-rising c =
+    let here : c.deref-3.result.now ≡ ids (entries_of c.args.vertices.now.items) =
+    c.deref-3.ensures.value ∙ c.in_ok-ids.ensures ∙ ap (map vertex_id) c.deref.ensures.value ∙ sym (ids_entries c.args.vertices.now.items) in
+    subst (λ (numbers : List ℕ). IsStrictlyIncreasing numbers) (sym here) c.requires
 
-pub push_edge-requires : goal.push_edge-requires
-push_edge-requires c =
-    let here : c.deref-in-loop-index.result.now ≡ ids (entries_of c.args.vertices.now.items) =
-    c.deref-in-loop-index.ensures.value ∙ c.in_ok-ids.ensures ∙ ap (map vertex_id) c.deref.ensures.value ∙ sym (ids_entries c.args.vertices.now.items) in
-    placed_room (entries_of c.args.vertices.now.items) c.loop-index.vertices.items c.args.edges.now c.loop-index.index c.in-Some.source c.loop-index.invariant (omega (arith, ap length here, c.in-Some.ensures))
-
-pub loop-index-preserved : goal.loop-index-preserved
-loop-index-preserved c =
-    let here : c.deref-in-loop-index.result.now ≡ ids (entries_of c.args.vertices.now.items) =
-    c.deref-in-loop-index.ensures.value ∙ c.in_ok-ids.ensures ∙ ap (map vertex_id) c.deref.ensures.value ∙ sym (ids_entries c.args.vertices.now.items) in
-    let source = rw here at c.in-Some.ensures in
-    rw c.in_ok-push_edge.ensures.pushed
-    (placed_next (entries_of c.args.vertices.now.items) (entries_of c.loop-index.vertices.items) c.args.edges.now c.loop-index.index c.in-Some.source no_edge
-    c.requires c.loop-index.invariant c.loop-index-test.true source.0 source.1 source.2)
+pub place_all-requires-clause-same : goal.place_all-requires-clause-same
+place_all-requires-clause-same c =
+    c.deref-3.ensures.value ∙ c.in_ok-ids.ensures ∙ ap (map vertex_id) c.deref.ensures.value ∙ sym (ids_entries c.args.vertices.now.items)
+    ∙ ap ids (sym c.in_ok-make_room.ensures.same)

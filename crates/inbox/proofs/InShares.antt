@@ -12,11 +12,12 @@ use Rattle.inbox.specs.declared.parts.Delivered.{Delivered}
 use Rattle.inbox.specs.declared.shares.Class.{Class}
 use Rattle.inbox.specs.declared.shares.Share.{Share}
 use Rattle.inbox.specs.Merging.{are_one, all_of, IsBySource, inboxes_of, dropped_of}
+use Rattle.inbox.specs.inside.Blocks.{IsOrderOf}
 use Rattle.inbox.specs.inside.Shares.{has, goes_into, parts_of, AreDelivered, IsDelivered, IsInboxIn, IsPutIn, inboxes_in}
 use Rattle.inbox.specs.inside.Targets.{IsByTarget, target_cmp}
 use Rattle.inbox.proofs.Counting.{all_of_more, delivered_or_dropped, delivered_to_all, dropped_of_none}
 use Rattle.inbox.proofs.InOrder.{in_order}
-use Rattle.inbox.proofs.Kept.{same_letters}
+use Rattle.inbox.proofs.Kept.{same_in_order, same_letters}
 use Rattle.inbox.proofs.OneOrder.{same_dropped}
 
 distinct_cond : {X : Type 0} (e : X → X → Bool) (b : Bool) (x : X) (xs : List X) → AllByRecursion (λ y. e x y ≡ false) xs → IsDistinct e xs → IsDistinct e (cond b (x ∷ xs) xs)
@@ -59,6 +60,20 @@ pub put_is_delivered : (letters sorted : List Letter) (class : Class) (ids : Vec
 put_is_delivered letters sorted class ids delivered by all put = record {
   inboxes = λ ordered by'. made sorted ids.items delivered.inboxes.items by.rising put.inboxes ∙ same_inboxes letters sorted ordered class ids.items by by' all;
   count = put.count;
+}
+
+-- an id finds the same among the letters of a class that has it, in order, and among all
+same_in_blocks : (letters some ordered : List Letter) (class : Class) (ids : List ℕ) → IsOrderOf letters class some → IsBySource letters ordered → AllByRecursion (λ id. has class id ≡ true) ids → inboxes_of some ids ≡ inboxes_of ordered ids
+same_in_blocks letters some ordered class [] order by all = refl
+same_in_blocks letters some ordered class (id ∷ ids) order by all =
+    let first = ap (map (λ (letter : Letter). letter.value)) (same_in_order letters some ordered class id all.0 order by) in
+    let others = same_in_blocks letters some ordered class ids order by all.1 in
+    λ i. first i ∷ others i
+
+pub filed_is_delivered : (letters some : List Letter) (class : Class) (ids : Vec ℕ Global) (delivered : Delivered) → IsOrderOf letters class some → AllByRecursion (λ id. has class id ≡ true) ids.items → delivered.inboxes.items ≡ inboxes_of some ids.items → delivered.count ≡ sum_by length delivered.inboxes.items → IsDelivered letters ids delivered
+filed_is_delivered letters some class ids delivered order all is count = record {
+  inboxes = λ ordered by. is ∙ same_in_blocks letters some ordered class ids.items order by all;
+  count = count;
 }
 
 pub all_made : (letters ordered : List Letter) → IsBySource letters ordered → (ids : List (Vec ℕ Global)) (all : List Delivered) → AllZip (IsDelivered letters) ids all → map vec_items (inboxes_in all) ≡ map (λ part. inboxes_of ordered part.items) ids

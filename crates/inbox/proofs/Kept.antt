@@ -11,6 +11,7 @@ use Rattle.std.specs.declared.cmp.Ordering.TheVariants.{Less}
 use Rattle.inbox.specs.declared.letters.Letter.{Letter}
 use Rattle.inbox.specs.declared.shares.Class.{Class}
 use Rattle.inbox.specs.Merging.{IsBySource, goes_to, source_cmp}
+use Rattle.inbox.specs.inside.Blocks.{IsOrderOf}
 use Rattle.inbox.specs.inside.Shares.{has, goes_into}
 use Rattle.inbox.specs.inside.Targets.{IsByTarget, target_cmp}
 use Rattle.inbox.proofs.OneOrder.{contained, head_inside, same_sorted}
@@ -67,3 +68,29 @@ same_letters letters sorted ordered class id inside by by' =
     let here = into_filter within letters z (Contains-permutation _ _ z (IsPermutation-sym _ _ by'.same) (from_filter mine ordered z h)) (goes_inside class id z inside goes) in
     into_filter mine sorted z (Contains-permutation _ _ z by.same here) goes in
     same_sorted source_total (filter mine sorted) (filter mine ordered) rising (IsStrictlySortedBy-filter source_cmp mine ordered by'.rising) to from
+
+-- letters that are in order
+pub order_itself : (letters : List Letter) (class : Class) → IsStrictlySortedBy source_cmp letters → IsOrderOf letters class letters
+order_itself letters class up = record { rising = up; among = λ z h. h; all = λ z h goes. h }
+
+-- those of a class, put in order
+pub order_sorted : (letters sorted : List Letter) (class : Class) → IsBySource (filter (goes_into class) letters) sorted → IsOrderOf letters class sorted
+order_sorted letters sorted class by =
+    let within = goes_into class in
+    record {
+      rising = by.rising;
+      among = λ z h. from_filter within letters z (Contains-permutation _ _ z (IsPermutation-sym _ _ by.same) h);
+      all = λ z h goes. Contains-permutation _ _ z by.same (into_filter within letters z h goes);
+    }
+
+-- the letters to an id, among those of a class that has it and among all, each in order
+pub same_in_order : (letters some ordered : List Letter) (class : Class) (id : ℕ) → has class id ≡ true → IsOrderOf letters class some → IsBySource letters ordered → filter (λ letter. goes_to letter id) some ≡ filter (λ letter. goes_to letter id) ordered
+same_in_order letters some ordered class id inside order by =
+    let mine = λ (letter : Letter). goes_to letter id in
+    let to = λ (z : Letter) (h : Contains (filter mine some) z).
+    into_filter mine ordered z (Contains-permutation _ _ z by.same (order.among z (from_filter mine some z h))) (passes mine some z h) in
+    let from = λ (z : Letter) (h : Contains (filter mine ordered) z).
+    let goes = passes mine ordered z h in
+    let here = order.all z (Contains-permutation _ _ z (IsPermutation-sym _ _ by.same) (from_filter mine ordered z h)) (goes_inside class id z inside goes) in
+    into_filter mine some z here goes in
+    same_sorted source_total (filter mine some) (filter mine ordered) (IsStrictlySortedBy-filter source_cmp mine some order.rising) (IsStrictlySortedBy-filter source_cmp mine ordered by.rising) to from

@@ -3,6 +3,7 @@ pub mod Collected
 pub mod Concatenation
 pub mod Counting
 pub mod Delivery
+pub mod Filed
 pub mod InOrder
 pub mod InShares
 pub mod Kept

@@ -34,3 +34,18 @@ rises letter_of (x ∷ xs) up apart =
 
 pub are_one-flips : (a b : Letter) → are_one a b ≡ are_one b a
 are_one-flips a b = grind (arith, nat_tests)
+
+-- the same of letters themselves
+pub rise : (letters : List Letter) → IsSortedBy (λ x y. is_lt (source_cmp x y)) letters → IsDistinct are_one letters → IsStrictlySortedBy source_cmp letters
+unfolding IsStrictlySortedBy
+rise [] up apart = tt
+rise (letter ∷ letters) up apart =
+    let all = letter ∷ letters in
+    sorted_from_all_adjacent source_total all letter (λ k h.
+    before (get_or all k letter) (get_or all (k + 1) letter) (up k letter (omega arith) h) (apart_from_distinct are_one all k (k + 1) letter apart (omega arith) h))
+
+-- letters of which each comes before the next
+pub rise_adjacent : (letters : List Letter) → ((k : ℕ) (d : Letter) → k + 1 < length letters → source_cmp (get_or letters k d) (get_or letters (k + 1) d) ≡ Less) → IsStrictlySortedBy source_cmp letters
+unfolding IsStrictlySortedBy
+rise_adjacent [] each = tt
+rise_adjacent (letter ∷ letters) each = sorted_from_all_adjacent source_total (letter ∷ letters) letter (λ k h. each k letter h)

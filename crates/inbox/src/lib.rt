@@ -5,6 +5,8 @@
 //! lesser id come first, and those of one source in the order in which it sent them.
 #![tactic(auto)]
 
+mod blocks;
+mod grid;
 mod inboxes;
 mod laws;
 mod letters;

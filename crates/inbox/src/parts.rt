@@ -1,11 +1,15 @@
-ghost use Rattle.std.specs.Prelude.{◌≡◌, ◌≤◌, ◌<◌, ◌^◌, int_lt, pos, true, false, List, map, filter, length, nat_eq, sum_by, vec_items, vec_len, IfOk};
-ghost use Rattle.std.specs.List.{AllZip, IsDistinct};
+ghost use Rattle.std.specs.Prelude.{◌≡◌, ◌≤◌, ◌<◌, ◌^◌, int_lt, pos, true, false, List, map, filter, length, nat_eq, sum_by, vec_items, vec_len, IfOk, IsTrue};
+ghost use Rattle.std.specs.List.{AllByRecursion, AllZip, IsDistinct};
 ghost use Rattle.std.specs.List.Sorted.{IsStrictlySortedBy, IsPartitionPoint};
 ghost use Rattle.inbox.specs.declared.letters.Letter.{Letter as AnyLetter};
-ghost use Rattle.inbox.specs.Merging.{are_one, goes_to, all_of, IsBySource, inboxes_of, dropped_of};
+ghost use Rattle.std.specs.declared.cmp.Ordering.TheVariants.{Less};
+ghost use Rattle.inbox.specs.Merging.{are_one, goes_to, all_of, IsBySource, inboxes_of, dropped_of, source_cmp};
+ghost use Rattle.inbox.specs.inside.Blocks.{IsOrderOf};
 ghost use Rattle.inbox.specs.inside.Targets.{IsByTarget, target_cmp};
-ghost use Rattle.inbox.specs.inside.Shares.{goes_into, AreDelivered, IsInboxIn, IsPutIn, inboxes_in};
+ghost use Rattle.inbox.specs.inside.Shares.{goes_into, has, AreDelivered, IsDelivered, IsInboxIn, IsPutIn, inboxes_in};
 
+use crate::blocks::by_blocks;
+use crate::grid::Grid;
 use crate::inboxes::Inbox;
 use crate::letters::Letter;
 use crate::shares::{Class, Share, shares};
@@ -24,14 +28,16 @@ use std::thread::Threads;
 /// Parts that follow one another are shared out, in as many shares as there are parts, but no more
 /// than there are processors, nor than 16. Fewer than 10,000 letters and ids together are one share, and
 /// the calling thread does all of it. Else a thread for each share goes over all letters, copies those
-/// that may go to an id of its parts and sorts them. Then it looks up each id's letters and makes its
-/// inbox, with no more room than its messages where they are more than four; many ids of one part are
-/// shared among threads once more.
+/// that may go to an id of its parts and puts them in the order of their sources; where all letters lie
+/// in one list that is in that order, it copies none. Then it files them by blocks of 4,096 ids and makes
+/// the inboxes of each block, with no more room than their messages where these are more than four; many
+/// ids of one part are shared among threads once more. Where the ids of a part do not rise by one gap,
+/// the letters of its share are put in the order of their targets, and each id's are looked up.
 ///
 /// Which letters may go to a part is seen by their targets' remainders where all ids of a share are in
-/// the parts of their own remainders, as those of a job are: then the share's thread copies and sorts the
-/// letters of its own targets. Else it copies and sorts all letters. Each share reads all letters. The
-/// time is of the order of n log n for each share. An `Err` is want of memory.
+/// the parts of their own remainders, as those of a job are: then the share's thread copies the letters of
+/// its own targets. Else it copies all letters. Each share reads all letters. The time is of the order of
+/// n log n for each share. An `Err` is want of memory.
 pub fn merge_parts(
     rt: &(impl Threads + Sync),
     alloc: Global,
@@ -135,13 +141,183 @@ fn delivered_to_share(
     ensures { IfOk result (AreDelivered (all_of lists.now) share.now) }
 {
     let targets = share.targets();
-    let letters = by_target(alloc, lists, targets, room)?;
-    let mut all = Vec::with_capacity(alloc, share.parts.len())?;
-    for ids in share.parts {
-        let delivered = delivered_to(rt, alloc, &letters, ids)?;
+    if !are_even(share.parts) {
+        return delivered_by_target(rt, alloc, lists, targets, room, share.parts);
+    }
+    if are_by_source(lists) {
+        return delivered_to_parts(rt, alloc, lists, lists, targets, room, share.parts);
+    }
+    let ordered = by_source(alloc, lists, targets, room)?;
+    delivered_to_parts(rt, alloc, lists, &ordered, targets, room, share.parts)
+}
+
+// What goes to each of these parts, whose ids are among the targets: the letters stand once in any order, and once by source.
+fn delivered_to_parts(
+    rt: &(impl Threads + Sync),
+    alloc: Global,
+    lists: &[Vec<Letter>],
+    ordered: &[Vec<Letter>],
+    targets: Class,
+    room: usize,
+    parts: &[Vec<u64>],
+) -> Result<Vec<Delivered>, AllocError>
+    requires distinct { IsDistinct are_one (all_of lists.now) }
+    requires order { IsOrderOf (all_of lists.now) targets (all_of ordered.now) }
+    requires targets { AllByRecursion (λ ids. AllByRecursion (λ id. has targets id ≡ true) ids.items)
+        parts.now }
+    ensures { IfOk result (λ all. AllZip (IsDelivered (all_of lists.now)) parts.now all.items) }
+{
+    let mut all = Vec::with_capacity(alloc, parts.len())?;
+    for ids in parts {
+        let delivered = delivered_to(rt, alloc, lists, ordered, targets, room, ids)?;
         all.push(delivered)?;
     }
     Ok(all)
+}
+
+// What goes to the ids of a part, which are among the targets.
+fn delivered_to(
+    rt: &(impl Threads + Sync),
+    alloc: Global,
+    lists: &[Vec<Letter>],
+    ordered: &[Vec<Letter>],
+    targets: Class,
+    room: usize,
+    ids: &Vec<u64>,
+) -> Result<Delivered, AllocError>
+    requires distinct { IsDistinct are_one (all_of lists.now) }
+    requires order { IsOrderOf (all_of lists.now) targets (all_of ordered.now) }
+    requires targets { AllByRecursion (λ id. has targets id ≡ true) ids.now.items }
+    ensures { IfOk result (IsDelivered (all_of lists.now) ids.now) }
+{
+    match by_blocks(rt, alloc, ordered, ids, room)? {
+        Some(inboxes) => Ok(counted(inboxes)),
+        None => one_by_target(rt, alloc, lists, targets, room, ids),
+    }
+}
+
+fn counted(inboxes: Vec<Inbox>) -> Delivered
+    ensures inboxes { result.inboxes ≡ inboxes }
+    ensures count { result.count ≡ sum_by length inboxes.items }
+{
+    let count = message_count(&inboxes);
+    Delivered { inboxes, count }
+}
+
+// Whether the ids of each part rise by one gap.
+fn are_even(parts: &[Vec<u64>]) -> bool {
+    parts.iter().all(|ids| Grid::of(ids).is_even(ids))
+}
+
+// What goes to each of these parts, whose ids are among the targets: the letters are put in the order of their targets, and
+// each id's are looked up.
+fn delivered_by_target(
+    rt: &(impl Threads + Sync),
+    alloc: Global,
+    lists: &[Vec<Letter>],
+    targets: Class,
+    room: usize,
+    parts: &[Vec<u64>],
+) -> Result<Vec<Delivered>, AllocError>
+    requires distinct { IsDistinct are_one (all_of lists.now) }
+    requires targets { AllByRecursion (λ ids. AllByRecursion (λ id. has targets id ≡ true) ids.items)
+        parts.now }
+    ensures { IfOk result (λ all. AllZip (IsDelivered (all_of lists.now)) parts.now all.items) }
+{
+    let letters = by_target(alloc, lists, targets, room)?;
+    let mut all = Vec::with_capacity(alloc, parts.len())?;
+    for ids in parts {
+        let delivered = put_to(rt, alloc, &letters, ids)?;
+        all.push(delivered)?;
+    }
+    Ok(all)
+}
+
+// The same of one part.
+fn one_by_target(
+    rt: &(impl Threads + Sync),
+    alloc: Global,
+    lists: &[Vec<Letter>],
+    targets: Class,
+    room: usize,
+    ids: &Vec<u64>,
+) -> Result<Delivered, AllocError>
+    requires distinct { IsDistinct are_one (all_of lists.now) }
+    requires targets { AllByRecursion (λ id. has targets id ≡ true) ids.now.items }
+    ensures { IfOk result (IsDelivered (all_of lists.now) ids.now) }
+{
+    let letters = by_target(alloc, lists, targets, room)?;
+    put_to(rt, alloc, &letters, ids)
+}
+
+// What goes to the ids of a part, of letters by target.
+fn put_to(
+    rt: &(impl Threads + Sync),
+    alloc: Global,
+    letters: &[Letter],
+    ids: &Vec<u64>,
+) -> Result<Delivered, AllocError>
+    ensures { IfOk result (IsPutIn letters.now ids.now.items) }
+{
+    let inboxes = inboxes_at(rt, alloc, letters, ids)?;
+    let count = message_count(&inboxes);
+    Ok(Delivered { inboxes, count })
+}
+
+// Whether the letters lie in one list, in the order of their sources.
+fn are_by_source(lists: &[Vec<Letter>]) -> bool
+    ensures { IsTrue result → IsStrictlySortedBy source_cmp (all_of lists.now) }
+{
+    lists.len() == 1 && is_by_source(&lists[0])
+}
+
+fn is_by_source(letters: &[Letter]) -> bool
+    ensures { IsTrue result → IsStrictlySortedBy source_cmp letters.now }
+{
+    for index in 1..letters.len() {
+        if !comes_before(&letters[index - 1], &letters[index]) {
+            return false;
+        }
+    }
+    true
+}
+
+// Whether the first letter's source is the lesser one, or sent the first letter earlier.
+fn comes_before(first: &Letter, second: &Letter) -> bool
+    ensures { IsTrue result → source_cmp first.now second.now ≡ Less }
+{
+    first.from < second.from || (first.from == second.from && first.seq < second.seq)
+}
+
+// The letters to these targets in one list, by source, with room for so many from the start.
+fn by_source(
+    alloc: Global,
+    lists: &[Vec<Letter>],
+    targets: Class,
+    room: usize,
+) -> Result<Vec<Vec<Letter>>, AllocError>
+    requires { IsDistinct are_one (all_of lists.now) }
+    ensures { IfOk result (λ ordered. IsOrderOf (all_of lists.now) targets (all_of ordered.items)) }
+{
+    let letters = sorted_by_source(alloc, lists, targets, room)?;
+    let mut ordered = Vec::with_capacity(alloc, 1)?;
+    ordered.push(letters)?;
+    Ok(ordered)
+}
+
+fn sorted_by_source(
+    alloc: Global,
+    lists: &[Vec<Letter>],
+    targets: Class,
+    room: usize,
+) -> Result<Vec<Letter>, AllocError>
+    requires { IsDistinct are_one (all_of lists.now) }
+    ensures { IfOk result (λ ordered.
+        IsBySource (filter (goes_into targets) (all_of lists.now)) ordered.items) }
+{
+    let mut letters = letters_in(alloc, lists, targets, room)?;
+    letters.sort_by_key(|letter| (letter.from, letter.seq))?;
+    Ok(letters)
 }
 
 // The letters to these targets, by target and then by source, with room for so many from the start.
@@ -175,20 +351,6 @@ fn letters_in(
         letters.extend(list.iter().filter(within).copied())?;
     }
     Ok(letters)
-}
-
-// What goes to the ids of a part, of letters by target.
-fn delivered_to(
-    rt: &(impl Threads + Sync),
-    alloc: Global,
-    letters: &[Letter],
-    ids: &Vec<u64>,
-) -> Result<Delivered, AllocError>
-    ensures { IfOk result (IsPutIn letters.now ids.now.items) }
-{
-    let inboxes = inboxes_at(rt, alloc, letters, ids)?;
-    let count = message_count(&inboxes);
-    Ok(Delivered { inboxes, count })
 }
 
 // Fewer ids are not worth a thread of their own, since parts have threads too.

@@ -1,0 +1,326 @@
+ghost use Rattle.std.specs.Prelude.{◌≡◌, ◌<◌, [], ◌∷◌, ◌++◌, pos, false, List, map, length, slice_index, slice_set, slice_index_or, replicate, IfOk, IfSome, IfNone, OnOk, IsTrue};
+ghost use Rattle.std.specs.List.{AllByRecursion, AllZip, flat_map, list_any};
+ghost use Rattle.std.specs.List.Sorted.{IsStrictlyIncreasing};
+ghost use Rattle.std.specs.Ordering.{int_eq};
+ghost use Rattle.inbox.specs.declared.letters.Letter.{Letter as AnyLetter};
+ghost use Rattle.inbox.specs.Merging.{all_of, inbox_of, inboxes_of};
+ghost use Rattle.inbox.specs.inside.Blocks.{AreFiled, AreInPlace, IsInPlace, IsMade, ids_of, letter_of, none_in, slips_of};
+
+use crate::grid::Grid;
+use crate::inboxes::Inbox;
+use crate::letters::Letter;
+use rayon::prelude::*;
+use std::alloc::{AllocError, Global};
+use std::thread::Threads;
+
+// So many ids are in a block: their inboxes and their messages lie together in a processor's caches.
+pub const BLOCK: usize = 4096;
+
+// A message and the id that it goes to.
+#[derive(Clone, Copy)]
+pub struct Slip {
+    to: i64,
+    value: i64,
+}
+
+// Ids that follow one another in a part, and the messages to them in the order of the letters.
+#[derive(Drop)]
+pub struct Block<'a> {
+    ids: &'a [u64],
+    slips: Vec<Slip>,
+}
+
+// What stands in the inboxes of these ids, of letters by source, where the ids rise by the same gap; `None` where not.
+//
+// The letters are filed by block, and then each block's inboxes are filled, so that what is written lies near what was
+// written before. There is room for so many letters from the start.
+pub fn by_blocks(
+    rt: &(impl Threads + Sync),
+    alloc: Global,
+    lists: &[Vec<Letter>],
+    ids: &[u64],
+    room: usize,
+) -> Result<Option<Vec<Inbox>>, AllocError>
+    ensures { IfOk result (λ found. IfSome found (λ inboxes.
+        inboxes.items ≡ inboxes_of (all_of lists.now) ids.now)) }
+{
+    let grid = Grid::of(ids);
+    let mut blocks = blocks_of(alloc, ids, room)?;
+    if !are_in_place(grid, &blocks) {
+        return Ok(None);
+    }
+    let inboxes = filled(rt, alloc, lists, grid, &mut blocks)?;
+    Ok(Some(inboxes))
+}
+
+// The ids in blocks with no messages, which have room for so many together.
+fn blocks_of<'a>(alloc: Global, ids: &'a [u64], room: usize) -> Result<Vec<Block<'a>>, AllocError>
+    ensures ids { IfOk result (λ blocks. flat_map ids_of blocks.items ≡ ids.now) }
+    ensures none { IfOk result (λ blocks. AllByRecursion none_in (map slips_of blocks.items)) }
+{
+    let count = ids.len().div_ceil(BLOCK);
+    let each = room / count.max(1);
+    let mut blocks = Vec::with_capacity(alloc, count)?;
+    let mut rest = ids;
+    while !rest.is_empty() {
+        let (mine, others) = rest.split_at(rest.len().min(BLOCK));
+        push_block(alloc, mine, each, &mut blocks)?;
+        rest = others;
+    }
+    Ok(blocks)
+}
+
+fn push_block<'a>(
+    alloc: Global,
+    ids: &'a [u64],
+    room: usize,
+    blocks: &mut Vec<Block<'a>>,
+) -> Result<(), AllocError>
+    ensures ids { OnOk result (flat_map ids_of blocks.new.items
+        ≡ flat_map ids_of blocks.old.items ++ ids.now) }
+    ensures none { OnOk result (AllByRecursion none_in (map slips_of blocks.old.items)
+        → AllByRecursion none_in (map slips_of blocks.new.items)) }
+{
+    let slips = Vec::with_capacity(alloc, room)?;
+    blocks.push(Block { ids, slips })?;
+    Ok(())
+}
+
+// Whether the ids of each block rise and have that block's number.
+fn are_in_place(grid: Grid, blocks: &[Block]) -> bool
+    ensures { IsTrue result → AreInPlace grid (map ids_of blocks.now) }
+{
+    for index in 0..blocks.len() {
+        if !is_in_place(grid, index, blocks[index].ids) {
+            return false;
+        }
+    }
+    true
+}
+
+fn is_in_place(grid: Grid, number: usize, ids: &[u64]) -> bool
+    ensures { IsTrue result → IsInPlace grid number ids.now }
+{
+    rise(ids) && grid.has_each(number, ids)
+}
+
+fn rise(ids: &[u64]) -> bool
+    ensures { IsTrue result → IsStrictlyIncreasing ids.now }
+{
+    for index in 1..ids.len() {
+        if ids[index] <= ids[index - 1] {
+            return false;
+        }
+    }
+    true
+}
+
+// What stands in the inboxes of the ids of all blocks, which have no messages yet.
+fn filled(
+    rt: &(impl Threads + Sync),
+    alloc: Global,
+    lists: &[Vec<Letter>],
+    grid: Grid,
+    blocks: &mut Vec<Block>,
+) -> Result<Vec<Inbox>, AllocError>
+    requires place { AreInPlace grid (map ids_of blocks.old.items) }
+    requires none { AllByRecursion none_in (map slips_of blocks.old.items) }
+    ensures { IfOk result (λ inboxes.
+        inboxes.items ≡ inboxes_of (all_of lists.now) (flat_map ids_of blocks.old.items)) }
+{
+    file_all(lists, grid, blocks)?;
+    let made = made_of(rt, alloc, grid, blocks)?;
+    together(alloc, made)
+}
+
+// Files the letters of all lists.
+fn file_all(lists: &[Vec<Letter>], grid: Grid, blocks: &mut Vec<Block>) -> Result<(), AllocError>
+    requires { AllByRecursion none_in (map slips_of blocks.old.items) }
+    ensures ids { OnOk result (map ids_of blocks.new.items ≡ map ids_of blocks.old.items) }
+    ensures filed { OnOk result (AreFiled grid (all_of lists.now) (map slips_of blocks.new.items)) }
+{
+    for list in lists {
+        file_list(list, grid, blocks)?;
+    }
+    Ok(())
+}
+
+fn file_list(letters: &[Letter], grid: Grid, blocks: &mut Vec<Block>) -> Result<(), AllocError>
+    ensures ids { OnOk result (map ids_of blocks.new.items ≡ map ids_of blocks.old.items) }
+    ensures filed { OnOk result ((sent : List AnyLetter)
+        → AreFiled grid sent (map slips_of blocks.old.items)
+        → AreFiled grid (sent ++ letters.now) (map slips_of blocks.new.items)) }
+{
+    for letter in letters {
+        file(letter, grid, blocks)?;
+    }
+    Ok(())
+}
+
+// Puts the letter's message behind the others of the block in which its target would be.
+fn file(letter: &Letter, grid: Grid, blocks: &mut Vec<Block>) -> Result<(), AllocError>
+    ensures ids { OnOk result (map ids_of blocks.new.items ≡ map ids_of blocks.old.items) }
+    ensures filed { OnOk result ((sent : List AnyLetter)
+        → AreFiled grid sent (map slips_of blocks.old.items)
+        → AreFiled grid (sent ++ letter.now ∷ []) (map slips_of blocks.new.items)) }
+{
+    let place = grid.block_for(letter.to);
+    if place >= blocks.len() {
+        return Ok(());
+    }
+    let slip = Slip {
+        to: letter.to,
+        value: letter.value,
+    };
+    push_slip(blocks, place, slip)
+}
+
+fn push_slip(blocks: &mut Vec<Block>, place: usize, slip: Slip) -> Result<(), AllocError>
+    requires { place < length blocks.old.items }
+    ensures ids { OnOk result (map ids_of blocks.new.items ≡ map ids_of blocks.old.items) }
+    ensures pushed { OnOk result (map slips_of blocks.new.items
+        ≡ slice_set (map slips_of blocks.old.items) place
+        (slice_index_or (map slips_of blocks.old.items) place [] ++ slip ∷ [])) }
+{
+    let block = &mut blocks[place];
+    block.slips.push(slip)?;
+    Ok(())
+}
+
+// Fewer blocks are not worth a thread of their own, since parts have threads too.
+const LEAST_BLOCKS: usize = 4;
+
+// What stands in the inboxes of each block's ids.
+fn made_of(
+    rt: &(impl Threads + Sync),
+    alloc: Global,
+    grid: Grid,
+    blocks: &[Block],
+) -> Result<Vec<Vec<Inbox>>, AllocError>
+    ensures { IfOk result (λ made. AllZip IsMade blocks.now made.items) }
+{
+    blocks
+        .par_iter()
+        .with_min_len(LEAST_BLOCKS)
+        .map(
+            |block: &Block| -> Result<Vec<Inbox>, AllocError>
+                ensures { IfOk result (IsMade block.now) }
+            { inboxes_of_block(alloc, grid, block) },
+        )
+        .collect::<Result<Vec<Vec<Inbox>>, AllocError>>(rt, alloc)?
+}
+
+fn inboxes_of_block(alloc: Global, grid: Grid, block: &Block) -> Result<Vec<Inbox>, AllocError>
+    ensures { IfOk result (IsMade block.now) }
+{
+    inboxes_at(alloc, grid, block.ids, &block.slips)
+}
+
+// What stands in the inboxes of these ids, which are sent these messages.
+fn inboxes_at(
+    alloc: Global,
+    grid: Grid,
+    ids: &[u64],
+    slips: &[Slip],
+) -> Result<Vec<Inbox>, AllocError>
+    ensures { IfOk result (λ inboxes. IsStrictlyIncreasing ids.now
+        → inboxes.items ≡ inboxes_of (map letter_of slips.now) ids.now) }
+{
+    let mut inboxes = empty_with_room(alloc, grid, ids, slips)?;
+    for slip in slips {
+        put(slip, grid, ids, &mut inboxes)?;
+    }
+    Ok(inboxes)
+}
+
+// Empty inboxes for these ids, with room for what they are sent.
+fn empty_with_room(
+    alloc: Global,
+    grid: Grid,
+    ids: &[u64],
+    slips: &[Slip],
+) -> Result<Vec<Inbox>, AllocError>
+    ensures { IfOk result (λ inboxes. inboxes.items ≡ replicate (length ids.now) []) }
+{
+    let counts = counts_of(alloc, grid, ids, slips)?;
+    let mut inboxes = Vec::with_capacity(alloc, ids.len())?;
+    for place in 0..ids.len() {
+        let room = counts.get(place).copied().unwrap_or(0);
+        let inbox = Inbox::with_capacity(alloc, room)?;
+        inboxes.push(inbox)?;
+    }
+    Ok(inboxes)
+}
+
+// How many messages go to each of these ids.
+fn counts_of(
+    alloc: Global,
+    grid: Grid,
+    ids: &[u64],
+    slips: &[Slip],
+) -> Result<Vec<usize>, AllocError> {
+    let mut counts = Vec::from_elem(alloc, 0usize, ids.len())?;
+    for slip in slips {
+        if let Some(place) = place_of(ids, grid, slip.to)
+            && let Some(count) = counts.get_mut(place)
+        {
+            *count = count.saturating_add(1);
+        }
+    }
+    Ok(counts)
+}
+
+// Puts a message into the inbox of its id, if there is one.
+fn put(slip: &Slip, grid: Grid, ids: &[u64], inboxes: &mut [Inbox]) -> Result<(), AllocError>
+    requires one_each { length inboxes.old ≡ length ids.now }
+    ensures one_each { length inboxes.new ≡ length ids.now }
+    ensures put { OnOk result ((sent : List AnyLetter) → IsStrictlyIncreasing ids.now
+        → inboxes.old ≡ map (inbox_of sent) ids.now
+        → inboxes.new ≡ map (inbox_of (sent ++ letter_of slip.now ∷ [])) ids.now) }
+{
+    match place_of(ids, grid, slip.to) {
+        Some(place) => {
+            inboxes[place].push(slip.value)?;
+            Ok(())
+        }
+        None => Ok(()),
+    }
+}
+
+// Where the id stands among those that rise.
+fn place_of(ids: &[u64], grid: Grid, id: i64) -> Option<usize>
+    ensures inside { IfSome result (λ place. place < length ids.now) }
+    ensures found { IfSome result (λ place. id ≡ pos (slice_index ids.now place)) }
+    ensures none { IfNone result (IsStrictlyIncreasing ids.now
+        → list_any (λ other. int_eq id (pos other)) ids.now ≡ false) }
+{
+    match u64::try_from(id) {
+        Ok(id) => place_near(ids, grid.steps_between(ids, id), id),
+        Err(_) => None,
+    }
+}
+
+// Where the id stands among those that rise, looked for in the place `near` first.
+fn place_near(ids: &[u64], near: usize, id: u64) -> Option<usize>
+    ensures inside { IfSome result (λ place. place < length ids.now) }
+    ensures found { IfSome result (λ place. id ≡ slice_index ids.now place) }
+    ensures none { IfNone result (IsStrictlyIncreasing ids.now
+        → list_any (λ other. int_eq (pos id) (pos other)) ids.now ≡ false) }
+{
+    if near < ids.len() && ids[near] == id {
+        return Some(near);
+    }
+    ids.binary_search(&id).ok()
+}
+
+// The inboxes of all blocks, one after another.
+fn together(alloc: Global, made: Vec<Vec<Inbox>>) -> Result<Vec<Inbox>, AllocError>
+    ensures { IfOk result (λ inboxes. inboxes.items ≡ all_of made.items) }
+{
+    let mut inboxes = Vec::with_capacity(alloc, made.len().saturating_mul(BLOCK))?;
+    for block in made {
+        let mut others = block;
+        inboxes.append(&mut others)?;
+    }
+    Ok(inboxes)
+}

@@ -1,4 +1,5 @@
 pub mod Aggregating
+pub mod Delivering
 pub mod Firsts
 pub mod Gathering
 pub mod Graphs
@@ -8,6 +9,8 @@ pub mod Ordering
 pub mod PartCalls
 pub mod PartLeft
 pub mod PartStates
+pub mod PlainCalls
+pub mod PlainSteps
 pub mod Rejoining
 pub mod Runs
 pub mod Sending

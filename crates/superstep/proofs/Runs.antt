@@ -1,22 +1,20 @@
 -- A run on one machine, superstep after superstep.
-use Rattle.std.proofs.Common.{◌≡◌, ℕ, suc, ◌+◌, ◌<◌, ◌≤◌, true, false, not, List, [], ◌∷◌, ◌++◌, length, get_or, map, refl, ap, sym, ◌∙◌, subst, arith, inl, inr, rules}
+use Rattle.std.proofs.Common.{◌≡◌, ℕ, ◌<◌, not, List, [], ◌∷◌, length, get_or, map, refl, ap, sym, ◌∙◌, arith}
 use Rattle.std.specs.Prelude.{◌||◌}
 use Rattle.std.specs.List.{list_any, range_with_len}
-use Rattle.std.proofs.Math.Seq.{get_or-append_seam}
-use Rattle.std.proofs.lemmas.Bool.{cases_lt}
-use Rattle.std.proofs.lemmas.List.{get_or-map, length-append, length-map}
+use Rattle.std.proofs.lemmas.List.{get_or-map, length-map}
 use Rattle.std.proofs.lemmas.List.FromFn.{get_or-map-range_with_len, length-map-range_with_len}
 use Rattle.superstep.specs.declared.run.Ended.{Ended}
 use Rattle.superstep.specs.declared.state.VertexState.{VertexState}
 use Rattle.superstep.specs.Snapshot.{Row, Snapshot, is_called, is_quiet, values_of}
 use Rattle.superstep.specs.PlainRun.{state_at}
 use Rattle.superstep.specs.Job.{Meaning, Work}
-use Rattle.superstep.specs.State.{HasIdsOf, IsStateAt, ShowsAt, Standing, bare}
+use Rattle.superstep.specs.State.{IsStateAt, ShowsAt, Standing, bare}
 use Rattle.superstep.specs.Tasks.{DoneStamp, IsRow, SliceStamp, stamps_of}
 use Rattle.superstep.specs.declared.totals.Totals.{Totals}
 use Rattle.superstep.specs.Totals.{IsTotalsOf, SumsAt}
-use Rattle.superstep.specs.Ending.{HasCome, HasStopped, IsEndIn, IsEndOf, WasBusy, states_values}
-use Rattle.superstep.specs.inside.Running.{is_over, slice_of}
+use Rattle.superstep.specs.Ending.{HasStopped, IsEndIn, IsEndOf, states_values}
+use Rattle.superstep.specs.inside.Running.{slice_of}
 use Rattle.superstep.specs.State.{is_due, is_settled}
 
 abbrev stamp_at : ℕ → ℕ → SliceStamp
@@ -35,13 +33,6 @@ parts_of_dones (done ∷ dones) = ap (λ xs. done.part ∷ xs) (parts_of_dones d
 parts_back : (s : ℕ) (parts : List ℕ) → map (λ (one : SliceStamp). one.part) (map (stamp_at s) parts) ≡ parts
 parts_back s [] = refl
 parts_back s (part ∷ parts) = ap (λ xs. part ∷ xs) (parts_back s parts)
-
--- each slice of a superstep is of that superstep
-pub of_superstep : (before after : List SliceStamp) (one : SliceStamp) (s count : ℕ) → before ++ one ∷ after ≡ stamps_of s count → one.superstep ≡ s
-of_superstep before after one s count is =
-    let long : length before + suc (length after) ≡ count = sym (length-append before (one ∷ after)) ∙ ap length is ∙ long_stamps count s in
-    ap (λ (x : SliceStamp). x.superstep) (sym (get_or-append_seam before one after one) ∙ ap (λ xs. get_or xs (length before) one) is)
-    ∙ at_stamp count s (length before) one (omega (arith, long))
 
 -- what comes back of the slices of a superstep is one for each part
 pub is_row : (count s : ℕ) (dones : List DoneStamp) → map slice_of dones ≡ stamps_of s count → IsRow count s dones
@@ -75,32 +66,9 @@ settled work state meaning at =
     ap (λ (vertices : List VertexState). not (list_any is_due vertices)) (at meaning).vertices
     ∙ ap not (settled_rows (state_at meaning.outcomes meaning.graph state.superstep).rows)
 
--- the run comes from a state in which something is to be called to the next
-pub comes_on : (work : Work) (state next : Standing) → HasCome work state → state.superstep < work.settings.limit → is_settled state ≡ false
-    → IsStateAt work (suc state.superstep) next → HasIdsOf work next → next.superstep ≡ suc state.superstep → HasCome work next
-comes_on work state next come early due at has_ids is = record {
-  at = subst (λ n. IsStateAt work n next) (sym is) at;
-  has_ids = has_ids;
-  within = omega (arith, is, early);
-  busy = subst (λ n. WasBusy work n) (sym is) (λ meaning t before. elim (cases_lt t state.superstep) [
-    | inl below ↦ come.busy meaning t below
-    | inr past ↦
-        let same : t ≡ state.superstep = omega arith in
-        ap (λ n. is_quiet (state_at meaning.outcomes meaning.graph n)) same ∙ sym (settled work state meaning come.at) ∙ due
-  ]);
-}
-
 values_shown : (rows : List Row) → states_values (map bare rows) ≡ map (λ (row : Row). (row.id, row.value)) rows
 values_shown [] = refl
 values_shown (row ∷ rows) = ap (λ xs. (row.id, row.value) ∷ xs) (values_shown rows)
-
--- a state that is not over has something to call, and comes before the limit
-pub not_over : (limit : ℕ) (state : Standing) → is_over limit state ≡ false → (is_settled state ≡ false) × (state.superstep < limit)
-not_over limit state is = search rules
-
--- one that is over has nothing to call, or has come to the limit
-pub over : (limit : ℕ) (state : Standing) → is_over limit state ≡ true → state.superstep ≤ limit → is_settled state ≡ false → state.superstep ≡ limit
-over limit state is within due = search rules
 
 -- where the run stops, it has what the job ends with
 pub has_ended : (work : Work) (state : Standing) (ended : Ended) → IsEndIn state ended → HasStopped work state → IsEndOf work ended

@@ -2,6 +2,7 @@
 
 ghost use Rattle.std.specs.Prelude.{◌≡◌, ◌<◌, ◌++◌, ◌∷◌, [], suc, true, List, length, map, vec_items, IfOk, OnOk};
 ghost use Rattle.std.specs.List.{sum_by};
+ghost use Rattle.superstep.specs.Job.{Meaning};
 ghost use Rattle.superstep.specs.State.{HasIdsOf, IsStateAt};
 ghost use Rattle.superstep.specs.Superstep.{dropped_by, inbox_of};
 ghost use Rattle.superstep.specs.Tasks.{DoneStamp, IsRow, Left as AnyLeft, outcomes_in};
@@ -40,12 +41,15 @@ pub fn barrier<J: Origin>(
     requires early { totals.superstep < job.now.settings.limit }
     requires totals { AreTotals totals }
     requires at { J.honest ≡ true → AreTotalsOf J.work totals }
+    // There is the plain run: the graph, and one function that says what each call comes to.
+    ensures meaning { Meaning job.now }
     ensures next { IfOk result (λ state. J.honest ≡ true
         → IsStateAt J.work (suc totals.superstep) state) }
     ensures superstep { IfOk result (λ state. state.superstep ≡ suc totals.superstep) }
     ensures since { IfOk result (λ state. state.since ≡ totals.since) }
     ensures ids { IfOk result (HasIdsOf job.now) }
 {
+    job.has_meaning();
     let Gathered {
         vertices,
         letters,

@@ -3,7 +3,7 @@
 ghost use Rattle.std.specs.Prelude.{◌≡◌, ◌<◌, None, length, map, vec_items, IfOk, IfErr};
 ghost use Rattle.graph.specs.Entry.{ids, parts_of, vertex_id};
 ghost use Rattle.graph.specs.Parts.{part_entries};
-ghost use Rattle.superstep.specs.Job.{HasGraph, IsCount, IsGraphOf};
+ghost use Rattle.superstep.specs.Job.{HasGraph, IsCount, IsGraphOf, Meaning};
 ghost use Rattle.superstep.specs.Settings.{Refuses, first_bad};
 ghost use Rattle.superstep.specs.declared.fault.JobFault.TheVariants.{OutOfMemory};
 ghost use Rattle.superstep.specs.declared.fault.Place.TheVariants.{Open};
@@ -13,6 +13,7 @@ use crate::fault::{JobFault, Place};
 use crate::settings::Settings;
 use bounded_profile::Verified;
 use graph::{Graph, Part, Vertex, split};
+use interp::calls_are_a_function;
 use std::alloc::{AllocError, Global};
 use std::marker::Model;
 
@@ -131,6 +132,15 @@ impl Job {
         ensures { IsCount self.now result }
     {
         self.kept.count
+    }
+
+    // There is the plain run of the job: its graph, and one function that says what the calls of its module come to.
+    pub(crate) fn has_meaning(&self)
+        ensures { Meaning self.now }
+    {
+        calls_are_a_function();
+        self.settings();
+        let _module = self.verified().module();
     }
 
     // The graph's parts, each with its vertices by rising id.

@@ -70,8 +70,8 @@ fn letter_from(id: u64, seq: u64, send: (i64, i64)) -> Letter
     }
 }
 
-// Gives numbers to slots, in order (Pregel 2010, 3.3).
-fn give_all(slots: &mut [i64; 8], contributions: &[(u32, i64)])
+/// Gives numbers to slots, in order (Pregel 2010, 3.3).
+pub fn give_all(slots: &mut [i64; 8], contributions: &[(u32, i64)])
     ensures { slots.new ≡ fold give slots.old contributions.now }
 {
     for given in contributions {

@@ -229,13 +229,13 @@ pub fn run_task<J: Origin>(
     })
 }
 
-// What all calls of a part are given alike.
+// What all calls of a superstep are given alike.
 #[derive(Clone, Copy)]
-struct Shared<'a> {
-    verified: &'a Verified,
-    superstep: u32,
-    count: u32,
-    aggregated: [i64; 8],
+pub(crate) struct Shared<'a> {
+    pub verified: &'a Verified,
+    pub superstep: u32,
+    pub count: u32,
+    pub aggregated: [i64; 8],
 }
 
 // The calls of a part's vertices, one after another, and what they leave. Entries have their edges.

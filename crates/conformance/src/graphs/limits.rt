@@ -1,4 +1,5 @@
-//! How large a graph may be: `2 vertices, 5 edges` prints how many the graph of such a text has, or why there is none.
+//! How large a graph may be: `2 vertices, 5 edges` prints how many the graph of such a text has, or why there is none. Behind
+//! `, vertex 0 again on line 2` that line declares vertex 0 in the place of its own.
 
 use anyhow::Result;
 use conformance_cases::show_cases;
@@ -12,13 +13,16 @@ pub fn show(rt: &(impl Files + Print + AllocGlobal)) -> Result<()> {
 }
 
 fn answer(alloc: Global, case: &str) -> Result<String> {
-    let (vertices, edges) = counts_in(case)?;
-    let text = text_of(alloc, vertices, edges)?;
+    let (counts, again) = case
+        .split_once(", vertex 0 again on line ")
+        .unwrap_or((case, "1"));
+    let (vertices, edges) = counts_in(counts)?;
+    let text = text_of(alloc, vertices, edges, again.parse()?)?;
     Ok(told(alloc, &text)?)
 }
 
-fn counts_in(case: &str) -> Result<(u64, u64), ParseIntError> {
-    let (vertices, edges) = case.split_once(", ").unwrap_or((case, ""));
+fn counts_in(counts: &str) -> Result<(u64, u64), ParseIntError> {
+    let (vertices, edges) = counts.split_once(", ").unwrap_or((counts, ""));
     Ok((
         count_before(vertices, " vertices")?,
         count_before(edges, " edges")?,
@@ -29,10 +33,11 @@ fn count_before(text: &str, unit: &str) -> Result<u64, ParseIntError> {
     text.strip_suffix(unit).unwrap_or(text).parse()
 }
 
-// So many vertices from 0 on, and so many edges from 0 to itself.
-fn text_of(alloc: Global, vertices: u64, edges: u64) -> Result<String, AllocError> {
+// So many vertices from 0 on, of which the one on that line is 0 again, and so many edges from 0 to itself.
+fn text_of(alloc: Global, vertices: u64, edges: u64, again: u64) -> Result<String, AllocError> {
     let mut text = String::new(alloc);
-    for id in 0..vertices {
+    for line in 0..vertices {
+        let id = if line + 1 == again { 0 } else { line };
         writeln!(text, "v {id} 0")?;
     }
     for _ in 0..edges {

@@ -5,3 +5,4 @@ pub mod Sound
 pub mod Found
 pub mod Again
 pub mod Lengths
+pub mod InMemory

@@ -7,6 +7,11 @@ use Rattle.checkpoint.specs.declared.keep.KeepFault.TheVariants.{Device}
 abbrev pub Only : List ℕ → (List ℕ → Type 0) → Type 0
 Only bytes may_load = (other : List ℕ) → may_load other → other ≡ bytes
 
+-- once something was saved, it may load no two things
+abbrev pub LoadsNothingElse : {K : Type 0} → (K → Option ℕ) → (K → List ℕ → Type 0) → Type 0
+LoadsNothingElse {K} saved may_load =
+    (keep : K) (s : ℕ) → saved keep ≡ Some s → (one other : List ℕ) → may_load keep one → may_load keep other → one ≡ other
+
 -- after a failed save the last good one is what it was, or none where it had the same superstep
 abbrev pub IsKeptOrNone : ℕ → Option ℕ → Option ℕ → Type 0
 IsKeptOrNone superstep before after = (after ≡ before) ⊎ ((before ≡ Some superstep) × (after ≡ None))

@@ -44,6 +44,8 @@ pub trait Keep {
         ensures saved { OnOk result (saved self.new ≡ Some superstep) }
         ensures bytes { honest self.old ≡ true
             → OnOk result (Only bytes.now (may_load self.new)) }
+        // What was saved may be loaded.
+        ensures held { OnOk result (may_load self.new bytes.now) }
         ensures kept { OnErr result (IsKeptOrNone superstep (saved self.old) (saved self.new)) }
         ensures kept_bytes { OnErr result ((other : List ℕ)
             → may_load self.new other → may_load self.old other) }

@@ -3,6 +3,8 @@
 ghost use Rattle.std.specs.Prelude.{◌≡◌, ◌+◌, ◌*◌, ℕ, List, Ok, length};
 ghost use Rattle.std.specs.List.{sum_by};
 ghost use Rattle.checkpoint.specs.Checkpoint.{Fits, IsCheckpointOf, checkpoint_bytes, older_bytes};
+ghost use Rattle.checkpoint.specs.Keep.{LoadsNothingElse};
+ghost use Rattle.checkpoint.specs.Memory.{IsHeld, superstep_in};
 ghost use Rattle.checkpoint.specs.Reading.{state_of};
 ghost use Rattle.superstep.specs.State.{IsState, Standing};
 
@@ -30,4 +32,9 @@ pub fn a_checkpoint_is_so_long()
     ensures older { (state : Standing) → length state.aggregates ≡ 8
         → length (older_bytes state)
         ≡ 144 + sum_by (λ vertex. 25 + 8 * length vertex.inbox) state.vertices }
+{}
+
+/// A Keep in memory loads nothing else than what was saved.
+pub fn a_memory_keep_loads_nothing_else()
+    ensures { LoadsNothingElse superstep_in IsHeld }
 {}

@@ -1,6 +1,7 @@
 -- What a Keep has of a book, from event to event.
 use Rattle.std.proofs.Common.{◌≡◌, ℕ, suc, ◌+◌, ◌<◌, List, Bool, true, false, cond, Option, Some, None, refl, sym, ap, ◌∙◌, subst, arith, inl, inr}
 use Rattle.std.specs.Prelude.{◌⊎◌, ◌&&◌, not, nat_lt}
+use Rattle.checkpoint.specs.Checkpoint.{checkpoint_bytes}
 use Rattle.checkpoint.specs.Keep.{HasFailed, IsKeptOrNone}
 use Rattle.superstep.specs.declared.fault.JobFault.TheVariants.{OutOfMemory}
 use Rattle.superstep.specs.declared.fault.Place.TheVariants.{Slice}
@@ -10,7 +11,7 @@ use Rattle.rollback.specs.declared.ending.Told.{Told}
 use Rattle.rollback.specs.declared.ending.Told.TheVariants.{Failed, Good, NoMemory}
 use Rattle.rollback.specs.Machine.{Machine, count_set, ended_by, is_running, is_saved_now, joined, saved_or_first, welcomed}
 use Rattle.rollback.specs.Events.{after_load, after_save, loading, saving, slicing}
-use Rattle.rollback.specs.Keeping.{IsFullStateAt, IsLoadTold, IsSaveTold, IsSavedOrLeft, KeepsFor, MayLoadOther}
+use Rattle.rollback.specs.Keeping.{IsFullStateAt, IsLoadTold, IsSaveTold, IsSavedOrLeft, KeepsFor, LoadsNoMore, MayLoadAfter, MayLoadMade, MayLoadOther}
 
 pub keeps_same : (work : Work) (trusted honest : Bool) (kept : Option ℕ) (may_load : List ℕ → Type 0) (m m' : Machine) → m'.saved ≡ m.saved → KeepsFor work trusted honest kept may_load m → KeepsFor work trusted honest kept may_load m'
 keeps_same work trusted honest kept may_load m m' e k = record { trusts = k.trusts; saved = λ s is. k.saved s (sym e ∙ is); bytes = λ t s is. k.bytes t s (sym e ∙ is) }
@@ -88,6 +89,18 @@ keeps_after work trusted m state h h' k k' ml ml' f f' NoMemory at has same past
 abbrev IsSavedNow : Machine → Option ℕ → Option ℕ → Type 0
 IsSavedNow m kept kept' = ((m.saved ≡ Some m.superstep) × (kept' ≡ Some m.superstep)) ⊎ IsKeptOrNone m.superstep kept kept'
 
+-- it may load no more than before, or this superstep's state was saved, and it may load that
+abbrev MayLoadNow : Work → Machine → Machine → (ml ml' : List ℕ → Type 0) → Type 0
+MayLoadNow work m m' ml ml' =
+    (LoadsNoMore ml ml' × (m'.saved ≡ m.saved)) ⊎ ((m'.saved ≡ Some m'.superstep) × MayLoadMade work m'.superstep ml')
+
+made : (work : Work) (state : Standing) (s : ℕ) (h h' : Bool) (k k' : Option ℕ) (ml ml' : List ℕ → Type 0) (f f' : ℕ) → HasIdsOf work state → state.superstep ≡ s → IsSaveTold state h h' k k' ml ml' f f' Good → MayLoadMade work s ml'
+made work state s h h' k k' ml ml' f f' has same t = record {
+  bytes = checkpoint_bytes state;
+  may = (t.held refl).0;
+  made = record { state = state; written = refl; spelled = (t.held refl).1; fits = record { superstep = same; ids = has } };
+}
+
 -- what a closed superstep leaves, where m has come, and c says whether a save is due
 pub record Saves (work : Work) (trusted : Bool) (m m' : Machine) (h h' : Bool) (k k' : Option ℕ) (ml ml' : List ℕ → Type 0) (f f' : ℕ) : Type 0 where
   pub keeps : KeepsFor work trusted h' k' ml' m'
@@ -95,6 +108,7 @@ pub record Saves (work : Work) (trusted : Bool) (m m' : Machine) (h h' : Bool) (
   pub restarts : m'.restarts ≡ m.restarts
   pub superstep : m'.superstep ≡ m.superstep
   pub left : IsSavedNow m' k k'
+  pub loads : MayLoadNow work m m' ml ml'
 
 saves_told : (work : Work) (trusted : Bool) (m : Machine) (state : Standing) (h h' : Bool) (k k' : Option ℕ) (ml ml' : List ℕ → Type 0) (f f' : ℕ) (told : Told) → (trusted ≡ true → IsFullStateAt work state.superstep state) → HasIdsOf work state → state.superstep ≡ m.superstep → saved_or_first m.saved < state.superstep → IsSaveTold state h h' k k' ml ml' f f' told → KeepsFor work trusted h k ml m → Saves work trusted m (after_save told m) h h' k k' ml ml' f f'
 saves_told work trusted m state h h' k k' ml ml' f f' Good at has same past s old = record {
@@ -103,6 +117,7 @@ saves_told work trusted m state h h' k k' ml ml' f f' Good at has same past s ol
   restarts = refl;
   superstep = refl;
   left = inl (refl, s.saved_is refl ∙ ap Some same);
+  loads = inr (refl, made work state m.superstep h h' k k' ml ml' f f' has same s);
 }
 saves_told work trusted m state h h' k k' ml ml' f f' Failed at has same past s old = record {
   keeps = keeps_after work trusted m state h h' k k' ml ml' f f' Failed at has same past s old;
@@ -110,6 +125,7 @@ saves_told work trusted m state h h' k k' ml ml' f f' Failed at has same past s 
   restarts = refl;
   superstep = refl;
   left = inr (subst (λ n. IsKeptOrNone n k k') same (s.left (λ e. cc)));
+  loads = inl (s.left_bytes (λ e. cc), refl);
 }
 saves_told work trusted m state h h' k k' ml ml' f f' NoMemory at has same past s old = record {
   keeps = keeps_after work trusted m state h h' k k' ml ml' f f' NoMemory at has same past s old;
@@ -117,13 +133,14 @@ saves_told work trusted m state h h' k k' ml ml' f f' NoMemory at has same past 
   restarts = refl;
   superstep = refl;
   left = inr (subst (λ n. IsKeptOrNone n k k') same (s.left (λ e. cc)));
+  loads = inl (s.left_bytes (λ e. cc), refl);
 }
 
-saves_if : (work : Work) (trusted : Bool) (m : Machine) (state : Standing) (h h' : Bool) (k k' : Option ℕ) (ml ml' : List ℕ → Type 0) (f f' : ℕ) (told : Told) (c : Bool) → (trusted ≡ true → IsFullStateAt work state.superstep state) → HasIdsOf work state → state.superstep ≡ m.superstep → saved_or_first m.saved < state.superstep → (c ≡ true → IsSaveTold state h h' k k' ml ml' f f' told) → (c ≡ false → KeepsFor work trusted h' k' ml' m × (k' ≡ k)) → KeepsFor work trusted h k ml m → Saves work trusted m (cond c (after_save told m) m) h h' k k' ml ml' f f'
+saves_if : (work : Work) (trusted : Bool) (m : Machine) (state : Standing) (h h' : Bool) (k k' : Option ℕ) (ml ml' : List ℕ → Type 0) (f f' : ℕ) (told : Told) (c : Bool) → (trusted ≡ true → IsFullStateAt work state.superstep state) → HasIdsOf work state → state.superstep ≡ m.superstep → saved_or_first m.saved < state.superstep → (c ≡ true → IsSaveTold state h h' k k' ml ml' f f' told) → (c ≡ false → KeepsFor work trusted h' k' ml' m × (k' ≡ k) × LoadsNoMore ml ml') → KeepsFor work trusted h k ml m → Saves work trusted m (cond c (after_save told m) m) h h' k k' ml ml' f f'
 saves_if work trusted m state h h' k k' ml ml' f f' told true at has same past s other old = saves_told work trusted m state h h' k k' ml ml' f f' told at has same past (s refl) old
-saves_if work trusted m state h h' k k' ml ml' f f' told false at has same past s other old = record { keeps = (other refl).0; missed = inl refl; restarts = refl; superstep = refl; left = inr (inl (other refl).1) }
+saves_if work trusted m state h h' k k' ml ml' f f' told false at has same past s other old = record { keeps = (other refl).0; missed = inl refl; restarts = refl; superstep = refl; left = inr (inl (other refl).1); loads = inl ((other refl).2, refl) }
 
-pub saves : (work : Work) (trusted : Bool) (m : Machine) (state : Standing) (h h' : Bool) (k k' : Option ℕ) (ml ml' : List ℕ → Type 0) (f f' : ℕ) (told : Told) → (trusted ≡ true → IsFullStateAt work state.superstep state) → HasIdsOf work state → state.superstep ≡ m.superstep → saved_or_first m.saved < state.superstep → (is_saved_now m ≡ true → IsSaveTold state h h' k k' ml ml' f f' told) → (is_saved_now m ≡ false → KeepsFor work trusted h' k' ml' m × (k' ≡ k)) → KeepsFor work trusted h k ml m → Saves work trusted m (saving told m) h h' k k' ml ml' f f'
+pub saves : (work : Work) (trusted : Bool) (m : Machine) (state : Standing) (h h' : Bool) (k k' : Option ℕ) (ml ml' : List ℕ → Type 0) (f f' : ℕ) (told : Told) → (trusted ≡ true → IsFullStateAt work state.superstep state) → HasIdsOf work state → state.superstep ≡ m.superstep → saved_or_first m.saved < state.superstep → (is_saved_now m ≡ true → IsSaveTold state h h' k k' ml ml' f f' told) → (is_saved_now m ≡ false → KeepsFor work trusted h' k' ml' m × (k' ≡ k) × LoadsNoMore ml ml') → KeepsFor work trusted h k ml m → Saves work trusted m (saving told m) h h' k k' ml ml' f f'
 saves work trusted m state h h' k k' ml ml' f f' told at has same past s other old = saves_if work trusted m state h h' k k' ml ml' f f' told (is_saved_now m) at has same past s other old
 
 -- numbers that a Keep does not know
@@ -137,6 +154,10 @@ saves_same work trusted m m' m'' h h' k k' ml ml' f f' s e = record {
     | inl x ↦ inl (e.saved ∙ x.0 ∙ ap Some (sym e.superstep), x.1 ∙ ap Some (sym e.superstep))
     | inr x ↦ inr (subst (λ n. IsKeptOrNone n k k') (sym e.superstep) x)
   ];
+  loads = elim s.loads [
+    | inl x ↦ inl (x.0, e.saved ∙ x.1)
+    | inr x ↦ inr (e.saved ∙ x.0 ∙ ap Some (sym e.superstep), subst (λ n. MayLoadMade work n ml') (sym e.superstep) x.1)
+  ];
 }
 
 -- so it is after the superstep before it
@@ -147,7 +168,18 @@ saves_left work trusted before m m' h h' k k' ml ml' f f' next s =
       | inr x ↦ elim x [ inl e ↦ inl e | inr y ↦ inr (next, inr y) ]
     ]
 
+pub saves_loads : (work : Work) (trusted : Bool) (before m m' : Machine) (h h' : Bool) (k k' : Option ℕ) (ml ml' : List ℕ → Type 0) (f f' : ℕ) → m'.superstep ≡ suc before.superstep → m.saved ≡ before.saved → Saves work trusted m m' h h' k k' ml ml' f f' → MayLoadAfter work before m' ml ml'
+saves_loads work trusted before m m' h h' k k' ml ml' f f' next same s =
+    elim s.loads [
+      | inl x ↦ inl (x.0, inl (x.1 ∙ same))
+      | inr x ↦ inr (next, x.0, x.1)
+    ]
+
 -- ---- loads
+
+-- it may load no more than before, and what the book counts as saved is what it was, or nothing
+abbrev MayLoadStill : Machine → Machine → (ml ml' : List ℕ → Type 0) → Type 0
+MayLoadStill m m' ml ml' = LoadsNoMore ml ml' × ((m'.saved ≡ m.saved) ⊎ (m'.saved ≡ None))
 
 loads_keeps : (work : Work) (trusted : Bool) (m m' : Machine) (h h' : Bool) (k k' : Option ℕ) (ml ml' : List ℕ → Type 0) (f f' : ℕ) (asked : Option ℕ) (told : Told) → m'.saved ≡ m.saved → IsLoadTold work h h' k k' ml ml' f f' asked told → KeepsFor work trusted h k ml m → KeepsFor work trusted h' k' ml' m'
 loads_keeps work trusted m m' h h' k k' ml ml' f f' asked told same l old = record {
@@ -162,17 +194,19 @@ pub record Loads (work : Work) (trusted : Bool) (m m' : Machine) (h h' : Bool) (
   pub missed : m'.missed ≡ m.missed
   pub restarts : (m'.restarts ≡ m.restarts) ⊎ (HasFailed f f' ⊎ MayLoadOther work m.saved ml)
   pub left : k' ≡ k
+  pub loads : MayLoadStill m m' ml ml'
 
 loads_if : (work : Work) (trusted : Bool) (m : Machine) (h h' : Bool) (k k' : Option ℕ) (ml ml' : List ℕ → Type 0) (f f' : ℕ) (asked : Option ℕ) (told : Told) → asked ≡ m.saved → IsLoadTold work h h' k k' ml ml' f f' asked told → KeepsFor work trusted h k ml m → Loads work trusted m (loading asked told m) h h' k k' ml ml' f f'
-loads_if work trusted m h h' k k' ml ml' f f' None told e l old = record { keeps = loads_keeps work trusted m m h h' k k' ml ml' f f' None told refl l old; missed = refl; restarts = inl refl; left = l.saved_is }
-loads_if work trusted m h h' k k' ml ml' f f' (Some s) Good e l old = record { keeps = loads_keeps work trusted m m h h' k k' ml ml' f f' (Some s) Good refl l old; missed = refl; restarts = inl refl; left = l.saved_is }
+loads_if work trusted m h h' k k' ml ml' f f' None told e l old = record { keeps = loads_keeps work trusted m m h h' k k' ml ml' f f' None told refl l old; missed = refl; restarts = inl refl; left = l.saved_is; loads = (l.bytes_are, inl refl) }
+loads_if work trusted m h h' k k' ml ml' f f' (Some s) Good e l old = record { keeps = loads_keeps work trusted m m h h' k k' ml ml' f f' (Some s) Good refl l old; missed = refl; restarts = inl refl; left = l.saved_is; loads = (l.bytes_are, inl refl) }
 loads_if work trusted m h h' k k' ml ml' f f' (Some s) Failed e l old = record {
   keeps = record { trusts = λ t. l.honest_is ∙ old.trusts t; saved = λ n x. cc; bytes = λ t n x. absurd (cc) };
   missed = refl;
   restarts = inr (subst (λ a. HasFailed f f' ⊎ MayLoadOther work a ml) e (l.cause refl));
   left = l.saved_is;
+  loads = (l.bytes_are, inr refl);
 }
-loads_if work trusted m h h' k k' ml ml' f f' (Some s) NoMemory e l old = record { keeps = loads_keeps work trusted m (after_load NoMemory m) h h' k k' ml ml' f f' (Some s) NoMemory refl l old; missed = refl; restarts = inl refl; left = l.saved_is }
+loads_if work trusted m h h' k k' ml ml' f f' (Some s) NoMemory e l old = record { keeps = loads_keeps work trusted m (after_load NoMemory m) h h' k k' ml ml' f f' (Some s) NoMemory refl l old; missed = refl; restarts = inl refl; left = l.saved_is; loads = (l.bytes_are, inl refl) }
 
 pub loads : (work : Work) (trusted : Bool) (m m1 : Machine) (h h' : Bool) (k k' : Option ℕ) (ml ml' : List ℕ → Type 0) (f f' : ℕ) (told : Told) → m1.saved ≡ m.saved → m1.missed ≡ m.missed → m1.restarts ≡ m.restarts → IsLoadTold work h h' k k' ml ml' f f' m1.saved told → KeepsFor work trusted h k ml m → Loads work trusted m (loading m1.saved told m1) h h' k k' ml ml' f f'
 loads work trusted m m1 h h' k k' ml ml' f f' told saved missed restarts l old =
@@ -181,6 +215,7 @@ loads work trusted m m1 h h' k k' ml ml' f f' told saved missed restarts l old =
       keeps = x.keeps;
       missed = x.missed ∙ missed;
       left = x.left;
+      loads = (x.loads.0, elim x.loads.1 [ inl y ↦ inl (y ∙ saved) | inr y ↦ inr y ]);
       restarts = elim x.restarts [ inl y ↦ inl (y ∙ restarts) | inr y ↦ inr (subst (λ a. HasFailed f f' ⊎ MayLoadOther work a ml) saved y) ];
     }
 
@@ -190,4 +225,5 @@ loads_same work trusted m m' m'' h h' k k' ml ml' f f' s e = record {
   missed = e.missed ∙ s.missed;
   restarts = elim s.restarts [ inl x ↦ inl (e.restarts ∙ x) | inr x ↦ inr x ];
   left = s.left;
+  loads = (s.loads.0, elim s.loads.1 [ inl x ↦ inl (e.saved ∙ x) | inr x ↦ inr (e.saved ∙ x) ]);
 }

@@ -1,10 +1,10 @@
 -- A whole run, from step to step.
 use Rattle.std.proofs.Common.{◌≡◌, ℕ, suc, ◌+◌, ◌<◌, ◌≤◌, ◌++◌, List, [], ◌∷◌, length, get_or, take, drop, Bool, true, false, Option, Some, None, refl, sym, ap, ◌∙◌, subst, arith, add-one, replicate, inl, inr}
-use Rattle.std.specs.Prelude.{Result, Ok, Err, option_map, nat_lt}
+use Rattle.std.specs.Prelude.{Result, Ok, Err, IfOk, option_map, nat_lt}
 use Rattle.std.proofs.lemmas.List.{length-map, map-set, take_more_set}
 use Rattle.std.proofs.Math.Seq.{take-append_seam, take-suc}
 use Rattle.std.proofs.Math.ListN.{set, get_or-map}
-use Rattle.checkpoint.specs.Keep.{HasFailed}
+use Rattle.checkpoint.specs.Keep.{HasFailed, LoadsNothingElse}
 use Rattle.superstep.specs.declared.fault.JobFault.{JobFault}
 use Rattle.superstep.specs.declared.fault.JobFault.TheVariants.{OutOfMemory}
 use Rattle.superstep.specs.declared.fault.Place.TheVariants.{Report as Reporting}
@@ -24,26 +24,42 @@ use Rattle.rollback.specs.declared.report.Report.{Report}
 use Rattle.rollback.specs.declared.simulation.Outcome.{Outcome}
 use Rattle.rollback.specs.declared.simulation.Outcome.TheVariants.{Ended as Over, Open}
 use Rattle.rollback.specs.declared.simulation.Trace.{Trace}
-use Rattle.rollback.specs.Keeping.{IsCaused, KeepsFor, MayLoadOther}
+use Rattle.rollback.specs.Keeping.{IsCaused, IsKeptStep, IsMadeAt, KeepsFor, MayLoadOther}
 use Rattle.rollback.specs.Machine.{Machine, hand, handed, has_answer, is_free, is_running, opened, task_of}
 use Rattle.rollback.specs.Events.{Heard, Stamp, accepted, reply_of}
 use Rattle.rollback.specs.Events.Stamp.{JoinedBy, LostBy, Ticked}
 use Rattle.rollback.specs.Book.{IsQuietAt, IsReport, IsStep, done_out, task_out}
-use Rattle.rollback.specs.inside.Simulating.{HasSameCounts, with_none_held}
-use Rattle.rollback.specs.Simulation.{IsCalm, IsEnded, IsOutcomeAt, IsSimStep, IsSimulated, IsTrace, Ran, Sim, Told, brought, does, dropped, emptied, held_or_new, holds, in_time, new_task, said, sim_opened, sim_step, stamps, taken, takes, work_on, worked}
+use Rattle.rollback.proofs.Keeps.{keeps_same}
+use Rattle.rollback.specs.inside.Simulating.{HasSameCounts, LoadsMade, with_none_held}
+use Rattle.rollback.specs.Simulation.{IsCalm, IsCalmAt, IsEnded, IsOutcomeAt, IsSimStep, IsSimulated, IsSimulatedOver, IsTrace, NeverFails, Ran, RanOver, Sim, Told, brought, does, dropped, emptied, held_or_new, holds, in_time, new_task, said, sim_opened, sim_step, stamps, taken, takes, work_on, worked}
 
-pub ran_snoc : (work : AnyWork) (honest : Bool) (xs : List Step) (s : Sim) (answers : List StepAnswer) (mid : Sim) (x : Step) (a : StepAnswer) (after : Sim) → Ran work honest xs s answers mid → IsSimStep work honest x mid after a → Ran work honest (xs ++ (x ∷ [])) s (answers ++ (a ∷ [])) after
-ran_snoc work honest [] s [] mid x a after r step = (after, subst (λ z. IsSimStep work honest x z after a) (sym r) step, refl)
-ran_snoc work honest [] s (b ∷ bs) mid x a after r step = absurd r
-ran_snoc work honest (y ∷ ys) s [] mid x a after r step = absurd r
-ran_snoc work honest (y ∷ ys) s (b ∷ bs) mid x a after r step = (r.0, r.1, ran_snoc work honest ys r.0 bs mid x a after r.2 step)
+-- of any relation of steps and Keeps
+module _ {K : Type 0} (over : Machine → Machine → K → K → Type 0) (work : AnyWork) (honest : Bool) where
+  snoc_none : (s : Sim) (k : K) (mid : Sim) (kmid : K) (x : Step) (a : StepAnswer) (after : Sim) (k' : K) → s ≡ mid → k ≡ kmid → IsSimStep work honest x mid after a → over mid.machine after.machine kmid k' → RanOver over work honest (x ∷ []) s k (a ∷ []) after k'
+  snoc_none s k mid kmid x a after k' e f step kept =
+      let step' : IsSimStep work honest x s after a = subst (λ z. IsSimStep work honest x z after a) (sym e) step in
+      let kept' : over s.machine after.machine kmid k' = subst (λ (z : Sim). over z.machine after.machine kmid k') (sym e) kept in
+      (after, k', step', subst (λ z. over s.machine after.machine z k') (sym f) kept', (refl, refl))
 
--- one more step of the loop
-pub ran_more : (work : AnyWork) (honest : Bool) (steps : List Step) (answers : List StepAnswer) (s mid after : Sim) (i : ℕ) (d : Step) (a : StepAnswer) → i < length steps → length answers ≡ length steps → Ran work honest (take i steps) s (take i answers) mid → IsSimStep work honest (get_or steps i d) mid after a → Ran work honest (take (i + 1) steps) s (take (i + 1) (set answers i a)) after
-ran_more work honest steps answers s mid after i d a lt len r step =
-    let e : take (i + 1) steps ≡ take i steps ++ (get_or steps i d ∷ []) = rw add-one (take-suc steps i d lt) in
-    let f : take (i + 1) (set answers i a) ≡ take i answers ++ (a ∷ []) = take_more_set answers i a (subst (λ n. i < n) (sym len) lt) in
-    rw (e, f) (ran_snoc work honest (take i steps) s (take i answers) mid (get_or steps i d) a after r step)
+  pub ran_snoc : (xs : List Step) (s : Sim) (k : K) (answers : List StepAnswer) (mid : Sim) (kmid : K) (x : Step) (a : StepAnswer) (after : Sim) (k' : K) → RanOver over work honest xs s k answers mid kmid → IsSimStep work honest x mid after a → over mid.machine after.machine kmid k' → RanOver over work honest (xs ++ (x ∷ [])) s k (answers ++ (a ∷ [])) after k'
+  ran_snoc [] s k [] mid kmid x a after k' r step kept = snoc_none s k mid kmid x a after k' r.0 r.1 step kept
+  ran_snoc [] s k (b ∷ bs) mid kmid x a after k' r step kept = absurd r
+  ran_snoc (y ∷ ys) s k [] mid kmid x a after k' r step kept = absurd r
+  ran_snoc (y ∷ ys) s k (b ∷ bs) mid kmid x a after k' r step kept = (r.0, r.1, r.2, r.3, ran_snoc ys r.0 r.1 bs mid kmid x a after k' r.4 step kept)
+
+  -- one more step of the loop
+  pub ran_more : (steps : List Step) (answers : List StepAnswer) (s : Sim) (k : K) (mid : Sim) (kmid : K) (after : Sim) (k' : K) (i : ℕ) (d : Step) (a : StepAnswer) → i < length steps → length answers ≡ length steps → RanOver over work honest (take i steps) s k (take i answers) mid kmid → IsSimStep work honest (get_or steps i d) mid after a → over mid.machine after.machine kmid k' → RanOver over work honest (take (i + 1) steps) s k (take (i + 1) (set answers i a)) after k'
+  ran_more steps answers s k mid kmid after k' i d a lt len r step kept =
+      let e : take (i + 1) steps ≡ take i steps ++ (get_or steps i d ∷ []) = rw add-one (take-suc steps i d lt) in
+      let f : take (i + 1) (set answers i a) ≡ take i answers ++ (a ∷ []) = take_more_set answers i a (subst (λ n. i < n) (sym len) lt) in
+      rw (e, f) (ran_snoc (take i steps) s k (take i answers) mid kmid (get_or steps i d) a after k' r step kept)
+
+  -- the same run, whatever it leaves of the Keep
+  pub ran_of : (xs : List Step) (s : Sim) (k : K) (answers : List StepAnswer) (after : Sim) (k' : K) → RanOver over work honest xs s k answers after k' → Ran work honest xs s answers after
+  ran_of [] s k [] after k' r = r.0
+  ran_of [] s k (b ∷ bs) after k' r = absurd r
+  ran_of (y ∷ ys) s k [] after k' r = absurd r
+  ran_of (y ∷ ys) s k (b ∷ bs) after k' r = (r.0, r.2, ran_of ys r.0 r.1 bs after k' r.4)
 
 -- ---- the tasks that are held
 
@@ -173,23 +189,21 @@ never_more : (f f' : ℕ) → f ≡ 0 → f' ≡ 0 → HasFailed f f' → ⊥
 never_more f f' e e' (inl x) = omega (arith, e, e', x)
 never_more f f' e e' (inr x) = omega (arith, e', x)
 
--- a Keep that is trusted loads nothing else
-never_other : (work : AnyWork) (honest : Bool) (kept : Option ℕ) (may_load : List ℕ → Type 0) (m : Machine) (saved : Option ℕ) → KeepsFor work true honest kept may_load m → m.saved ≡ saved → MayLoadOther work saved may_load → ⊥
-never_other work honest kept may_load m None k e h = h
-never_other work honest kept may_load m (Some s) k e h =
-    let x = k.bytes refl s e h.0 h.1 in
+-- what it loads is no other
+never_other : (work : AnyWork) (may_load : List ℕ → Type 0) (m : Machine) (saved : Option ℕ) → LoadsMade work may_load m → m.saved ≡ saved → MayLoadOther work saved may_load → ⊥
+never_other work may_load m None k e h = h
+never_other work may_load m (Some s) k e h =
+    let x = k s e h.0 h.1 in
     h.2 x.state x.spelled x.fits
 
-pub counts_kept : (work : AnyWork) (trusted honest : Bool) (kept : Option ℕ) (may_load : List ℕ → Type 0) (m m' : Machine) (f f' : ℕ) → trusted ≡ true → f ≡ 0 → f' ≡ 0 → KeepsFor work trusted honest kept may_load m → IsCaused work m m' f f' may_load → HasSameCounts m m'
-counts_kept work trusted honest kept may_load m m' f f' sure e e' k c =
-    let k' = subst (λ t. KeepsFor work t honest kept may_load m) sure k in
-    record {
-      missed = elim c.missed [ inl x ↦ x | inr x ↦ absurd (never_more f f' e e' x) ];
-      restarts = elim c.restarts [
-        | inl x ↦ x
-        | inr x ↦ elim x [ inl y ↦ absurd (never_more f f' e e' y) | inr y ↦ absurd (never_other work honest kept may_load m m.saved k' refl y) ]
-      ];
-    }
+counts_kept : (work : AnyWork) (may_load : List ℕ → Type 0) (m m' : Machine) (f f' : ℕ) → f ≡ 0 → f' ≡ 0 → LoadsMade work may_load m → IsCaused work m m' f f' may_load → HasSameCounts m m'
+counts_kept work may_load m m' f f' e e' k c = record {
+  missed = elim c.missed [ inl x ↦ x | inr x ↦ absurd (never_more f f' e e' x) ];
+  restarts = elim c.restarts [
+    | inl x ↦ x
+    | inr x ↦ elim x [ inl y ↦ absurd (never_more f f' e e' y) | inr y ↦ absurd (never_other work may_load m m.saved k refl y) ]
+  ];
+}
 
 pub counts_same : (m m' : Machine) → m' ≡ m → HasSameCounts m m'
 counts_same m m' e = record { missed = ap (λ (x : Machine). x.missed) e; restarts = ap (λ (x : Machine). x.restarts) e }
@@ -213,15 +227,89 @@ held_none m held workers e = rw e refl
 pub opened_is : (work : AnyWork) (m : Machine) (held : List (Option Out)) (quiet : Bool) → m ≡ opened work.settings quiet → held ≡ replicate work.settings.workers None → record { machine = m; held = held } ≡ sim_opened work quiet
 opened_is work m held quiet e f = rw (e, f) refl
 
-pub run_is : (work : AnyWork) (honest : Bool) (steps : List Step) (quiet : Bool) (s : Sim) (answers : List StepAnswer) (after : Sim) (result : Result Trace JobFault) → IsQuietAt work 0 quiet → s ≡ sim_opened work quiet → Ran work honest steps s answers after → IsTrace work honest after.machine answers result → IsSimulated work honest steps result
-run_is work honest steps quiet s answers after result first e ran trace = inr (inr (record {
-  quiet = quiet;
-  first = first;
-  after = after;
-  answers = answers;
-  ran = subst (λ x. Ran work honest steps x answers after) e ran;
-  trace = trace;
-}))
+-- ---- what steps leave of the Keep
+
+some_of : (a b : ℕ) → Some a ≡ Some b → a ≡ b
+some_of a b e = cc
+
+some_not_none : (a : ℕ) (o : Option ℕ) → o ≡ Some a → o ≡ None → ⊥
+some_not_none a o e f = let z = sym e ∙ f in absurd (cc)
+
+module _ {K : Type 0} (honest : K → Bool) (saved : K → Option ℕ) (may_load : K → List ℕ → Type 0) (faults : K → ℕ) (work : AnyWork) (trusted : Bool) where
+  abbrev Kept : Machine → Machine → K → K → Type 0
+  Kept = IsKeptStep honest saved may_load faults work trusted
+
+  -- the Keep has no part in it
+  pub kept_still : (m m' : Machine) (k : K) → KeepsFor work trusted (honest k) (saved k) (may_load k) m → m'.saved ≡ m.saved → HasSameCounts m m' → Kept m m' k k
+  kept_still m m' k keeps same counts = record {
+    keeps = keeps_same work trusted (honest k) (saved k) (may_load k) m m' same keeps;
+    cause = record { missed = inl counts.missed; restarts = inl counts.restarts };
+    left = inl refl;
+    loads = inl (λ bytes may. may, inl same);
+  }
+
+  -- a task was handed out before
+  pub kept_handed : (m m1 m' : Machine) (w p : ℕ) (k k' : K) → m1 ≡ handed m w p → Kept m1 m' k k' → Kept m m' k k'
+  kept_handed m m1 m' w p k k' e x =
+      let y : Kept (handed m w p) m' k k' = subst (λ z. Kept z m' k k') e x in
+      record { keeps = y.keeps; cause = record { missed = y.cause.missed; restarts = y.cause.restarts }; left = y.left; loads = y.loads }
+
+  loads_made : (m m' : Machine) (k k' : K) → LoadsNothingElse saved may_load → LoadsMade work (may_load k) m → Kept m m' k k' → LoadsMade work (may_load k') m'
+  loads_made m m' k k' one made x = λ s e bytes may. elim x.loads [
+    | inl y ↦ elim y.1 [
+      | inl z ↦ made s (sym z ∙ e) bytes (y.0 bytes may)
+      | inr z ↦ absurd (some_not_none s m'.saved e z)
+    ]
+    | inr y ↦ (let same : m'.superstep ≡ s = some_of m'.superstep s (sym y.1 ∙ e) in
+        let own = y.2 in
+        let is : own.bytes ≡ bytes = one k' s (x.keeps.saved s e) own.bytes bytes own.may may in
+        subst (λ n. IsMadeAt work n bytes) same (subst (λ b. IsMadeAt work m'.superstep b) is own.made))
+  ]
+
+  calm_from : (xs : List Step) (s : Sim) (k : K) (answers : List StepAnswer) (after : Sim) (k' : K) → LoadsNothingElse saved may_load → NeverFails faults → LoadsMade work (may_load k) s.machine → RanOver Kept work trusted xs s k answers after k' → HasSameCounts s.machine after.machine
+  calm_from [] s k [] after k' one never made r = counts_same s.machine after.machine (ap (λ (z : Sim). z.machine) (sym r.0))
+  calm_from [] s k (b ∷ bs) after k' one never made r = absurd r
+  calm_from (y ∷ ys) s k [] after k' one never made r = absurd r
+  calm_from (y ∷ ys) s k (b ∷ bs) after k' one never made r =
+      counts_both s.machine r.0.machine after.machine
+      (counts_kept work (may_load k) s.machine r.0.machine (faults k) (faults r.1) (never k) (never r.1) made r.3.cause)
+      (calm_from ys r.0 r.1 bs after k' one never (loads_made s.machine r.0.machine k r.1 one made r.3) r.4)
+
+  calm_run : (quiet : Bool) (xs : List Step) (k : K) (answers : List StepAnswer) (after : Sim) (k' : K) → LoadsNothingElse saved may_load → NeverFails faults → RanOver Kept work trusted xs (sim_opened work quiet) k answers after k' → IsCalmAt after.machine
+  calm_run quiet xs k answers after k' one never r =
+      let c = calm_from xs (sim_opened work quiet) k answers after k' one never (λ s e. absurd (cc)) r in
+      (c.missed, c.restarts)
+
+  pub run_over : (steps : List Step) (quiet : Bool) (s : Sim) (k : K) (answers : List StepAnswer) (after : Sim) (k' : K) (result : Result Trace JobFault) → IsQuietAt work 0 quiet → s ≡ sim_opened work quiet → RanOver Kept work trusted steps s k answers after k' → KeepsFor work trusted (honest k') (saved k') (may_load k') after.machine → IsTrace work trusted after.machine answers result → IsSimulatedOver honest saved may_load faults work trusted steps k k' result
+  run_over steps quiet s k answers after k' result first e ran keeps trace =
+      let ran' : RanOver Kept work trusted steps (sim_opened work quiet) k answers after k' = subst (λ x. RanOver Kept work trusted steps x k answers after k') e ran in
+      inr (inr (record {
+        quiet = quiet;
+        first = first;
+        after = after;
+        answers = answers;
+        ran = ran';
+        keeps = keeps;
+        calm = λ one never. calm_run quiet steps k answers after k' one never ran';
+        trace = trace;
+      }))
+
+  -- without what it leaves of the Keep
+  pub simulated_of : (steps : List Step) (k k' : K) (result : Result Trace JobFault) → IsSimulatedOver honest saved may_load faults work trusted steps k k' result → IsSimulated work trusted steps result
+  simulated_of steps k k' result x = elim x [
+    | inl none ↦ inl none.0
+    | inr y ↦ elim y [
+      | inl none ↦ inr (inl none.0)
+      | inr run ↦ inr (inr (record {
+        quiet = run.quiet;
+        first = run.first;
+        after = run.after;
+        answers = run.answers;
+        ran = ran_of Kept work trusted steps (sim_opened work run.quiet) k run.answers run.after k' run.ran;
+        trace = run.trace;
+      }))
+    ]
+  ]
 
 -- ---- calm ends
 
@@ -236,8 +324,18 @@ calm_at work honest m Finished outcome e f h = calm_ended work honest m outcome 
 calm_at work honest m Limit outcome e f h = calm_ended work honest m outcome e f h
 calm_at work honest m (Fault fault) outcome e f h = absurd (cc)
 
-pub calm_is : (work : AnyWork) (honest : Bool) (m : Machine) (outcome : Outcome) → m.missed ≡ 0 → m.restarts ≡ 0 → IsOutcomeAt work honest m m.ending (Ok outcome) → IsCalm outcome
+calm_is : (work : AnyWork) (honest : Bool) (m : Machine) (outcome : Outcome) → m.missed ≡ 0 → m.restarts ≡ 0 → IsOutcomeAt work honest m m.ending (Ok outcome) → IsCalm outcome
 calm_is work honest m outcome e f h = calm_at work honest m m.ending outcome e f h
+
+pub calm_over : {K : Type 0} (honest : K → Bool) (saved : K → Option ℕ) (may_load : K → List ℕ → Type 0) (faults : K → ℕ) (work : AnyWork) (trusted : Bool) (steps : List Step) (k k' : K) (result : Result Trace JobFault) → LoadsNothingElse saved may_load → NeverFails faults → IsSimulatedOver honest saved may_load faults work trusted steps k k' result → IfOk result (λ (trace : Trace). IsCalm trace.outcome)
+calm_over honest saved may_load faults work trusted steps k k' (Err fault) one never x = tt
+calm_over honest saved may_load faults work trusted steps k k' (Ok trace) one never x = elim x [
+  | inl none ↦ (let e = none.0 in absurd (cc))
+  | inr y ↦ elim y [
+    | inl none ↦ (let e = none.0 in absurd (cc))
+    | inr run ↦ (let calm = run.calm one never in calm_is work trusted run.after.machine trace.outcome calm.0 calm.1 run.trace.1)
+  ]
+]
 
 -- ---- where the steps lead
 

@@ -66,6 +66,7 @@ heeded_steady work trusted next before after h k ml f reply s same keeps = recor
   keeps = keeps_same work trusted h k ml before after same.saved keeps;
   cause = record { missed = inl same.missed; restarts = inl same.restarts };
   left = inl refl;
+  loads = inl (λ bytes may. may, inl same.saved);
 }
 
 -- a result is charged, and then heeded
@@ -79,6 +80,7 @@ charged_heeded work honest m mc after w units task h h' k k' ml ml' f f' reply n
       keeps = y.keeps;
       cause = record { missed = y.cause.missed; restarts = y.cause.restarts };
       left = y.left;
+      loads = y.loads;
     }
 
 -- a result that is taken, and with which all parts are done
@@ -93,6 +95,7 @@ counted_heeded work honest m mf after w task h h' k k' ml ml' f f' reply yes' is
       keeps = y.keeps;
       cause = record { missed = y.cause.missed; restarts = y.cause.restarts };
       left = y.left;
+      loads = y.loads;
     }
 
 -- ---- a loss
@@ -171,4 +174,5 @@ loss_heeded work trusted m m0 m1 m2 next told sliced h h' k k' ml ml' f f' reply
       keeps = y.keeps;
       cause = record { missed = inl y.missed; restarts = y.restarts };
       left = inl y.left;
+      loads = inl y.loads;
     }

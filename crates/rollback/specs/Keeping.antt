@@ -26,6 +26,13 @@ pub record IsSavedAt (work : Work) (s : ℕ) (bytes : List ℕ) : Type 0 where
   pub fits : FitsAt work s state
   pub full : IsFullStateAt work s state
 
+-- the checkpoint of a state that fits there
+pub record IsMadeAt (work : Work) (s : ℕ) (bytes : List ℕ) : Type 0 where
+  pub state : Standing
+  pub written : bytes ≡ checkpoint_bytes state
+  pub spelled : IsCheckpointOf bytes state
+  pub fits : FitsAt work s state
+
 -- the checkpoint of no such state
 abbrev pub IsOther : Work → ℕ → List ℕ → Type 0
 IsOther work s bytes = (state : Standing) → IsCheckpointOf bytes state → FitsAt work s state → ⊥
@@ -42,6 +49,7 @@ pub record IsSaveTold (state : Standing) (honest honest' : Bool) (kept kept' : O
   pub honest_is : honest' ≡ honest
   pub saved_is : told ≡ Good → kept' ≡ Some state.superstep
   pub bytes_are : told ≡ Good → honest ≡ true → (bytes : List ℕ) → may_load' bytes → (bytes ≡ checkpoint_bytes state) × IsCheckpointOf bytes state
+  pub held : told ≡ Good → may_load' (checkpoint_bytes state) × IsCheckpointOf (checkpoint_bytes state) state
   pub left : (told ≡ Good → ⊥) → IsKeptOrNone state.superstep kept kept'
   pub left_bytes : (told ≡ Good → ⊥) → (bytes : List ℕ) → may_load' bytes → may_load bytes
   pub cause : told ≡ Failed → HasFailed faults faults'
@@ -76,3 +84,28 @@ IsSavedOrNone after kept kept' =
 abbrev pub IsSavedOrLeft : Machine → Machine → Option ℕ → Option ℕ → Type 0
 IsSavedOrLeft before after kept kept' =
     (kept' ≡ kept) ⊎ ((after.superstep ≡ suc before.superstep) × IsSavedOrNone after kept kept')
+
+-- it may load no more than it might before
+abbrev pub LoadsNoMore : (may_load may_load' : List ℕ → Type 0) → Type 0
+LoadsNoMore may_load may_load' = (bytes : List ℕ) → may_load' bytes → may_load bytes
+
+-- it may load the checkpoint of a state that fits there
+pub record MayLoadMade (work : Work) (s : ℕ) (may_load : List ℕ → Type 0) : Type 0 where
+  pub bytes : List ℕ
+  pub may : may_load bytes
+  pub made : IsMadeAt work s bytes
+
+-- It may load no more than before, and the book counts what it counted before as saved, or nothing. But where a superstep was
+-- closed the new state may have been saved: then it may load that, and the book counts it.
+abbrev pub MayLoadAfter : Work → Machine → Machine → (may_load may_load' : List ℕ → Type 0) → Type 0
+MayLoadAfter work before after may_load may_load' =
+    (LoadsNoMore may_load may_load' × ((after.saved ≡ before.saved) ⊎ (after.saved ≡ None)))
+    ⊎ ((after.superstep ≡ suc before.superstep) × (after.saved ≡ Some after.superstep) × MayLoadMade work after.superstep may_load')
+
+-- What an event, or a step with one, leaves of the Keep: it has what the book counts as saved, and it is as a save or a load
+-- left it, or as it was.
+pub record IsKeptStep {K : Type 0} (honest : K → Bool) (saved : K → Option ℕ) (may_load : K → List ℕ → Type 0) (faults : K → ℕ) (work : Work) (trusted : Bool) (before after : Machine) (keep keep' : K) : Type 0 where
+  pub keeps : KeepsFor work trusted (honest keep') (saved keep') (may_load keep') after
+  pub cause : IsCaused work before after (faults keep) (faults keep') (may_load keep)
+  pub left : IsSavedOrLeft before after (saved keep) (saved keep')
+  pub loads : MayLoadAfter work before after (may_load keep) (may_load keep')

@@ -6,6 +6,7 @@ use Rattle.bounded_profile.specs.declared.facts.Facts.{Facts}
 use Rattle.bounded_profile.specs.Facts.{AreFactsAt}
 use Rattle.bounded_profile.specs.Profile.{HasCompute}
 use Rattle.interp.specs.Bounded.{Ends, items_of}
+use Rattle.checkpoint.specs.Keep.{LoadsNothingElse}
 use Rattle.superstep.specs.declared.fault.JobFault.{JobFault}
 use Rattle.superstep.specs.declared.fault.JobFault.TheVariants.{OutOfMemory}
 use Rattle.superstep.specs.declared.fault.Place.TheVariants.{Call, Open, Report as Reporting}
@@ -27,6 +28,7 @@ use Rattle.rollback.specs.Machine.{Machine, hand, handed, is_free, is_running, o
 use Rattle.rollback.specs.Events.{Heard, Stamp, accepted, reply_of}
 use Rattle.rollback.specs.Events.Stamp.{DoneBy, FailedBy, JoinedBy, LostBy, Ticked}
 use Rattle.rollback.specs.Book.{IsQuietAt, IsReport, is_gone, task_out}
+use Rattle.rollback.specs.Keeping.{IsKeptStep, KeepsFor}
 
 -- the machine, and the task that each worker holds
 pub record Sim : Type 0 where
@@ -131,6 +133,15 @@ Ran work honest [] s (a ∷ answers) after = ⊥
 Ran work honest (x ∷ xs) s [] after = ⊥
 Ran work honest (x ∷ xs) s (a ∷ answers) after = (next : Sim) × IsSimStep work honest x s next a × Ran work honest xs next answers after
 
+-- The same, where each step and what it leaves of the Keep are as this relation says: of the machine before and after it, and
+-- of the Keep before and after it.
+abbrev pub RanOver : {K : Type 0} → (Machine → Machine → K → K → Type 0) → Work → Bool → List Step → Sim → K → List StepAnswer → Sim → K → Type 0
+RanOver over work honest [] s keep [] after keep' = (s ≡ after) × (keep ≡ keep')
+RanOver over work honest [] s keep (a ∷ answers) after keep' = ⊥
+RanOver over work honest (x ∷ xs) s keep [] after keep' = ⊥
+RanOver {K} over work honest (x ∷ xs) s keep (a ∷ answers) after keep' =
+    (next : Sim) × (mid : K) × IsSimStep work honest x s next a × over s.machine next.machine keep mid × RanOver over work honest xs next mid answers after keep'
+
 -- the tasks that are held, in numbers
 abbrev pub stamps : List (Option TaskStamp) → List (Option Out)
 stamps held = map (option_map task_out) held
@@ -193,3 +204,26 @@ NeverFails {K} faults = (keep : K) → faults keep ≡ 0
 abbrev pub IsCalm : Outcome → Type 0
 IsCalm (outcome.Open s) = Unit {0}
 IsCalm (outcome.Ended report) = (report.missed ≡ 0) × (report.restarts ≡ 0)
+
+-- the same of the machine, which may go on
+abbrev pub IsCalmAt : Machine → Type 0
+IsCalmAt m = (m.missed ≡ 0) × (m.restarts ≡ 0)
+
+-- ---- whole runs over a Keep
+
+-- The run, and what each of its steps leaves of the Keep. In the end the Keep has what the machine counts as saved.
+pub record IsRunOver {K : Type 0} (honest : K → Bool) (saved : K → Option ℕ) (may_load : K → List ℕ → Type 0) (faults : K → ℕ) (work : Work) (trusted : Bool) (steps : List Step) (keep keep' : K) (result : Result Trace JobFault) : Type 0 where
+  pub quiet : Bool
+  pub first : IsQuietAt work 0 quiet
+  pub after : Sim
+  pub answers : List StepAnswer
+  pub ran : RanOver (IsKeptStep honest saved may_load faults work trusted) work trusted steps (sim_opened work quiet) keep answers after keep'
+  pub keeps : KeepsFor work trusted (honest keep') (saved keep') (may_load keep') after.machine
+  pub calm : LoadsNothingElse saved may_load → NeverFails faults → IsCalmAt after.machine
+  pub trace : IsTrace work trusted after.machine answers result
+
+-- or there was no memory to begin with, and the Keep is what it was
+abbrev pub IsSimulatedOver : {K : Type 0} → (K → Bool) → (K → Option ℕ) → (K → List ℕ → Type 0) → (K → ℕ) → Work → Bool → List Step → K → K → Result Trace JobFault → Type 0
+IsSimulatedOver honest saved may_load faults work trusted steps keep keep' result =
+    ((result ≡ Err (OutOfMemory Open)) × (keep' ≡ keep))
+    ⊎ (((result ≡ Err (OutOfMemory Call)) × (keep' ≡ keep)) ⊎ IsRunOver honest saved may_load faults work trusted steps keep keep' result)

@@ -16,7 +16,7 @@ ghost use Rattle.rollback.specs.Book.{
 };
 ghost use Rattle.rollback.specs.Events.{accepted, done_step, heeded, shut};
 ghost use Rattle.rollback.specs.Events.Stamp.{DoneBy, FailedBy, JoinedBy, LostBy, Ticked};
-ghost use Rattle.rollback.specs.Keeping.{IsCaused, IsSavedOrLeft, KeepsFor};
+ghost use Rattle.rollback.specs.Keeping.{IsCaused, IsSavedOrLeft, KeepsFor, MayLoadAfter};
 ghost use Rattle.rollback.specs.Machine.{all_set, hand, handed, has_answer, is_running, opened, task_of};
 ghost use Rattle.rollback.specs.inside.Heeding.{IsHeeded, IsSteady};
 
@@ -388,6 +388,8 @@ impl<'a, J: Origin> Book<'a, J> {
         ensures cause { IsCaused J.work self.old self.new (K.faults keep.old) (K.faults keep.new)
             (K.may_load keep.old) }
         ensures left { IsSavedOrLeft self.old self.new (K.saved keep.old) (K.saved keep.new) }
+        ensures loads { MayLoadAfter J.work self.old self.new (K.may_load keep.old)
+            (K.may_load keep.new) }
     {
         if !self.control.is_running() {
             return self.note_after_end(event);

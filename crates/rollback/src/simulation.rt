@@ -1,14 +1,15 @@
 //! Whole runs over lists of steps.
 
-ghost use Rattle.std.specs.Prelude.{◌≡◌, ◌<◌, ℕ, length, replicate, slice_index_or, slice_set, Bool, true, None, Result, option_map, IfOk};
+ghost use Rattle.std.specs.Prelude.{◌≡◌, ◌<◌, ℕ, length, replicate, slice_index_or, slice_set, Bool, true, None, Result, option_map, IfErr, IfOk};
 ghost use Rattle.superstep.specs.Job.{Meaning};
 ghost use Rattle.superstep.specs.Tasks.{AreUnitsAt};
 ghost use Rattle.superstep.specs.declared.fault.JobFault.{JobFault};
 ghost use Rattle.rollback.specs.Book.{IsStep, stamp_of, task_out};
 ghost use Rattle.rollback.specs.Events.{accepted};
-ghost use Rattle.rollback.specs.Keeping.{KeepsFor};
+ghost use Rattle.checkpoint.specs.Keep.{LoadsNothingElse};
+ghost use Rattle.rollback.specs.Keeping.{IsKeptStep, KeepsFor};
 ghost use Rattle.rollback.specs.Machine.{is_free};
-ghost use Rattle.rollback.specs.Simulation.{CallsStayWithin, IsCalm, IsOutcomeAt, IsSimStep, IsSimulated, NeverFails, Ran, brought, emptied, said, sim_of, stamps};
+ghost use Rattle.rollback.specs.Simulation.{CallsStayWithin, IsCalm, IsOutcomeAt, IsSimStep, IsSimulated, IsSimulatedOver, NeverFails, RanOver, brought, emptied, said, sim_of, stamps};
 ghost use Rattle.rollback.specs.inside.Simulating.{AreAnswersTo, HasSameCounts, IsRunnerOf};
 ghost use Rattle.rollback.specs.declared.event.Answer.{Answer};
 ghost use Rattle.rollback.specs.declared.simulation.Step.TheVariants.{Join, Take, Work};
@@ -106,7 +107,8 @@ fn tell<J: Origin, K: Keep, R: Threads + Sync + Files + AllocGlobal>(
         book.old book.new reply }
     ensures keep { KeepsFor J.work J.honest (K.honest keep.new) (K.saved keep.new)
         (K.may_load keep.new) book.new }
-    ensures counts { J.honest ≡ true → NeverFails K.faults → HasSameCounts book.old book.new }
+    ensures kept { IsKeptStep K.honest K.saved K.may_load K.faults J.work J.honest
+        book.old book.new keep.old keep.new }
 {
     match book.accept(rt, event, keep) {
         Ok(answer) => StepAnswer::Said(answer),
@@ -183,7 +185,8 @@ fn work<J: Origin, K: Keep, R: Threads + Sync + Files + AllocGlobal>(
         (sim_of book.new held.new) result }
     ensures keep { KeepsFor J.work J.honest (K.honest keep.new) (K.saved keep.new)
         (K.may_load keep.new) book.new }
-    ensures counts { J.honest ≡ true → NeverFails K.faults → HasSameCounts book.old book.new }
+    ensures kept { IsKeptStep K.honest K.saved K.may_load K.faults J.work J.honest
+        book.old book.new keep.old keep.new }
 {
     if let Some(task) = let_go(held, worker as usize) {
         let event = done_by(runner, worker, task);
@@ -215,7 +218,8 @@ fn join<J: Origin, K: Keep, R: Threads + Sync + Files + AllocGlobal>(
         (sim_of book.new held.new) result }
     ensures keep { KeepsFor J.work J.honest (K.honest keep.new) (K.saved keep.new)
         (K.may_load keep.new) book.new }
-    ensures counts { J.honest ≡ true → NeverFails K.faults → HasSameCounts book.old book.new }
+    ensures kept { IsKeptStep K.honest K.saved K.may_load K.faults J.work J.honest
+        book.old book.new keep.old keep.new }
 {
     empty_if_gone(book, held, worker);
     tell(rt, book, keep, Event::Joined(worker))
@@ -237,7 +241,8 @@ fn step_of<J: Origin, K: Keep, R: Threads + Sync + Files + AllocGlobal>(
         (sim_of book.new held.new) result }
     ensures keep { KeepsFor J.work J.honest (K.honest keep.new) (K.saved keep.new)
         (K.may_load keep.new) book.new }
-    ensures counts { J.honest ≡ true → NeverFails K.faults → HasSameCounts book.old book.new }
+    ensures kept { IsKeptStep K.honest K.saved K.may_load K.faults J.work J.honest
+        book.old book.new keep.old keep.new }
 {
     match step {
         Step::Take(worker) => take(book, held, worker),
@@ -262,11 +267,11 @@ fn run<J: Origin, K: Keep, R: Threads + Sync + Files + AllocGlobal>(
     requires runner { IsRunnerOf J.work runner.old }
     requires keep { KeepsFor J.work J.honest (K.honest keep.old) (K.saved keep.old)
         (K.may_load keep.old) book.old }
-    ensures ran { Ran J.work J.honest steps.now (sim_of book.old held.old) answers.new
-        (sim_of book.new held.new) }
+    ensures ran { RanOver (IsKeptStep K.honest K.saved K.may_load K.faults J.work J.honest)
+        J.work J.honest steps.now (sim_of book.old held.old) keep.old answers.new
+        (sim_of book.new held.new) keep.new }
     ensures keep { KeepsFor J.work J.honest (K.honest keep.new) (K.saved keep.new)
         (K.may_load keep.new) book.new }
-    ensures counts { J.honest ≡ true → NeverFails K.faults → HasSameCounts book.old book.new }
 {
     for i in 0..steps.len() {
         answers[i] = step_of(rt, runner, book, held, keep, steps[i]);
@@ -311,10 +316,11 @@ fn answers_to<J: Origin, K: Keep, R: Threads + Sync + Files + AllocGlobal>(
     requires keep { KeepsFor J.work J.honest (K.honest keep.old) (K.saved keep.old)
         (K.may_load keep.old) book.old }
     ensures answered { IfOk result (λ answers.
-        AreAnswersTo J.work J.honest steps.now book.old book.new answers.items) }
+        AreAnswersTo (IsKeptStep K.honest K.saved K.may_load K.faults J.work J.honest)
+        J.work J.honest steps.now book.old book.new keep.old keep.new answers.items) }
     ensures keep { KeepsFor J.work J.honest (K.honest keep.new) (K.saved keep.new)
         (K.may_load keep.new) book.new }
-    ensures counts { J.honest ≡ true → NeverFails K.faults → HasSameCounts book.old book.new }
+    ensures untouched { IfErr result (λ _. keep.new ≡ keep.old) }
 {
     let mut held = empty_hands(runner.alloc, runner.job.settings().workers)?;
     let mut answers = vec![in runner.alloc; StepAnswer::Idle; steps.len()]?;
@@ -331,9 +337,8 @@ fn simulate_by<J: Origin, K: Keep, R: Threads + Sync + Files + AllocGlobal>(
 ) -> Result<Trace, JobFault>
     requires runner { IsRunnerOf J.work runner.old }
     requires honest { J.honest ≡ K.honest keep.old }
-    ensures simulated { IsSimulated J.work J.honest steps.now result }
-    ensures calm { J.honest ≡ true → NeverFails K.faults
-        → IfOk result (λ trace. IsCalm trace.outcome) }
+    ensures kept { IsSimulatedOver K.honest K.saved K.may_load K.faults J.work J.honest
+        steps.now keep.old keep.new result }
     ensures trust { J.honest ≡ true → K.honest keep.new ≡ true }
 {
     let mut book = Book::<J>::open(runner.alloc, runner.job)?;
@@ -354,9 +359,8 @@ fn simulate_as<J: Origin, K: Keep, R: Threads + Sync + Files + AllocGlobal>(
 ) -> Result<Trace, JobFault>
     requires job { J.work ≡ job.now }
     requires honest { J.honest ≡ K.honest keep.old }
-    ensures simulated { IsSimulated J.work J.honest steps.now result }
-    ensures calm { J.honest ≡ true → NeverFails K.faults
-        → IfOk result (λ trace. IsCalm trace.outcome) }
+    ensures kept { IsSimulatedOver K.honest K.saved K.may_load K.faults J.work J.honest
+        steps.now keep.old keep.new result }
     ensures trust { J.honest ≡ true → K.honest keep.new ≡ true }
 {
     let Ok(scratch) = Scratch::new(alloc, job.verified()) else {
@@ -399,8 +403,12 @@ pub fn simulate<K: Keep, R: Threads + Sync + Files + AllocGlobal>(
     // The answers and the outcome are the control machine's, and where the Keep is honest a job that has ended has the
     // plain run's answer.
     ensures simulated { IsSimulated job.now (K.honest keep.old) steps.now result }
-    // With an honest Keep whose device never fails nothing is missed, and all never begins anew.
-    ensures calm { K.honest keep.old ≡ true → NeverFails K.faults
+    // Each step leaves the Keep as its save or its load left it, or as it was.
+    ensures kept { IsSimulatedOver K.honest K.saved K.may_load K.faults job.now
+        (K.honest keep.old) steps.now keep.old keep.new result }
+    // With a Keep that loads nothing else than what was saved, and whose device never fails, nothing is missed, and all never
+    // begins anew.
+    ensures calm { LoadsNothingElse K.saved K.may_load → NeverFails K.faults
         → IfOk result (λ trace. IsCalm trace.outcome) }
     // An honest Keep stays honest.
     ensures trust { K.honest keep.old ≡ true → K.honest keep.new ≡ true }

@@ -5,7 +5,7 @@ use Rattle.superstep.specs.Job.{Work}
 use Rattle.rollback.specs.declared.event.Answer.{Answer}
 use Rattle.rollback.specs.Machine.{Machine}
 use Rattle.rollback.specs.Events.{Heard}
-use Rattle.rollback.specs.Keeping.{IsCaused, IsSavedOrLeft, KeepsFor}
+use Rattle.rollback.specs.Keeping.{IsCaused, IsSavedOrLeft, KeepsFor, MayLoadAfter}
 use Rattle.rollback.specs.Book.{IsStep}
 
 pub record IsHeeded (work : Work) (trusted : Bool) (next : Heard → Machine × Answer) (before after : Machine) (honest honest' : Bool) (kept kept' : Option ℕ) (may_load may_load' : List ℕ → Type 0) (faults faults' : ℕ) (reply : Result Answer JobFault) : Type 0 where
@@ -13,6 +13,7 @@ pub record IsHeeded (work : Work) (trusted : Bool) (next : Heard → Machine × 
   pub keeps : KeepsFor work trusted honest' kept' may_load' after
   pub cause : IsCaused work before after faults faults' may_load
   pub left : IsSavedOrLeft before after kept kept'
+  pub loads : MayLoadAfter work before after may_load may_load'
 
 -- the Keep has no part in it
 pub record IsSteady (before after : Machine) : Type 0 where

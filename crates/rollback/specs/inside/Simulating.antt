@@ -1,12 +1,13 @@
 -- What simulating goes by, and what a step leaves of the counts.
-use Rattle.std.specs.Prelude.{◌≡◌, ℕ, Bool, List, Option, None, replicate}
+use Rattle.std.specs.Prelude.{◌≡◌, ℕ, Bool, List, Option, Some, None, replicate}
 use Rattle.superstep.specs.Job.{Work}
 use Rattle.rollback.specs.declared.control.Out.{Out}
 use Rattle.rollback.specs.declared.simulation.Step.{Step}
 use Rattle.rollback.specs.declared.simulation.StepAnswer.{StepAnswer}
 use Rattle.rollback.specs.declared.simulation.TaskRunner.{TaskRunner}
 use Rattle.rollback.specs.Machine.{Machine}
-use Rattle.rollback.specs.Simulation.{Ran, Sim}
+use Rattle.rollback.specs.Keeping.{IsMadeAt}
+use Rattle.rollback.specs.Simulation.{RanOver, Sim}
 
 -- it does the tasks of this job
 pub record IsRunnerOf (work : Work) (runner : TaskRunner) : Type 0 where
@@ -23,6 +24,10 @@ abbrev pub with_none_held : ℕ → Machine → Sim
 with_none_held workers m = record { machine = m; held = replicate workers None }
 
 -- these are the answers to the steps, before which no worker held a task
-pub record AreAnswersTo (work : Work) (honest : Bool) (steps : List Step) (before after : Machine) (answers : List StepAnswer) : Type 0 where
+pub record AreAnswersTo {K : Type 0} (over : Machine → Machine → K → K → Type 0) (work : Work) (honest : Bool) (steps : List Step) (before after : Machine) (keep keep' : K) (answers : List StepAnswer) : Type 0 where
   pub held : List (Option Out)
-  pub ran : Ran work honest steps (with_none_held work.settings.workers before) answers (record { machine = after; held = held })
+  pub ran : RanOver over work honest steps (with_none_held work.settings.workers before) keep answers (record { machine = after; held = held }) keep'
+
+-- where it may load nothing else, it loads a state that fits there
+abbrev pub LoadsMade : Work → (List ℕ → Type 0) → Machine → Type 0
+LoadsMade work may_load m = (s : ℕ) → m.saved ≡ Some s → (bytes : List ℕ) → may_load bytes → IsMadeAt work s bytes

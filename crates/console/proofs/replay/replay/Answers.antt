@@ -1,4 +1,5 @@
 use Rattle.std.proofs.Common.{refl}
+use Rattle.checkpoint.proofs.InMemory.{loads_nothing_else}
 use Rattle.console.proofs.Replays.{is_run}
 use Rattle.console.proofs.replay.replay.Goals as goal
 
@@ -6,6 +7,6 @@ pub returns-in-Ok-clause-told : goal.returns-in-Ok-clause-told
 returns-in-Ok-clause-told g c = record {
   trace = c.in-Ok.trace;
   ran = is_run c.args.job.now c.args.steps.now c.in-Ok.trace c.in-Ok.ensures.simulated;
-  calm = c.in-Ok.ensures.calm refl (λ keep. refl);
+  calm = c.in-Ok.ensures.calm loads_nothing_else (λ keep. refl);
   printed = c.in_ok-text-in-Ok.ensures;
 }

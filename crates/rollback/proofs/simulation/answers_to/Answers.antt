@@ -1,6 +1,7 @@
 use Rattle.std.proofs.Common.{◌≡◌, replicate, sym, subst, rules, ◌∙◌, ap, None}
 use Rattle.superstep.specs.Job.{Work}
-use Rattle.rollback.specs.Simulation.{Ran, Sim, sim_of, stamps}
+use Rattle.rollback.specs.Keeping.{IsKeptStep}
+use Rattle.rollback.specs.Simulation.{RanOver, Sim, sim_of, stamps}
 use Rattle.rollback.specs.inside.Simulating.{with_none_held}
 use Rattle.rollback.proofs.Simulated
 use Rattle.rollback.proofs.simulation.answers_to.Goals as goal
@@ -15,5 +16,5 @@ returns-clause-answered g c =
     record {
       held = stamps c.run.new.held;
       ran = rw (Simulated.overwritten c.in_ok-answers.answers.len c.run.new.answers c.in_ok-answers.answers.items (c.run.auto.answers ∙ c.deref_mut-2.ensures.len))
-          (subst (λ (s : Sim). Ran j h c.args.steps.now s c.run.new.answers (sim_of c.run.new.book c.run.new.held)) own c.run.ensures.ran);
+          (subst (λ (s : Sim). RanOver (IsKeptStep g.K.Keep.honest g.K.Keep.saved g.K.Keep.may_load g.K.Keep.faults g.J.Origin.work g.J.Origin.honest) j h c.args.steps.now s c.args.keep.now c.run.new.answers (sim_of c.run.new.book c.run.new.held) c.run.new.keep) own c.run.ensures.ran);
     }

@@ -1,5 +1,6 @@
 use Rattle.std.proofs.Common.{◌∙◌}
 use Rattle.std.proofs.lemmas.List.{length-set}
+use Rattle.rollback.specs.Keeping.{IsKeptStep}
 use Rattle.rollback.specs.Simulation.{sim_of}
 use Rattle.rollback.proofs.Simulated
 use Rattle.rollback.proofs.simulation.run.Goals as goal
@@ -10,8 +11,7 @@ loop-i-preserved g c =
     let s = sim_of c.args.book.now c.args.held.now in
     record {
       same = length-set l.answers l.i c.step_of.result ∙ l.invariant.same;
-      ran = Simulated.ran_more g.J.Origin.work g.J.Origin.honest c.args.steps.now l.answers s (sim_of l.book l.held) (sim_of c.step_of.new.book c.step_of.new.held) l.i _ c.step_of.result c.loop-i-test.true l.invariant.same l.invariant.ran c.step_of.ensures.step;
+      ran = Simulated.ran_more (IsKeptStep g.K.Keep.honest g.K.Keep.saved g.K.Keep.may_load g.K.Keep.faults g.J.Origin.work g.J.Origin.honest) g.J.Origin.work g.J.Origin.honest c.args.steps.now l.answers s c.args.keep.now (sim_of l.book l.held) l.keep (sim_of c.step_of.new.book c.step_of.new.held) c.step_of.new.keep l.i _ c.step_of.result c.loop-i-test.true l.invariant.same l.invariant.ran c.step_of.ensures.step c.step_of.ensures.kept;
       runner = c.step_of.ensures.runner;
       keep = c.step_of.ensures.keep;
-      counts = λ sure never. Simulated.counts_both c.args.book.now l.book c.step_of.new.book (l.invariant.counts sure never) (c.step_of.ensures.counts sure never);
     }

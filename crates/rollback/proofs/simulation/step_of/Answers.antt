@@ -11,3 +11,6 @@ pub returns-in-Tick-clause-step : goal.returns-in-Tick-clause-step
 returns-in-Tick-clause-step g c =
     let t = c.tell-in-Tick.ensures.step in
     rw c.in-Tick.is (Simulated.tick_told g.J.Origin.work g.J.Origin.honest (sim_of c.args.book.now c.args.held.now) c.tell-in-Tick.new.book t.0 c.tell-in-Tick.result t.2 t.1)
+
+pub returns-in-Take-clause-kept : goal.returns-in-Take-clause-kept
+returns-in-Take-clause-kept g c = Simulated.kept_still g.K.Keep.honest g.K.Keep.saved g.K.Keep.may_load g.K.Keep.faults g.J.Origin.work g.J.Origin.honest c.args.book.now c.take.new.book c.args.keep.now c.requires.keep c.take.ensures.saved c.take.ensures.counts

@@ -56,3 +56,19 @@ returns-clause-step g c =
     let t = c.tell-2.ensures.step in
     let task = task_out c.in-Some-next_task.task in
     Simulated.work_new j h w c.in-Some-next_task.task.part s c.next_task.new.self c.tell-2.new.book (stamps c.let_go.new.held) task _ d.0 d.1 t.0 c.tell-2.result none c.let_go.ensures.after (sym c.is_running.ensures ∙ c.if-not-is_running.false) (Simulated.near_held c.let_go.new.held w (search rules)) e.0 e.1 e.2 d.2 d.3 t.2 t.1
+
+pub returns-then-not-is_running-clause-kept : goal.returns-then-not-is_running-clause-kept
+returns-then-not-is_running-clause-kept g c = Simulated.kept_still g.K.Keep.honest g.K.Keep.saved g.K.Keep.may_load g.K.Keep.faults g.J.Origin.work g.J.Origin.honest c.args.book.now c.args.book.now c.args.keep.now c.requires.keep refl (record { missed = refl; restarts = refl })
+
+pub returns-then-worker-held-clause-kept : goal.returns-then-worker-held-clause-kept
+returns-then-worker-held-clause-kept g c = Simulated.kept_still g.K.Keep.honest g.K.Keep.saved g.K.Keep.may_load g.K.Keep.faults g.J.Origin.work g.J.Origin.honest c.args.book.now c.args.book.now c.args.keep.now c.requires.keep refl (record { missed = refl; restarts = refl })
+
+pub returns-in_default-next_task-clause-kept : goal.returns-in_default-next_task-clause-kept
+returns-in_default-next_task-clause-kept g c =
+    let e = c.in_default-next_task.ensures.none refl in
+    rw e.0 (Simulated.kept_still g.K.Keep.honest g.K.Keep.saved g.K.Keep.may_load g.K.Keep.faults g.J.Origin.work g.J.Origin.honest c.args.book.now c.args.book.now c.args.keep.now c.requires.keep refl (record { missed = refl; restarts = refl }))
+
+pub returns-clause-kept : goal.returns-clause-kept
+returns-clause-kept g c =
+    let e = c.in-Some-next_task.ensures.some in
+    Simulated.kept_handed g.K.Keep.honest g.K.Keep.saved g.K.Keep.may_load g.K.Keep.faults g.J.Origin.work g.J.Origin.honest c.args.book.now c.next_task.new.self c.tell-2.new.book c.args.worker c.in-Some-next_task.task.part c.args.keep.now c.tell-2.new.keep e.1 c.tell-2.ensures.kept

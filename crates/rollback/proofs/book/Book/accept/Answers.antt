@@ -21,6 +21,9 @@ returns-in-Done-clause-cause g c = c.heed_done.ensures.cause
 pub returns-in-Done-clause-left : goal.returns-in-Done-clause-left
 returns-in-Done-clause-left g c = c.heed_done.ensures.left
 
+pub returns-in-Done-clause-loads : goal.returns-in-Done-clause-loads
+returns-in-Done-clause-loads g c = c.heed_done.ensures.loads
+
 pub returns-in-Lost-clause-step : goal.returns-in-Lost-clause-step
 returns-in-Lost-clause-step g c =
     let m = c.args.self.now in
@@ -35,6 +38,9 @@ returns-in-Lost-clause-cause g c = c.heed_lost.ensures.cause
 
 pub returns-in-Lost-clause-left : goal.returns-in-Lost-clause-left
 returns-in-Lost-clause-left g c = c.heed_lost.ensures.left
+
+pub returns-in-Lost-clause-loads : goal.returns-in-Lost-clause-loads
+returns-in-Lost-clause-loads g c = c.heed_lost.ensures.loads
 
 pub returns-in-Tick-clause-step : goal.returns-in-Tick-clause-step
 returns-in-Tick-clause-step g c =
@@ -51,6 +57,9 @@ returns-in-Tick-clause-cause g c = c.heed_tick.ensures.cause
 pub returns-in-Tick-clause-left : goal.returns-in-Tick-clause-left
 returns-in-Tick-clause-left g c = c.heed_tick.ensures.left
 
+pub returns-in-Tick-clause-loads : goal.returns-in-Tick-clause-loads
+returns-in-Tick-clause-loads g c = c.heed_tick.ensures.loads
+
 pub returns-in-Failed-clause-step : goal.returns-in-Failed-clause-step
 returns-in-Failed-clause-step g c =
     let m = c.args.self.now in
@@ -65,6 +74,9 @@ returns-in-Failed-clause-cause g c = (heeded_steady g.J.Origin.work g.J.Origin.h
 
 pub returns-in-Failed-clause-left : goal.returns-in-Failed-clause-left
 returns-in-Failed-clause-left g c = (heeded_steady g.J.Origin.work g.J.Origin.honest _ c.args.self.now c.heed_failed.new.self (g.K.Keep.honest c.args.keep.now) (g.K.Keep.saved c.args.keep.now) (g.K.Keep.may_load c.args.keep.now) (g.K.Keep.faults c.args.keep.now) c.heed_failed.result c.heed_failed.ensures.step c.heed_failed.ensures.steady c.requires.keep).left
+
+pub returns-in-Failed-clause-loads : goal.returns-in-Failed-clause-loads
+returns-in-Failed-clause-loads g c = (heeded_steady g.J.Origin.work g.J.Origin.honest _ c.args.self.now c.heed_failed.new.self (g.K.Keep.honest c.args.keep.now) (g.K.Keep.saved c.args.keep.now) (g.K.Keep.may_load c.args.keep.now) (g.K.Keep.faults c.args.keep.now) c.heed_failed.result c.heed_failed.ensures.step c.heed_failed.ensures.steady c.requires.keep).loads
 
 pub returns-in-Joined-clause-step : goal.returns-in-Joined-clause-step
 returns-in-Joined-clause-step g c =
@@ -81,6 +93,9 @@ returns-in-Joined-clause-cause g c = (heeded_steady g.J.Origin.work g.J.Origin.h
 pub returns-in-Joined-clause-left : goal.returns-in-Joined-clause-left
 returns-in-Joined-clause-left g c = (heeded_steady g.J.Origin.work g.J.Origin.honest _ c.args.self.now c.heed_joined.new.self (g.K.Keep.honest c.args.keep.now) (g.K.Keep.saved c.args.keep.now) (g.K.Keep.may_load c.args.keep.now) (g.K.Keep.faults c.args.keep.now) c.heed_joined.result c.heed_joined.ensures.step c.heed_joined.ensures.steady c.requires.keep).left
 
+pub returns-in-Joined-clause-loads : goal.returns-in-Joined-clause-loads
+returns-in-Joined-clause-loads g c = (heeded_steady g.J.Origin.work g.J.Origin.honest _ c.args.self.now c.heed_joined.new.self (g.K.Keep.honest c.args.keep.now) (g.K.Keep.saved c.args.keep.now) (g.K.Keep.may_load c.args.keep.now) (g.K.Keep.faults c.args.keep.now) c.heed_joined.result c.heed_joined.ensures.step c.heed_joined.ensures.steady c.requires.keep).loads
+
 pub returns-then-not-is_running-clause-keep : goal.returns-then-not-is_running-clause-keep
 returns-then-not-is_running-clause-keep g c = (heeded_steady g.J.Origin.work g.J.Origin.honest _ c.args.self.now c.note_after_end.new.self (g.K.Keep.honest c.args.keep.now) (g.K.Keep.saved c.args.keep.now) (g.K.Keep.may_load c.args.keep.now) (g.K.Keep.faults c.args.keep.now) c.note_after_end.result c.note_after_end.ensures.step c.note_after_end.ensures.steady c.requires.keep).keeps
 
@@ -89,3 +104,6 @@ returns-then-not-is_running-clause-cause g c = (heeded_steady g.J.Origin.work g.
 
 pub returns-then-not-is_running-clause-left : goal.returns-then-not-is_running-clause-left
 returns-then-not-is_running-clause-left g c = (heeded_steady g.J.Origin.work g.J.Origin.honest _ c.args.self.now c.note_after_end.new.self (g.K.Keep.honest c.args.keep.now) (g.K.Keep.saved c.args.keep.now) (g.K.Keep.may_load c.args.keep.now) (g.K.Keep.faults c.args.keep.now) c.note_after_end.result c.note_after_end.ensures.step c.note_after_end.ensures.steady c.requires.keep).left
+
+pub returns-then-not-is_running-clause-loads : goal.returns-then-not-is_running-clause-loads
+returns-then-not-is_running-clause-loads g c = (heeded_steady g.J.Origin.work g.J.Origin.honest _ c.args.self.now c.note_after_end.new.self (g.K.Keep.honest c.args.keep.now) (g.K.Keep.saved c.args.keep.now) (g.K.Keep.may_load c.args.keep.now) (g.K.Keep.faults c.args.keep.now) c.note_after_end.result c.note_after_end.ensures.step c.note_after_end.ensures.steady c.requires.keep).loads

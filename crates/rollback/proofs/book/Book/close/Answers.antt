@@ -8,7 +8,7 @@ use Rattle.rollback.specs.Machine.{Machine, all_set, closed, ended_by, is_runnin
 use Rattle.rollback.specs.Events.{advanced, reply_of, saving, slicing}
 use Rattle.rollback.specs.Parts.Spot.{Returned}
 use Rattle.rollback.specs.Book.{IsQuietAt}
-use Rattle.rollback.specs.Keeping.{IsFullStateAt, IsSaveTold, KeepsFor}
+use Rattle.rollback.specs.Keeping.{IsFullStateAt, IsSaveTold, KeepsFor, LoadsNoMore}
 use Rattle.rollback.specs.inside.Book.{AreParts, IsHeld}
 use Rattle.rollback.specs.inside.Holding.{Runs}
 use Rattle.rollback.specs.inside.Rolling.{IsHeldOf, has_room}
@@ -54,6 +54,7 @@ returns-in_default g c =
       keeps = Keeps.keeps_same g.J.Origin.work g.J.Origin.honest (g.K.Keep.honest c.args.keep.now) (g.K.Keep.saved c.args.keep.now) (g.K.Keep.may_load c.args.keep.now) m c.fail.new.self (ap (λ (x : Machine). x.saved) is) c.requires.keep;
       cause = record { missed = inl (ap (λ (x : Machine). x.missed) is); restarts = inl (ap (λ (x : Machine). x.restarts) is) };
       left = inl refl;
+      loads = inl (λ bytes may. may, inl (ap (λ (x : Machine). x.saved) is));
     }
 
 pub hold-requires-clause-at : goal.hold-requires-clause-at
@@ -110,9 +111,9 @@ returns g c =
     let near : state.superstep ≡ mc.superstep = later ∙ sym (add-one m.superstep) in
     let old : KeepsFor work honest (g.K.Keep.honest c.args.keep.now) (g.K.Keep.saved c.args.keep.now) (g.K.Keep.may_load c.args.keep.now) mc = Keeps.keeps_same work honest (g.K.Keep.honest c.args.keep.now) (g.K.Keep.saved c.args.keep.now) (g.K.Keep.may_load c.args.keep.now) m mc refl c.requires.keep in
     let saved = subst (λ y. is_saved_now y ≡ true → IsSaveTold state (g.K.Keep.honest c.args.keep.now) (g.K.Keep.honest c.save_if_due.new.keep) (g.K.Keep.saved c.args.keep.now) (g.K.Keep.saved c.save_if_due.new.keep) (g.K.Keep.may_load c.args.keep.now) (g.K.Keep.may_load c.save_if_due.new.keep) (g.K.Keep.faults c.args.keep.now) (g.K.Keep.faults c.save_if_due.new.keep) told) close c.save_if_due.ensures.told.2 in
-    let other : is_saved_now mc ≡ false → KeepsFor work honest (g.K.Keep.honest c.save_if_due.new.keep) (g.K.Keep.saved c.save_if_due.new.keep) (g.K.Keep.may_load c.save_if_due.new.keep) mc × (g.K.Keep.saved c.save_if_due.new.keep ≡ g.K.Keep.saved c.args.keep.now) = λ none.
+    let other : is_saved_now mc ≡ false → KeepsFor work honest (g.K.Keep.honest c.save_if_due.new.keep) (g.K.Keep.saved c.save_if_due.new.keep) (g.K.Keep.may_load c.save_if_due.new.keep) mc × (g.K.Keep.saved c.save_if_due.new.keep ≡ g.K.Keep.saved c.args.keep.now) × LoadsNoMore (g.K.Keep.may_load c.args.keep.now) (g.K.Keep.may_load c.save_if_due.new.keep) = λ none.
     let same = c.save_if_due.ensures.same (rw close none) in
-    (subst (λ kp. KeepsFor work honest (g.K.Keep.honest kp) (g.K.Keep.saved kp) (g.K.Keep.may_load kp) mc) (sym same) old, ap (λ kp. g.K.Keep.saved kp) same) in
+    (subst (λ kp. KeepsFor work honest (g.K.Keep.honest kp) (g.K.Keep.saved kp) (g.K.Keep.may_load kp) mc) (sym same) old, ap (λ kp. g.K.Keep.saved kp) same, λ bytes. subst (λ kp. g.K.Keep.may_load kp bytes → g.K.Keep.may_load c.args.keep.now bytes) (sym same) (λ may. may)) in
     let has = subst (λ (own : Work). HasIdsOf own state) c.self.invariant.job c.in-Ok.ensures.ids in
     let s = Keeps.saves work honest mc state (g.K.Keep.honest c.args.keep.now) (g.K.Keep.honest c.save_if_due.new.keep) (g.K.Keep.saved c.args.keep.now) (g.K.Keep.saved c.save_if_due.new.keep) (g.K.Keep.may_load c.args.keep.now) (g.K.Keep.may_load c.save_if_due.new.keep) (g.K.Keep.faults c.args.keep.now) (g.K.Keep.faults c.save_if_due.new.keep) told at has near past saved other old in
     let z = Keeps.saves_same work honest mc m1 c.welcome.new.self (g.K.Keep.honest c.args.keep.now) (g.K.Keep.honest c.save_if_due.new.keep) (g.K.Keep.saved c.args.keep.now) (g.K.Keep.saved c.save_if_due.new.keep) (g.K.Keep.may_load c.args.keep.now) (g.K.Keep.may_load c.save_if_due.new.keep) (g.K.Keep.faults c.args.keep.now) (g.K.Keep.faults c.save_if_due.new.keep) s
@@ -127,4 +128,5 @@ returns g c =
       keeps = z.keeps;
       cause = record { missed = z.missed; restarts = inl z.restarts };
       left = Keeps.saves_left work honest m mc c.welcome.new.self (g.K.Keep.honest c.args.keep.now) (g.K.Keep.honest c.save_if_due.new.keep) (g.K.Keep.saved c.args.keep.now) (g.K.Keep.saved c.save_if_due.new.keep) (g.K.Keep.may_load c.args.keep.now) (g.K.Keep.may_load c.save_if_due.new.keep) (g.K.Keep.faults c.args.keep.now) (g.K.Keep.faults c.save_if_due.new.keep) (z.superstep ∙ add-one m.superstep) z;
+      loads = Keeps.saves_loads work honest m mc c.welcome.new.self (g.K.Keep.honest c.args.keep.now) (g.K.Keep.honest c.save_if_due.new.keep) (g.K.Keep.saved c.args.keep.now) (g.K.Keep.saved c.save_if_due.new.keep) (g.K.Keep.may_load c.args.keep.now) (g.K.Keep.may_load c.save_if_due.new.keep) (g.K.Keep.faults c.args.keep.now) (g.K.Keep.faults c.save_if_due.new.keep) (z.superstep ∙ add-one m.superstep) refl z;
     }

@@ -1,11 +1,13 @@
 -- What the calls of a Keep leave.
 use Rattle.std.specs.Prelude.{◌≡◌, ◌<◌, ◌≤◌, ◌⊎◌, ◌^◌, ℕ, suc, List, Option, Some, None, Result, IsErrOf}
+use Rattle.superstep.specs.State.{Standing}
+use Rattle.checkpoint.specs.Checkpoint.{IsCheckpointOf}
 use Rattle.checkpoint.specs.declared.keep.KeepFault.{KeepFault}
 use Rattle.checkpoint.specs.declared.keep.KeepFault.TheVariants.{Device}
 
--- a load answers these bytes and no others
+-- of the bytes that a load may answer, those that are a checkpoint, so that `read` takes them, are these
 abbrev pub Only : List ℕ → (List ℕ → Type 0) → Type 0
-Only bytes may_load = (other : List ℕ) → may_load other → other ≡ bytes
+Only bytes may_load = (other : List ℕ) → may_load other → (state : Standing) → IsCheckpointOf other state → other ≡ bytes
 
 -- once something was saved, it may load no two things
 abbrev pub LoadsNothingElse : {K : Type 0} → (K → Option ℕ) → (K → List ℕ → Type 0) → Type 0

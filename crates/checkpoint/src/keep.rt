@@ -25,7 +25,7 @@ pub trait Keep {
     /// Which bytes a load of it may answer.
     ghost may_load: { Self → List ℕ → Type 0 };
 
-    /// Whether a load answers the bytes that were saved and no others.
+    /// Whether, of the bytes that a load answers, those that `read` accepts are those that were saved.
     ghost honest: { Self → Bool };
 
     /// How often the device has failed, which stops at the greatest number of 64 bits.

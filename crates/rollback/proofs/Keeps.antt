@@ -78,9 +78,10 @@ keeps_after : (work : Work) (trusted : Bool) (m : Machine) (state : Standing) (h
 keeps_after work trusted m state h h' k k' ml ml' f f' Good at has same past s old = record {
   trusts = λ t. s.honest_is ∙ old.trusts t;
   saved = λ n e. s.saved_is refl ∙ ap Some same ∙ e;
-  bytes = λ t n e b may.
+  bytes = λ t n e b may other is.
       let z : state.superstep ≡ n = same ∙ some_is m.superstep n e in
-      record { state = state; written = (s.bytes_are refl (old.trusts t) b may).0; spelled = (s.bytes_are refl (old.trusts t) b may).1; fits = record { superstep = z; ids = has }; full = subst (λ i. IsFullStateAt work i state) z (at t) };
+      let are = s.bytes_are refl (old.trusts t) b may other is in
+      record { state = state; written = are.0; spelled = are.1; fits = record { superstep = z; ids = has }; full = subst (λ i. IsFullStateAt work i state) z (at t) };
 }
 keeps_after work trusted m state h h' k k' ml ml' f f' Failed at has same past s old = keeps_left work trusted m (after_save Failed m) state h h' k k' ml ml' f f' Failed (λ e. cc) past refl s old
 keeps_after work trusted m state h h' k k' ml ml' f f' NoMemory at has same past s old = keeps_left work trusted m (after_save NoMemory m) state h h' k k' ml ml' f f' NoMemory (λ e. cc) past refl s old

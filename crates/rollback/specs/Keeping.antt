@@ -37,18 +37,19 @@ pub record IsMadeAt (work : Work) (s : ℕ) (bytes : List ℕ) : Type 0 where
 abbrev pub IsOther : Work → ℕ → List ℕ → Type 0
 IsOther work s bytes = (state : Standing) → IsCheckpointOf bytes state → FitsAt work s state → ⊥
 
--- A Keep has what the book counts as saved, and where it is trusted, that state's bytes alone.
+-- A Keep has what the book counts as saved. Where it is trusted, the bytes that it may load and that are a checkpoint are that
+-- state's.
 pub record KeepsFor (work : Work) (trusted honest : Bool) (kept : Option ℕ) (may_load : List ℕ → Type 0) (m : Machine) : Type 0 where
   pub trusts : trusted ≡ true → honest ≡ true
   pub saved : (s : ℕ) → m.saved ≡ Some s → kept ≡ Some s
-  pub bytes : trusted ≡ true → (s : ℕ) → m.saved ≡ Some s → (bytes : List ℕ) → may_load bytes → IsSavedAt work s bytes
+  pub bytes : trusted ≡ true → (s : ℕ) → m.saved ≡ Some s → (bytes : List ℕ) → may_load bytes → (state : Standing) → IsCheckpointOf bytes state → IsSavedAt work s bytes
 
 -- ---- how a save went, and what the Keep has then
 
 pub record IsSaveTold (state : Standing) (honest honest' : Bool) (kept kept' : Option ℕ) (may_load may_load' : List ℕ → Type 0) (faults faults' : ℕ) (told : Told) : Type 0 where
   pub honest_is : honest' ≡ honest
   pub saved_is : told ≡ Good → kept' ≡ Some state.superstep
-  pub bytes_are : told ≡ Good → honest ≡ true → (bytes : List ℕ) → may_load' bytes → (bytes ≡ checkpoint_bytes state) × IsCheckpointOf bytes state
+  pub bytes_are : told ≡ Good → honest ≡ true → (bytes : List ℕ) → may_load' bytes → (other : Standing) → IsCheckpointOf bytes other → (bytes ≡ checkpoint_bytes state) × IsCheckpointOf bytes state
   pub held : told ≡ Good → may_load' (checkpoint_bytes state) × IsCheckpointOf (checkpoint_bytes state) state
   pub left : (told ≡ Good → ⊥) → IsKeptOrNone state.superstep kept kept'
   pub left_bytes : (told ≡ Good → ⊥) → (bytes : List ℕ) → may_load' bytes → may_load bytes

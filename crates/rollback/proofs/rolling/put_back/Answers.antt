@@ -28,7 +28,7 @@ hold-requires-clause-at g c = λ sure.
     let state_is = x.state-is in
     let is : x.field-0 ≡ Some x.state = cc in
     let found = found_some x.field-0 x.state _ _ is x.ensures.found in
-    let kept = c.requires.keep.bytes sure s (sym c.in-Some.ensures) found.0 found.1 in
+    let kept = c.requires.keep.bytes sure s (sym c.in-Some.ensures) found.0 found.1 x.state found.2.spelled in
     let same : kept.state ≡ x.state = c.a_checkpoint_is_of_one_state.ensures found.0 kept.state x.state kept.spelled found.2.spelled in
     subst (λ n. IsFullStateAt g.J.Origin.work n x.state) (sym found.2.superstep) (subst (λ z. IsFullStateAt g.J.Origin.work s z) same kept.full)
 

@@ -6,3 +6,4 @@ pub mod Found
 pub mod Again
 pub mod Lengths
 pub mod InMemory
+pub mod Seals

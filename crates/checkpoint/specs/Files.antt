@@ -1,5 +1,6 @@
 -- What a Keep on disk knows.
-use Rattle.std.specs.Prelude.{◌≡◌, ℕ, ◌-◌, List, length, drop, Option, MatchOption, option_map}
+use Rattle.std.specs.Prelude.{◌≡◌, ℕ, ◌-◌, List, length, take, drop, Option, MatchOption, option_map}
+use Rattle.checkpoint.specs.Checkpoint.{digest}
 use Rattle.checkpoint.specs.declared.files.FileKeep.{FileKeep}
 use Rattle.checkpoint.specs.declared.files.Saved.{Saved}
 
@@ -10,6 +11,15 @@ superstep_on keep = option_map (λ saved. saved.superstep) keep.saved
 -- the last 32 bytes, or all where there are fewer: of a checkpoint, the digest
 abbrev pub seal_of : List ℕ → List ℕ
 seal_of bytes = drop (length bytes - 32) bytes
+
+-- what stands before the seal
+abbrev pub content_of : List ℕ → List ℕ
+content_of bytes = take (length bytes - 32) bytes
+
+-- two contents that differ and have one SHA-256
+pub record Collide (one other : List ℕ) : Type 0 where
+  pub differ : one ≡ other → ⊥
+  pub digest_is : digest one ≡ digest other
 
 -- the bytes have the length and the seal of what was saved
 pub record IsSealedAs (saved : Saved) (bytes : List ℕ) : Type 0 where

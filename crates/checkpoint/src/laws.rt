@@ -1,8 +1,9 @@
 //! What checkpoints keep, whoever reads and writes them.
 
-ghost use Rattle.std.specs.Prelude.{◌≡◌, ◌+◌, ◌*◌, ℕ, List, Ok, length};
+ghost use Rattle.std.specs.Prelude.{◌≡◌, ◌+◌, ◌*◌, ◌⊎◌, ℕ, List, Ok, length};
 ghost use Rattle.std.specs.List.{sum_by};
 ghost use Rattle.checkpoint.specs.Checkpoint.{Fits, IsCheckpointOf, checkpoint_bytes, older_bytes};
+ghost use Rattle.checkpoint.specs.Files.{Collide, content_of, seal_of};
 ghost use Rattle.checkpoint.specs.Keep.{LoadsNothingElse};
 ghost use Rattle.checkpoint.specs.Memory.{IsHeld, superstep_in};
 ghost use Rattle.checkpoint.specs.Reading.{state_of};
@@ -37,4 +38,12 @@ pub fn a_checkpoint_is_so_long()
 /// A Keep in memory loads nothing else than what was saved.
 pub fn a_memory_keep_loads_nothing_else()
     ensures { LoadsNothingElse superstep_in IsHeld }
+{}
+
+/// A checkpoint with the seal of another is that one, or their contents differ and have one SHA-256. So what a Keep on disk
+/// loads and `read` accepts is what was saved, unless SHA-256 fails.
+pub fn a_seal_is_of_one_checkpoint()
+    ensures { (bytes other : List ℕ) (one two : Standing) → IsCheckpointOf bytes one
+        → IsCheckpointOf other two → seal_of other ≡ seal_of bytes
+        → (other ≡ bytes) ⊎ Collide (content_of other) (content_of bytes) }
 {}

@@ -18,7 +18,7 @@ pub use files::FileKeep;
 pub use keep::{Keep, KeepFault};
 pub use laws::{
     a_checkpoint_is_of_one_state, a_checkpoint_is_so_long, a_memory_keep_loads_nothing_else,
-    what_is_written_is_read,
+    a_seal_is_of_one_checkpoint, what_is_written_is_read,
 };
 pub use memory::MemoryKeep;
 pub use reading::read;

@@ -83,8 +83,8 @@ impl FileKeep {
     fn write<R: Files>(&self, rt: &R, superstep: u32, bytes: &[u8]) -> io::Result<()> {
         let part = self.path(superstep, "part")?;
         let whole = self.path(superstep, "bin")?;
-        let file = File::create(rt, part.as_str())?;
-        replace(rt, file, part.as_str(), whole.as_str(), bytes)
+        let mut file = File::create(rt, part.as_str())?;
+        replace(rt, &mut file, part.as_str(), whole.as_str(), bytes)
     }
 
     // The bytes of the last good save, as the file has them.

@@ -1,5 +1,8 @@
 //! Files that are replaced as a whole.
 
+ghost use Rattle.std.specs.Prelude.{OnOk};
+ghost use Rattle.std.specs.Io.KnownBytes.{Appends};
+
 use std::fs::{File, OpenFile};
 use std::io::Write;
 use std::rt::Files;
@@ -12,11 +15,15 @@ use std::{fs, io};
 /// Where it fails, `part` is removed. The folder is synced too, as far as its file system can do that.
 pub fn replace<R: Files>(
     rt: &R,
-    file: R::File,
+    file: &mut R::File,
     part: &str,
     whole: &str,
     bytes: &[u8],
-) -> io::Result<()> {
+) -> io::Result<()>
+    // All of the bytes were written to the file, and no others.
+    ensures written { OnOk result
+        (Appends (R.File.contents file.old) (R.File.contents file.new) bytes.now) }
+{
     let replaced = fill_and_rename(rt, file, part, whole, bytes);
     match replaced {
         Ok(()) => {
@@ -31,12 +38,14 @@ pub fn replace<R: Files>(
 
 fn fill_and_rename<R: Files>(
     rt: &R,
-    file: R::File,
+    file: &mut R::File,
     part: &str,
     whole: &str,
     bytes: &[u8],
-) -> io::Result<()> {
-    let mut file = file;
+) -> io::Result<()>
+    ensures { OnOk result
+        (Appends (R.File.contents file.old) (R.File.contents file.new) bytes.now) }
+{
     file.write_all(bytes)?;
     file.sync_all()?;
     fs::rename(rt, part, whole)

@@ -61,7 +61,7 @@ fn write_beside<R: Files + AllocGlobal>(
     permissions: Option<Permissions>,
     bytes: &[u8],
 ) -> io::Result<()> {
-    let (file, part) = match make_part(rt, path) {
+    let (mut file, part) = match make_part(rt, path) {
         Ok(made) => made,
         Err(error) => {
             return match error.kind() {
@@ -75,7 +75,7 @@ fn write_beside<R: Files + AllocGlobal>(
     if let Some(permissions) = permissions {
         let _ = file.set_permissions(permissions);
     }
-    replace(rt, file, part.as_str(), path, bytes)
+    replace(rt, &mut file, part.as_str(), path, bytes)
 }
 
 // So many names are tried for a part.

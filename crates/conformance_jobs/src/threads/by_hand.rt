@@ -1,6 +1,7 @@
 //! A job whose coordinator and worker are led by hand, one call after another in one thread.
 
-ghost use Rattle.std.specs.Prelude.{◌≡◌};
+ghost use Rattle.std.specs.Prelude.{◌≡◌, ◌<◌};
+ghost use Rattle.workers.specs.Coordinator.{staff};
 
 use checkpoint::MemoryKeep;
 use rollback::{Book, Event, Report};
@@ -60,6 +61,7 @@ pub fn led<R: Wait + Threads + Sync + Files + AllocGlobal>(
     led_as::<Brand, R>(rt, alloc, job, words)
 }
 
+#[tactic(auto, using(crate::proofs::Led::staffed))]
 fn led_as<J: Origin, R: Wait + Threads + Sync + Files + AllocGlobal>(
     rt: &R,
     alloc: Global,
@@ -68,6 +70,9 @@ fn led_as<J: Origin, R: Wait + Threads + Sync + Files + AllocGlobal>(
 ) -> Result<(), JobFault>
     requires { J.work ≡ job.now }
 {
+    if job.settings().workers == 0 {
+        return Err(JobFault::NoWorkers);
+    }
     let keep = MemoryKeep::new(alloc);
     let (mut coordinator, mut passes, ticker) = Hub::open::<J, MemoryKeep>(alloc, job, &keep)?;
     let mut book = match Book::open(alloc, job) {
@@ -97,7 +102,9 @@ fn offer<J: Origin, R: Wait>(
     coordinator: &mut Coordinator<J>,
     book: &mut Book<J>,
     words: &mut Vec<&'static str>,
-) {
+)
+    requires { 0 < staff coordinator.old }
+{
     let Some(task) = book.next_task(0) else {
         return note(words, "no task");
     };

@@ -26,11 +26,22 @@ fn show_lines<R: Print + AllocGlobal, F: Fn(Global, &str) -> Result<String>>(
     requires { F.IsAlwaysCallable answer }
 {
     for line in text.lines() {
-        if is_case(line) {
-            show_case(rt, named(line).0, answer(rt.alloc(), line)?)?;
-        }
+        show_line(rt, line, &answer)?;
     }
     Ok(())
+}
+
+fn show_line<R: Print + AllocGlobal, F: Fn(Global, &str) -> Result<String>>(
+    rt: &R,
+    line: &str,
+    answer: &F,
+) -> Result<()>
+    requires { F.IsAlwaysCallable answer.now }
+{
+    if !is_case(line) {
+        return Ok(());
+    }
+    show_case(rt, named(line).0, answer(rt.alloc(), line)?)
 }
 
 /// The same of a file of texts: `NAME: TEXT`, or a text that is its own name. `answer` is given the text as it is spelled, in
@@ -42,16 +53,34 @@ pub fn show_texts<
     requires { F.IsAlwaysCallable answer }
 {
     let text = fs::read_to_string(rt, path)?;
-    let (first, others) = text
-        .as_str()
-        .split_once("\nwithin ")
-        .unwrap_or((text.as_str(), ""));
+    show_parts(rt, text.as_str(), answer)
+}
+
+fn show_parts<R: Files + Print + AllocGlobal, F: Fn(Global, &str) -> Result<String, AllocError>>(
+    rt: &R,
+    text: &str,
+    answer: F,
+) -> Result<()>
+    requires { F.IsAlwaysCallable answer }
+{
+    let (first, others) = text.split_once("\nwithin ").unwrap_or((text, ""));
     show_in_frame(rt, "…", first, &answer)?;
     for part in others.split("\nwithin ") {
-        let (frame, lines) = part.split_once('\n').unwrap_or((part, ""));
-        show_in_frame(rt, frame, lines, &answer)?;
+        show_part(rt, part, &answer)?;
     }
     Ok(())
+}
+
+// A frame, and the lines behind it.
+fn show_part<R: Files + Print + AllocGlobal, F: Fn(Global, &str) -> Result<String, AllocError>>(
+    rt: &R,
+    part: &str,
+    answer: &F,
+) -> Result<()>
+    requires { F.IsAlwaysCallable answer.now }
+{
+    let (frame, lines) = part.split_once('\n').unwrap_or((part, ""));
+    show_in_frame(rt, frame, lines, answer)
 }
 
 fn show_in_frame<R: Files + Print + AllocGlobal, F: Fn(Global, &str) -> Result<String, AllocError>>(
@@ -63,19 +92,35 @@ fn show_in_frame<R: Files + Print + AllocGlobal, F: Fn(Global, &str) -> Result<S
     requires { F.IsAlwaysCallable answer.now }
 {
     for line in lines.lines() {
-        if is_case(line) {
-            let (name, case) = line.split_once(": ").unwrap_or((line, line));
-            let whole = whole(rt, frame, case)?;
-            show_case(rt, name, answer(rt.alloc(), whole.as_str())?)?;
-        }
+        show_text(rt, frame, line, answer)?;
     }
     Ok(())
 }
 
+fn show_text<R: Files + Print + AllocGlobal, F: Fn(Global, &str) -> Result<String, AllocError>>(
+    rt: &R,
+    frame: &str,
+    line: &str,
+    answer: &F,
+) -> Result<()>
+    requires { F.IsAlwaysCallable answer.now }
+{
+    if !is_case(line) {
+        return Ok(());
+    }
+    let (name, case) = line.split_once(": ").unwrap_or((line, line));
+    let whole = whole(rt, frame, case)?;
+    show_case(rt, name, answer(rt.alloc(), whole.as_str())?)
+}
+
 fn whole(rt: &(impl Files + AllocGlobal), frame: &str, case: &str) -> Result<String> {
     let frame = text_of(rt, frame)?;
+    in_frame(rt, frame.as_str(), case)
+}
+
+fn in_frame(rt: &(impl Files + AllocGlobal), frame: &str, case: &str) -> Result<String> {
     let text = text_of(rt, case)?;
-    Ok(framed(rt.alloc(), frame.as_str(), text.as_str())?)
+    Ok(framed(rt.alloc(), frame, text.as_str())?)
 }
 
 fn text_of(rt: &(impl Files + AllocGlobal), text: &str) -> Result<String> {

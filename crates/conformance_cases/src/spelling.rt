@@ -21,16 +21,21 @@ pub fn spelled(alloc: Global, line: &str) -> Result<String, AllocError> {
 }
 
 fn spell(line: &str, text: &mut String) -> Result<(), AllocError> {
-    for (place, part) in line.split('⟦').enumerate() {
-        match part.split_once('⟧') {
-            Some((repeated, rest)) if place > 0 => {
-                repeat(repeated, text)?;
-                append(rest, text)?;
-            }
-            _ => append(part, text)?,
-        }
+    let (before, others) = line.split_once('⟦').unwrap_or((line, ""));
+    append(before, text)?;
+    for part in others.split('⟦') {
+        spell_part(part, text)?;
     }
     Ok(())
+}
+
+// What is repeated, where a bracket ends it, and what stands behind it.
+fn spell_part(part: &str, text: &mut String) -> Result<(), AllocError> {
+    let Some((repeated, rest)) = part.split_once('⟧') else {
+        return append(part, text);
+    };
+    repeat(repeated, text)?;
+    append(rest, text)
 }
 
 fn repeat(repeated: &str, text: &mut String) -> Result<(), AllocError> {
@@ -43,16 +48,21 @@ fn repeat(repeated: &str, text: &mut String) -> Result<(), AllocError> {
 
 fn append(part: &str, text: &mut String) -> Result<(), AllocError> {
     for character in part.chars() {
-        text.push(match character {
-            '↵' => '\n',
-            '␍' => '\r',
-            '⇥' => '\t',
-            '␌' => '\u{c}',
-            '⍽' => '\u{a0}',
-            _ => character,
-        })?;
+        text.push(meant(character))?;
     }
     Ok(())
+}
+
+// The character that this one stands for.
+fn meant(character: char) -> char {
+    match character {
+        '↵' => '\n',
+        '␍' => '\r',
+        '⇥' => '\t',
+        '␌' => '\u{c}',
+        '⍽' => '\u{a0}',
+        _ => character,
+    }
 }
 
 /// A text on one line, with `↵` for each LF.
@@ -63,8 +73,12 @@ pub fn one_line(alloc: Global, text: &str) -> Result<String, AllocError> {
 /// The bytes that a line spells by two hexadecimal digits each, with blanks between them and `⟦N|..⟧` for N times.
 pub fn bytes(alloc: Global, line: &str) -> Result<Vec<u8>, AllocError> {
     let text = spelled(alloc, line)?;
+    bytes_of_words(alloc, text.as_str())
+}
+
+fn bytes_of_words(alloc: Global, text: &str) -> Result<Vec<u8>, AllocError> {
     let mut bytes = Vec::new(alloc);
-    for word in text.as_str().split_ascii_whitespace() {
+    for word in text.split_ascii_whitespace() {
         push_digits(word, &mut bytes)?;
     }
     Ok(bytes)

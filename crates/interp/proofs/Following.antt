@@ -143,6 +143,18 @@ beneath_as_cells [] = refl
 beneath_as_cells (Label keeps vs t a ∷ ls) = let l = length-map vs cell_of in let h = beneath_as_cells ls in omega (arith, l, h)
 beneath_as_cells (Frame keeps xs vs a ∷ ls) = let l = length-map vs cell_of in let h = beneath_as_cells ls in omega (arith, l, h)
 
+-- where there are always fewer operands, there are here
+pub fewer_here : (m : Module) (from : Machine) (here : Place) (bound : ℕ) → Follows m from here → ((n : ℕ) → operands (run m n from) < bound) → length here.values + beneath here.layers < bound
+fewer_here m from here bound follows low =
+    let p = follows.place in
+    let w = low follows.comes.steps in
+    let tall = ap (λ (x : Machine). operands x) follows.comes.there in
+    let v = length-map p.values cell_of in
+    let u = beneath_as_cells p.layers in
+    let v' = ap (λ (q : Place). length q.values) follows.is in
+    let u' = ap (λ (q : Place). beneath q.layers) follows.is in
+    omega (arith, w, tall, v, u, v', u')
+
 -- where there is always room for another operand and another frame, there is here
 pub frame_room : (m : Module) (from : Machine) (s : Standing) (k : Code) (count : ℕ) (room : Room) → s.room ≡ room → Follows m from (at s k count) → ((n : ℕ) → IsWithinRoom room (run m n from)) → HasFrameRoom s
 frame_room m from s k count room same follows low =

@@ -1,5 +1,5 @@
 -- Functions by number, and labels by place.
-use Rattle.std.proofs.Common.{◌≡◌, ℕ, zero, suc, ◌-◌, List, [], ◌∷◌, ◌++◌, map, length, slice_get, option_map, Some, None, refl, sym, ap, ◌∙◌, subst, arith}
+use Rattle.std.proofs.Common.{◌≡◌, ℕ, zero, suc, ◌-◌, List, [], ◌∷◌, ◌++◌, map, length, slice_get, option_map, Option, Some, None, refl, sym, ap, ◌∙◌, subst, arith}
 use Rattle.std.proofs.lemmas.Option.{slice_get-map}
 use Rattle.std.specs.List.{AllByRecursion}
 use Rattle.wasm_ast.specs.declared.module.Function.{Function}
@@ -32,6 +32,14 @@ module _ (m : Module) (calls : List HostCall) (imports : AreImports calls m) (n 
 
   pub callee_defined : slice_get calls n ≡ None → slice_get (functions_of m) n ≡ option_map defined (slice_get m.functions (n - length calls))
   callee_defined e = functions ∙ nth_past calls (map defined m.functions) n e ∙ slice_get-map defined m.functions (n - length calls)
+
+  -- what is none of the host is not
+  pub no_host : (c : HostCall) → slice_get calls n ≡ None → Some (host (Some c)) ≡ slice_get (functions_of m) n → ⊥
+  no_host c e g = none_of (slice_get m.functions (n - length calls)) (g ∙ callee_defined e)
+    where
+      none_of : (o : Option Function) → Some (host (Some c)) ≡ option_map defined o → ⊥
+      none_of None h = absurd cc
+      none_of (Some f) h = absurd cc
 
 pub label_past : (ls : List ℕ) (n other : ℕ) → slice_get ls n ≡ None → label_of ls n other ≡ other
 label_past [] n other e = refl

@@ -1,5 +1,5 @@
 -- What a list of cells is after its part from a place on was lent, and written.
-use Rattle.std.proofs.Common.{◌≡◌, ℕ, ◌+◌, ◌-◌, ◌<◌, ◌≤◌, List, [], ◌++◌, map, length, take, drop, reverse, sym, ap, ◌∙◌, arith, length-append, length-drop}
+use Rattle.std.proofs.Common.{◌≡◌, ℕ, ◌+◌, ◌-◌, ◌≤◌, List, [], ◌++◌, map, length, take, drop, reverse, sym, ap, ◌∙◌, arith, length-append, length-drop}
 use Rattle.std.specs.List.{drop-map, take-map}
 use Rattle.std.proofs.lemmas.List.{append-nil, drop_all, length-take-le}
 use Rattle.std.proofs.Math.Seq.{take-length}
@@ -38,10 +38,9 @@ module _ (from : ℕ) (whole cells : List ℕ) (same : whole ≡ cells) where
   lent_here top h =
       ap (λ (l : List ℕ). pile l (top - from)) (rest_is from whole ∙ ap (λ (l : List ℕ). drop from l) same) ∙ pile_here from top cells h
 
-  -- there is room in it
-  pub lent_room : (top : ℕ) → from ≤ top → top < length cells → top - from < length (lent from whole)
-  lent_room top h less =
-      omega (arith, h, less, ap (λ (l : List ℕ). length l) (rest_is from whole), length-drop from whole, ap (λ (l : List ℕ). length l) same)
+  pub lent_long : length (lent from whole) ≡ length cells - from
+  lent_long =
+      ap (λ (l : List ℕ). length l) (rest_is from whole) ∙ length-drop from whole ∙ ap (λ (l : List ℕ). length l - from) same
 
   pub lent_cells : map I64 (lent from whole) ≡ drop from (map I64 cells)
   lent_cells = ap (λ (l : List ℕ). map I64 l) (rest_is from whole ∙ ap (λ (l : List ℕ). drop from l) same) ∙ sym (drop-map I64 from cells)

@@ -1,5 +1,5 @@
 -- Straight code: one instruction more.
-use Rattle.std.proofs.Common.{◌≡◌, ℕ, zero, suc, ◌+◌, ◌≤◌, Bool, true, List, [], ◌∷◌, ◌++◌, map, Option, Some, slice_get, sym, ap, ◌∙◌, subst}
+use Rattle.std.proofs.Common.{◌≡◌, ◌≢◌, ℕ, zero, suc, ◌+◌, ◌<◌, ◌≤◌, Bool, true, false, List, [], ◌∷◌, ◌++◌, length, map, Option, Some, None, is_some, slice_get, refl, sym, ap, ◌∙◌, subst, arith}
 use Rattle.wasm_ast.specs.declared.types.Value.{Value}
 use Rattle.wasm_ast.specs.declared.module.Module.{Module}
 use Rattle.wasm_ast.specs.declared.plain.Plain.{Plain}
@@ -12,6 +12,7 @@ use Rattle.cost.specs.Weights.{call_units, host_units, plain_units}
 use Rattle.host_calls.specs.Host.{Host}
 use Rattle.host_calls.specs.declared.imports.HostCall.{HostCall}
 use Rattle.interp.specs.Configuration.{State, Effect, Gives, tick}
+use Rattle.interp.specs.Heights.{beneath}
 use Rattle.interp.specs.Machine.{Machine, Running, Layer, Callee, defined, host, after_effect, functions_of, next_units}
 use Rattle.interp.specs.declared.straight.Straight.{Straight}
 use Rattle.interp.specs.declared.straight.Straight.TheVariants as straight
@@ -20,9 +21,9 @@ use Rattle.interp.specs.inside.Given.{HasGiven}
 use Rattle.interp.specs.inside.Going.{is_going}
 use Rattle.interp.specs.inside.Meaning.{AreImports, host_callee}
 use Rattle.interp.specs.inside.Place.{running}
-use Rattle.interp.specs.inside.Straight.{GoesStraight, LeadsAmid, Passes, SendsAmid, Spot, amid, spot, straight_asks, straight_effect, straight_gives}
+use Rattle.interp.specs.inside.Straight.{GoesStraight, LeadsAmid, Passes, SendsAmid, Spot, amid, is_straight, spot, straight_asks, straight_effect, straight_gives}
 use Rattle.interp.proofs.Asking.{call_asked, plain_asked}
-use Rattle.interp.proofs.Following.{cell_goes, cell_room, follows_on, gives_on}
+use Rattle.interp.proofs.Following.{cell_goes, cell_room, fewer_here, follows_on, gives_on}
 use Rattle.interp.proofs.Sending.{call_gives}
 use Rattle.interp.proofs.Weighing.{call_counts}
 
@@ -66,13 +67,44 @@ module _ (m : Module) (whole rest : Code) (first : Instr) (begins : whole ≡ th
             ∙ ap (λ (n : ℕ). after_effect (cell_call may c vs (tick n st)) rest ls (st.count + n)) (sym counted);
       }
 
+  -- ---- where straight code stops
+
+  pub call_stops : (calls : List HostCall) (f : ℕ) → first ≡ instr.Call f → None ≡ slice_get calls f → is_straight calls whole ≡ false
+  call_stops calls f is none =
+      ap (is_straight calls) (begins ∙ ap (λ (i : Instr). then_code i rest) is) ∙ ap (λ (o : Option HostCall). is_some o) (sym none)
+
+  pub other_stops : (calls : List HostCall) → ((p : Plain) → first ≢ instr.Plain p) → ((f : ℕ) → first ≢ instr.Call f) → is_straight calls whole ≡ false
+  other_stops calls plain called = ap (is_straight calls) begins ∙ other first plain called
+    where
+      other : (i : Instr) → ((p : Plain) → i ≢ instr.Plain p) → ((f : ℕ) → i ≢ instr.Call f) → is_straight calls (then_code i rest) ≡ false
+      other (instr.Plain p) plain called = absurd (plain p refl)
+      other (instr.Branch b) plain called = refl
+      other (instr.Call f) plain called = absurd (called f refl)
+      other (instr.CallIndirect t) plain called = refl
+      other instr.Unreachable plain called = refl
+      other (instr.Block t body) plain called = refl
+      other (instr.Loop t body) plain called = refl
+      other (instr.If t body rest_body) plain called = refl
+
+  pub plain_goes : (calls : List HostCall) (p : Plain) → first ≡ instr.Plain p → is_straight calls whole ≡ false → ⊥
+  plain_goes calls p is stops =
+      let goes : is_straight calls whole ≡ true = ap (is_straight calls) (begins ∙ ap (λ (i : Instr). then_code i rest) is) in
+      absurd cc
+
+  pub no_host_call : (calls : List HostCall) (f : ℕ) → first ≡ instr.Call f → is_straight calls whole ≡ false → slice_get calls f ≡ None
+  no_host_call calls f is stops = none_of (slice_get calls f) (sym (ap (is_straight calls) (begins ∙ ap (λ (i : Instr). then_code i rest) is)) ∙ stops)
+    where
+      none_of : (o : Option HostCall) → is_some o ≡ false → o ≡ None
+      none_of None e = refl
+      none_of (Some c) e = absurd cc
+
 -- ---- runs of them
 
 module _ (m : Module) (most : ℕ) where
-  pub leads_on : (s t : Spot) → LeadsAmid m s most → Passes m most s t → LeadsAmid m t most
-  leads_on s t l on =
-      let d = l.1 in
-      (l.0, record { from = d.from; follows = on l.0 d.from d.follows d.ends; ends = d.ends })
+  pub leads_on : (free : ℕ) (s t : Spot) → LeadsAmid m s most free → Passes m most s t → LeadsAmid m t most free
+  leads_on free s t l on =
+      let d = l.leads in
+      record { layers = l.layers; leads = record { from = d.from; follows = on l.layers d.from d.follows d.ends; ends = d.ends }; low = l.low }
 
   pub passes_on : (s t u : Spot) → Passes m most s t → ((ls : List Layer) → cell_advance in_width m (running (amid t ls)) ≡ running (amid u ls)) → Passes m most s u
   passes_on s t u on step = λ ls from follows ends. follows_on m from (amid t ls) (on ls from follows ends) most ends (amid u ls) (step ls)
@@ -80,20 +112,26 @@ module _ (m : Module) (most : ℕ) where
   pub sends_on : (s t : Spot) → Passes m most s t → SendsAmid m most t → SendsAmid m most s
   sends_on s t on sends = λ ls from follows ends. sends ls from (on ls from follows ends) ends
 
-  pub room_amid : (s : Spot) → LeadsAmid m s most → s.state.count + next_units m s.code ≤ most
-  room_amid s l = let d = l.1 in cell_room m d.from (amid s l.0) d.follows most d.ends
+  pub room_amid : (free : ℕ) (s : Spot) → LeadsAmid m s most free → s.state.count + next_units m s.code ≤ most
+  room_amid free s l = let d = l.leads in cell_room m d.from (amid s l.layers) d.follows most d.ends
 
-  goes_amid : (s : Spot) (l : LeadsAmid m s most) → is_going (cell_advance of_any_width m (running (amid s l.0))) ≡ true
-  goes_amid s l = let d = l.1 in cell_goes m d.from (amid s l.0) d.follows most d.ends
+  goes_amid : (free : ℕ) (s : Spot) (l : LeadsAmid m s most free) → is_going (cell_advance of_any_width m (running (amid s l.layers))) ≡ true
+  goes_amid free s l = let d = l.leads in cell_goes m d.from (amid s l.layers) d.follows most d.ends
+
+  -- there is room for one operand more
+  pub fewer_amid : (free : ℕ) (s : Spot) → LeadsAmid m s most free → length s.values < free
+  fewer_amid free s l =
+      let d = l.leads in
+      let h = fewer_here m d.from (amid s l.layers) (beneath l.layers + free) d.follows l.low in omega (arith, h)
 
   module _ (s : Spot) (what : Straight) (units : ℕ) (rest : Code) (g : GoesStraight m s.code what units rest) where
-    pub straight_room : LeadsAmid m s most → s.state.count + units ≤ most
-    straight_room l = subst (λ (n : ℕ). s.state.count + n ≤ most) g.counts (room_amid s l)
+    pub straight_room : (free : ℕ) → LeadsAmid m s most free → s.state.count + units ≤ most
+    straight_room free l = subst (λ (n : ℕ). s.state.count + n ≤ most) g.counts (room_amid free s l)
 
-    pub straight_asked_amid : LeadsAmid m s most → straight_asks what s.values s.state.locals s.state.globals s.state.memory ≡ true
-    straight_asked_amid l =
-        straight_asked of_any_width what s.values rest l.0 (tick units s.state)
-        (ap (λ (x : Machine). is_going x) (sym (g.steps of_any_width s.values l.0 s.state)) ∙ goes_amid s l)
+    pub straight_asked_amid : (free : ℕ) → LeadsAmid m s most free → straight_asks what s.values s.state.locals s.state.globals s.state.memory ≡ true
+    straight_asked_amid free l =
+        straight_asked of_any_width what s.values rest l.layers (tick units s.state)
+        (ap (λ (x : Machine). is_going x) (sym (g.steps of_any_width s.values l.layers s.state)) ∙ goes_amid free s l)
 
     -- it sends something, or gives something to a slot
     pub straight_sends : straight_gives what ≡ true → SendsAmid m most s
@@ -110,9 +148,11 @@ module _ (m : Module) (most : ℕ) where
 
 -- the same in other words
 module _ (m : Module) (most : ℕ) (k j : Code) (vs us ls ms : List Value) (v : vs ≡ us) (l : ls ≡ ms) (gs : List Value) (bs : List ℕ) (h h' : Host) (n : ℕ) where
-  pub leads_same : LeadsAmid m (spot us k ms gs bs h n) most → LeadsAmid m (spot vs k ls gs bs h n) most
-  leads_same a =
-      subst (λ (x : List Value). LeadsAmid m (spot x k ls gs bs h n) most) (sym v) (subst (λ (x : List Value). LeadsAmid m (spot us k x gs bs h n) most) (sym l) a)
+  pub leads_same : (free free' : ℕ) → free ≡ free' → LeadsAmid m (spot us k ms gs bs h n) most free → LeadsAmid m (spot vs k ls gs bs h n) most free'
+  leads_same free free' f a =
+      let a1 = subst (λ (x : List Value). LeadsAmid m (spot us k x gs bs h n) most free) (sym l) a in
+      let a2 = subst (λ (x : List Value). LeadsAmid m (spot x k ls gs bs h n) most free) (sym v) a1 in
+      subst (λ (x : ℕ). LeadsAmid m (spot vs k ls gs bs h n) most x) f a2
 
   pub sends_same : SendsAmid m most (spot vs k ls gs bs h n) → SendsAmid m most (spot us k ms gs bs h n)
   sends_same a =

@@ -7,7 +7,7 @@ use Rattle.std.proofs.Math.Seq.{take-suc, take-suc-set}
 use Rattle.wasm_ast.specs.declared.types.Value.{Value}
 use Rattle.wasm_ast.specs.declared.types.Value.TheVariants.{I64}
 use Rattle.interp.specs.inside.Pile.{pile}
-use Rattle.interp.specs.inside.Split.{HasSpare, Split, all_of}
+use Rattle.interp.specs.inside.Split.{HasSpare, Split, all_of, free_of}
 use Rattle.interp.proofs.Lists.{drop-take, take-take}
 use Rattle.interp.proofs.Parts.{all_is, below_of, parts, popped_is}
 
@@ -88,6 +88,11 @@ module _ (room floor top : ℕ) (s : Split) (old : List ℕ) (view : parts room 
 pub all_held : (room floor top : ℕ) (cells : List ℕ) → floor ≤ top → top ≤ length cells → all_of (parts room floor (held top cells)) ≡ top
 all_held room floor top cells f h =
     all_is room floor (held top cells) (floor_held floor top cells f h) ∙ held_long top cells h
+
+-- how many more the innermost layer may have than none
+pub free_is : (room floor top : ℕ) (cells : List ℕ) → floor ≤ top → top ≤ length cells → free_of (parts room floor (held top cells)) ≡ room - floor
+free_is room floor top cells f h =
+    ap (λ (n : ℕ). room - n) (length-reverse (take floor (held top cells)) ∙ length-take-le floor (held top cells) (floor_held floor top cells f h))
 
 pub spare_of : (room floor top : ℕ) (cells : List ℕ) (s : Split) → parts room floor (held top cells) ≡ s → floor ≤ top → top ≤ length cells → HasSpare s → top < room
 spare_of room floor top cells s view f h spare =

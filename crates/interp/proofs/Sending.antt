@@ -1,6 +1,6 @@
 -- What a call has sent and given to slots stays so.
 use Rattle.std.proofs.Common.{◌≡◌, ℕ, ℤ, ◌+◌, ◌≤◌, List, [], ◌∷◌, ◌++◌, Bool, true, false, Option, Some, None, Result, Ok, Err, length, nat_lt, if◌then◌else◌, refl, sym, ap, ◌∙◌, subst, arith, length-append}
-use Rattle.std.specs.Prelude.{IsErr, IsOk, OnErr}
+use Rattle.std.specs.Prelude.{IsOk, OnErr}
 use Rattle.wasm_ast.specs.declared.types.ValType.{ValType}
 use Rattle.wasm_ast.specs.declared.types.ValType.TheVariants as val_type
 use Rattle.wasm_ast.specs.declared.types.Value.{Value}
@@ -27,9 +27,6 @@ use Rattle.interp.specs.inside.Begun.{Sends}
 use Rattle.interp.specs.inside.Cells.{cell_call, in_width, narrowed, of_any_width}
 use Rattle.interp.specs.inside.Given.{HasGiven, HostHasGiven, given, gives}
 use Rattle.interp.specs.inside.Going.{is_going}
-use Rattle.interp.specs.inside.Place.{Standing}
-use Rattle.interp.specs.inside.Walk.{TurnedOrSent}
-use Rattle.interp.specs.declared.walk.Turn.{Turn}
 use Rattle.interp.proofs.Limited.{HostEffectKeeps, Lasts, MachineWithin, run_within}
 use Rattle.interp.proofs.OneEnd.{one_start}
 use Rattle.interp.proofs.Outcomes.{first}
@@ -133,11 +130,6 @@ call_gives EdgeTarget vs is ls st count g e = absurd cc
 call_gives EdgeValue vs is ls st count g e = absurd cc
 call_gives Aggregated vs is ls st count g e = absurd cc
 call_gives VoteToHalt vs is ls st count g e = absurd cc
-
--- the walk's answer then
-pub turned_err : {E : Type 0} (r : Result Turn E) (x : Machine) (s : Standing) → IsErr r → HasGiven x → TurnedOrSent r x s
-turned_err (Ok t) x s e g = absurd cc
-turned_err (Err y) x s e g = g
 
 pub on_any : {T E : Type 0} (r : Result T E) (P : Type 0) → P → OnErr r P
 on_any (Ok x) P p = tt

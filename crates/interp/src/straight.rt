@@ -1,19 +1,17 @@
 //! Runs of straight code: of instructions that neither branch nor call what the module defines, so that the layers stay. The
 //! operands lie in a list with room, and their number, the code and the count are passed by value.
 
-ghost use Rattle.std.specs.Prelude.{◌≡◌, ◌<◌, ◌≤◌, ℕ, length, map, true, IfOk, IfSome, OnErr, OnOk};
+ghost use Rattle.std.specs.Prelude.{◌≡◌, ◌<◌, ◌≤◌, ℕ, length, map, false, true, IfNone, IfOk, IfSome, OnErr};
 ghost use Rattle.wasm_ast.specs.declared.types.Value.TheVariants.{I64};
 ghost use Rattle.wasm_ast.specs.View.{code_of};
 ghost use Rattle.interp.specs.Configuration.{Gives};
-ghost use Rattle.interp.specs.inside.Acts.{ActsOn, ActsOnHost, state};
-ghost use Rattle.interp.specs.inside.Cells.{cell_call, cell_effect, in_width};
-ghost use Rattle.interp.specs.inside.Given.{gives};
-ghost use Rattle.interp.specs.inside.Going.{call_asks, plain_asks};
+ghost use Rattle.interp.specs.inside.Acts.{state};
+ghost use Rattle.interp.specs.inside.Cells.{in_width};
 ghost use Rattle.interp.specs.inside.Kept.{count_kept};
 ghost use Rattle.interp.specs.inside.Pile.{pile};
 ghost use Rattle.interp.specs.inside.Meaning.{AreImports};
-ghost use Rattle.interp.specs.inside.Split.{HasSpare};
-ghost use Rattle.interp.specs.inside.Straight.{GoesStraight, LeadsAmid, Passes, SendsAmid, spot, straight_asks, straight_effect, straight_gives, straight_units};
+ghost use Rattle.interp.specs.inside.Split.{free_of};
+ghost use Rattle.interp.specs.inside.Straight.{GoesStraight, LeadsAmid, Passes, SendsAmid, is_straight, spot, straight_asks, straight_effect, straight_gives, straight_units};
 
 use crate::call_globals::CallGlobals;
 use crate::host::call_host;
@@ -49,7 +47,7 @@ struct Next<'a> {
     code: &'a [Instr],
 }
 
-/// Goes on as far as the code is straight and there is room for one more operand.
+/// Goes on as far as the code is straight.
 #[inline]
 pub fn go_straight<'a>(
     program: Program<'a>,
@@ -64,7 +62,7 @@ pub fn go_straight<'a>(
 ) -> Result<Stop<'a>, AllocError>
     requires calls { AreImports program.calls.now program.«module».now }
     requires leads { LeadsAmid program.«module».now (spot operands.old.here (code_of code.now)
-        locals.old.here globals.old.here bytes.old host.old count) most }
+        locals.old.here globals.old.here bytes.old host.old count) most (free_of operands.old) }
     ensures passes { IfOk result (λ stop. Passes program.entry.«module».now most
         (spot operands.old.here (code_of code.entry.now)
         locals.old.here globals.old.here bytes.old host.old count)
@@ -74,6 +72,8 @@ pub fn go_straight<'a>(
         (spot operands.old.here (code_of code.entry.now)
         locals.old.here globals.old.here bytes.old host.old count)) }
     ensures more { IfOk result (λ stop. count ≤ stop.count) }
+    ensures stops { IfOk result (λ stop. is_straight program.entry.calls.now
+        (code_of stop.code.now) ≡ false) }
     ensures below { operands.new.below ≡ operands.old.below }
     ensures locals_below { locals.new.below ≡ locals.old.below }
     ensures kept_globals { globals.new.initial ≡ globals.old.initial }
@@ -82,6 +82,10 @@ pub fn go_straight<'a>(
     let floor = operands.floor;
     let base = locals.base;
     let top = operands.top - floor;
+    match next_straight(program, code) {
+        None => return Ok(Stop { code, count, top }),
+        Some(_) => {}
+    }
     let stop = run_straight(
         program,
         code,
@@ -114,7 +118,8 @@ fn run_straight<'a>(
     requires calls { AreImports program.calls.now program.«module».now }
     requires within { top ≤ length cells.old }
     requires leads { LeadsAmid program.«module».now (spot (pile cells.old top) (code_of code.now)
-        (map I64 locals.old) globals.old.here bytes.old host.old count) most }
+        (map I64 locals.old) globals.old.here bytes.old host.old count) most
+        (length cells.old) }
     ensures passes { IfOk result (λ stop. Passes program.entry.«module».now most
         (spot (pile cells.old top) (code_of code.entry.now)
         (map I64 locals.old) globals.old.here bytes.old host.old count)
@@ -124,12 +129,14 @@ fn run_straight<'a>(
         (spot (pile cells.old top) (code_of code.entry.now)
         (map I64 locals.old) globals.old.here bytes.old host.old count)) }
     ensures more { IfOk result (λ stop. count ≤ stop.count) }
+    ensures stops { IfOk result (λ stop. is_straight program.entry.calls.now
+        (code_of stop.code.now) ≡ false) }
     ensures within { IfOk result (λ stop. stop.top ≤ length cells.new) }
     ensures kept_globals { globals.new.initial ≡ globals.old.initial }
     ensures kept_bytes { count_kept bytes.new ≡ count_kept bytes.old }
 {
     let mut at = Stop { code, count, top };
-    'run: while at.top < cells.len() {
+    'run: loop {
         match next_straight(program, at.code) {
             None => return Ok(at),
             Some(next) => {
@@ -142,7 +149,6 @@ fn run_straight<'a>(
             }
         }
     }
-    Ok(at)
 }
 
 /// The next instruction, if it goes straight on.
@@ -152,6 +158,8 @@ fn next_straight<'a>(program: Program<'a>, code: &'a [Instr]) -> Option<Next<'a>
     ensures is { IfSome result (λ next. GoesStraight program.entry.«module».now
         (code_of code.entry.now) next.what (straight_units next.what) (code_of next.code.now)) }
     ensures shorter { IfSome result (λ next. length next.code.now < length code.entry.now) }
+    ensures none { IfNone result (is_straight program.entry.calls.now
+        (code_of code.entry.now) ≡ false) }
 {
     match code.split_first() {
         None => None,
@@ -203,58 +211,4 @@ fn act_straight(
             units: host_units(Some(call)),
         }),
     }
-}
-
-/// One instruction, for which there is room.
-#[inline(never)]
-pub fn act(
-    instruction: Plain,
-    operands: &mut Operands,
-    locals: &mut Locals,
-    globals: &mut CallGlobals,
-    bytes: &mut Memory,
-)
-    requires spare { HasSpare operands.old }
-    requires asks { plain_asks instruction
-        operands.old.here locals.old.here globals.old.here bytes.old ≡ true }
-    ensures acts { ActsOn (cell_effect in_width instruction)
-        operands.old.here operands.new.here
-        locals.old.here locals.new.here globals.old.here globals.new.here bytes.old bytes.new }
-    ensures below { operands.new.below ≡ operands.old.below }
-    ensures locals_below { locals.new.below ≡ locals.old.below }
-    ensures kept_globals { globals.new.initial ≡ globals.old.initial }
-    ensures kept_bytes { count_kept bytes.new ≡ count_kept bytes.old }
-{
-    let floor = operands.floor;
-    let base = locals.base;
-    let acted = act_plain(
-        instruction,
-        &mut operands.cells[floor..],
-        operands.top - floor,
-        &mut locals.cells[base..],
-        globals,
-        bytes,
-    );
-    operands.top = floor + acted.top;
-}
-
-/// One call of the host, for which there is room.
-#[inline]
-pub fn act_call(
-    call: HostCall,
-    operands: &mut Operands,
-    host: &mut CallState,
-) -> Result<(), AllocError>
-    requires spare { HasSpare operands.old }
-    requires asks { call_asks call operands.old.here ≡ true }
-    ensures acts { OnOk result (ActsOnHost (cell_call in_width call)
-        operands.old.here operands.new.here host.old host.new) }
-    ensures fails { OnErr result (gives call ≡ true) }
-    ensures below { operands.new.below ≡ operands.old.below }
-{
-    let floor = operands.floor;
-    let top = operands.top - floor;
-    let now = call_host(call, &mut operands.cells[floor..], top, host)?;
-    operands.top = floor + now;
-    Ok(())
 }

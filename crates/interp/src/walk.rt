@@ -1,14 +1,15 @@
 //! The walk over nested code, which is the machine's run (Core 1.0, 4.4).
 
-ghost use Rattle.std.specs.Prelude.{◌≡◌, ◌+◌, ◌^◌, ◌<◌, ◌≤◌, true, IfOk, OnErr};
+ghost use Rattle.std.specs.Prelude.{◌≡◌, ◌+◌, ◌^◌, ◌<◌, ◌≤◌, false, true, IfOk, OnErr};
 ghost use Rattle.wasm_ast.specs.Limits.{IsWithinLimits};
 ghost use Rattle.wasm_ast.specs.View.{code_of, then_code};
 ghost use Rattle.cost.specs.Weights.{units_of};
-ghost use Rattle.interp.specs.inside.Cells.{cell_advance, cell_call, cell_effect, in_width, of_any_width};
+ghost use Rattle.interp.specs.inside.Cells.{cell_advance, in_width, of_any_width};
 ghost use Rattle.interp.specs.inside.Going.{goes_on, is_going};
 ghost use Rattle.interp.specs.inside.Meaning.{AreImports};
-ghost use Rattle.interp.specs.inside.Place.{HasFrameRoom, HasOperandRoom, at, running, state_of};
-ghost use Rattle.interp.specs.inside.Walk.{Arrives, Concludes, HasRoom, Leads, LeadsWithin, SendsFrom, TurnedOrSent, Turns, TurnsOrSends, affected, left_of, taken};
+ghost use Rattle.interp.specs.inside.Place.{HasFrameRoom, at, running, state_of};
+ghost use Rattle.interp.specs.inside.Walk.{Arrives, Concludes, HasRoom, LeadsWithin, SendsFrom, Turned, Turns, left_of, taken};
+ghost use Rattle.interp.specs.inside.Straight.{is_straight};
 
 mod branches;
 mod calls;
@@ -20,12 +21,12 @@ use crate::locals::Locals;
 use crate::memory::Memory;
 use crate::operands::Operands;
 use crate::program::Program;
-use crate::straight::{Stop, act, act_call, go_straight};
-use cost::{branch_units, plain_units};
-use host_calls::{CallState, HostCall};
+use crate::straight::{Stop, go_straight};
+use cost::branch_units;
+use host_calls::CallState;
 use std::alloc::AllocError;
 use std::marker::Model;
-use wasm_ast::{Instr, Plain};
+use wasm_ast::Instr;
 
 /// Where the run goes on, or that it is done, with the units that were taken.
 #[derive(Clone, Copy)]
@@ -80,7 +81,7 @@ impl<'a, 'b> Walk<'a, 'b> {
         let mut count = 0;
         'turns: loop {
             let stop = self.go_on(program, rest, count, most)?;
-            match self.turn(program, stop.code, stop.count)? {
+            match self.turn(program, stop.code, stop.count) {
                 Turn::Next {
                     code: next,
                     count: counted,
@@ -93,7 +94,7 @@ impl<'a, 'b> Walk<'a, 'b> {
         }
     }
 
-    /// Straight on, as far as there is room.
+    /// Straight on, as far as the code is.
     #[inline]
     fn go_on(
         &mut self,
@@ -103,12 +104,15 @@ impl<'a, 'b> Walk<'a, 'b> {
         most: u128,
     ) -> Result<Stop<'a>, AllocError>
         requires calls { AreImports program.calls.now program.«module».now }
-        requires leads { Leads program.«module».now (at self.old (code_of code.now) count) most }
+        requires leads { LeadsWithin program.«module».now self.old.room
+            (at self.old (code_of code.now) count) most }
         ensures passes { IfOk result (λ stop. Arrives program.entry.«module».now most
             (at self.old (code_of code.entry.now) count)
             (at self.new (code_of stop.code.now) stop.count)) }
         ensures sends { OnErr result (SendsFrom program.entry.«module».now
             (at self.old (code_of code.entry.now) count) most) }
+        ensures stops { IfOk result (λ stop. is_straight program.entry.calls.now
+            (code_of stop.code.now) ≡ false) }
         ensures closer { IfOk result (λ stop.
             left_of most (at self.new (code_of stop.code.now) stop.count)
             ≤ left_of most (at self.old (code_of code.entry.now) count)) }
@@ -130,24 +134,20 @@ impl<'a, 'b> Walk<'a, 'b> {
 
     /// One step, which there is.
     #[inline]
-    fn turn(
-        &mut self,
-        program: Program<'a>,
-        code: &'a [Instr],
-        count: u128,
-    ) -> Result<Turn<'a>, AllocError>
+    fn turn(&mut self, program: Program<'a>, code: &'a [Instr], count: u128) -> Turn<'a>
         requires calls { AreImports program.calls.now program.«module».now }
         requires within { IsWithinLimits program.«module».now }
         requires fits { HasRoom program.«module».now (at self.old (code_of code.now) count) }
         requires room { HasFrameRoom self.old }
+        requires stops { is_straight program.calls.now (code_of code.now) ≡ false }
         requires goes { is_going (cell_advance of_any_width program.«module».now
             (running (at self.old (code_of code.now) count))) ≡ true }
-        ensures turned { TurnedOrSent result (cell_advance in_width program.entry.«module».now
+        ensures turned { Turned result (cell_advance in_width program.entry.«module».now
             (running (at self.old (code_of code.now) count))) self.new }
         ensures room { self.new.room ≡ self.old.room }
     {
         match code.split_first() {
-            None => Ok(self.leave(count)),
+            None => self.leave(count),
             Some((first, rest)) => self.take(program, code, first, rest, count),
         }
     }
@@ -161,29 +161,30 @@ impl<'a, 'b> Walk<'a, 'b> {
         first: &'a Instr,
         rest: &'a [Instr],
         count: u128,
-    ) -> Result<Turn<'a>, AllocError>
+    ) -> Turn<'a>
         requires calls { AreImports program.calls.now program.«module».now }
         requires within { IsWithinLimits program.«module».now }
         requires whole { code_of whole.now ≡ then_code first.now (code_of rest.now) }
         requires fits { count + units_of program.«module».now first.now < 2 ^ 128 }
         requires room { HasFrameRoom self.old }
+        requires stops { is_straight program.calls.now (code_of whole.now) ≡ false }
         requires goes { goes_on (taken of_any_width program.«module».now (code_of whole.now))
             (code_of rest.now) (count + units_of program.«module».now first.now)
             self.old ≡ true }
-        ensures turned { TurnsOrSends result
+        ensures turned { Turns result
             (taken in_width program.entry.«module».now (code_of whole.now))
             (code_of rest.now) (count + units_of program.entry.«module».now first.now)
             self.old self.new }
         ensures room { self.new.room ≡ self.old.room }
     {
-        let turn = match first {
-            Instr::Plain(plain) => self.act(*plain, rest, count + u128::from(plain_units(*plain))),
+        match first {
+            Instr::Plain(_) => unreachable!(),
             Instr::Branch(branch) => {
                 self.branch(branch, rest, count + u128::from(branch_units(branch)))
             }
             Instr::Call(number) => {
                 let count = count + u128::from(program.call_units(*number));
-                return self.call(program, *number, rest, count);
+                self.call(program, *number, rest, count)
             }
             Instr::CallIndirect(_) => unreachable!(),
             Instr::Unreachable => unreachable!(),
@@ -194,43 +195,6 @@ impl<'a, 'b> Walk<'a, 'b> {
             Instr::If(block_type, then_body, else_body) => {
                 self.choose(block_type.is_some(), then_body, else_body, rest, count + 1)
             }
-        };
-        Ok(turn)
-    }
-
-    #[inline]
-    fn act(&mut self, plain: Plain, code: &'a [Instr], count: u128) -> Turn<'a>
-        requires spare { HasOperandRoom self.old }
-        requires goes { goes_on (affected (cell_effect of_any_width plain)) (code_of code.now) count
-            self.old ≡ true }
-        ensures turned { Turns result (affected (cell_effect in_width plain))
-            (code_of code.now) count self.old self.new }
-        ensures room { self.new.room ≡ self.old.room }
-    {
-        act(
-            plain,
-            &mut self.operands,
-            &mut self.locals,
-            &mut self.globals,
-            &mut self.memory,
-        );
-        Turn::Next { code, count }
-    }
-
-    fn act_host(
-        &mut self,
-        call: HostCall,
-        code: &'a [Instr],
-        count: u128,
-    ) -> Result<Turn<'a>, AllocError>
-        requires spare { HasOperandRoom self.old }
-        requires goes { goes_on (affected (cell_call of_any_width call)) (code_of code.now) count
-            self.old ≡ true }
-        ensures turned { TurnsOrSends result (affected (cell_call in_width call))
-            (code_of code.now) count self.old self.new }
-        ensures room { self.new.room ≡ self.old.room }
-    {
-        act_call(call, &mut self.operands, &mut self.host)?;
-        Ok(Turn::Next { code, count })
+        }
     }
 }

@@ -1,6 +1,6 @@
 -- Operands and locals in two parts: those of the innermost layer or frame, and what lies below, with the room for all of
 -- them. Operands stand with the topmost first, locals in order.
-use Rattle.std.specs.Prelude.{ℕ, ◌+◌, ◌<◌, List, length}
+use Rattle.std.specs.Prelude.{ℕ, ◌+◌, ◌-◌, ◌<◌, List, length}
 use Rattle.wasm_ast.specs.declared.types.Value.{Value}
 
 pub record Below : Type 0 where
@@ -14,6 +14,10 @@ pub record Split : Type 0 where
 -- how many there are
 abbrev pub all_of : Split → ℕ
 all_of s = length s.here + length s.below.values
+
+-- how many more the innermost layer may have than none
+abbrev pub free_of : Split → ℕ
+free_of s = s.below.room - length s.below.values
 
 -- there is room for one more
 abbrev pub HasSpare : Split → Type 0

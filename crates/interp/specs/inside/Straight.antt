@@ -1,12 +1,16 @@
 -- Instructions that go straight on: the layers stay, whatever they are.
-use Rattle.std.specs.Prelude.{◌≡◌, ℕ, ◌+◌, List, Bool, false, Some}
+use Rattle.std.specs.Prelude.{◌≡◌, ℕ, ◌+◌, ◌<◌, List, Bool, false, true, Some, slice_get}
+use Rattle.std.specs.Option.{is_some}
 use Rattle.wasm_ast.specs.declared.types.Value.{Value}
 use Rattle.wasm_ast.specs.declared.module.Module.{Module}
 use Rattle.wasm_ast.specs.Code.{Code}
+use Rattle.wasm_ast.specs.Code as code
 use Rattle.cost.specs.Weights.{host_units, plain_units}
 use Rattle.host_calls.specs.Host.{Host}
+use Rattle.host_calls.specs.declared.imports.HostCall.{HostCall}
 use Rattle.interp.specs.Configuration.{State, Effect, tick}
-use Rattle.interp.specs.Machine.{Running, Layer, after_effect, next_units}
+use Rattle.interp.specs.Heights.{beneath, operands}
+use Rattle.interp.specs.Machine.{Running, Layer, after_effect, next_units, run}
 use Rattle.interp.specs.declared.straight.Straight.{Straight}
 use Rattle.interp.specs.declared.straight.Straight.TheVariants as straight
 use Rattle.interp.specs.inside.Acts.{state}
@@ -29,9 +33,12 @@ spot values code locals globals bytes host count =
 abbrev pub amid : Spot → List Layer → Place
 amid s ls = record { values = s.values; code = s.code; layers = ls; state = s.state }
 
--- a run over values leads along here, amid some layers
-abbrev pub LeadsAmid : Module → Spot → (most : ℕ) → Type 0
-LeadsAmid m s most = (ls : List Layer) × Leads m (amid s ls) most
+-- A run over values leads along here, amid some layers. Beside the operands of those there is room for so many, and always
+-- for one more than there are.
+pub record LeadsAmid (m : Module) (s : Spot) (most free : ℕ) : Type 0 where
+  pub layers : List Layer
+  pub leads : Leads m (amid s layers) most
+  pub low : (n : ℕ) → operands (run m n leads.from) < beneath layers + free
 
 -- each run over values that comes by the one comes by the other, amid any layers, where it ends within so many units
 abbrev pub Passes : Module → (most : ℕ) → (s t : Spot) → Type 0
@@ -40,6 +47,12 @@ Passes m most s t = (ls : List Layer) → Arrives m most (amid s ls) (amid t ls)
 -- each run over values that comes by here sends something, or gives something to a slot, amid any layers
 abbrev pub SendsAmid : Module → (most : ℕ) → Spot → Type 0
 SendsAmid m most s = (ls : List Layer) → SendsFrom m (amid s ls) most
+
+-- the code begins with an instruction that goes straight on, where these functions of the host are imported
+abbrev pub is_straight : List HostCall → Code → Bool
+is_straight calls (code.plain p is) = true
+is_straight calls (code.call f is) = is_some (slice_get calls f)
+is_straight calls _ = false
 
 -- what an instruction that goes straight on does, what it asks, and whether it sends something or gives something to a slot
 abbrev pub straight_effect : (Value → Bool) → Straight → List Value → State → Effect

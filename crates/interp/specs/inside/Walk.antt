@@ -1,5 +1,5 @@
 -- What the answers of the walk say of the machine's run.
-use Rattle.std.specs.Prelude.{◌≡◌, ◌≢◌, ℕ, ◌+◌, ◌-◌, ◌*◌, ◌^◌, ◌<◌, ◌≤◌, List, [], ◌∷◌, length, slice_get, Bool, Option, Result, Ok, Err}
+use Rattle.std.specs.Prelude.{◌≡◌, ◌≢◌, ℕ, ◌+◌, ◌-◌, ◌*◌, ◌^◌, ◌<◌, ◌≤◌, List, [], ◌∷◌, length, slice_get, Bool, Option}
 use Rattle.wasm_ast.specs.declared.types.ValType.TheVariants.{I32}
 use Rattle.wasm_ast.specs.declared.types.Value.{Value}
 use Rattle.wasm_ast.specs.declared.module.Function.{Function}
@@ -8,10 +8,10 @@ use Rattle.wasm_ast.specs.Code.{Code}
 use Rattle.wasm_ast.specs.View.{code_of}
 use Rattle.interp.specs.declared.walk.Turn.{Turn}
 use Rattle.interp.specs.declared.walk.Turn.TheVariants as turn
-use Rattle.interp.specs.Configuration.{State, Effect}
+use Rattle.interp.specs.Configuration.{State}
 use Rattle.wasm_ast.specs.Limits.{max_locals}
 use Rattle.interp.specs.Heights.{layers, locals, operands}
-use Rattle.interp.specs.Machine.{Machine, Running, Done, Layer, Label, after_effect, arm, arrive, back, enter, functions_of, jump, next_units, run, taking}
+use Rattle.interp.specs.Machine.{Machine, Running, Done, Layer, Label, arm, arrive, back, enter, functions_of, jump, next_units, run, taking}
 use Rattle.interp.specs.inside.Cells.{cell_next, cell_take_call, celled, cells_place, cells_state, seen}
 use Rattle.interp.specs.inside.Given.{HasGiven}
 use Rattle.interp.specs.inside.Fits.{MachineFits}
@@ -23,26 +23,15 @@ abbrev pub Turned : Turn → Machine → Standing → Type 0
 Turned (turn.Next code count) x s = x ≡ running (at s (code_of code.now) count)
 Turned (turn.Finished count) x s = x ≡ Done (state_of s count)
 
--- the same, but where memory runs out it would have sent something, or given something to a slot
-abbrev pub TurnedOrSent : {E : Type 0} → Result Turn E → Machine → Standing → Type 0
-TurnedOrSent (Ok t) x s = Turned t x s
-TurnedOrSent (Err _) x s = HasGiven x
-
 -- ---- what the parts of a walk do, by the operands, the code, the layers and the state
 
 -- the walk was turned so from one place to another
 abbrev pub Turns : Turn → (List Value → Code → List Layer → State → Machine) → Code → (count : ℕ) → (old new : Standing) → Type 0
 Turns t step code count old new = Turned t (step old.values code old.layers (state_of old count)) new
 
-abbrev pub TurnsOrSends : {E : Type 0} → Result Turn E → (List Value → Code → List Layer → State → Machine) → Code → (count : ℕ) → (old new : Standing) → Type 0
-TurnsOrSends r step code count old new = TurnedOrSent r (step old.values code old.layers (state_of old count)) new
-
 -- an instruction taken off a whole sequence, of which the rest is the code
 abbrev pub taken : (Value → Bool) → Module → (whole : Code) → List Value → Code → List Layer → State → Machine
 taken may m whole vs is ls st = cell_next may m vs whole ls st
-
-abbrev pub affected : (List Value → State → Effect) → List Value → Code → List Layer → State → Machine
-affected e vs is ls st = after_effect (e vs st) is ls st.count
 
 -- a sequence in a label
 abbrev pub opened : (keeps : Bool) (target body : Code) → List Value → Code → List Layer → State → Machine

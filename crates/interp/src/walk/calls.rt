@@ -1,6 +1,6 @@
 //! Calls of functions by number (Core 1.0, 4.4.7).
 
-ghost use Rattle.std.specs.Prelude.{◌≡◌, ◌+◌, ◌≤◌, Some, length, true};
+ghost use Rattle.std.specs.Prelude.{◌≡◌, ◌+◌, ◌≤◌, None, Some, length, slice_get, true};
 ghost use Rattle.wasm_ast.specs.Limits.{IsWithinLimits, max_locals, parameters_of};
 ghost use Rattle.wasm_ast.specs.View.{code_of};
 ghost use Rattle.interp.specs.Machine.{enter};
@@ -8,36 +8,36 @@ ghost use Rattle.interp.specs.inside.Cells.{celled, in_width, of_any_width};
 ghost use Rattle.interp.specs.inside.Going.{goes_on};
 ghost use Rattle.interp.specs.inside.Meaning.{AreImports};
 ghost use Rattle.interp.specs.inside.Place.{HasFrameRoom};
-ghost use Rattle.interp.specs.inside.Walk.{Turns, TurnsOrSends, called, entered};
+ghost use Rattle.interp.specs.inside.Walk.{Turns, called, entered};
 
 use crate::layers::{Layer, push_layer};
 use crate::program::{Callee, Program};
 use crate::walk::{Turn, Walk};
-use std::alloc::AllocError;
 use wasm_ast::{FuncType, Function, Instr};
 
 impl<'a, 'b> Walk<'a, 'b> {
-    /// A call of the function with this number.
+    /// A call of the function with this number, which is none of the host.
     pub fn call(
         &mut self,
         program: Program<'a>,
         number: u32,
         code: &'a [Instr],
         count: u128,
-    ) -> Result<Turn<'a>, AllocError>
+    ) -> Turn<'a>
         requires calls { AreImports program.calls.now program.«module».now }
         requires within { IsWithinLimits program.«module».now }
         requires room { HasFrameRoom self.old }
+        requires other { slice_get program.calls.now number ≡ None }
         requires goes { goes_on (called of_any_width program.«module».now number) (code_of code.now)
             count self.old ≡ true }
-        ensures turned { TurnsOrSends result (called in_width program.entry.«module».now number)
+        ensures turned { Turns result (called in_width program.entry.«module».now number)
             (code_of code.now) count self.old self.new }
         ensures room { self.new.room ≡ self.old.room }
     {
         match program.callee(number) {
             None => unreachable!(),
-            Some(Callee::Host(call)) => self.act_host(call, code, count),
-            Some(Callee::Defined(function)) => Ok(self.enter(program, function, code, count)),
+            Some(Callee::Host(_)) => unreachable!(),
+            Some(Callee::Defined(function)) => self.enter(program, function, code, count),
         }
     }
 

@@ -1,12 +1,12 @@
-use Rattle.std.proofs.Common.{◌≡◌, List, ◌+◌, ◌-◌, map, drop, length, reverse, ap, ◌∙◌, arith}
+use Rattle.std.proofs.Common.{◌≡◌, List, ◌+◌, ◌-◌, map, drop, length, reverse, sym, ap, ◌∙◌, arith}
 use Rattle.wasm_ast.specs.declared.types.Value.{Value}
 use Rattle.wasm_ast.specs.declared.types.Value.TheVariants.{I64}
 use Rattle.wasm_ast.specs.View.{code_of}
 use Rattle.interp.specs.inside.Pile.{pile}
-use Rattle.interp.specs.inside.Split.{Below}
-use Rattle.interp.proofs.Lent.{IsLent, back_lower, back_cells, back_here, back_under, given_back, lent, lent_cells, lent_here}
+use Rattle.interp.specs.inside.Split.{Below, free_of}
+use Rattle.interp.proofs.Lent.{IsLent, back_lower, back_cells, back_here, back_under, given_back, lent, lent_cells, lent_here, lent_long}
 use Rattle.interp.proofs.Passing.{leads_same, passes_same, sends_same}
-use Rattle.interp.proofs.Piles.{held}
+use Rattle.interp.proofs.Piles.{free_is, held}
 use Rattle.interp.proofs.Sending.{on_any}
 use Rattle.interp.proofs.straight.go_straight.Goals as goal
 
@@ -20,7 +20,9 @@ run_straight-requires-clause-leads c =
     lent_here o.floor whole o.cells.items c.deref_mut.ensures.value o.top c.operands.invariant.0 ∙ ap (λ s. s.here) c.operands.view_is in
     let cells : map I64 (lent l.base others) ≡ c.args.locals.now.here =
     lent_cells l.base others l.cells.items c.deref_mut-2.ensures.value ∙ ap (λ s. s.here) c.locals.view_is in
-    leads_same c.args.program.module.now c.args.most (code_of c.args.code.now) (code_of c.args.code.now) (pile (lent o.floor whole) (o.top - o.floor)) c.args.operands.now.here (map I64 (lent l.base others)) c.args.locals.now.here here cells c.args.globals.now.here c.args.bytes.now c.args.host.now c.args.host.now c.args.count c.requires.leads
+    let free : free_of c.args.operands.now ≡ length (lent o.floor whole) =
+    ap free_of (sym c.operands.view_is) ∙ free_is (length o.cells.items) o.floor o.top o.cells.items c.operands.invariant.0 c.operands.invariant.1 ∙ sym (lent_long o.floor whole o.cells.items c.deref_mut.ensures.value) in
+    leads_same c.args.program.module.now c.args.most (code_of c.args.code.now) (code_of c.args.code.now) (pile (lent o.floor whole) (o.top - o.floor)) c.args.operands.now.here (map I64 (lent l.base others)) c.args.locals.now.here here cells c.args.globals.now.here c.args.bytes.now c.args.host.now c.args.host.now c.args.count (free_of c.args.operands.now) (length (lent o.floor whole)) free c.requires.leads
 
 pub returns-clause-passes : goal.returns-clause-passes
 returns-clause-passes c =

@@ -1,11 +1,12 @@
-use Rattle.std.proofs.Common.{◌+◌, map, refl, sym, ap, ◌∙◌, arith}
+use Rattle.std.proofs.Common.{◌+◌, length, map, refl, sym, ap, ◌∙◌, arith}
 use Rattle.wasm_ast.specs.declared.types.Value.TheVariants.{I64}
 use Rattle.wasm_ast.specs.View.{code_of}
 use Rattle.interp.specs.Configuration.{Gives}
 use Rattle.interp.specs.inside.Acts.{state}
 use Rattle.interp.specs.inside.Pile.{pile}
 use Rattle.interp.specs.inside.Straight.{Spot, spot, straight_units}
-use Rattle.interp.proofs.Passing.{leads_on, passes_on, sends_on, straight_asked_amid, straight_room, straight_sends, straight_step}
+use Rattle.interp.proofs.Passing.{fewer_amid, leads_on, passes_on, sends_on, straight_asked_amid, straight_room, straight_sends, straight_step}
+use Rattle.interp.proofs.Piles.{pile_long}
 use Rattle.interp.proofs.Sending.{on_any}
 use Rattle.interp.proofs.straight.run_straight.Goals as goal
 
@@ -18,7 +19,7 @@ overflow_add-at c =
     let next = c.in-Some.next in
     let start : Spot = spot (pile c.args.cells.now c.args.top) (code_of c.args.code.now) (map I64 c.args.locals.now) c.args.globals.now.here c.args.bytes.now c.args.host.now c.args.count in
     let here : Spot = spot (pile c.run.cells c.run.at.top) (code_of c.run.at.code.now) (map I64 c.run.locals) c.run.globals.here c.run.bytes c.run.host c.run.at.count in
-    let room = straight_room m c.args.most here next.what (straight_units next.what) (code_of next.code.now) c.in-Some.ensures.is (leads_on m c.args.most start here c.requires.leads c.run.invariant.passes) in
+    let room = straight_room m c.args.most here next.what (straight_units next.what) (code_of next.code.now) c.in-Some.ensures.is (length c.args.cells.now) (leads_on m c.args.most (length c.args.cells.now) start here c.requires.leads c.run.invariant.passes) in
     omega (arith, room, c.from.ensures, c.in_ok-acted-in-Some.ensures.units, c.ranges.most.fits)
 
 pub act_straight-requires-clause-asks : goal.act_straight-requires-clause-asks
@@ -27,7 +28,15 @@ act_straight-requires-clause-asks c =
     let next = c.in-Some.next in
     let start : Spot = spot (pile c.args.cells.now c.args.top) (code_of c.args.code.now) (map I64 c.args.locals.now) c.args.globals.now.here c.args.bytes.now c.args.host.now c.args.count in
     let here : Spot = spot (pile c.run.cells c.run.at.top) (code_of c.run.at.code.now) (map I64 c.run.locals) c.run.globals.here c.run.bytes c.run.host c.run.at.count in
-    straight_asked_amid m c.args.most here next.what (straight_units next.what) (code_of next.code.now) c.in-Some.ensures.is (leads_on m c.args.most start here c.requires.leads c.run.invariant.passes)
+    straight_asked_amid m c.args.most here next.what (straight_units next.what) (code_of next.code.now) c.in-Some.ensures.is (length c.args.cells.now) (leads_on m c.args.most (length c.args.cells.now) start here c.requires.leads c.run.invariant.passes)
+
+pub act_straight-requires-clause-room : goal.act_straight-requires-clause-room
+act_straight-requires-clause-room c =
+    let m = c.args.program.module.now in
+    let start : Spot = spot (pile c.args.cells.now c.args.top) (code_of c.args.code.now) (map I64 c.args.locals.now) c.args.globals.now.here c.args.bytes.now c.args.host.now c.args.count in
+    let here : Spot = spot (pile c.run.cells c.run.at.top) (code_of c.run.at.code.now) (map I64 c.run.locals) c.run.globals.here c.run.bytes c.run.host c.run.at.count in
+    let fewer = fewer_amid m c.args.most (length c.args.cells.now) here (leads_on m c.args.most (length c.args.cells.now) start here c.requires.leads c.run.invariant.passes) in
+    omega (arith, fewer, pile_long c.run.cells c.run.at.top c.run.invariant.within, c.run.auto.cells)
 
 pub run-preserved : goal.run-preserved
 run-preserved c =
@@ -67,9 +76,3 @@ returns-in_err-acted-in-Some-clause-kept_globals c = c.act_straight.ensures.kept
 
 pub returns-in_err-acted-in-Some-clause-kept_bytes : goal.returns-in_err-acted-in-Some-clause-kept_bytes
 returns-in_err-acted-in-Some-clause-kept_bytes c = c.act_straight.ensures.kept_bytes ∙ c.run.invariant.kept_bytes
-
-pub returns-clause-kept_globals : goal.returns-clause-kept_globals
-returns-clause-kept_globals c = c.run.invariant.kept_globals
-
-pub returns-clause-kept_bytes : goal.returns-clause-kept_bytes
-returns-clause-kept_bytes c = c.run.invariant.kept_bytes

@@ -1,17 +1,21 @@
-use Rattle.std.proofs.Common.{◌≡◌, refl, ◌∙◌, arith}
+use Rattle.std.proofs.Common.{◌≡◌, refl, sym, ◌∙◌, subst, arith}
 use Rattle.wasm_ast.specs.View.{code_of}
-use Rattle.interp.specs.Machine.{Done}
+use Rattle.interp.specs.Machine.{Done, run}
 use Rattle.interp.specs.inside.Cells.{cell_advance, in_width}
 use Rattle.interp.specs.inside.Place.{at, running, state_of}
-use Rattle.interp.specs.inside.Walk.{SendsFrom}
-use Rattle.interp.proofs.Following.{cell_goes, cell_room, falls_on, finishes_on, follows_on, frame_room, gives_on}
+use Rattle.interp.specs.inside.Walk.{IsWithinRoom, SendsFrom}
+use Rattle.interp.proofs.Following.{cell_goes, cell_room, falls_on, finishes_on, follows_on, frame_room}
 use Rattle.interp.proofs.Sending.{on_any}
 use Rattle.interp.proofs.walk.Walk.finish.Goals as goal
 
 pub go_on-requires-clause-leads : goal.go_on-requires-clause-leads
 go_on-requires-clause-leads c =
+    let m = c.args.program.module.now in
     let leads = c.requires.ends.leads in
-    record { from = leads.from; follows = c.turns.invariant.follows leads.from leads.follows leads.ends; ends = leads.ends }
+    record {
+      leads = record { from = leads.from; follows = c.turns.invariant.follows leads.from leads.follows leads.ends; ends = leads.ends };
+      low = λ n. subst (λ r. IsWithinRoom r (run m n leads.from)) (sym c.turns.invariant.room) (c.requires.ends.low n);
+    }
 
 pub turn-requires-clause-fits : goal.turn-requires-clause-fits
 turn-requires-clause-fits c =
@@ -41,7 +45,7 @@ pub turns-smaller : goal.turns-smaller
 turns-smaller c =
     let here = at c.go_on.new.self (code_of c.in_ok-stop.stop.code.now) c.in_ok-stop.stop.count in
     let next = at c.turn.new.self (code_of c.in-Next.next.now) c.in-Next.counted in
-    let step : cell_advance in_width c.args.program.module.now (running here) ≡ running next = rw c.in-Next.is at c.in_ok-next.ensures.turned in
+    let step : cell_advance in_width c.args.program.module.now (running here) ≡ running next = rw c.in-Next.is at c.turn.ensures.turned in
     let leads = c.requires.ends.leads in
     let follows = c.in_ok-stop.ensures.passes leads.from (c.turns.invariant.follows leads.from leads.follows leads.ends) leads.ends in
     let less = falls_on c.args.program.module.now leads.from here follows c.args.most leads.ends next step in
@@ -51,7 +55,7 @@ pub turns-preserved : goal.turns-preserved
 turns-preserved c =
     let here = at c.go_on.new.self (code_of c.in_ok-stop.stop.code.now) c.in_ok-stop.stop.count in
     let next = at c.turn.new.self (code_of c.in-Next.next.now) c.in-Next.counted in
-    let step : cell_advance in_width c.args.program.module.now (running here) ≡ running next = rw c.in-Next.is at c.in_ok-next.ensures.turned in
+    let step : cell_advance in_width c.args.program.module.now (running here) ≡ running next = rw c.in-Next.is at c.turn.ensures.turned in
     record {
       follows = λ from follows ends. follows_on c.args.program.module.now from here (c.in_ok-stop.ensures.passes from (c.turns.invariant.follows from follows ends) ends) c.args.most ends next step;
       room = c.turn.ensures.room ∙ c.go_on.ensures.room ∙ c.turns.invariant.room;
@@ -61,18 +65,11 @@ pub returns-in-Finished-clause-concludes : goal.returns-in-Finished-clause-concl
 returns-in-Finished-clause-concludes c =
     let here = at c.go_on.new.self (code_of c.in_ok-stop.stop.code.now) c.in_ok-stop.stop.count in
     let final = state_of c.turn.new.self c.in-Finished.counted in
-    let step : cell_advance in_width c.args.program.module.now (running here) ≡ Done final = rw c.in-Finished.is at c.in_ok-next.ensures.turned in
+    let step : cell_advance in_width c.args.program.module.now (running here) ≡ Done final = rw c.in-Finished.is at c.turn.ensures.turned in
     λ from follows ends. finishes_on c.args.program.module.now from here (c.in_ok-stop.ensures.passes from (c.turns.invariant.follows from follows ends) ends) c.args.most ends final step
 
 pub returns-in-Finished-clause-room : goal.returns-in-Finished-clause-room
 returns-in-Finished-clause-room c = c.turn.ensures.room ∙ c.go_on.ensures.room ∙ c.turns.invariant.room
-
-pub returns-in_err-next-clause-sends : goal.returns-in_err-next-clause-sends
-returns-in_err-next-clause-sends c =
-    let here = at c.go_on.new.self (code_of c.in_ok-stop.stop.code.now) c.in_ok-stop.stop.count in
-    let all : SendsFrom c.args.program.module.now (at c.args.self.now (code_of c.args.code.now) 0) c.args.most = λ from follows ends.
-    gives_on c.args.program.module.now from here (c.in_ok-stop.ensures.passes from (c.turns.invariant.follows from follows ends) ends) c.args.most ends c.in_err-next.ensures.turned in
-    on_any _ _ all
 
 pub returns-in_err-stop-clause-sends : goal.returns-in_err-stop-clause-sends
 returns-in_err-stop-clause-sends c =

@@ -3,14 +3,23 @@ use Rattle.wasm_ast.specs.View.{code_of}
 use Rattle.interp.specs.inside.Meaning.{layers_of, standing_of}
 use Rattle.interp.specs.inside.Place.{at}
 use Rattle.interp.specs.inside.Straight.{amid, spot}
-use Rattle.interp.specs.inside.Walk.{Follows, Leads, SendsFrom}
+use Rattle.interp.specs.inside.Walk.{Follows, SendsFrom}
 use Rattle.interp.proofs.Sending.{on_any}
+use Rattle.interp.proofs.Stacked.{beneath_is}
 use Rattle.interp.proofs.walk.Walk.go_on.Goals as goal
 
 pub go_straight-requires-clause-leads : goal.go_straight-requires-clause-leads
 go_straight-requires-clause-leads c =
-    let s = standing_of c.self.inside in
-    (s.layers, subst (λ t. Leads c.args.program.module.now (at t (code_of c.args.code.now) c.args.count) c.args.most) (sym c.self.view_is) c.requires.leads)
+    let m = c.args.program.module.now in
+    let a = c.self.inside in
+    let d = c.requires.leads.leads in
+    let same = ap (λ s. s.room.operands) c.self.view_is in
+    let under = beneath_is (reverse a.layers.items) a.operands.below.values a.locals.below.values c.self.invariant in
+    record {
+      layers = (standing_of a).layers;
+      leads = record { from = d.from; follows = subst (λ t. Follows m d.from (at t (code_of c.args.code.now) c.args.count)) (sym c.self.view_is) d.follows; ends = d.ends };
+      low = λ n. let few = (c.requires.leads.low n).few_operands in omega (arith, few, same, under);
+    }
 
 pub returns-clause-passes : goal.returns-clause-passes
 returns-clause-passes c =

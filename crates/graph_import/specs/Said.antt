@@ -1,0 +1,36 @@
+-- The edges that the lines of a text say.
+use Rattle.std.specs.Prelude.{◌≡◌, ℕ, Bool, true, false, List, [], ◌∷◌, ◌==◌, map, if◌then◌else◌}
+use Rattle.std.specs.List.{flat_map}
+use Rattle.std.specs.Str.Lines.{lines}
+use Rattle.graph.specs.declared.vertex.Edge.{Edge}
+use Rattle.graph_import.specs.declared.line.Form.{Form}
+use Rattle.graph_import.specs.declared.line.Line.{Line}
+use Rattle.graph_import.specs.declared.line.Line.TheVariants.{BadForm, BadNumber, Blank, Said}
+use Rattle.graph_import.specs.Line.{line_of}
+
+-- the edge back
+abbrev pub back : Edge → Edge
+back edge = record { from = edge.target; target = edge.from; value = edge.value }
+
+-- an edge, and the edge back where each stands for both directions; one from a vertex to itself stands once
+abbrev pub both_of : (both_ways : Bool) → Edge → List Edge
+both_of both_ways edge = if both_ways then (if edge.from == edge.target then edge ∷ [] else edge ∷ back edge ∷ []) else edge ∷ []
+
+-- the edges of what a line says
+abbrev pub edges_of : (both_ways : Bool) → Line → List Edge
+edges_of both_ways (Said edge) = both_of both_ways edge
+edges_of both_ways _ = []
+
+-- what a text says, line by line
+abbrev pub lines_of : Form → List ℕ → List Line
+lines_of form text = map (line_of form) (lines text)
+
+-- the edges of all lines, in their order
+abbrev pub all_edges : (both_ways : Bool) → List Line → List Edge
+all_edges both_ways said = flat_map (edges_of both_ways) said
+
+-- the line is blank, a comment or an edge
+abbrev pub is_good : Line → Bool
+is_good Blank = true
+is_good (Said edge) = true
+is_good _ = false

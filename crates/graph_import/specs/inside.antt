@@ -1,0 +1,3 @@
+-- Edges, as they are added one after another.
+pub mod Ranges
+pub mod Adding

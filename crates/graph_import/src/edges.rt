@@ -1,0 +1,20 @@
+//! The edges of a file, as far as it was read.
+
+ghost use Rattle.std.specs.Prelude.{◌≤◌, vec_len};
+ghost use Rattle.std.specs.List.{All};
+ghost use Rattle.graph_import.specs.inside.Ranges.{IsInRange};
+
+use graph::Edge;
+
+/// The edges of lines, in their order.
+#[derive(Drop)]
+pub struct Edges {
+    /// The edges so far.
+    pub items: Vec<Edge>,
+    /// Whether each edge stands for both directions.
+    pub both_ways: bool,
+    /// How many there may be.
+    pub most: usize,
+    ghost within: { vec_len items ≤ most },
+    ghost in_range: { All IsInRange items.items },
+}

@@ -1,0 +1,18 @@
+//! Graph files made of edge lists, tables and matrices.
+#![tactic(auto)]
+
+mod adding;
+mod edges;
+mod line;
+mod list;
+mod making;
+mod matrix;
+mod names;
+mod plan;
+mod reading;
+mod table;
+mod vertices;
+mod writing;
+
+pub use making::{Imported, import};
+pub use plan::{Format, Plan, format_of};

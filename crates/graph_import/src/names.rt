@@ -1,0 +1,107 @@
+//! Names, numbered in the order in which they come.
+
+ghost use Rattle.std.specs.Prelude.{IfOk};
+ghost use Rattle.graph_import.specs.inside.Ranges.{IsInRange};
+
+use crate::line::{Form, is_comment};
+use graph::{Edge, Fields, GraphFault, MAX_VERTICES, number_of};
+use std::alloc::Global;
+use std::collections::HashMap;
+
+/// The numbers of names, and the list of them.
+#[derive(Drop)]
+pub struct Names {
+    numbers: HashMap<String, u32>,
+    /// A line `ID NAME` for each name, by rising ids.
+    pub list: String,
+}
+
+impl Names {
+    /// No names.
+    pub fn new(alloc: Global) -> Names {
+        Names {
+            numbers: HashMap::new(alloc),
+            list: String::new(alloc),
+        }
+    }
+
+    /// The number of a name on a line, which is the next one where the name is new.
+    pub fn number(&mut self, alloc: Global, line: usize, name: &str) -> Result<u32, GraphFault> {
+        if let Some(number) = self.find(name) {
+            return Ok(number);
+        }
+        let next = self.numbers.len();
+        if next >= MAX_VERTICES {
+            return Err(GraphFault::OverLimit(line));
+        }
+        let key = String::from_str(alloc, name)?;
+        writeln!(self.list, "{next} {name}")?;
+        self.numbers.insert(key, next as u32)?;
+        Ok(next as u32)
+    }
+
+    /// The number of a name, if it has one.
+    pub fn find(&self, name: &str) -> Option<u32> {
+        self.numbers.get(name).copied()
+    }
+
+    /// The edge between two names on a line.
+    pub fn edge(
+        &mut self,
+        alloc: Global,
+        line: usize,
+        ends: (&[u8], &[u8]),
+        value: i64,
+    ) -> Result<Edge, GraphFault>
+        ensures { IfOk result IsInRange }
+    {
+        let (Ok(from), Ok(target)) = (str::from_utf8(ends.0), str::from_utf8(ends.1)) else {
+            return Err(GraphFault::Line(line));
+        };
+        let from = self.number(alloc, line, from)?;
+        let target = self.number(alloc, line, target)?;
+        Ok(Edge {
+            from: u64::from(from),
+            target: u64::from(target),
+            value,
+        })
+    }
+}
+
+/// What a line has whose ends are names.
+#[derive(Clone, Copy)]
+pub enum Row<'a> {
+    /// It is blank, or a comment.
+    Blank,
+    /// The two ends of an edge, and its value.
+    Named(&'a [u8], &'a [u8], i64),
+    /// It has no form that a line may have.
+    BadForm,
+    /// Its value is no number.
+    BadNumber,
+}
+
+/// What a line has whose ends are names.
+pub fn row_of<'a>(line: &'a str, form: Form) -> Row<'a> {
+    if is_comment(line) {
+        return Row::Blank;
+    }
+    let mut fields = Fields::new(line);
+    let Some(from) = fields.next() else {
+        return Row::Blank;
+    };
+    let Some(target) = fields.next() else {
+        return Row::BadForm;
+    };
+    let value = match fields.next() {
+        None => Some(1),
+        Some(field) => number_of(field),
+    };
+    if fields.next().is_some() {
+        return Row::BadForm;
+    }
+    match form.weight.or(value) {
+        Some(value) => Row::Named(from, target, value),
+        None => Row::BadNumber,
+    }
+}

@@ -1,0 +1,16 @@
+//! What was read of a file.
+
+ghost use Rattle.std.specs.Prelude.{◌≤◌};
+
+use crate::edges::Edges;
+use crate::names::Names;
+
+/// The edges of a file, and the names of their ends where they have names.
+#[derive(Drop)]
+pub struct Reading {
+    pub edges: Edges,
+    pub names: Option<Names>,
+    /// The ids from 1 to this are vertices, whether an edge has them or not.
+    pub declared: u64,
+    ghost small: { declared ≤ 1000000 },
+}

@@ -11,7 +11,8 @@ use Rattle.clap.specs.declared.parser.matches.ArgMatches.{ArgMatches}
 use Rattle.clap.specs.declared.parser.matches.ArgMatches.TheViews.{out-ArgMatches}
 use Rattle.clap.specs.declared.parser.matches.Found.{Found}
 use Rattle.clap.proofs.WalkLemmas.{first_value-rows, one_text-rows}
-use Rattle.command_line.specs.CommandLine.{Asks, AsksFor, AsksJob, AsksRun, Gives, GivesNumber, is_set}
+use Rattle.command_line.specs.CommandLine.{Asks, AsksFor, AsksImport, AsksJob, AsksRun, Gives, GivesNumber, is_set}
+use Rattle.command_line.specs.declared.request.ImportRequest.{ImportRequest}
 use Rattle.command_line.specs.declared.request.JobRequest.{JobRequest}
 use Rattle.command_line.specs.declared.request.Options.{Options}
 use Rattle.command_line.specs.declared.request.Options.TheVariants as options
@@ -147,16 +148,21 @@ pub asks_verify : (rows : List Row) (asked : Request) → AsksFor (codes "verify
 asks_verify rows (request.Verify m) h = (m, h.1)
 asks_verify rows other h = let no : true ≡ false = ap (bytes_eq (codes "verify")) h.0 in cc
 
+pub asks_graph : (rows : List Row) (asked : Request) → AsksFor (codes "graph") rows asked → (asked : ImportRequest) × AsksImport rows asked
+asks_graph rows (request.Import asked) h = (asked, h.1)
+asks_graph rows other h = let no : true ≡ false = ap (bytes_eq (codes "graph")) h.0 in cc
+
 pub asks_none : (name : Text) (rows : List Row) → (name ≡ codes "call" → ⊥) → (name ≡ codes "run" → ⊥) → (name ≡ codes "replay" → ⊥)
-    → (name ≡ codes "upgrade" → ⊥) → (name ≡ codes "asm" → ⊥) → (name ≡ codes "print" → ⊥) → (name ≡ codes "verify" → ⊥)
+    → (name ≡ codes "upgrade" → ⊥) → (name ≡ codes "asm" → ⊥) → (name ≡ codes "print" → ⊥) → (name ≡ codes "verify" → ⊥) → (name ≡ codes "graph" → ⊥)
     → (asked : Request) → AsksFor name rows asked → ⊥
-asks_none name rows call run replay upgrade asm print verify (request.Call m input) h = call h.0
-asks_none name rows call run replay upgrade asm print verify (request.Run asked) h = run h.0
-asks_none name rows call run replay upgrade asm print verify (request.Replay asked steps) h = replay h.0
-asks_none name rows call run replay upgrade asm print verify (request.Upgrade checkpoint newer) h = upgrade h.0
-asks_none name rows call run replay upgrade asm print verify (request.Assemble m binary) h = asm h.0
-asks_none name rows call run replay upgrade asm print verify (request.Print m) h = print h.0
-asks_none name rows call run replay upgrade asm print verify (request.Verify m) h = verify h.0
+asks_none name rows call run replay upgrade asm print verify graph (request.Call m input) h = call h.0
+asks_none name rows call run replay upgrade asm print verify graph (request.Run asked) h = run h.0
+asks_none name rows call run replay upgrade asm print verify graph (request.Replay asked steps) h = replay h.0
+asks_none name rows call run replay upgrade asm print verify graph (request.Upgrade checkpoint newer) h = upgrade h.0
+asks_none name rows call run replay upgrade asm print verify graph (request.Assemble m binary) h = asm h.0
+asks_none name rows call run replay upgrade asm print verify graph (request.Print m) h = print h.0
+asks_none name rows call run replay upgrade asm print verify graph (request.Verify m) h = verify h.0
+asks_none name rows call run replay upgrade asm print verify graph (request.Import asked) h = graph h.0
 
 pub run_found : (rows : List Row) (found : Option RunRequest) (made : Option Request) → Finds (AsksRun rows) found
     → MatchOption found (made ≡ None) (λ asked. IsSomeAnd made (λ r. r ≡ request.Run asked)) → Finds (AsksFor (codes "run") rows) made

@@ -13,6 +13,7 @@ use Rattle.clap.specs.declared.builder.action.ArgAction.TheVariants.{SetTrue}
 use Rattle.clap.specs.declared.builder.value_parser.ValueParser.{ValueParser}
 use Rattle.clap.specs.declared.builder.value_parser.ValueParser.TheVariants.{Signed}
 use Rattle.superstep.specs.declared.settings.Settings.{Settings}
+use Rattle.command_line.specs.declared.request.ImportRequest.{ImportRequest}
 use Rattle.command_line.specs.declared.request.JobRequest.{JobRequest}
 use Rattle.command_line.specs.declared.request.Options.{Options}
 use Rattle.command_line.specs.declared.request.Options.TheVariants as options
@@ -85,6 +86,11 @@ print = command (codes "print") (positional (codes "module") ∷ [])
 abbrev pub verify : Shape
 verify = command (codes "verify") (positional (codes "module") ∷ [])
 
+abbrev pub graph : Shape
+graph = command (codes "graph")
+    (positional (codes "edges") ∷ positional (codes "binary") ∷ flag (codes "undirected") ∷ option (codes "value")
+    ∷ option (codes "source") ∷ option (codes "weight") ∷ flag (codes "share") ∷ option (codes "names") ∷ [])
+
 abbrev pub console : Shape
 console = command (codes "console") []
 
@@ -96,7 +102,7 @@ pregel = record {
     subcommand_required = true;
     arg_required_else_help = true;
   };
-  subs = call ∷ run ∷ replay ∷ upgrade ∷ asm ∷ print ∷ verify ∷ console ∷ [];
+  subs = call ∷ run ∷ replay ∷ upgrade ∷ asm ∷ print ∷ verify ∷ graph ∷ console ∷ [];
 }
 
 -- ---- what is asked for by a command and the entries of its arguments
@@ -141,6 +147,17 @@ pub record AsksRun (rows : List Row) (asked : RunRequest) : Type 0 where
   pub lose : MayGive rows (codes "lose") asked.lose
   pub again : asked.again ≡ is_set rows (codes "again")
 
+-- the entries ask for this graph file
+pub record AsksImport (rows : List Row) (asked : ImportRequest) : Type 0 where
+  pub edges_path : Gives rows (codes "edges") asked.edges
+  pub graph_path : Gives rows (codes "binary") asked.graph
+  pub undirected : asked.undirected ≡ is_set rows (codes "undirected")
+  pub value : MayGive rows (codes "value") asked.value
+  pub source : MayGive rows (codes "source") asked.source
+  pub weight : MayGive rows (codes "weight") asked.weight
+  pub share : asked.share ≡ is_set rows (codes "share")
+  pub names : MayGive rows (codes "names") asked.names
+
 -- the command over files of this name asks for this
 abbrev pub AsksFor : (name : Text) → List Row → Request → Type 0
 AsksFor name rows (request.Call m input) = (name ≡ codes "call") × Gives rows (codes "module") m × Gives rows (codes "input") input
@@ -151,6 +168,7 @@ AsksFor name rows (request.Upgrade checkpoint newer) =
 AsksFor name rows (request.Assemble m binary) = (name ≡ codes "asm") × Gives rows (codes "module") m × Gives rows (codes "binary") binary
 AsksFor name rows (request.Print m) = (name ≡ codes "print") × Gives rows (codes "module") m
 AsksFor name rows (request.Verify m) = (name ≡ codes "verify") × Gives rows (codes "module") m
+AsksFor name rows (request.Import asked) = (name ≡ codes "graph") × AsksImport rows asked
 
 -- the command of this name asks for this
 abbrev pub Asks : (name : Text) → List Row → Options → Type 0

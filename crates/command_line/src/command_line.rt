@@ -7,7 +7,7 @@ ghost use Rattle.command_line.specs.CommandLine.{AskedBy, AskedIn, AsksFor, Asks
 ghost use Rattle.command_line.specs.inside.Commands.{Finds, IsRefusedIn, rows_in};
 
 use crate::commands::pregel;
-use crate::request::{JobRequest, Options, Request, RunRequest};
+use crate::request::{ImportRequest, JobRequest, Options, Request, RunRequest};
 use clap::error::ErrorKind;
 use clap::{ArgMatches, Command, Error};
 use std::alloc::Global;
@@ -120,6 +120,7 @@ fn requested<'a>(name: &str, entries: &ArgMatches<'a>) -> Option<Request<'a>>
         "replay" => replay_asked(entries),
         "upgrade" => upgrade_asked(entries),
         "asm" => assemble_asked(entries),
+        "graph" => import_asked(entries),
         "print" => {
             let module = entries.get_str("module")?;
             Some(Request::Print { module })
@@ -174,6 +175,23 @@ fn assemble_asked<'a>(entries: &ArgMatches<'a>) -> Option<Request<'a>>
     let module = entries.get_str("module")?;
     let binary = entries.get_str("binary")?;
     Some(Request::Assemble { module, binary })
+}
+
+fn import_asked<'a>(entries: &ArgMatches<'a>) -> Option<Request<'a>>
+    ensures { Finds (AsksFor (codes "graph") (rows_in entries.now)) result }
+{
+    let edges = entries.get_str("edges")?;
+    let graph = entries.get_str("binary")?;
+    Some(Request::Import(ImportRequest {
+        edges,
+        graph,
+        undirected: is_set(entries, "undirected"),
+        value: entries.get_str("value"),
+        source: entries.get_str("source"),
+        weight: entries.get_str("weight"),
+        share: is_set(entries, "share"),
+        names: entries.get_str("names"),
+    }))
 }
 
 fn job_asked<'a>(entries: &ArgMatches<'a>) -> Option<JobRequest<'a>>

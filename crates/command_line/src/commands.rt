@@ -140,8 +140,48 @@ const UNITS: Argument = Argument::Flag {
     help: "Tells the units of each superstep too",
 };
 
+const EDGES: Argument = Argument::Positional {
+    name: "edges",
+    value_name: "IN",
+    help: "The edges: a table with a heading where the name ends in `.csv` or `.tsv`, of which the first two columns are the ends; a Matrix Market file, `pattern` or `integer`, `general` or `symmetric`, where the first line says so; else two ends on each line and a value or none, and comments that begin with `#` or `%`",
+};
+
+const UNDIRECTED: Argument = Argument::Flag {
+    name: "undirected",
+    help: "Writes each edge in both directions",
+};
+
+const VALUE: Argument = Argument::Option {
+    name: "value",
+    value_name: "N",
+    help: "The value of every vertex, written as `--value=-1` where it is below 0; without it 0",
+};
+
+const SOURCE: Argument = Argument::Option {
+    name: "source",
+    value_name: "ID",
+    help: "Gives this vertex the value 0, and all others -1, or that of `--value`",
+};
+
+const WEIGHT: Argument = Argument::Option {
+    name: "weight",
+    value_name: "N|COLUMN",
+    help: "The value of every edge, or the heading of the column of a table that has the values; without it that of the line, or 1",
+};
+
+const SHARE: Argument = Argument::Flag {
+    name: "share",
+    help: "Gives each edge 2^32 divided by the number of edges from its source, as for PageRank",
+};
+
+const NAMES: Argument = Argument::Option {
+    name: "names",
+    value_name: "FILE",
+    help: "Takes all ends as names, numbers them from 0 in the order in which they come, and writes a line `ID NAME` for each to this file",
+};
+
 // The commands except `console`, in the order of the help.
-static COMMANDS: [Usage; 7] = [
+static COMMANDS: [Usage; 8] = [
     Usage {
         name: "call",
         about: "Makes one compute call of one vertex, and prints its outcome",
@@ -180,6 +220,13 @@ static COMMANDS: [Usage; 7] = [
         name: "verify",
         about: "Tells the bounds of a module's calls, where they are known to have any",
         arguments: &[MODULE],
+    },
+    Usage {
+        name: "graph",
+        about: "Makes a graph file of edges, and prints how many vertices and edges it has; a refusal tells the line, or 0 for an option",
+        arguments: &[
+            EDGES, BINARY, UNDIRECTED, VALUE, SOURCE, WEIGHT, SHARE, NAMES,
+        ],
     },
 ];
 

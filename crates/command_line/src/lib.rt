@@ -6,4 +6,4 @@ mod commands;
 mod request;
 
 pub use command_line::options;
-pub use request::{JobRequest, Options, Request, RunRequest};
+pub use request::{ImportRequest, JobRequest, Options, Request, RunRequest};

@@ -44,6 +44,8 @@ pub enum Request<'a> {
     Verify {
         module: &'a str,
     },
+    /// Write the edges in one file to another, as a graph.
+    Import(ImportRequest<'a>),
 }
 
 /// The job of the module in one file over the graph in the other.
@@ -66,4 +68,23 @@ pub struct RunRequest<'a> {
     pub lose: Option<&'a str>,
     /// Whether a worker that is lost joins again.
     pub again: bool,
+}
+
+/// The edges in one file, written to another as a graph.
+#[derive(Clone, Copy)]
+pub struct ImportRequest<'a> {
+    pub edges: &'a str,
+    pub graph: &'a str,
+    /// Whether each edge stands for both directions.
+    pub undirected: bool,
+    /// The value of each vertex but the source.
+    pub value: Option<&'a str>,
+    /// The vertex whose value is 0.
+    pub source: Option<&'a str>,
+    /// The value of each edge, or the heading of the column that has it.
+    pub weight: Option<&'a str>,
+    /// Whether an edge's value is its share of 2^32.
+    pub share: bool,
+    /// The file in which the names of vertices are kept, where they have names.
+    pub names: Option<&'a str>,
 }

@@ -28,6 +28,9 @@ returns-in-upgrade c = subst (λ name. Finds (AsksFor name (rows_in c.args.entri
 pub returns-in-asm : goal.returns-in-asm
 returns-in-asm c = subst (λ name. Finds (AsksFor name (rows_in c.args.entries.now)) c.assemble_asked.result) (sym c.in-asm.is) c.assemble_asked.ensures
 
+pub returns-in-graph : goal.returns-in-graph
+returns-in-graph c = subst (λ name. Finds (AsksFor name (rows_in c.args.entries.now)) c.import_asked.result) (sym c.in-graph.is) c.import_asked.ensures
+
 pub returns-in-run : goal.returns-in-run
 returns-in-run c = subst (λ name. Finds (AsksFor name (rows_in c.args.entries.now)) c.map.result) (sym c.in-run.is)
     (run_found (rows_in c.args.entries.now) c.run_asked.result c.map.result c.run_asked.ensures c.map.ensures.cases)
@@ -44,4 +47,4 @@ returns-in_err-module-in-verify c = none_is _ _ c.from_residual-in_err-module-in
 
 pub returns-in_default : goal.returns-in_default
 returns-in_default c = asks_none c.args.name.now (rows_in c.args.entries.now) c.in_default.not-call c.in_default.not-run c.in_default.not-replay c.in_default.not-upgrade
-    c.in_default.not-asm c.in_default.not-print c.in_default.not-verify
+    c.in_default.not-asm c.in_default.not-print c.in_default.not-verify c.in_default.not-graph

@@ -6,3 +6,4 @@ pub mod Disks
 pub mod Telling
 pub mod JobLines
 pub mod Replays
+pub mod Writes

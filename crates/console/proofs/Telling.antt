@@ -35,6 +35,7 @@ want_is_cause disk (request.Upgrade path newer_path) = inl (inl tt)
 want_is_cause disk (request.Assemble module_path binary_path) = inl tt
 want_is_cause disk (request.Print module_path) = inl tt
 want_is_cause disk (request.Verify module_path) = inl tt
+want_is_cause disk (request.Import asked) = inl (inl tt)
 
 -- the fault is told, or in its place that there is no memory for its line
 pub refusal_told : (before after : Disk) (asked : Request) (fault other : CommandFault) → IsCause before asked fault

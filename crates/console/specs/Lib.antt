@@ -7,6 +7,7 @@ pub mod Loss
 pub mod Engine
 pub mod Jobs
 pub mod Replays
+pub mod Importing
 pub mod Program
 -- what only mirrors the code, for its proofs
 pub mod inside

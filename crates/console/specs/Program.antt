@@ -31,6 +31,7 @@ use Rattle.sources.specs.Source.{RefusesLoad, RefusesModule}
 use Rattle.sources.specs.Reading.{IsLoadedAt, IsNoGraphAt, IsReadAt, IsRefusedAt, IsUnread, IsUnwritable}
 use Rattle.console.specs.Engine.{IsAnswer, RefusesText}
 use Rattle.sources.specs.Jobs.{IsJobOf, RefusesSettings}
+use Rattle.console.specs.Importing.{IsNotImported, TellsImport, TriesImport}
 use Rattle.console.specs.Jobs.{AreRunLines, IsFaultOfKept}
 use Rattle.console.specs.Loss.{NamesLoss, RefusesLoss}
 use Rattle.console.specs.Replays.{AreReplayLines, IsFaultOfReplay}
@@ -126,6 +127,7 @@ Answered before after (request.Upgrade path newer_path) told = TellsUpgraded bef
 Answered before after (request.Assemble module_path binary_path) told = TellsLength before after module_path.now binary_path.now told
 Answered before after (request.Print module_path) told = TellsLayout before module_path.now told
 Answered before after (request.Verify module_path) told = TellsBounds before module_path.now told
+Answered before after (request.Import asked) told = TellsImport before after asked told
 
 -- ---- why a command is not carried out
 
@@ -217,6 +219,7 @@ IsCause disk (request.Upgrade path newer_path) fault = IsNotUpgraded disk path.n
 IsCause disk (request.Assemble module_path binary_path) fault = IsUnassembled disk module_path.now binary_path.now fault
 IsCause disk (request.Print module_path) fault = IsRefusedAt disk module_path.now RefusesModule fault
 IsCause disk (request.Verify module_path) fault = IsRefusedAt disk module_path.now RefusesLoad fault
+IsCause disk (request.Import asked) fault = IsNotImported disk asked fault
 
 -- ---- what is written to files
 
@@ -224,6 +227,7 @@ IsCause disk (request.Verify module_path) fault = IsRefusedAt disk module_path.n
 abbrev pub writes_file : Request → Bool
 writes_file (request.Assemble module_path binary_path) = true
 writes_file (request.Upgrade path newer_path) = true
+writes_file (request.Import asked) = true
 writes_file asked = false
 
 -- the fault is told before any file is written
@@ -252,6 +256,7 @@ MayTry before after (request.Assemble module_path binary_path) =
     Stays before after ⊎ TriesSpelling before after module_path.now binary_path.now
 MayTry before after (request.Upgrade path newer_path) =
     Stays before after ⊎ TriesUpgraded before after path.now newer_path.now
+MayTry before after (request.Import asked) = TriesImport before after asked
 MayTry before after asked = Stays before after
 
 -- ---- what is told with each status of the process

@@ -2,6 +2,7 @@
 #![tactic(auto)]
 
 mod engine;
+mod importing;
 mod jobs;
 mod laws;
 mod loss;

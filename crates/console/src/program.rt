@@ -14,6 +14,7 @@ ghost use Rattle.console.specs.Program.{Answered, AreStepsAt, IsBoundsLine, IsCa
 ghost use Rattle.console.specs.inside.Answering.{IsFaultTold};
 
 use crate::engine::call;
+use crate::importing::import_file;
 use crate::jobs::{open, run};
 use crate::loss::{Loss, LossGate};
 use crate::replay::replay;
@@ -52,7 +53,8 @@ use wat_asm::print;
 /// as one of version 2, and answers `ok LENGTH`. `asm` writes the module's canonical spelling to the other file, and answers
 /// `ok LENGTH`. `print` answers with the module's text. `asm` and `print` do not ask that the module is valid; `call`, `run`,
 /// `replay` and `verify` ask that it is and that it is in the bounded profile. A refusal is one of the module's and the
-/// input's own, or want of memory.
+/// input's own, or want of memory. `graph` makes a graph file of the edges in a file, as `graph_import::import` does, and answers
+/// `ok VERTICES EDGES`.
 pub fn command<F: Files, O: Output>(
     rt: &(impl Wait + Threads + Sync + std::rt::Files + AllocGlobal),
     alloc: Global,
@@ -64,7 +66,7 @@ pub fn command<F: Files, O: Output>(
         × Told (F.disk files.old) (F.disk files.new) request.entry status told
         × IsTold (O.contents out.old) (O.contents out.new) status told result }
     ensures failed { OnErr result (O.has_failed out.new) }
-    // No command but `asm` and `upgrade` writes one of `files`.
+    // No command but `asm`, `upgrade` and `graph` writes one of `files`.
     ensures kept { writes_file request.entry ≡ false → Stays (F.disk files.old) (F.disk files.new) }
 {
     match carry_out(rt, alloc, request, files) {
@@ -115,6 +117,7 @@ fn carry_out<'a, F: Files>(
         Request::Assemble { module, binary } => assemble_file(alloc, module, binary, files),
         Request::Print { module } => print_file(alloc, module, files),
         Request::Verify { module } => verify_file(alloc, module, files),
+        Request::Import(asked) => import_file(alloc, asked, files),
     }
 }
 

@@ -14,3 +14,9 @@ returns-in-Upgrade-clause-tried g c = rw c.in-Upgrade.is c.upgrade_file.ensures.
 
 pub returns-in-Replay-clause-refused : goal.returns-in-Replay-clause-refused
 returns-in-Replay-clause-refused g c = rw c.in-Replay.is c.replay_files.ensures.refused
+
+pub returns-in-Import-clause-tried : goal.returns-in-Import-clause-tried
+returns-in-Import-clause-tried g c = rw c.in-Import.is c.import_file.ensures.tried
+
+pub returns-in-Import-clause-refused : goal.returns-in-Import-clause-refused
+returns-in-Import-clause-refused g c = rw c.in-Import.is c.import_file.ensures.refused

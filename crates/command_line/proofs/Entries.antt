@@ -170,13 +170,7 @@ run_found rows None made finds made_is = none_is _ made made_is (λ asked asks. 
 run_found rows (Some asked) None finds made_is = absurd made_is
 run_found rows (Some asked) (Some r) finds made_is = subst (AsksFor (codes "run") rows) (sym made_is) (refl, finds)
 
-pub command_found : (name : Text) (rows : List Row) (found : Option Request) (made : Option Options) → (name ≡ codes "console" → ⊥)
-    → Finds (AsksFor name rows) found → MatchOption found (made ≡ None) (λ asked. IsSomeAnd made (λ o. o ≡ options.Command asked))
-    → Finds (Asks name rows) made
-command_found name rows None made other finds made_is = none_is _ made made_is (λ given asks. none given asks)
-  where
-    none : (given : Options) → Asks name rows given → ⊥
-    none options.Session asks = other asks
-    none (options.Command asked) asks = finds asked asks
-command_found name rows (Some asked) None other finds made_is = absurd made_is
-command_found name rows (Some asked) (Some o) other finds made_is = subst (Asks name rows) (sym made_is) finds
+pub nothing_asked : (name : Text) (rows : List Row) → (name ≡ codes "console" → ⊥) → ((asked : Request) → AsksFor name rows asked → ⊥)
+    → (given : Options) → Asks name rows given → ⊥
+nothing_asked name rows other none options.Session asks = other asks
+nothing_asked name rows other none (options.Command asked explains) asks = none asked asks.0

@@ -43,6 +43,10 @@ number = Signed (pos 0) (pos 4294967295)
 abbrev pub setting : (Text × Text) → Rule
 setting (name, otherwise) = record (option name) { defaults = otherwise ∷ []; parser = Some number }
 
+-- what a command takes that may explain why its module is refused
+abbrev pub explain : Rule
+explain = flag (codes "explain")
+
 -- the settings of a job, with what each is otherwise
 abbrev pub settings : List (Text × Text)
 settings = (codes "parts", codes "1")
@@ -63,12 +67,12 @@ abbrev pub job_rules : List Rule
 job_rules = map setting settings ++ flag (codes "units") ∷ []
 
 abbrev pub call : Shape
-call = command (codes "call") (positional (codes "module") ∷ positional (codes "input") ∷ [])
+call = command (codes "call") (positional (codes "module") ∷ positional (codes "input") ∷ explain ∷ [])
 
 abbrev pub run : Shape
 run = command (codes "run")
     (positional (codes "module") ∷ positional (codes "graph")
-    ∷ option (codes "keep") ∷ option (codes "lose") ∷ flag (codes "again") ∷ job_rules)
+    ∷ option (codes "keep") ∷ option (codes "lose") ∷ flag (codes "again") ∷ (job_rules ++ explain ∷ []))
 
 abbrev pub replay : Shape
 replay = command (codes "replay")
@@ -84,7 +88,7 @@ abbrev pub print : Shape
 print = command (codes "print") (positional (codes "module") ∷ [])
 
 abbrev pub verify : Shape
-verify = command (codes "verify") (positional (codes "module") ∷ [])
+verify = command (codes "verify") (positional (codes "module") ∷ explain ∷ [])
 
 abbrev pub graph : Shape
 graph = command (codes "graph")
@@ -94,11 +98,12 @@ graph = command (codes "graph")
 abbrev pub console : Shape
 console = command (codes "console") []
 
--- the program takes one of these commands, and shows its help where it is given no word
+-- the program takes one of these commands, has a version, and shows its help where it is given no word
 abbrev pub pregel : App
 pregel = record {
   top = record (new_shape (codes "pregel")) {
     is_leaf = false;
+    has_version = true;
     subcommand_required = true;
     arg_required_else_help = true;
   };
@@ -173,7 +178,7 @@ AsksFor name rows (request.Import asked) = (name ≡ codes "graph") × AsksImpor
 -- the command of this name asks for this
 abbrev pub Asks : (name : Text) → List Row → Options → Type 0
 Asks name rows options.Session = name ≡ codes "console"
-Asks name rows (options.Command request) = AsksFor name rows request
+Asks name rows (options.Command request explains) = AsksFor name rows request × (explains ≡ is_set rows (codes "explain"))
 
 -- the command that was met, with its entries, asks for this
 abbrev pub AskedIn : (met : Option (Text × List Row)) → Options → Type 0

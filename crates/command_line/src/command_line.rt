@@ -108,7 +108,11 @@ fn chosen<'a>(matches: &ArgMatches<'a>) -> Option<Options<'a>>
     if name == "console" {
         return Some(Options::Session);
     }
-    requested(name, entries).map(Options::Command)
+    let request = requested(name, entries)?;
+    Some(Options::Command {
+        request,
+        explains: is_set(entries, "explain"),
+    })
 }
 
 fn requested<'a>(name: &str, entries: &ArgMatches<'a>) -> Option<Request<'a>>

@@ -180,18 +180,26 @@ const NAMES: Argument = Argument::Option {
     help: "Takes all ends as names, numbers them from 0 in the order in which they come, and writes a line `ID NAME` for each to this file",
 };
 
+const EXPLAIN: Argument = Argument::Flag {
+    name: "explain",
+    help: "Explains on standard error why the module is refused: the rule, its usual causes, what to write instead, and the place",
+};
+
+// The program's version, and the kit that it is proved with, which `rt version` prints.
+const VERSION: &str = "0.3.0, proved with rattle-kit-13f logic dac8208d650f15bf";
+
 // The commands except `console`, in the order of the help.
 static COMMANDS: [Usage; 8] = [
     Usage {
         name: "call",
         about: "Makes one compute call of one vertex, and prints its outcome",
-        arguments: &[MODULE, INPUT],
+        arguments: &[MODULE, INPUT, EXPLAIN],
     },
     Usage {
         name: "run",
         about: "Runs a module's job over a graph, and prints the vertices' values",
         arguments: &[
-            MODULE, GRAPH, KEEP, LOSE, AGAIN, PARTS, WORKERS, EVERY, LIMIT, LEASE, UNITS,
+            MODULE, GRAPH, KEEP, LOSE, AGAIN, PARTS, WORKERS, EVERY, LIMIT, LEASE, UNITS, EXPLAIN,
         ],
     },
     Usage {
@@ -219,7 +227,7 @@ static COMMANDS: [Usage; 8] = [
     Usage {
         name: "verify",
         about: "Tells the bounds of a module's calls, where they are known to have any",
-        arguments: &[MODULE],
+        arguments: &[MODULE, EXPLAIN],
     },
     Usage {
         name: "graph",
@@ -237,6 +245,7 @@ pub(crate) fn pregel<'a>(alloc: Global) -> Result<Command<'a>, AllocError>
     let command = Command::new(alloc, "pregel")
         .bin_name("pregel")?
         .about("Computes over graphs by programs of one vertex, each a WebAssembly module")
+        .version(VERSION)
         .after_help("A module whose file's name ends in `.wat` is text, any other is binary.")
         .subcommand_required(true)
         .arg_required_else_help(true);

@@ -8,7 +8,11 @@ pub enum Options<'a> {
     /// A session on standard input and output.
     Session,
     /// One command over files.
-    Command(Request<'a>),
+    Command {
+        request: Request<'a>,
+        /// Whether a refusal of its module is explained on standard error.
+        explains: bool,
+    },
 }
 
 /// A command over files.

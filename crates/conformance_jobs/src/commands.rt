@@ -1,7 +1,7 @@
 //! Command lines as they are typed after `pregel`, over lent files: the status and what is told, and then each file that
 //! was written; or why the words are refused. A session reads the lines of `SESSION`. A line that ends in ` into N` tells a
 //! writer that has room for N bytes, and shows what it took where it failed. A line that ends in ` keeps FILE` is carried out
-//! in a folder whose FILE is empty, and shows what FILE is then.
+//! in a folder whose FILE is empty, and shows what FILE is then. Of an explanation the first words and the marked lines are shown.
 //!
 //! `body BODY` is `verify` of the module that has the body in the frame of `frame.wat`, and `engine MODULE INPUT` is what a
 //! call of a module's bytes with an input's text tells, or how it is refused.
@@ -110,6 +110,7 @@ fn refused(alloc: Global, kind: ErrorKind) -> Result<String> {
 fn word_of(kind: ErrorKind) -> &'static str {
     match kind {
         ErrorKind::DisplayHelp => "help",
+        ErrorKind::DisplayVersion => "version",
         ErrorKind::InvalidSubcommand => "unknown command",
         ErrorKind::MissingRequiredArgument => "missing argument",
         ErrorKind::UnknownArgument => "unknown argument",
@@ -171,7 +172,9 @@ fn status_of<W: Write>(
             serve(rt, alloc, &mut lines, out, files, &JobRunner::new(&NoLoss))?;
             Ok(0)
         }
-        Options::Command(request) => Ok(command(rt, alloc, request, files, out)?),
+        Options::Command { request, explains } => {
+            Ok(command(rt, alloc, request, explains, files, out)?)
+        }
     }
 }
 
@@ -179,6 +182,7 @@ fn shown(alloc: Global, status: u8, out: &[u8], files: &LentFiles) -> Result<Str
     let told = one_line(alloc, str::from_utf8(out)?)?;
     let mut shown = format!(in alloc; "{status} {told}")?;
     files.tell_written(&mut shown)?;
+    files.tell_explained(&mut shown)?;
     Ok(shown)
 }
 

@@ -1,11 +1,13 @@
 -- What a command tells, from what its parts answered.
-use Rattle.std.proofs.Common.{inl, inr, ◌≡◌, ◌⊎◌, ℕ, List, Option, Some, Result, refl, subst}
+use Rattle.std.proofs.Common.{inl, inr, ◌≡◌, ◌⊎◌, ◌++◌, ◌∷◌, [], ℕ, List, Option, Some, Result, refl, subst, take}
 use Rattle.sources.specs.declared.fault.CommandFault.{CommandFault}
 use Rattle.sources.specs.declared.fault.CommandFault.TheVariants as command
 use Rattle.command_line.specs.declared.request.Request.{Request}
 use Rattle.command_line.specs.declared.request.Request.TheVariants as request
 use Rattle.sources.specs.declared.sources.Source.{Source}
-use Rattle.sources.specs.Disk.{Disk, Stays}
+use Rattle.wasm_decode.specs.Canonical.{canonical}
+use Rattle.checkpoint.specs.Checkpoint.{checkpoint_bytes}
+use Rattle.sources.specs.Disk.{Disk, Stays, Tries}
 use Rattle.sources.specs.Source.{content, is_text}
 use Rattle.console.specs.Engine.{Refuses, RefusesText}
 use Rattle.sources.specs.Reading.{HoldsSource}
@@ -13,7 +15,7 @@ use Rattle.sources.specs.Lines.{line}
 use Rattle.sources.specs.Refusal.{fault_text, status_of}
 use Rattle.sources.specs.Reading.{IsRefusedAt}
 use Rattle.console.specs.Program.{IsBeforeWriting, IsCause, IsTold, MayTry, RefusesCalled, Told}
-use Rattle.sources.proofs.Disks.{refused_at}
+use Rattle.sources.proofs.Disks.{refused_at, stays_again}
 
 -- the call of what was read is refused
 pub refused_in_text : (disk middle : Disk) (module_path input_path seen text : List ℕ) (read : Source) → Stays disk middle
@@ -65,3 +67,28 @@ pub retold : {E : Type 0} (old new : Option (List ℕ)) (answer : Result ℕ E) 
     → told ≡ text → IsTold old new status told answer → IsTold old new other text answer
 retold old new answer status other told text same spelled is =
     subst (λ n. IsTold old new n text answer) same (subst (λ t. IsTold old new status t answer) spelled is)
+
+-- ---- what was tried stays so where nothing more is written
+
+begun_on : (path bytes : List ℕ) (middle after : Disk) → Stays middle after → (earlier : List (List ℕ × List ℕ))
+    → middle.wrote earlier ⊎ ((count : ℕ) × middle.wrote (earlier ++ (path, take count bytes) ∷ []))
+    → after.wrote earlier ⊎ ((count : ℕ) × after.wrote (earlier ++ (path, take count bytes) ∷ []))
+begun_on path bytes middle after last earlier (inl none) = inl (last.wrote earlier none)
+begun_on path bytes middle after last earlier (inr (count, some)) =
+    inr (count, last.wrote (earlier ++ (path, take count bytes) ∷ []) some)
+
+tries_on : (path bytes : List ℕ) (before middle after : Disk) → Tries path bytes before middle → Stays middle after → Tries path bytes before after
+tries_on path bytes before middle after tries last = λ earlier wrote. begun_on path bytes middle after last earlier (tries earlier wrote)
+
+pub may_try_on : (before middle after : Disk) (asked : Request) → MayTry before middle asked → Stays middle after → MayTry before after asked
+may_try_on before middle after (request.Call module_path input_path) stays last = stays_again before middle after stays last
+may_try_on before middle after (request.Run asked) stays last = stays_again before middle after stays last
+may_try_on before middle after (request.Replay asked steps_path) stays last = stays_again before middle after stays last
+may_try_on before middle after (request.Upgrade path newer_path) (inl stays) last = inl (stays_again before middle after stays last)
+may_try_on before middle after (request.Upgrade path newer_path) (inr (state, is, tries)) last =
+    inr (state, is, tries_on newer_path.now (checkpoint_bytes state) before middle after tries last)
+may_try_on before middle after (request.Assemble module_path binary_path) (inl stays) last = inl (stays_again before middle after stays last)
+may_try_on before middle after (request.Assemble module_path binary_path) (inr (m, is, tries)) last =
+    inr (m, is, tries_on binary_path.now (canonical m) before middle after tries last)
+may_try_on before middle after (request.Print module_path) stays last = stays_again before middle after stays last
+may_try_on before middle after (request.Verify module_path) stays last = stays_again before middle after stays last

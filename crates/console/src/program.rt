@@ -22,6 +22,7 @@ use crate::steps::steps_of;
 use bounded_profile::Verified;
 use checkpoint::{FileKeep, MemoryKeep};
 use command_line::{JobRequest, Request, RunRequest};
+use explain::{explanation, is_explained};
 use graph::{Output, Unwritten, put};
 use rollback::Step;
 use sources::{
@@ -53,12 +54,14 @@ use wat_asm::print;
 /// as one of version 2, and answers `ok LENGTH`. `asm` writes the module's canonical spelling to the other file, and answers
 /// `ok LENGTH`. `print` answers with the module's text. `asm` and `print` do not ask that the module is valid; `call`, `run`,
 /// `replay` and `verify` ask that it is and that it is in the bounded profile. A refusal is one of the module's and the
-/// input's own, or want of memory. `graph` makes a graph file of the edges in a file, as `graph_import::import` does, and answers
-/// `ok VERTICES EDGES`.
+/// input's own, or want of memory. Where `explains` says so, `call`, `run` and `verify` show beside their answers why the
+/// module is refused; what they answer is the same. `graph` makes a graph file of the edges in a file, as
+/// `graph_import::import` does, and answers `ok VERTICES EDGES`.
 pub fn command<F: Files, O: Output>(
     rt: &(impl Wait + Threads + Sync + std::rt::Files + AllocGlobal),
     alloc: Global,
     request: Request<'_>,
+    explains: bool,
     files: &mut F,
     out: &mut O,
 ) -> Result<u8, Unwritten>
@@ -71,7 +74,49 @@ pub fn command<F: Files, O: Output>(
 {
     match carry_out(rt, alloc, request, files) {
         Ok(text) => tell(0, text.as_bytes(), out),
-        Err(fault) => refuse(alloc, &fault, out),
+        Err(fault) => {
+            let told = refuse(alloc, &fault, out);
+            explain_refusal(alloc, request, &fault, explains, files);
+            told
+        }
+    }
+}
+
+// Shows why the module of a command is refused, where that is so. For want of memory nothing is shown.
+fn explain_refusal<F: Files>(
+    alloc: Global,
+    request: Request<'_>,
+    fault: &CommandFault,
+    explains: bool,
+    files: &mut F,
+)
+    ensures { Stays (F.disk files.old) (F.disk files.new) }
+{
+    if !explains || !is_explained(fault) {
+        return;
+    }
+    if let Some(path) = module_path(request) {
+        show_explanation(alloc, path, fault, files);
+    }
+}
+
+// The file of the module of a command that may explain why it is refused.
+fn module_path<'a>(request: Request<'a>) -> Option<&'a str> {
+    match request {
+        Request::Call { module, .. } => Some(module),
+        Request::Run(asked) => Some(asked.job.module),
+        Request::Verify { module } => Some(module),
+        _ => None,
+    }
+}
+
+// Shows why the module in a file is refused. The file is read again; what cannot be read is explained without its place.
+fn show_explanation<F: Files>(alloc: Global, path: &str, fault: &CommandFault, files: &mut F)
+    ensures { Stays (F.disk files.old) (F.disk files.new) }
+{
+    let source = read_source(alloc, path, files).ok();
+    if let Ok(Some(text)) = explanation(alloc, source.as_ref(), fault) {
+        files.warn(text.as_str().trim_end());
     }
 }
 

@@ -15,11 +15,11 @@ use Rattle.session.specs.Serving.{Serves}
 abbrev pub Does : Options → (before after : Disk) → (unread left old new : Option (List ℕ)) → Result ℕ ServeFault → Type 0
 Does options.Session before after unread left old new result =
     Serves before threaded nothing unread left old new result × IfOk result (λ status. status ≡ 0)
-Does (options.Command request) before after unread left old new result =
+Does (options.Command request explains) before after unread left old new result =
     ((status : ℕ) × (told : List ℕ) × Told before after request status told × IsTold old new status told result)
     × IfErr result (λ failed. failed ≡ fault.Write)
 
 -- whether what is asked for may write a file
 abbrev pub may_write : Options → Bool
 may_write options.Session = false
-may_write (options.Command request) = writes_file request
+may_write (options.Command request explains) = writes_file request

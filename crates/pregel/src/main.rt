@@ -59,7 +59,7 @@ fn read_and_carry_out(
         }
     };
     // (what goes wrong with the files of a session is told by its replies alone)
-    let tells = matches!(options, Options::Command(_));
+    let tells = matches!(options, Options::Command { .. });
     let mut files = SystemFiles::new(rt, tells);
     let mut reader = Noting::new(rt.reader());
     let mut writer = Noting::new(io::writer(rt));

@@ -37,8 +37,8 @@ pub fn carry_out<R: Read, W: Write, F: Files>(
             serve(rt, alloc, reader, writer, files, &JobRunner::new(&NoLoss))?;
             Ok(0)
         }
-        Options::Command(request) => {
-            let status = command(rt, alloc, request, files, writer)?;
+        Options::Command { request, explains } => {
+            let status = command(rt, alloc, request, explains, files, writer)?;
             Ok(status)
         }
     }

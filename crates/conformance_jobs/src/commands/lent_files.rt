@@ -6,7 +6,7 @@ use anyhow::Result;
 use conformance_cases::{bytes, is_case, spelled};
 use sources::{FileFault, Files};
 use std::alloc::{AllocError, Global};
-use std::fs;
+use std::{fmt, fs};
 
 /// A file by its name.
 #[derive(Drop)]
@@ -22,12 +22,13 @@ impl NamedFile {
     }
 }
 
-/// Files that can be read, and those that were written. `locked.wasm` cannot be written.
+/// Files that can be read, those that were written, and what was said beside answers. `locked.wasm` cannot be written.
 #[derive(Drop)]
 pub struct LentFiles {
     alloc: Global,
     lent: Vec<NamedFile>,
     written: Vec<NamedFile>,
+    said: String,
 }
 
 impl LentFiles {
@@ -36,6 +37,7 @@ impl LentFiles {
             alloc,
             lent: Vec::new(alloc),
             written: Vec::new(alloc),
+            said: String::new(alloc),
         }
     }
 
@@ -54,12 +56,26 @@ impl LentFiles {
 
     pub fn forget_written(&mut self) {
         self.written.clear();
+        self.said.clear();
     }
 
     /// Tells of each file that was written which lent file it equals.
     pub fn tell_written(&self, text: &mut String) -> Result<(), AllocError> {
         for file in self.written.as_slice() {
             self.tell_file(file.name.as_str(), file.bytes.as_slice(), text)?;
+        }
+        Ok(())
+    }
+
+    /// Tells of an explanation its first line, and those that are marked.
+    pub fn tell_explained(&self, text: &mut String) -> Result<(), AllocError> {
+        if !self.said.as_str().contains("\nIn WebAssembly text:\n") {
+            return Ok(());
+        }
+        for (index, line) in self.said.as_str().lines().enumerate() {
+            if index == 0 || line.starts_with('>') {
+                write!(text, " shows `{line}`")?;
+            }
         }
         Ok(())
     }
@@ -94,6 +110,10 @@ impl Files for LentFiles {
             Ok(file) => self.written.push(file).map_err(|_| FileFault::OutOfMemory),
             Err(_) => Err(FileFault::OutOfMemory),
         }
+    }
+
+    fn warn<D: fmt::Display + Drop>(&mut self, warning: D) {
+        let _ = write!(self.said, "{warning}");
     }
 }
 

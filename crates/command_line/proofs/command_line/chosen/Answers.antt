@@ -2,9 +2,9 @@ use Rattle.std.proofs.Common.{◌≡◌, ◌∙◌, codes, false, subst, sym, tr
 use Rattle.std.specs.Str.{bytes_eq}
 use Rattle.std.proofs.lemmas.Slice.Eq.{bytes_eq-Decides}
 use Rattle.command_line.specs.CommandLine.{AskedIn}
-use Rattle.command_line.specs.declared.request.Options.TheVariants.{Session}
-use Rattle.command_line.specs.inside.Commands.{Finds, rows_in}
-use Rattle.command_line.proofs.Entries.{command_found, met, missed, none_is}
+use Rattle.command_line.specs.declared.request.Options.TheVariants.{Command, Session}
+use Rattle.command_line.specs.inside.Commands.{rows_in}
+use Rattle.command_line.proofs.Entries.{met, missed, none_is, nothing_asked}
 use Rattle.command_line.proofs.command_line.chosen.Goals as goal
 
 pub returns-in_err-name : goal.returns-in_err-name
@@ -18,13 +18,19 @@ returns-then-eq c =
     subst (λ found. AskedIn found Session) (sym entered)
     ((bytes_eq-Decides c.in_ok-name.name.now (codes "console")).0 (sym c.eq.ensures ∙ c.if-eq.true))
 
-pub returns : goal.returns
-returns c =
+pub returns-in_err-request : goal.returns-in_err-request
+returns-in_err-request c =
     let entered = met c.args.matches.now c.subcommand.result c.in_ok-name.name c.in_ok-name.entries c.subcommand.ensures.name
     c.subcommand.ensures.rows c.in_ok-name.was in
     let other : c.in_ok-name.name.now ≡ codes "console" → ⊥ = λ is.
     let no : true ≡ false = subst (λ name. bytes_eq name (codes "console") ≡ false) is (sym c.eq.ensures ∙ c.if-eq.false) in
     cc in
-    subst (λ found. Finds (AskedIn found) c.map.result) (sym entered)
-    (command_found c.in_ok-name.name.now (rows_in c.in_ok-name.entries.now) c.requested.result c.map.result other c.requested.ensures
-    c.map.ensures.cases)
+    none_is _ _ c.from_residual-in_err-request.ensures (λ given asks.
+    nothing_asked c.in_ok-name.name.now (rows_in c.in_ok-name.entries.now) other c.in_err-request.ensures given
+    (subst (λ found. AskedIn found given) entered asks))
+
+pub returns : goal.returns
+returns c =
+    let entered = met c.args.matches.now c.subcommand.result c.in_ok-name.name c.in_ok-name.entries c.subcommand.ensures.name
+    c.subcommand.ensures.rows c.in_ok-name.was in
+    subst (λ found. AskedIn found (Command c.in_ok-request.request c.is_set.result)) (sym entered) (c.in_ok-request.ensures, c.is_set.ensures)

@@ -1,8 +1,9 @@
 use Rattle.std.proofs.Common.{inl, refl, subst, sym}
+use Rattle.sources.proofs.Disks.{stays_again}
 use Rattle.sources.specs.Lines.{line}
 use Rattle.sources.specs.Refusal.{fault_text, status_of}
 use Rattle.console.specs.Program.{Answered}
-use Rattle.console.proofs.Telling.{refusal_told}
+use Rattle.console.proofs.Telling.{may_try_on, refusal_told}
 use Rattle.console.proofs.program.command.Goals as goal
 
 pub returns-in-Ok-clause-told : goal.returns-in-Ok-clause-told
@@ -15,11 +16,13 @@ returns-in-Ok-clause-told g c =
 pub returns-in-Err-clause-told : goal.returns-in-Err-clause-told
 returns-in-Err-clause-told g c =
     let before = g.F.Files.disk c.args.files.now in
-    let after = g.F.Files.disk c.carry_out.new.files in
-    let other = c.refuse.ensures.told.0 in (
+    let middle = g.F.Files.disk c.carry_out.new.files in
+    let after = g.F.Files.disk c.explain_refusal.new.files in
+    let other = c.refuse-told.ensures.told.0 in (
       status_of other,
       line (fault_text other),
-      refusal_told before after c.args.request c.in-Err.fault other c.in-Err.ensures.refused c.in-Err.ensures.before
-          c.in-Err.ensures.tried c.refuse.ensures.told.1,
-      c.refuse.ensures.told.2,
+      refusal_told before after c.args.request c.in-Err.fault other c.in-Err.ensures.refused
+          (λ early. stays_again before middle after (c.in-Err.ensures.before early) c.explain_refusal.ensures)
+          (may_try_on before middle after c.args.request c.in-Err.ensures.tried c.explain_refusal.ensures) c.refuse-told.ensures.told.1,
+      c.refuse-told.ensures.told.2,
     )

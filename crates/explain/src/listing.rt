@@ -1,0 +1,305 @@
+//! The lines of a module's text around a place.
+
+ghost use Rattle.std.specs.Prelude.{◌≡◌, ◌+◌, ◌<◌, ◌≤◌, ◌^◌, Contains, IfOk, IfSome, OnOk, count_by, length};
+ghost use Rattle.std.specs.Str.Lines.{lines};
+ghost use Rattle.sources.specs.Lines.{Gains};
+ghost use Rattle.explain.specs.Listing.{IsStretch, is_marked, is_numbered, listed, listed_line, mark, next_number};
+ghost use Rattle.explain.specs.inside.Shown.{Cuts, ListsPart, texts};
+
+use std::alloc::{AllocError, Global};
+
+/// The text of a module, as `print` writes it, by its lines.
+#[derive(Drop)]
+pub struct Printed<'a> {
+    pub lines: Vec<&'a str>,
+    /// Which of them import functions, in their order.
+    pub imports: Vec<usize>,
+}
+
+/// What can be seen at a place.
+#[derive(Clone, Copy)]
+pub enum Sight {
+    /// There is no place.
+    Nothing,
+    /// A loop that takes a message or an edge.
+    TakesItems,
+    /// A function with global variables, which compilers keep a stack by.
+    HasGlobals,
+    /// Nothing of these.
+    Other,
+}
+
+// How many lines are shown before the place, and how many in all.
+const BEFORE: usize = 5;
+
+const SHOWN: usize = 11;
+
+impl<'a> Printed<'a> {
+    /// The lines of a text.
+    pub fn new(alloc: Global, text: &'a str) -> Result<Printed<'a>, AllocError>
+        ensures { IfOk result (λ printed. texts printed.lines.items ≡ lines text.now) }
+    {
+        let lines = lines_in(alloc, text)?;
+        let imports = imports_in(alloc, text)?;
+        Ok(Printed { lines, imports })
+    }
+
+    /// The line of an imported function.
+    pub fn import(&self, function: u32) -> Option<&'a str>
+        ensures { IfSome result (Contains self.now.lines.items) }
+    {
+        let at = self.imports.get(function as usize)?;
+        self.lines.get(*at).copied()
+    }
+
+    /// The lines of the body of a function that the module defines.
+    pub fn body(&self, function: u32) -> Option<&[&'a str]>
+        ensures { IfSome result (λ body. IsStretch self.now.lines.items body.now) }
+    {
+        let number = (function as usize).checked_sub(self.imports.len())?;
+        body_in(self.lines.as_slice(), number)
+    }
+
+    /// What can be seen at an instruction of a body.
+    pub fn sight(&self, body: &[&str], instruction: u32) -> Sight {
+        let Some(at) = place_in(body, instruction) else {
+            return Sight::Other;
+        };
+        match behind(body, at).first() {
+            Some(line) if begins_loop(line) => self.sight_of_loop(behind(body, at), depth(line)),
+            _ => sight_of(body),
+        }
+    }
+
+    // What can be seen at a loop, from its line on, which begins with so many blanks.
+    fn sight_of_loop(&self, lines: &[&str], outside: usize) -> Sight {
+        let lines = behind(lines, 1);
+        let end = lines.iter().position(|line| depth(line) <= outside);
+        let inside = front(lines, end.unwrap_or(lines.len()));
+        if inside.iter().any(|line| self.takes_item(line)) {
+            Sight::TakesItems
+        } else {
+            Sight::Other
+        }
+    }
+
+    // Whether a line calls `next_message` or `next_edge`.
+    fn takes_item(&self, line: &str) -> bool {
+        match called(line) {
+            Some(function) => self.import(function).is_some_and(imports_cursor),
+            None => false,
+        }
+    }
+}
+
+// The lines of a text.
+fn lines_in<'a>(alloc: Global, text: &'a str) -> Result<Vec<&'a str>, AllocError>
+    ensures { IfOk result (λ found. texts found.items ≡ lines text.now) }
+{
+    text.lines().collect(alloc)
+}
+
+// Which lines import functions.
+fn imports_in(alloc: Global, text: &str) -> Result<Vec<usize>, AllocError> {
+    text.lines()
+        .enumerate()
+        .filter(|(_, line)| imports_function(line))
+        .map(|(at, _)| at)
+        .collect(alloc)
+}
+
+// Whether a line is a function's import. What stands behind the last quote is no part of a name.
+fn imports_function(line: &str) -> bool {
+    if !line.starts_with("  (import ") {
+        return false;
+    }
+    match line.rsplit_once('"') {
+        Some((_, description)) => description.starts_with(" (func "),
+        None => false,
+    }
+}
+
+fn imports_cursor(line: &str) -> bool {
+    line.starts_with("  (import \"pregel\" \"next_")
+}
+
+// The function that a line calls.
+fn called(line: &str) -> Option<u32> {
+    line.trim_start().strip_prefix("call ")?.parse::<u32>().ok()
+}
+
+fn begins_loop(line: &str) -> bool {
+    line.trim_start().starts_with("loop")
+}
+
+// What can be seen of a function's body.
+fn sight_of(body: &[&str]) -> Sight {
+    if body.iter().any(|line| uses_global(line)) {
+        Sight::HasGlobals
+    } else {
+        Sight::Other
+    }
+}
+
+fn uses_global(line: &str) -> bool {
+    line.trim_start().starts_with("global.")
+}
+
+// How many blanks a line begins with.
+fn depth(line: &str) -> usize {
+    line.len().saturating_sub(line.trim_start().len())
+}
+
+// Whether a line of a body has an instruction, and so a number.
+fn is_numbered(line: &str) -> bool
+    ensures { result ≡ is_numbered line.now }
+{
+    let word = line.trim_start();
+    !(word == "end" || word == "else")
+}
+
+// The first lines, so many at most.
+fn front<'a, 'b>(lines: &'b [&'a str], count: usize) -> &'b [&'a str]
+    ensures { IsStretch lines.now result.now }
+{
+    let (front, _) = lines.split_at(count.min(lines.len()));
+    front
+}
+
+// The lines behind the first ones, so many at most.
+fn behind<'a, 'b>(lines: &'b [&'a str], count: usize) -> &'b [&'a str]
+    ensures { IsStretch lines.now result.now }
+{
+    let (_, behind) = lines.split_at(count.min(lines.len()));
+    behind
+}
+
+// The body of a function: the lines behind its first one that lie deeper than that.
+fn body_in<'a, 'b>(lines: &'b [&'a str], number: usize) -> Option<&'b [&'a str]>
+    ensures { IfSome result (λ body. IsStretch lines.now body.now) }
+{
+    let header = header_in(lines, number)?;
+    let rest = behind(lines, header.saturating_add(1));
+    let end = rest.iter().position(|line| !line.starts_with("    "));
+    Some(front(rest, end.unwrap_or(rest.len())))
+}
+
+// The first line of the function of this number among those that are defined.
+fn header_in(lines: &[&str], number: usize) -> Option<usize> {
+    let (header, _) = lines
+        .iter()
+        .enumerate()
+        .filter(|(_, line)| line.starts_with("  (func "))
+        .nth(number)?;
+    Some(header)
+}
+
+// The line of an instruction, counted from 0 in the body.
+fn place_in(body: &[&str], instruction: u32) -> Option<usize> {
+    let (line, _) = body
+        .iter()
+        .enumerate()
+        .filter(|(_, line)| is_numbered(line))
+        .nth(instruction as usize)?;
+    Some(line)
+}
+
+/// Puts the lines of a body around an instruction behind a text, or its last ones where none is named.
+pub fn push_around(
+    text: &mut String,
+    body: &[&str],
+    instruction: Option<u32>,
+) -> Result<(), AllocError>
+    ensures { OnOk result (ListsPart text.old text.new instruction body.now) }
+{
+    let shown = shown_of(body, first_shown(body, instruction));
+    push_lines(text, shown.lines, shown.first, instruction)
+}
+
+// The first line that is shown.
+fn first_shown(body: &[&str], instruction: Option<u32>) -> usize {
+    match instruction {
+        Some(instruction) => place_in(body, instruction)
+            .unwrap_or(body.len())
+            .saturating_sub(BEFORE),
+        None => body.len().saturating_sub(SHOWN),
+    }
+}
+
+// Lines that are shown, and the number of the first instruction among them.
+#[derive(Clone, Copy)]
+struct Shown<'a, 'b> {
+    lines: &'b [&'a str],
+    first: u64,
+}
+
+// How many lines have an instruction.
+fn instructions_in(lines: &[&str]) -> usize
+    ensures counted { result ≡ count_by (λ l. is_numbered l.now) lines.now }
+    ensures few { result ≤ length lines.now }
+{
+    lines.iter().filter(|line| is_numbered(line)).count()
+}
+
+// What is shown of a body from a line on.
+fn shown_of<'a, 'b>(body: &'b [&'a str], from: usize) -> Shown<'a, 'b>
+    ensures cut { Cuts body.now result }
+    ensures small { result.first + length result.lines.now < 2 ^ 64 }
+{
+    let (before, rest) = body.split_at(from.min(body.len()));
+    let (lines, _) = rest.split_at(SHOWN.min(rest.len()));
+    let first = instructions_in(before) as u64;
+    Shown { lines, first }
+}
+
+// Puts lines behind a text, each instruction behind its number, the first of which this is. `>` marks the one that is named.
+fn push_lines(
+    text: &mut String,
+    lines: &[&str],
+    first: u64,
+    marked: Option<u32>,
+) -> Result<(), AllocError>
+    requires { first + length lines.now < 2 ^ 64 }
+    ensures { OnOk result (Gains text.old text.new (listed marked first (texts lines.now))) }
+{
+    let mut number = first;
+    for line in lines {
+        number = push_line(text, number, marked, line)?;
+    }
+    Ok(())
+}
+
+// Puts a line behind a text, and answers the number of the next instruction.
+fn push_line(
+    text: &mut String,
+    number: u64,
+    marked: Option<u32>,
+    line: &str,
+) -> Result<u64, AllocError>
+    requires { number + 1 < 2 ^ 64 }
+    ensures { IfOk result (λ next. (next ≡ next_number number line.now)
+        × Gains text.old text.new (listed_line marked number line.now)) }
+{
+    if !is_numbered(line) {
+        writeln!(text, "         {line}")?;
+        return Ok(number);
+    }
+    let mark = mark(is_marked(number, marked));
+    writeln!(text, "{mark} {number:6} {line}")?;
+    Ok(number + 1)
+}
+
+fn is_marked(number: u64, marked: Option<u32>) -> bool
+    ensures { result ≡ is_marked number marked }
+{
+    match marked {
+        Some(marked) => number == u64::from(marked),
+        None => false,
+    }
+}
+
+fn mark(is_marked: bool) -> &'static str
+    ensures { result.now ≡ mark is_marked }
+{
+    if is_marked { ">" } else { " " }
+}

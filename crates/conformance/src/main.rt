@@ -1,5 +1,8 @@
 //! What the public calls on numbers, modules, compute calls, graphs, inboxes, jobs on one machine and checkpoints answer, case by
 //! case: each line of a file of `data/` is a case, and prints one line, which `stdout` has beforehand.
+//!
+//! With the words `FILE FIRST STEP` the program prints instead what becomes of the module in FILE, damaged in each way at the places
+//! FIRST, FIRST + STEP and so on.
 #![tactic(auto)]
 
 mod binary;
@@ -24,16 +27,38 @@ mod texts;
 mod validation;
 mod widths;
 
+use crate::binary::sweep::Places;
 use anyhow::Result;
+use std::env;
+use std::num::ParseIntError;
 use std::rt::Files;
 use std::thread::Threads;
 
 fn main(rt: HostRuntime) -> Result<()> {
-    syntax(&rt)?;
-    formats(&rt)?;
-    judgements(&rt)?;
-    runs(&rt)?;
-    states(&rt)
+    let words: Vec<String> = env::args(&rt)?.collect(rt.alloc())?;
+    match words.as_slice() {
+        [_, file, first, step] => {
+            let places = places_of(first.as_str(), step.as_str())?;
+            samples::show_damaged(&rt, file.as_str(), places)
+        }
+        _ => show(&rt),
+    }
+}
+
+fn places_of(first: &str, step: &str) -> Result<Places, ParseIntError> {
+    Ok(Places {
+        first: first.parse()?,
+        step: step.parse()?,
+    })
+}
+
+// All cases.
+fn show(rt: &(impl Files + Print + AllocGlobal + Threads + Sync)) -> Result<()> {
+    syntax(rt)?;
+    formats(rt)?;
+    judgements(rt)?;
+    runs(rt)?;
+    states(rt)
 }
 
 // Values and copies of the syntax.

@@ -1,11 +1,12 @@
 //! Whole programs in files: whether what is printed of a module spells that module again, and how long the module is in the
 //! binary format; and what becomes of its bytes when they are damaged.
 
-use crate::binary::sweep::swept;
-use crate::modules::{of_module, printed, spelling};
-use anyhow::Result;
+use crate::binary::sweep::{ALL, Places, SOME, swept};
+use crate::modules::{module_of, of_module, printed, spelling};
+use anyhow::{Result, bail};
 use conformance_cases::show_texts;
 use std::alloc::{AllocError, Global};
+use std::fs;
 use std::rt::Files;
 use wasm_ast::Module;
 use wat_asm::assemble;
@@ -19,8 +20,46 @@ fn answer(alloc: Global, text: &str) -> Result<String, AllocError> {
     of_module(alloc, text, again_and_length)
 }
 
+/// Prints what becomes of all damaged bytes of a file at these places. The file is a module's text, as its name says, or its
+/// bytes.
+pub fn show_damaged(
+    rt: &(impl Files + Print + AllocGlobal),
+    file: &str,
+    places: Places,
+) -> Result<()> {
+    let mut bytes = bytes_of(rt, file)?;
+    let answer = swept(rt.alloc(), &mut bytes, places, ALL)?;
+    println!(rt; "{answer}")?;
+    Ok(())
+}
+
+fn bytes_of(rt: &(impl Files + AllocGlobal), file: &str) -> Result<Vec<u8>> {
+    if !file.ends_with(".wat") {
+        return Ok(fs::read(rt, file)?);
+    }
+    let text = fs::read_to_string(rt, file)?;
+    match module_of(rt.alloc(), text.as_str()) {
+        Ok(module) => spelled(rt.alloc(), &module),
+        Err(_) => bail!("{file} is no module"),
+    }
+}
+
+fn spelled(alloc: Global, module: &Module) -> Result<Vec<u8>> {
+    match spelling(alloc, module) {
+        Ok(bytes) => Ok(bytes),
+        Err(_) => bail!("the module is not spelled"),
+    }
+}
+
 fn damaged(alloc: Global, text: &str) -> Result<String, AllocError> {
-    of_module(alloc, text, swept)
+    of_module(alloc, text, swept_in_steps)
+}
+
+fn swept_in_steps(alloc: Global, module: &Module) -> Result<String, AllocError> {
+    match spelling(alloc, module) {
+        Ok(mut bytes) => swept(alloc, &mut bytes, Places { first: 0, step: 1 }, SOME),
+        Err(_) => String::from_str(alloc, "not spelled"),
+    }
 }
 
 fn again_and_length(alloc: Global, module: &Module) -> Result<String, AllocError> {

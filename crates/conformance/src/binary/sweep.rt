@@ -1,12 +1,26 @@
-//! A sample, damaged: each proper front of a module's bytes, and each of its bytes changed to a few others.
+//! A module's bytes, damaged: each proper front, and each byte changed to others.
 
 use super::damage::{Fate, change, fate_of};
-use crate::modules::spelling;
 use std::alloc::{AllocError, Global};
-use wasm_ast::Module;
 
-// How many other bytes there are at each place, from one that is tried to the next.
-const STRIDE: u8 = 51;
+/// Which other bytes are tried at a place: how many, and how far they are apart. The first differs in the last bit alone.
+#[derive(Clone, Copy)]
+pub struct Others {
+    count: u8,
+    stride: u8,
+}
+
+/// All of them.
+pub const ALL: Others = Others {
+    count: 255,
+    stride: 1,
+};
+
+/// Each 16th.
+pub const SOME: Others = Others {
+    count: 16,
+    stride: 16,
+};
 
 // How many bytes were tried, and how many of them were lost.
 #[derive(Clone, Copy)]
@@ -28,44 +42,60 @@ impl Tally {
     }
 }
 
-/// How many fronts and changes of the module's bytes are tried, and how many of them are lost.
-pub fn swept(alloc: Global, module: &Module) -> Result<String, AllocError> {
-    match spelling(alloc, module) {
-        Ok(mut bytes) => told(alloc, &mut bytes),
-        Err(_) => String::from_str(alloc, "not spelled"),
+/// The places from a first one on, each so many behind the one before.
+#[derive(Clone, Copy)]
+pub struct Places {
+    pub first: usize,
+    pub step: usize,
+}
+
+impl Places {
+    /// Whether this place is one of them.
+    fn has(self, place: usize) -> bool {
+        place.checked_rem(self.step) == Some(self.first)
     }
 }
 
-fn told(alloc: Global, bytes: &mut [u8]) -> Result<String, AllocError> {
-    let fronts = fronts(alloc, bytes);
-    let changes = changes(alloc, bytes);
+/// How many fronts that end at these places and how many changes there are tried, and how many of them are lost.
+pub fn swept(
+    alloc: Global,
+    bytes: &mut [u8],
+    places: Places,
+    others: Others,
+) -> Result<String, AllocError> {
+    let fronts = fronts(alloc, bytes, places);
+    let changes = changes(alloc, bytes, places, others);
     let lost = fronts.lost.saturating_add(changes.lost);
     let (fronts, changes) = (fronts.tried, changes.tried);
     format!(in alloc; "{fronts} fronts and {changes} changes, {lost} lost")
 }
 
-fn fronts(alloc: Global, bytes: &[u8]) -> Tally {
+fn fronts(alloc: Global, bytes: &[u8], places: Places) -> Tally {
     let mut tally = Tally::new();
     for length in 0..bytes.len() {
-        tally.take(fate_of(alloc, &bytes[..length]));
+        if places.has(length) {
+            tally.take(fate_of(alloc, &bytes[..length]));
+        }
     }
     tally
 }
 
-fn changes(alloc: Global, bytes: &mut [u8]) -> Tally {
+fn changes(alloc: Global, bytes: &mut [u8], places: Places, others: Others) -> Tally {
     let mut tally = Tally::new();
     for place in 0..bytes.len() {
-        change_at(alloc, bytes, place, &mut tally);
+        if places.has(place) {
+            change_at(alloc, bytes, place, others, &mut tally);
+        }
     }
     tally
 }
 
-fn change_at(alloc: Global, bytes: &mut [u8], place: usize, tally: &mut Tally) {
+fn change_at(alloc: Global, bytes: &mut [u8], place: usize, others: Others, tally: &mut Tally) {
     let mut difference = 1u8;
-    for _ in 0..255 / STRIDE {
+    for _ in 0..others.count {
         change(bytes, place, difference);
         tally.take(fate_of(alloc, bytes));
         change(bytes, place, difference);
-        difference = difference.wrapping_add(STRIDE);
+        difference = difference.wrapping_add(others.stride);
     }
 }

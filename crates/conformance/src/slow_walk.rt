@@ -58,13 +58,13 @@ struct Layer<'a> {
 
 /// Where a call is.
 #[derive(Drop)]
-struct Walk<'a, 'b> {
+struct Walk<'a, 'b, 'c> {
     alloc: Global,
     module: &'a Module,
     imports: Vec<HostCall>,
     globals: Vec<Value>,
     memory: Vec<u8>,
-    vertex: CallState<'b>,
+    vertex: &'c mut CallState<'b>,
     /// How many units were taken.
     units: u128,
     /// What lies round the running sequence, the innermost last.
@@ -83,23 +83,41 @@ pub fn run(
     input: &CallInput,
     budget: u128,
 ) -> Result<CallOutcome, Stop> {
-    let mut walk = begin(alloc, module, input)?;
-    walk.finish(budget)?;
-    Ok(walk.vertex.into_outcome(walk.units))
+    let mut vertex = CallState::new(alloc, input);
+    let units = units_of(alloc, module, &mut vertex, budget)?;
+    Ok(vertex.into_outcome(units))
 }
 
-impl<'a> Walk<'a, '_> {
+// Runs to the end, and gives how many units that took.
+fn units_of(
+    alloc: Global,
+    module: &Module,
+    vertex: &mut CallState,
+    budget: u128,
+) -> Result<u128, Stop> {
+    let mut walk = begin(alloc, module, vertex)?;
+    walk.finish(budget)
+}
+
+impl<'a> Walk<'a, '_, '_> {
     /// Calls `compute`, and goes on to its end.
-    fn finish(&mut self, budget: u128) -> Result<(), Stop> {
-        self.enter(compute_function(self.module).ok_or(Stop::Stuck)?)?;
+    fn finish(&mut self, budget: u128) -> Result<u128, Stop> {
+        self.begin_compute()?;
         // Each end of a sequence has its beginning, which is counted: the budget ends the run long before.
         for _ in 0..u64::MAX {
             if self.layers.is_empty() {
-                return Ok(());
+                return Ok(self.units);
             }
             self.step(budget)?;
         }
         Err(Stop::Budget)
+    }
+
+    fn begin_compute(&mut self) -> Result<(), Stop> {
+        match compute_function(self.module) {
+            Some(function) => self.enter(function),
+            None => Err(Stop::Stuck),
+        }
     }
 
     /// Takes the next instruction, if the budget allows it, or goes on after the end of the sequence.
@@ -151,8 +169,15 @@ impl<'a> Walk<'a, '_> {
     /// A call of the function with this number, imports first (Core 1.0, 4.4.7).
     fn call(&mut self, number: u32) -> Result<(), Stop> {
         match self.imports.get(number as usize) {
-            Some(call) => call_host(*call, &mut self.operands, &mut self.vertex),
-            None => self.enter(defined_function(self.module, number).ok_or(Stop::Stuck)?),
+            Some(call) => call_host(*call, &mut self.operands, self.vertex),
+            None => self.enter_defined(number),
+        }
+    }
+
+    fn enter_defined(&mut self, number: u32) -> Result<(), Stop> {
+        match defined_function(self.module, number) {
+            Some(function) => self.enter(function),
+            None => Err(Stop::Stuck),
         }
     }
 }

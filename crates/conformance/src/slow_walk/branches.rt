@@ -1,11 +1,11 @@
 //! Blocks, branches and frames (Core 1.0, 4.4.5 and 4.4.7).
 
-use super::operands::pop_i32;
+use super::operands::{pop_i32, push};
 use super::{Layer, Stop, Walk};
 use std::mem::replace;
-use wasm_ast::{Body, Branch, FuncType, Function, Instr, Value};
+use wasm_ast::{Body, Branch, FuncType, Function, Instr, ValType, Value};
 
-impl<'a> Walk<'a, '_> {
+impl<'a> Walk<'a, '_, '_> {
     /// An instruction that goes on elsewhere.
     pub fn branch(&mut self, branch: &Branch) -> Result<(), Stop> {
         match branch {
@@ -45,27 +45,38 @@ impl<'a> Walk<'a, '_> {
 
     /// At the innermost layer, with an operand where it keeps one.
     fn arrive(&mut self, top: Option<Value>) -> Result<(), Stop> {
-        let layer = self.layers.pop().ok_or(Stop::Stuck)?;
+        let Some(layer) = self.layers.pop() else {
+            return Err(Stop::Stuck);
+        };
         let keeps = layer.keeps;
         self.code = layer.target;
-        self.operands = layer.operands;
+        self.restore(layer);
+        if keeps { self.keep(top) } else { Ok(()) }
+    }
+
+    // The operand of a branch.
+    fn keep(&mut self, top: Option<Value>) -> Result<(), Stop> {
+        match top {
+            Some(value) => push(&mut self.operands, value),
+            None => Err(Stop::Stuck),
+        }
+    }
+
+    // Takes the operands and locals of a layer again, and gives the operands that were.
+    fn restore(&mut self, layer: Layer<'a>) -> Vec<Value> {
         if let Some(locals) = layer.locals {
             self.locals = locals;
         }
-        if keeps {
-            self.operands.push(top.ok_or(Stop::Stuck)?)?;
-        }
-        Ok(())
+        replace(&mut self.operands, layer.operands)
     }
 
     /// Goes on after the innermost layer, with all operands.
     pub fn leave(&mut self) -> Result<(), Stop> {
-        let layer = self.layers.pop().ok_or(Stop::Stuck)?;
+        let Some(layer) = self.layers.pop() else {
+            return Err(Stop::Stuck);
+        };
         self.code = layer.after;
-        let mut given = replace(&mut self.operands, layer.operands);
-        if let Some(locals) = layer.locals {
-            self.locals = locals;
-        }
+        let mut given = self.restore(layer);
         self.operands.append(&mut given)?;
         Ok(())
     }
@@ -101,7 +112,9 @@ impl<'a> Walk<'a, '_> {
     /// Begins a function in a frame.
     pub fn enter(&mut self, function: &'a Function) -> Result<(), Stop> {
         let types = self.module.types.as_slice();
-        let func_type = types.get(function.type_number as usize).ok_or(Stop::Stuck)?;
+        let Some(func_type) = types.get(function.type_number as usize) else {
+            return Err(Stop::Stuck);
+        };
         let locals = self.fresh_locals(func_type, function)?;
         let layer = Layer {
             keeps: !func_type.results.as_slice().is_empty(),
@@ -122,11 +135,18 @@ impl<'a> Walk<'a, '_> {
         function: &Function,
     ) -> Result<Vec<Value>, Stop> {
         let count = func_type.parameters.as_slice().len();
-        let lower = self.operands.len().checked_sub(count);
-        let mut locals = self.operands.split_off(lower.ok_or(Stop::Stuck)?)?;
-        for one in function.locals.as_slice() {
-            locals.push(Value::zero(*one))?;
-        }
+        let Some(lower) = self.operands.len().checked_sub(count) else {
+            return Err(Stop::Stuck);
+        };
+        let mut locals = self.operands.split_off(lower)?;
+        push_zeros(function.locals.as_slice(), &mut locals)?;
         Ok(locals)
     }
+}
+
+fn push_zeros(types: &[ValType], locals: &mut Vec<Value>) -> Result<(), Stop> {
+    for one in types {
+        push(locals, Value::zero(*one))?;
+    }
+    Ok(())
 }

@@ -2,7 +2,7 @@
 
 use super::memory::{PAGE_SIZE, lay};
 use super::{Stop, Walk};
-use host_calls::{CallInput, CallState, HostCall};
+use host_calls::{CallState, HostCall};
 use std::alloc::{AllocError, Global};
 use wasm_ast::{
     Body, Export, ExportDescription, FuncType, Function, Global as GlobalDefinition, Import,
@@ -13,11 +13,11 @@ use wasm_ast::{
 const MAX_PAGES: u32 = 16;
 
 /// Before the call of `compute`.
-pub fn begin<'a, 'b>(
+pub fn begin<'a, 'b, 'c>(
     alloc: Global,
     module: &'a Module,
-    input: &CallInput<'b>,
-) -> Result<Walk<'a, 'b>, Stop> {
+    vertex: &'c mut CallState<'b>,
+) -> Result<Walk<'a, 'b, 'c>, Stop> {
     let imports = imported_calls(alloc, module)?;
     let globals = initial_globals(alloc, module.globals.as_slice())?;
     let memory = initial_memory(alloc, module, &globals)?;
@@ -27,7 +27,7 @@ pub fn begin<'a, 'b>(
         imports,
         globals,
         memory,
-        vertex: CallState::new(alloc, input),
+        vertex,
         units: 0,
         layers: Vec::new(alloc),
         code: &[],

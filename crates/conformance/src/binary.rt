@@ -11,7 +11,7 @@ mod damage;
 mod sized;
 pub mod sweep;
 
-use crate::modules::{printed, spelling};
+use crate::modules::{assembled, decoded, printed, spelling};
 use anyhow::Result;
 use conformance_cases::{is_case, named, spelled};
 use damage::damaged;
@@ -21,8 +21,6 @@ use std::alloc::{AllocError, Global};
 use std::fs;
 use std::rt::Files;
 use wasm_ast::Module;
-use wasm_decode::decode;
-use wat_asm::assemble;
 
 const FILES: [&str; 6] = [
     "binary_modules.txt",
@@ -108,23 +106,21 @@ fn answer(alloc: Global, frame: Frame, text: &str) -> Answer {
     }
     let bytes = frame.bytes(alloc, text)?;
     match frame.question {
-        "decode" => decoded(alloc, bytes.as_slice()),
+        "decode" => shown(alloc, bytes.as_slice()),
         "encode" => encoded(alloc, bytes.as_slice()),
         _ => damaged(alloc, bytes.as_slice()),
     }
 }
 
 // The text of the module that the bytes spell.
-fn decoded(alloc: Global, bytes: &[u8]) -> Answer {
-    match decode(alloc, bytes) {
-        Ok(module) => shown(alloc, &module),
-        Err(fault) => Err(CommandFault::from(fault)),
-    }
+fn shown(alloc: Global, bytes: &[u8]) -> Answer {
+    let module = decoded(alloc, bytes)?;
+    Ok(printed_on_one_line(alloc, &module)?)
 }
 
-fn shown(alloc: Global, module: &Module) -> Answer {
+fn printed_on_one_line(alloc: Global, module: &Module) -> Result<String, AllocError> {
     let text = printed(alloc, module)?;
-    Ok(on_one_line(alloc, text.as_str())?)
+    on_one_line(alloc, text.as_str())
 }
 
 // The words of a text with a blank between them.
@@ -215,18 +211,16 @@ fn is_otherwise(alloc: Global, frame: Frame, byte: &str, told: &str) -> Result<b
 
 fn told_of(alloc: Global, frame: Frame, text: &str) -> Result<String, AllocError> {
     let bytes = frame.bytes(alloc, text)?;
-    match decode(alloc, bytes.as_slice()) {
+    match decoded(alloc, bytes.as_slice()) {
         Ok(_) => String::from_str(alloc, "a module"),
-        Err(fault) => format!(in alloc; "{}", CommandFault::from(fault)),
+        Err(fault) => format!(in alloc; "{fault}"),
     }
 }
 
 // The shortest spelling of the module that the bytes spell.
 fn encoded(alloc: Global, bytes: &[u8]) -> Answer {
-    match decode(alloc, bytes) {
-        Ok(module) => spelled_again(alloc, &module, bytes),
-        Err(fault) => Err(CommandFault::from(fault)),
-    }
+    let module = decoded(alloc, bytes)?;
+    spelled_again(alloc, &module, bytes)
 }
 
 fn spelled_again(alloc: Global, module: &Module, bytes: &[u8]) -> Answer {
@@ -254,10 +248,8 @@ fn length(alloc: Global, frame: Frame, text: &str) -> Answer {
 }
 
 fn length_of(alloc: Global, text: &str) -> Answer {
-    match assemble(alloc, text) {
-        Ok(module) => length_told(alloc, &module),
-        Err(fault) => Err(CommandFault::from(fault)),
-    }
+    let module = assembled(alloc, text)?;
+    length_told(alloc, &module)
 }
 
 fn length_told(alloc: Global, module: &Module) -> Answer {

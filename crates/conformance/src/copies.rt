@@ -1,13 +1,13 @@
 //! Copies, and `==`: `NAME: PART | OTHER` compares the module of `whole.wat` with a copy of the one where OTHER stands in
 //! the place of PART.
 
+use crate::modules::assembled;
 use anyhow::Result;
 use conformance_cases::{is_case, named};
 use std::alloc::{AllocError, Global};
 use std::fs;
 use std::rt::Files;
 use wasm_ast::Module;
-use wat_asm::assemble;
 
 pub fn show(rt: &(impl Files + Print + AllocGlobal)) -> Result<()> {
     let whole = fs::read_to_string(rt, "whole.wat")?;
@@ -32,8 +32,12 @@ fn answer(alloc: Global, whole: &str, case: &str) -> Result<&'static str, AllocE
         return Ok("no such part");
     };
     let changed = format!(in alloc; "{before}{other}{after}")?;
-    match assemble(alloc, whole) {
-        Ok(module) => compared_with(alloc, &module, changed.as_str()),
+    compared_texts(alloc, whole, changed.as_str())
+}
+
+fn compared_texts(alloc: Global, whole: &str, changed: &str) -> Result<&'static str, AllocError> {
+    match assembled(alloc, whole) {
+        Ok(module) => compared_with(alloc, &module, changed),
         Err(_) => Ok("no module"),
     }
 }
@@ -43,19 +47,18 @@ fn compared_with(
     module: &Module,
     changed: &str,
 ) -> Result<&'static str, AllocError> {
-    match assemble(alloc, changed) {
+    match assembled(alloc, changed) {
         Ok(other) => compared(alloc, module, &other),
         Err(_) => Ok("no module"),
     }
 }
 
 fn compared(alloc: Global, module: &Module, other: &Module) -> Result<&'static str, AllocError> {
-    let are_copied = are_bodies_copied(alloc, other)?;
-    match other.copy(alloc) {
-        Ok(copy) if are_copied => Ok(copy_told(module, other, &copy)),
-        Ok(_) => Ok("no copy"),
-        Err(error) => Err(error),
+    if !are_bodies_copied(alloc, other)? {
+        return Ok("no copy");
     }
+    let copy = other.copy(alloc)?;
+    Ok(copy_told(module, other, &copy))
 }
 
 fn copy_told(module: &Module, other: &Module, copy: &Module) -> &'static str {

@@ -1,13 +1,13 @@
 //! The functions of the host: `NAME` tells what the function takes and gives, and `(import ..)` which function an import
 //! brings in.
 
+use crate::modules::assembled;
 use anyhow::Result;
 use conformance_cases::show_cases;
 use host_calls::HostCall;
 use std::alloc::{AllocError, Global};
 use std::rt::Files;
 use wasm_ast::{Import, ImportDescription, Module, ValType};
-use wat_asm::assemble;
 
 pub fn show(rt: &(impl Files + Print + AllocGlobal)) -> Result<()> {
     show_cases(rt, "host-functions.txt", answer)
@@ -25,31 +25,42 @@ fn answer(alloc: Global, case: &str) -> Result<String> {
 
 // What the function takes and gives, and its own name where that is another.
 fn type_told(alloc: Global, name: &str, call: HostCall) -> Result<String, AllocError> {
-    let call_type = call.type_of();
-    let parameters = words_of(alloc, call_type.parameters)?;
-    let results = words_of(alloc, call_type.results)?;
-    let own = if call.name() == name { "" } else { call.name() };
-    format!(in alloc; "{own}[{parameters}] -> [{results}]")
+    let mut text = String::new(alloc);
+    tell_type(name, call, &mut text)?;
+    Ok(text)
 }
 
-fn words_of(alloc: Global, types: &[ValType]) -> Result<String, AllocError> {
-    let mut words = String::new(alloc);
-    for one in types {
-        if !words.is_empty() {
-            words.push(' ')?;
-        }
-        words.push_str(match one {
-            ValType::I32 => "i32",
-            ValType::I64 => "i64",
-        })?;
+fn tell_type(name: &str, call: HostCall, text: &mut String) -> Result<(), AllocError> {
+    if call.name() != name {
+        text.push_str(call.name())?;
     }
-    Ok(words)
+    let call_type = call.type_of();
+    tell_types(call_type.parameters, text)?;
+    text.push_str(" -> ")?;
+    tell_types(call_type.results, text)
+}
+
+fn tell_types(types: &[ValType], text: &mut String) -> Result<(), AllocError> {
+    let mut gap = "[";
+    for one in types {
+        text.push_str(gap)?;
+        text.push_str(word_of(*one))?;
+        gap = " ";
+    }
+    text.push_str(if types.is_empty() { "[]" } else { "]" })
+}
+
+fn word_of(val_type: ValType) -> &'static str {
+    match val_type {
+        ValType::I32 => "i32",
+        ValType::I64 => "i64",
+    }
 }
 
 // The name of the function that the import brings in.
 fn import_told(alloc: Global, import: &str) -> Result<String> {
     let text = format!(in alloc; "(module {import})")?;
-    let name = match assemble(alloc, text.as_str()) {
+    let name = match assembled(alloc, text.as_str()) {
         Ok(module) => first_name(&module),
         Err(_) => "no module",
     };

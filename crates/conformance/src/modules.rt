@@ -8,8 +8,8 @@ use wasm_ast::{Module, within_limits};
 use wasm_decode::{EncodeFault, decode, encode};
 use wat_asm::{assemble, print};
 
-/// The module that a text spells, or bytes, which begin with `00 61 73 6D`.
-pub fn module_of(alloc: Global, text: &str) -> Result<Module, CommandFault<'static>> {
+/// The module that a text spells, or bytes, which begin with `00 61 73 6D`. It is in a box, so that it is let go by one call.
+pub fn module_of(alloc: Global, text: &str) -> Result<Box<Module>, CommandFault<'static>> {
     if text.starts_with("00 61 73 6D") {
         let bytes = bytes(alloc, text)?;
         decoded(alloc, bytes.as_slice())
@@ -18,24 +18,30 @@ pub fn module_of(alloc: Global, text: &str) -> Result<Module, CommandFault<'stat
     }
 }
 
-fn decoded(alloc: Global, bytes: &[u8]) -> Result<Module, CommandFault<'static>> {
+/// The module that the bytes spell.
+pub fn decoded(alloc: Global, bytes: &[u8]) -> Result<Box<Module>, CommandFault<'static>> {
     match decode(alloc, bytes) {
-        Ok(module) => Ok(module),
+        Ok(module) => Ok(boxed(alloc, module)?),
         Err(fault) => Err(CommandFault::from(fault)),
     }
 }
 
-fn assembled(alloc: Global, text: &str) -> Result<Module, CommandFault<'static>> {
+/// The module of a text.
+pub fn assembled(alloc: Global, text: &str) -> Result<Box<Module>, CommandFault<'static>> {
     match assemble(alloc, text) {
-        Ok(module) => Ok(module),
+        Ok(module) => Ok(boxed(alloc, module)?),
         Err(fault) => Err(CommandFault::from(fault)),
     }
+}
+
+fn boxed(alloc: Global, module: Module) -> Result<Box<Module>, AllocError> {
+    Ok(Box::new(alloc, module)?)
 }
 
 /// The same, where it is valid.
 pub fn valid_of(alloc: Global, text: &str) -> Result<Valid, CommandFault<'static>> {
     let module = module_of(alloc, text)?;
-    match validate(alloc, module) {
+    match validate(alloc, Box::into_inner(module)) {
         Ok(valid) => Ok(valid),
         Err(fault) => Err(CommandFault::from(fault)),
     }

@@ -2,14 +2,13 @@
 //! binary format; and what becomes of its bytes when they are damaged.
 
 use crate::binary::sweep::{ALL, Places, SOME, swept};
-use crate::modules::{module_of, of_module, printed, spelling};
+use crate::modules::{assembled, module_of, of_module, printed, spelling};
 use anyhow::{Result, bail};
 use conformance_cases::show_texts;
 use std::alloc::{AllocError, Global};
 use std::fs;
 use std::rt::Files;
 use wasm_ast::Module;
-use wat_asm::assemble;
 
 pub fn show(rt: &(impl Files + Print + AllocGlobal)) -> Result<()> {
     show_texts(rt, "samples.txt", answer)?;
@@ -77,7 +76,7 @@ fn again(alloc: Global, module: &Module) -> Result<&'static str, AllocError> {
 }
 
 fn again_of_text(alloc: Global, module: &Module, text: &str) -> Result<&'static str, AllocError> {
-    match assemble(alloc, text) {
+    match assembled(alloc, text) {
         Ok(spelled) => again_of_spelled(alloc, module, &spelled, text),
         Err(_) => Ok("another"),
     }

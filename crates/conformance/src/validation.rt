@@ -20,7 +20,7 @@ pub fn show(rt: &(impl Files + Print + AllocGlobal)) -> Result<()> {
 
 fn answer(alloc: Global, text: &str) -> Result<String, AllocError> {
     match module_of(alloc, text) {
-        Ok(module) => validity(alloc, module),
+        Ok(module) => validity(alloc, Box::into_inner(module)),
         Err(fault) => line_of(alloc, fault),
     }
 }
@@ -42,7 +42,7 @@ fn told(alloc: Global, fault: ValidFault) -> Result<String, AllocError> {
 // bytes may have them.
 fn answer_in_a_block(alloc: Global, text: &str) -> Result<String, AllocError> {
     match module_of(alloc, text) {
-        Ok(module) => validity_in_blocks(alloc, module),
+        Ok(module) => validity_in_blocks(alloc, Box::into_inner(module)),
         Err(fault) => line_of(alloc, fault),
     }
 }
@@ -54,29 +54,23 @@ fn validity_in_blocks(alloc: Global, mut module: Module) -> Result<String, Alloc
 
 fn put_in_blocks(alloc: Global, module: &mut Module) -> Result<(), AllocError> {
     let functions = mem::replace(&mut module.functions, Sequence::empty(alloc));
-    module.functions = in_blocks(alloc, functions.into_vec())?;
+    let mut functions = functions.into_vec();
+    let done = put_each_in_a_block(alloc, &mut functions);
+    module.functions = Sequence::from(functions);
+    done
+}
+
+fn put_each_in_a_block(alloc: Global, functions: &mut [Function]) -> Result<(), AllocError> {
+    for function in functions {
+        put_in_a_block(alloc, &mut function.body)?;
+    }
     Ok(())
 }
 
-fn in_blocks(alloc: Global, functions: Vec<Function>) -> Result<Sequence<Function>, AllocError> {
-    let mut deeper = Vec::new(alloc);
-    for function in functions {
-        deeper.push(in_a_block(alloc, function)?)?;
-    }
-    Ok(Sequence::from(deeper))
-}
-
-fn in_a_block(alloc: Global, function: Function) -> Result<Function, AllocError> {
-    let Function {
-        type_number,
-        locals,
-        body,
-    } = function;
+fn put_in_a_block(alloc: Global, body: &mut Body) -> Result<(), AllocError> {
+    let whole = mem::replace(body, Body::empty(alloc));
     let mut instrs = Vec::new(alloc);
-    instrs.push(Instr::Block(None, body))?;
-    Ok(Function {
-        type_number,
-        locals,
-        body: Body::from(instrs),
-    })
+    instrs.push(Instr::Block(None, whole))?;
+    *body = Body::from(instrs);
+    Ok(())
 }

@@ -12,6 +12,7 @@ use crate::modules::valid_of;
 use anyhow::Result;
 use conformance_cases::{is_case, named, spelled};
 use forms::both_answers;
+use host_calls::CallInput;
 use sources::{CommandFault, Input};
 use std::alloc::{AllocError, Global};
 use std::fs;
@@ -79,12 +80,30 @@ pub fn show(rt: &(impl Files + Print + AllocGlobal)) -> Result<()> {
 
 fn show_file(rt: &(impl Files + Print + AllocGlobal), file: &str, vertex: &str) -> Result<()> {
     let text = fs::read_to_string(rt, file)?;
+    show_lines(rt, text.as_str(), vertex)
+}
+
+fn show_lines(rt: &(impl Files + Print + AllocGlobal), text: &str, vertex: &str) -> Result<()> {
     let mut frame = String::new(rt.alloc());
-    for line in text.as_str().lines().filter(|line| is_case(line)) {
-        match line.strip_prefix("frame: ") {
-            Some(next) => frame = frame_of(rt, next)?,
-            None => show_case(rt, frame.as_str(), line, vertex)?,
-        }
+    for line in text.lines() {
+        show_line(rt, line, vertex, &mut frame)?;
+    }
+    Ok(())
+}
+
+// Shows a case in the frame, or makes another the frame.
+fn show_line(
+    rt: &(impl Files + Print + AllocGlobal),
+    line: &str,
+    vertex: &str,
+    frame: &mut String,
+) -> Result<()> {
+    if !is_case(line) {
+        return Ok(());
+    }
+    match line.strip_prefix("frame: ") {
+        Some(next) => *frame = frame_of(rt, next)?,
+        None => show_case(rt, frame.as_str(), line, vertex)?,
     }
     Ok(())
 }
@@ -98,9 +117,18 @@ fn frame_of(rt: &(impl Files + AllocGlobal), text: &str) -> Result<String> {
 
 fn show_case(rt: &(impl Print + AllocGlobal), frame: &str, line: &str, vertex: &str) -> Result<()> {
     let (name, rest) = named(line);
-    let text = spelled(rt.alloc(), if rest.is_empty() { name } else { rest })?;
-    let answer = answer(rt.alloc(), frame, Case::new(text.as_str(), vertex));
-    tell(rt, name, answer)
+    let case = if rest.is_empty() { name } else { rest };
+    tell(rt, name, answer_to(rt.alloc(), frame, case, vertex))
+}
+
+fn answer_to(
+    alloc: Global,
+    frame: &str,
+    case: &str,
+    vertex: &str,
+) -> Result<String, CommandFault<'static>> {
+    let text = spelled(alloc, case)?;
+    answer(alloc, frame, Case::new(text.as_str(), vertex))
 }
 
 /// Prints what is answered at a name, or the line of the fault.
@@ -124,6 +152,15 @@ fn answer(alloc: Global, frame: &str, case: Case) -> Result<String, CommandFault
 
 fn answer_of_text(alloc: Global, text: &str, case: Case) -> Result<String, CommandFault<'static>> {
     let input = Input::read(alloc, case.input)?;
+    answer_of_input(alloc, text, &input.call_input(), case.budget)
+}
+
+fn answer_of_input(
+    alloc: Global,
+    text: &str,
+    input: &CallInput,
+    budget: u128,
+) -> Result<String, CommandFault<'static>> {
     let valid = valid_of(alloc, text)?;
-    Ok(both_answers(alloc, valid, &input.call_input(), case.budget)?)
+    Ok(both_answers(alloc, valid, input, budget)?)
 }

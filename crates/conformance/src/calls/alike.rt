@@ -17,9 +17,23 @@ const ENOUGH: u128 = 1_000_000;
 
 pub fn show(rt: &(impl Files + Print + AllocGlobal)) -> Result<()> {
     let input = read_input(rt)?;
+    show_programs(rt, &input.call_input())
+}
+
+fn show_programs(rt: &(impl Files + Print + AllocGlobal), input: &CallInput) -> Result<()> {
     let programs = fs::read_to_string(rt, "alike.txt")?;
-    for line in programs.as_str().lines().filter(|line| is_case(line)) {
-        show_program(rt, line, &input.call_input())?;
+    show_lines(rt, programs.as_str(), input)
+}
+
+fn show_lines(
+    rt: &(impl Files + Print + AllocGlobal),
+    programs: &str,
+    input: &CallInput,
+) -> Result<()> {
+    for line in programs.lines() {
+        if is_case(line) {
+            show_program(rt, line, input)?;
+        }
     }
     Ok(())
 }
@@ -89,6 +103,15 @@ fn shortened<'a>(input: &CallInput<'a>, messages: usize, edges: usize) -> CallIn
 
 fn is_alike(alloc: Global, verified: &Verified, input: &CallInput) -> Result<bool, AllocError> {
     let slow = slow_answer(alloc, verified.module(), input, ENOUGH)?;
+    is_fast_answer(alloc, verified, input, slow.as_str())
+}
+
+fn is_fast_answer(
+    alloc: Global,
+    verified: &Verified,
+    input: &CallInput,
+    slow: &str,
+) -> Result<bool, AllocError> {
     let fast = fast_answer(alloc, verified, input)?;
-    Ok(slow.as_str() == fast.as_str())
+    Ok(slow == fast.as_str())
 }

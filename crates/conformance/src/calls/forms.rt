@@ -19,21 +19,22 @@ pub fn both_answers(
     budget: u128,
 ) -> Result<String, AllocError> {
     let slow = slow_answer(alloc, valid.module(), input, budget)?;
-    let Some(verified) = verify(alloc, valid).ok() else {
-        return Ok(slow);
-    };
     if slow.as_str() == "Budget" {
         return Ok(slow);
     }
-    compared(alloc, slow, fast_answer(alloc, &verified, input))
+    match verify(alloc, valid) {
+        Ok(verified) => compared(alloc, slow, &verified, input),
+        Err(_) => Ok(slow),
+    }
 }
 
 fn compared(
     alloc: Global,
     slow: String,
-    fast: Result<String, AllocError>,
+    verified: &Verified,
+    input: &CallInput,
 ) -> Result<String, AllocError> {
-    let fast = fast?;
+    let fast = fast_answer(alloc, verified, input)?;
     if slow.as_str() == fast.as_str() {
         Ok(slow)
     } else {
@@ -57,11 +58,20 @@ pub fn fast_answer(
     input: &CallInput,
 ) -> Result<String, AllocError> {
     let mut scratch = Scratch::new(alloc, verified)?;
+    second_answer(alloc, verified, input, &mut scratch)
+}
+
+fn second_answer(
+    alloc: Global,
+    verified: &Verified,
+    input: &CallInput,
+    scratch: &mut Scratch,
+) -> Result<String, AllocError> {
     if !has_ids(input) || !scratch.fits(verified) {
-        return format!(in alloc; "not called");
+        return String::from_str(alloc, "not called");
     }
-    let _ = run(alloc, verified, input, &mut scratch);
-    told(alloc, run(alloc, verified, input, &mut scratch))
+    let _ = run(alloc, verified, input, scratch);
+    told(alloc, run(alloc, verified, input, scratch))
 }
 
 fn told<F: Debug + Drop>(

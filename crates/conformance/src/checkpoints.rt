@@ -84,14 +84,24 @@ fn state_or_fault(alloc: Global, case: &str) -> Result<String, AllocError> {
 }
 
 fn told(alloc: Global, state: &State, bytes: &[u8]) -> Result<String, AllocError> {
-    let state_shown = shown_state(alloc, state)?;
+    let mut text = shown_state(alloc, state)?;
+    tell_written(alloc, state, bytes, &mut text)?;
+    Ok(text)
+}
+
+fn tell_written(
+    alloc: Global,
+    state: &State,
+    bytes: &[u8],
+    text: &mut String,
+) -> Result<(), AllocError> {
     let written = write(alloc, state)?;
     let alike = if written.as_slice() == bytes {
         " alike"
     } else {
         ""
     };
-    format!(in alloc; "{state_shown}, written {}{alike}", written.len())
+    write!(text, ", written {}{alike}", written.len())
 }
 
 /// What stands in a state, but for what its slots hold.

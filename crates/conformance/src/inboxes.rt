@@ -25,8 +25,12 @@ fn answer(alloc: Global, case: &str) -> Result<String> {
     let (_, rest) = named(case);
     let (ids, letters) = rest.split_once(';').unwrap_or((rest, ""));
     let ids = ids_in(alloc, ids)?;
+    delivered(alloc, letters, &ids)
+}
+
+fn delivered(alloc: Global, letters: &str, ids: &[u64]) -> Result<String> {
     let letters = letters_in(alloc, letters)?;
-    merged(alloc, &letters, &ids)
+    merged(alloc, &letters, ids)
 }
 
 fn ids_in(alloc: Global, text: &str) -> Result<Vec<u64>> {

@@ -23,8 +23,8 @@ fn answer(rt: &(impl Files + AllocGlobal), case: &str) -> Result<String> {
         return part_told(rt.alloc(), id, parts);
     }
     let (path, parts) = case.split_once(" in ").unwrap_or((case, ""));
-    let graph = read(rt, path)?;
-    shown_in_parts(rt.alloc(), graph, count_in(parts)?)
+    let count = count_in(parts)?;
+    shown_in_parts(rt.alloc(), read(rt, path)?, count)
 }
 
 fn part_told(alloc: Global, id: &str, parts: &str) -> Result<String> {
@@ -57,10 +57,14 @@ fn shown_in_parts(alloc: Global, graph: Graph, count: u32) -> Result<String>
 {
     let parts = split(alloc, graph, count)?;
     let mut text = String::new(alloc);
-    tell_counts(&parts, &mut text)?;
-    let joined = join(alloc, parts)?;
-    tell_vertices(joined.vertices(), &mut text)?;
+    tell_parts(alloc, parts, &mut text)?;
     Ok(text)
+}
+
+fn tell_parts(alloc: Global, parts: Vec<Part>, text: &mut String) -> Result<()> {
+    tell_counts(&parts, text)?;
+    let joined = join(alloc, parts)?;
+    Ok(tell_vertices(joined.vertices(), text)?)
 }
 
 // How many vertices each part has.

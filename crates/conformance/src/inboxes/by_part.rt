@@ -30,8 +30,17 @@ fn answer(rt: &(impl Threads + Sync), alloc: Global, case: &str) -> Result<Strin
 fn answer_to(rt: &(impl Threads + Sync), alloc: Global, text: &str) -> Result<String> {
     let (ids, letters) = text.split_once(';').unwrap_or((text, ""));
     let ids = ids_by_part(alloc, ids)?;
+    answer_at(rt, alloc, letters, &ids)
+}
+
+fn answer_at(
+    rt: &(impl Threads + Sync),
+    alloc: Global,
+    letters: &str,
+    ids: &[Vec<u64>],
+) -> Result<String> {
     let lists = lists_of_letters(alloc, letters)?;
-    delivered(rt, alloc, &lists, &ids)
+    delivered(rt, alloc, &lists, ids)
 }
 
 fn ids_by_part(alloc: Global, text: &str) -> Result<Vec<Vec<u64>>> {

@@ -17,8 +17,7 @@ pub fn job_in(rt: &(impl Files + AllocGlobal), case: &str) -> Result<Result<Job,
     let (settings, rest) = case.split_once("; ").unwrap_or((case, ""));
     let (module, graph) = rest.split_once("; ").unwrap_or((rest, ""));
     let settings = settings_of(settings)?;
-    let graph = graph_in(rt, graph)?;
-    job_over(rt, module, graph, settings)
+    job_over(rt, module, graph_in(rt, graph)?, settings)
 }
 
 fn job_over(
@@ -36,21 +35,30 @@ fn job_over(
 fn settings_of(text: &str) -> Result<Settings, ParseIntError> {
     let mut words = text.split_ascii_whitespace();
     Ok(Settings {
-        parts: words.next().unwrap_or("").parse()?,
-        workers: words.next().unwrap_or("").parse()?,
-        every: words.next().unwrap_or("").parse()?,
-        limit: words.next().unwrap_or("").parse()?,
-        lease: words.next().unwrap_or("").parse()?,
+        parts: number_of(words.next())?,
+        workers: number_of(words.next())?,
+        every: number_of(words.next())?,
+        limit: number_of(words.next())?,
+        lease: number_of(words.next())?,
     })
 }
 
+fn number_of(word: Option<&str>) -> Result<u32, ParseIntError> {
+    word.unwrap_or("").parse::<u32>()
+}
+
 fn graph_in(rt: &(impl Files + AllocGlobal), graph: &str) -> Result<Graph> {
-    let text = if graph.ends_with(".txt") {
-        fs::read_to_string(rt, graph)?
-    } else {
-        spelled(rt.alloc(), graph)?
-    };
+    let text = text_in(rt, graph)?;
     Ok(Graph::read(rt.alloc(), text.as_str())?)
+}
+
+// The text of a file, or the text that stands there.
+fn text_in(rt: &(impl Files + AllocGlobal), graph: &str) -> Result<String> {
+    if graph.ends_with(".txt") {
+        Ok(fs::read_to_string(rt, graph)?)
+    } else {
+        Ok(spelled(rt.alloc(), graph)?)
+    }
 }
 
 fn verified_in(rt: &(impl Files + AllocGlobal), path: &str) -> Result<Verified> {

@@ -15,18 +15,18 @@ pub fn show_cases<R: Files + Print + AllocGlobal, F: Fn(Global, &str) -> Result<
     requires { F.IsAlwaysCallable answer }
 {
     let text = fs::read_to_string(rt, path)?;
-    show_lines(rt, text.as_str(), answer)
+    show_lines(rt, text.as_str(), &answer)
 }
 
 fn show_lines<R: Print + AllocGlobal, F: Fn(Global, &str) -> Result<String>>(
     rt: &R,
     text: &str,
-    answer: F,
+    answer: &F,
 ) -> Result<()>
-    requires { F.IsAlwaysCallable answer }
+    requires { F.IsAlwaysCallable answer.now }
 {
     for line in text.lines() {
-        show_line(rt, line, &answer)?;
+        show_line(rt, line, answer)?;
     }
     Ok(())
 }
@@ -53,20 +53,20 @@ pub fn show_texts<
     requires { F.IsAlwaysCallable answer }
 {
     let text = fs::read_to_string(rt, path)?;
-    show_parts(rt, text.as_str(), answer)
+    show_parts(rt, text.as_str(), &answer)
 }
 
 fn show_parts<R: Files + Print + AllocGlobal, F: Fn(Global, &str) -> Result<String, AllocError>>(
     rt: &R,
     text: &str,
-    answer: F,
+    answer: &F,
 ) -> Result<()>
-    requires { F.IsAlwaysCallable answer }
+    requires { F.IsAlwaysCallable answer.now }
 {
     let (first, others) = text.split_once("\nwithin ").unwrap_or((text, ""));
-    show_in_frame(rt, "…", first, &answer)?;
+    show_in_frame(rt, "…", first, answer)?;
     for part in others.split("\nwithin ") {
-        show_part(rt, part, &answer)?;
+        show_part(rt, part, answer)?;
     }
     Ok(())
 }

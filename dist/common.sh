@@ -104,7 +104,7 @@ prove_in_stages() {
         prove_copy "$1/first" wasm_ast &
         RT_JOBS=2 prove_copy "$1/small" graph inbox &
         wait
-        (RT_JOBS=2 prove_copy "$1/beside" wat_asm wasm_decode && RT_JOBS=2 prove_copy "$1/next" sources command_line) &
+        (RT_JOBS=2 prove_copy "$1/beside" wat_asm wasm_decode && RT_JOBS=2 prove_copy "$1/next" explain command_line graph_import) &
         prove_copy "$1/chain" workers &
         wait
     fi

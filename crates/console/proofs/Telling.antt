@@ -9,6 +9,7 @@ use Rattle.wasm_decode.specs.Canonical.{canonical}
 use Rattle.checkpoint.specs.Checkpoint.{checkpoint_bytes}
 use Rattle.sources.specs.Disk.{Disk, Stays, Tries}
 use Rattle.sources.specs.Source.{content, is_text}
+use Rattle.console.specs.Importing.{TriesAll, files_of}
 use Rattle.console.specs.Engine.{Refuses, RefusesText}
 use Rattle.sources.specs.Reading.{HoldsSource}
 use Rattle.sources.specs.Lines.{line}
@@ -80,6 +81,11 @@ begun_on path bytes middle after last earlier (inr (count, some)) =
 tries_on : (path bytes : List ℕ) (before middle after : Disk) → Tries path bytes before middle → Stays middle after → Tries path bytes before after
 tries_on path bytes before middle after tries last = λ earlier wrote. begun_on path bytes middle after last earlier (tries earlier wrote)
 
+tries_all_on : (items : List (List ℕ × List ℕ)) (before middle after : Disk) → TriesAll items before middle → Stays middle after → TriesAll items before after
+tries_all_on items before middle after tries last = λ earlier wrote.
+    let tried = tries earlier wrote in
+    (tried.0, tried.1, last.wrote (earlier ++ tried.0) tried.2)
+
 pub may_try_on : (before middle after : Disk) (asked : Request) → MayTry before middle asked → Stays middle after → MayTry before after asked
 may_try_on before middle after (request.Call module_path input_path) stays last = stays_again before middle after stays last
 may_try_on before middle after (request.Run asked) stays last = stays_again before middle after stays last
@@ -90,5 +96,8 @@ may_try_on before middle after (request.Upgrade path newer_path) (inr (state, is
 may_try_on before middle after (request.Assemble module_path binary_path) (inl stays) last = inl (stays_again before middle after stays last)
 may_try_on before middle after (request.Assemble module_path binary_path) (inr (m, is, tries)) last =
     inr (m, is, tries_on binary_path.now (canonical m) before middle after tries last)
+may_try_on before middle after (request.Import asked) (inl stays) last = inl (stays_again before middle after stays last)
+may_try_on before middle after (request.Import asked) (inr (made, is, tries)) last =
+    inr (made, is, tries_all_on (files_of asked made) before middle after tries last)
 may_try_on before middle after (request.Print module_path) stays last = stays_again before middle after stays last
 may_try_on before middle after (request.Verify module_path) stays last = stays_again before middle after stays last

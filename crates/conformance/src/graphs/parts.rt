@@ -57,14 +57,10 @@ fn shown_in_parts(alloc: Global, graph: Graph, count: u32) -> Result<String>
 {
     let parts = split(alloc, graph, count)?;
     let mut text = String::new(alloc);
-    tell_parts(alloc, parts, &mut text)?;
-    Ok(text)
-}
-
-fn tell_parts(alloc: Global, parts: Vec<Part>, text: &mut String) -> Result<()> {
-    tell_counts(&parts, text)?;
+    tell_counts(&parts, &mut text)?;
     let joined = join(alloc, parts)?;
-    Ok(tell_vertices(joined.vertices(), text)?)
+    tell_vertices(joined.vertices(), &mut text)?;
+    Ok(text)
 }
 
 // How many vertices each part has.

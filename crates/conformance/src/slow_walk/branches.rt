@@ -64,10 +64,11 @@ impl<'a> Walk<'a, '_, '_> {
 
     // Takes the operands and locals of a layer again, and gives the operands that were.
     fn restore(&mut self, layer: Layer<'a>) -> Vec<Value> {
+        let given = replace(&mut self.operands, layer.operands);
         if let Some(locals) = layer.locals {
             self.locals = locals;
         }
-        replace(&mut self.operands, layer.operands)
+        given
     }
 
     /// Goes on after the innermost layer, with all operands.

@@ -53,28 +53,28 @@ size_in_agree : (m : Module) (s t : ℕ → ℕ) (b : Option Code) → ((k : ℕ
 size_in_agree m s t None h = refl
 size_in_agree m s t (Some c) h = size_agree m s t c (agree_at s t (calls_of c) h)
 
--- calls unfolded n deep
-abbrev unfolded : Module → ℕ → ℕ → ℕ
-unfolded m zero f = 0
-unfolded m (suc n) f = size_in m (unfolded m n) (body_of m f)
+-- the size with calls inlined n deep
+abbrev inlined_size : Module → ℕ → ℕ → ℕ
+inlined_size m zero f = 0
+inlined_size m (suc n) f = size_in m (inlined_size m n) (body_of m f)
 
 module _ (m : Module) (rank : ℕ → ℕ) (falls : (f g : ℕ) → Calls (callees m) f g → rank g < rank f) where
   callee_below : (f k : ℕ) → k < length (callees m f) → rank (get_or (callees m f) k 0) < rank f
   callee_below f k h = falls f (get_or (callees m f) k 0) (k, h, refl)
 
   -- deeper than the rank, the depth does not matter
-  deep : (n d f : ℕ) → rank f < n → rank f < d → unfolded m n f ≡ unfolded m d f
+  deep : (n d f : ℕ) → rank f < n → rank f < d → inlined_size m n f ≡ inlined_size m d f
   deep zero d f h i = absurd (omega arith)
   deep (suc n) zero f h i = absurd (omega arith)
   deep (suc n) (suc d) f h i =
-      size_in_agree m (unfolded m n) (unfolded m d) (body_of m f) (λ k l. let b = callee_below f k l in deep n d (get_or (callees m f) k 0) (omega (arith, b, h)) (omega (arith, b, i)))
+      size_in_agree m (inlined_size m n) (inlined_size m d) (body_of m f) (λ k l. let b = callee_below f k l in deep n d (get_or (callees m f) k 0) (omega (arith, b, h)) (omega (arith, b, i)))
 
   whole : ℕ → ℕ
-  whole f = unfolded m (suc (rank f)) f
+  whole f = inlined_size m (suc (rank f)) f
 
-  are : AreSizes m (λ f. unfolded m (suc (rank f)) f)
+  are : AreSizes m (λ f. inlined_size m (suc (rank f)) f)
   are f =
-      size_in_agree m (unfolded m (rank f)) (λ g. unfolded m (suc (rank g)) g) (body_of m f) (λ k l. let b = callee_below f k l in deep (rank f) (suc (rank (get_or (callees m f) k 0))) (get_or (callees m f) k 0) b (omega arith))
+      size_in_agree m (inlined_size m (rank f)) (λ g. inlined_size m (suc (rank g)) g) (body_of m f) (λ k l. let b = callee_below f k l in deep (rank f) (suc (rank (get_or (callees m f) k 0))) (get_or (callees m f) k 0) b (omega arith))
 
   only : (s t : ℕ → ℕ) → AreSizes m s → AreSizes m t → (n f : ℕ) → rank f < n → t f ≡ s f
   only s t a b zero f h = absurd (omega arith)
@@ -83,4 +83,4 @@ module _ (m : Module) (rank : ℕ → ℕ) (falls : (f g : ℕ) → Calls (calle
 
   pub one_sizing : HasOneSizing m
   one_sizing =
-      ((λ f. unfolded m (suc (rank f)) f), are, λ t b f. only (λ g. unfolded m (suc (rank g)) g) t are b (suc (rank f)) f (omega arith))
+      ((λ f. inlined_size m (suc (rank f)) f), are, λ t b f. only (λ g. inlined_size m (suc (rank g)) g) t are b (suc (rank f)) f (omega arith))

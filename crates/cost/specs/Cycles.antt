@@ -1,4 +1,4 @@
--- Cycles of calls, where `calls` gives what each function calls.
+-- Cycles of calls, where `calls` returns the functions that each function calls.
 use Rattle.std.specs.Prelude.{◌≡◌, ℕ, ◌<◌, ◌≤◌, List, [], ◌∷◌, length, slice_index}
 use Rattle.cost.specs.Calls.{Calls}
 

@@ -1,4 +1,4 @@
--- Each instruction counts at least 1.
+-- Each instruction costs at least 1 unit.
 use Rattle.std.specs.Prelude.{ℕ, ◌≤◌, filter, slice_get, Option, Some}
 use Rattle.std.specs.Option.{option_and_then}
 use Rattle.std.proofs.Common.{arith}

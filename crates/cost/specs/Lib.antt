@@ -1,16 +1,16 @@
--- What a reader has to believe, in this order: what instructions count, what functions call, cycles of calls, and the size
--- of code with its calls unfolded.
+-- The definitions that a reader has to believe, in reading order: the weights of instructions, the calls of functions,
+-- cycles of calls, and the size of code with calls inlined.
 pub mod Weights
 pub mod Calls
 pub mod Cycles
 pub mod Sizes
--- how high functions stand above those that call nothing, and what is told of them
+-- the heights of functions above those that call nothing, and the ranks and sizes that are computed
 pub mod Heights
 pub mod Marks
 pub mod Ranks
--- what a refusal says
+-- what the faults say
 pub mod Faults
--- that each instruction counts at least 1, for the proofs of every crate
+-- each instruction costs at least 1 unit: for the proofs of every crate
 pub mod LeastUnits
--- what only mirrors the code, for its proofs
+-- definitions that only mirror the code, for its proofs
 pub mod inside

@@ -1,9 +1,9 @@
--- What is told of the functions of a module: of each its rank and its size.
+-- The result of the walk of the call graph: the rank and the size of each function of a module.
 use Rattle.std.specs.Prelude.{ℕ, List, get_or}
 use Rattle.cost.specs.declared.table.Mark.{Mark}
 use Rattle.cost.specs.declared.table.Mark.TheVariants.{Unseen, Open, Done}
 
--- where there is no mark the function calls nothing and counts nothing
+-- the mark of the function; an index without a mark has rank 0 and size 0
 abbrev pub mark_at : List Mark → ℕ → Mark
 mark_at ms f = get_or ms f (Done 0 0)
 

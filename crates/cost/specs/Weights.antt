@@ -1,4 +1,4 @@
--- What instructions count: the table of weights. The size of code, the machine's count and the running call all go by it.
+-- The table of weights: the units of each instruction. The size of code, the machine's count and the running call use it.
 use Rattle.std.specs.Prelude.{ℕ, List, map, filter, slice_get, slice_index_or, Option, Some, None}
 use Rattle.std.specs.Option.{option_and_then}
 use Rattle.wasm_ast.specs.declared.numeric.Binary.TheVariants.{Mul}
@@ -19,7 +19,7 @@ use Rattle.host_calls.specs.declared.imports.HostCall.{HostCall}
 use Rattle.host_calls.specs.declared.imports.HostCall.TheVariants.{Send, Aggregate}
 use Rattle.host_calls.specs.Imports.{call_of}
 
--- numeric instructions (Core 1.0, 2.4.1): div and rem, and mul, count more than the others
+-- numeric instructions (Core 1.0, 2.4.1): div and rem, and mul, cost more than the others
 abbrev pub numeric_units : Numeric → ℕ
 numeric_units (numeric.Division t op) = 6
 numeric_units (numeric.Binary t Mul) = 3
@@ -42,28 +42,28 @@ abbrev pub branch_units : Branch → ℕ
 branch_units (branch.BrTable labels other) = 2
 branch_units _ = 1
 
--- a call of the host's function, or, where there is none, of another
+-- a call of a host function; `None` is any other function
 abbrev pub host_units : Option HostCall → ℕ
 host_units (Some Send) = 8
 host_units (Some Aggregate) = 8
 host_units _ = 2
 
--- A call of the function with this number (2.4.5), imports first (2.5.1): more for the imports `send` and `aggregate` of
--- module `pregel`.
+-- A call of the function with this index (2.4.5), imports first (2.5.1). The imports `send` and `aggregate` of module
+-- `pregel` cost more.
 unfoldable pub call_units : Module → ℕ → ℕ
 call_units m f = host_units (option_and_then call_of (slice_get (filter is_function m.imports) f))
 
--- what taking the instruction from a sequence counts
+-- the units of executing the instruction, without those of any instructions inside it
 abbrev pub units_of : Module → Instr → ℕ
 units_of m (instr.Plain p) = plain_units p
 units_of m (instr.Branch b) = branch_units b
 units_of m (instr.Call f) = call_units m f
 units_of m _ = 1
 
--- what a call of each imported function counts
+-- the units of a call of each imported function
 abbrev pub imported_units : List Import → List ℕ
 imported_units is = map (λ (i : Import). host_units (call_of i)) (filter is_function is)
 
--- the one at this number; past them, that of another function
+-- the units at this index; past the imports, those of a defined function
 abbrev pub units_at : List ℕ → ℕ → ℕ
 units_at imported f = slice_index_or imported f (host_units None)

@@ -1,4 +1,4 @@
--- What the walk along calls finds, as its functions find it. No contract of a public function cites these.
+-- The findings of the walk of the call graph, step by step. No contract of a public function cites these.
 pub mod Outline
 pub mod Outlines
 pub mod Walks

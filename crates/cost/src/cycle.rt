@@ -1,4 +1,4 @@
-//! Where a walk stops: it has come back to a function on its path.
+//! Why a walk of the call graph stops: it has come back to a function on its path.
 
 ghost use Rattle.std.specs.Prelude.{◌≡◌, ◌<◌, ◌≤◌, ◌++◌, ℕ, List, length, slice_index, take, drop};
 ghost use Rattle.cost.specs.Calls.{Calls};
@@ -8,17 +8,17 @@ ghost use Rattle.cost.specs.inside.Stops.{Leaves, Targets};
 
 use crate::fault::CostFault;
 
-/// Why a walk stops.
+/// The reason why a walk stops.
 #[derive(Drop)]
 pub enum Stop {
-    /// It has come back to this function by the others, the last first.
+    /// The walk has come back to this function by way of the others, the last first.
     Back(u32, Vec<u32>),
-    /// These call each other in a cycle, the last first.
+    /// These functions call each other in a cycle, the last first.
     Cycle(Vec<u32>),
     OutOfMemory,
 }
 
-/// The stop as the caller sees it.
+/// Adds the caller to a stop. The stop is a cycle where the caller is the function that the walk came back to.
 pub fn extend(stop: Stop, caller: u32) -> Stop
     ensures leaves { (calls : ℕ → List ℕ) (g : ℕ) →
         Calls calls caller g → Leaves calls g stop → Leaves calls caller result }
@@ -40,7 +40,7 @@ pub fn extend(stop: Stop, caller: u32) -> Stop
     }
 }
 
-/// The stop of a walk that began with no function on its path.
+/// Turns the stop of a whole walk into a fault. Such a walk starts with no function on its path.
 pub fn explain(stop: Stop) -> CostFault
     requires { (t : ℕ) → Targets stop t → ⊥ }
     ensures { (calls : ℕ → List ℕ) (f : ℕ) → Leaves calls f stop → Explains calls result }
@@ -51,15 +51,15 @@ pub fn explain(stop: Stop) -> CostFault
             let mut cycle = trail;
             let items = cycle.as_mut_slice();
             items.reverse();
-            turn(items);
+            rotate_to_least(items);
             CostFault::Cycle(cycle)
         }
         Stop::OutOfMemory => CostFault::OutOfMemory,
     }
 }
 
-// Turns the cycle until it begins with its least number.
-fn turn(cycle: &mut [u32])
+// Rotates the cycle until it starts with its least index.
+fn rotate_to_least(cycle: &mut [u32])
     ensures least { LeastFirst cycle.new }
     ensures turned { (k : ℕ) × (k ≤ length cycle.old)
         × (cycle.new ≡ drop k cycle.old ++ take k cycle.old) }
@@ -68,7 +68,7 @@ fn turn(cycle: &mut [u32])
     cycle.rotate_left(place);
 }
 
-// Where the least number stands.
+// Finds the position of the least number, the first of several.
 fn least_place(items: &[u32]) -> usize
     ensures within { result ≤ length items.now }
     ensures inside { 0 < length items.now → result < length items.now }

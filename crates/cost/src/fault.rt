@@ -1,4 +1,4 @@
-//! Why functions have no ranks.
+//! The faults of ranking.
 
 ghost use Rattle.std.specs.Prelude.{◌≡◌};
 ghost use Rattle.cost.specs.declared.fault.CostFault.TheVariants.{OutOfMemory};
@@ -6,13 +6,13 @@ ghost use Rattle.cost.specs.declared.fault.CostFault.TheVariants.{OutOfMemory};
 use std::alloc::AllocError;
 use thiserror::Error;
 
-/// Why the functions of a module have no ranks.
+/// The reason why the functions of a module have no ranks.
 #[derive(Debug, Drop, Error)]
 pub enum CostFault {
-    /// These functions call each other: each the next, and the last the first, which has the least number.
+    /// Each of these functions calls the next, and the last calls the first. The first has the least index.
     #[error("Cycle {0:?}")]
     Cycle(Vec<u32>),
-    /// Memory ran out.
+    /// An allocation failed.
     #[error("OutOfMemory")]
     OutOfMemory,
 }

@@ -1,4 +1,4 @@
-//! What ranks say of a module. These functions do nothing: each holds a law.
+//! What ranks imply of a module. Each function does nothing: its contract is a law.
 
 ghost use Rattle.std.specs.Prelude.{◌≤◌};
 ghost use Rattle.wasm_ast.specs.declared.body.Instr.{Instr as AnyInstr};
@@ -12,19 +12,19 @@ ghost use Rattle.cost.specs.Weights.{units_of};
 use crate::table::Ranks;
 use validate::Valid;
 
-/// Where there are ranks no function calls itself, at once or by way of others.
+/// States that in a module with ranks no function calls itself, directly or through others.
 pub fn ranks_exclude_cycles(valid: &Valid, ranks: &Ranks)
     requires { IsRanking valid.now ranks.now }
     ensures { Acyclic (callees valid.now) }
 {}
 
-/// Where there are ranks each function has one size with its calls unfolded.
+/// States that in a module with ranks each function has exactly one size with calls inlined.
 pub fn has_one_sizing(valid: &Valid, ranks: &Ranks)
     requires { IsRanking valid.now ranks.now }
     ensures { HasOneSizing valid.now }
 {}
 
-/// Each instruction counts at least 1, so there are at most as many instructions as units.
+/// States that each instruction costs at least 1 unit. So a call executes at most as many instructions as its units.
 pub fn units_are_counted()
     ensures { (m : AnyModule) (instruction : AnyInstr) → 1 ≤ units_of m instruction }
 {}

@@ -1,5 +1,5 @@
-//! What a call of a function can cost: the order of calls, in which no function calls itself, and the size of each
-//! function with its calls unfolded.
+//! The cost of functions: the call graph, in which no function may call itself, and the size of each function with
+//! calls inlined. Units measure sizes, by a table of weights.
 #![tactic(auto)]
 
 mod cycle;
@@ -15,6 +15,6 @@ mod weights;
 pub use fault::CostFault;
 pub use laws::{has_one_sizing, ranks_exclude_cycles, units_are_counted};
 pub use order::ranks;
-pub use size::{MAX_SIZE, unfolded};
+pub use size::{MAX_SIZE, inlined_size};
 pub use table::Ranks;
 pub use weights::{branch_units, host_units, plain_units};

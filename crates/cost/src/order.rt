@@ -1,4 +1,4 @@
-//! The order of calls.
+//! The ranking of functions by their calls.
 
 ghost use Rattle.std.specs.Prelude.{◌<◌, ◌^◌, IfOk, IfErr, OnOk, IsOkUnless};
 ghost use Rattle.cost.specs.Calls.{callees};
@@ -16,12 +16,13 @@ use crate::walk::visit;
 use std::alloc::Global;
 use validate::Valid;
 
-/// The rank and the size of each function of the module. There are ranks exactly where no function calls itself by way
-/// of others or at once; where one does, the fault shows a cycle of calls. Calls through a table are not looked at
-/// (Core 1.0, 2.4.5).
+/// Computes the rank and the size of each function of the module.
 ///
-/// It takes time by the length of the module's code, and memory by the number of its functions and calls. The stack
-/// goes as deep as the longest chain of calls, of at most `wasm_ast::MAX_FUNCTIONS`.
+/// There are ranks exactly where no function calls itself, directly or through others. Where one does, the fault has a
+/// cycle of calls. Calls through a table are ignored (Core 1.0, 2.4.5).
+///
+/// Time is linear in the length of the module's code, and memory in the number of its functions and calls. The recursion
+/// is as deep as the longest chain of calls, at most `wasm_ast::MAX_FUNCTIONS`.
 pub fn ranks(alloc: Global, valid: &Valid) -> Result<Ranks, CostFault>
     ensures ranked { IfOk result (IsRanking valid.now) }
     ensures acyclic { OnOk result (Acyclic (callees valid.now)) }

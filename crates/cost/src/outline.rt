@@ -1,4 +1,4 @@
-//! Functions in outline: how much their own instructions count, and what they call.
+//! Outlines of functions: the units of their own instructions, and the functions that they call.
 
 ghost use Rattle.std.specs.Prelude.{◌≡◌, IfOk, OnOk};
 ghost use Rattle.std.specs.Option.{option_copied};
@@ -15,15 +15,15 @@ use std::marker::Model;
 use validate::Valid;
 use wasm_ast::{Body, Function, Import, ImportDescription, Instr};
 
-/// One more than the largest size that is told, at which counts stop.
+/// The largest count of units, one more than `MAX_SIZE`. A count that reaches it stays there.
 pub const CAP: u64 = MAX_SIZE as u64 + 1;
 
-/// A function in outline.
+/// The outline of a function.
 #[derive(Drop)]
 pub struct Outline {
-    // how much its own instructions count, at most `CAP`
+    // the units of its own instructions, at most `CAP`
     own: u32,
-    // the functions that it calls, one for each call
+    // the functions that it calls, one entry for each call instruction
     calls: Vec<u32>,
 }
 
@@ -45,6 +45,7 @@ impl Outline {
         }
     }
 
+    /// Borrows the indices of the functions that it calls, one for each call instruction.
     pub fn calls(&self) -> &[u32]
         ensures { result.now ≡ self.now.calls }
     {
@@ -101,7 +102,7 @@ fn outline_of(alloc: Global, weights: &Weights, body: &Body) -> Result<Outline, 
     Ok(outline)
 }
 
-/// The functions of a module in outline. Imported functions have no body.
+/// The outlines of a module's functions. Imported functions have none.
 #[derive(Drop)]
 pub struct Outlines {
     pub imported: usize,
@@ -109,7 +110,7 @@ pub struct Outlines {
 }
 
 impl Outlines {
-    /// The functions of the module.
+    /// Makes the outlines of the module's functions. It fails only where an allocation fails.
     pub fn of(alloc: Global, valid: &Valid) -> Result<Outlines, AllocError>
         ensures { IfOk result (AreOutlines valid.now) }
     {
@@ -121,7 +122,7 @@ impl Outlines {
         })
     }
 
-    /// The outline of the function with this number, where it has a body.
+    /// Returns the outline of the function with this index, where it has a body.
     pub fn get(&self, function: u32) -> Option<&Outline>
         ensures { option_copied result ≡ outline_at self.now function }
     {
@@ -133,7 +134,7 @@ impl Outlines {
         }
     }
 
-    /// How much the function's own instructions count, at most `CAP`.
+    /// Returns the units of the function's own instructions, at most `CAP`.
     pub fn own(&self, function: u32) -> u32
         ensures { result ≡ own_at (outline_at self.now function) }
     {
@@ -143,7 +144,7 @@ impl Outlines {
         }
     }
 
-    /// The functions that the function calls.
+    /// Borrows the indices of the functions that the function calls.
     pub fn called(&self, function: u32) -> &[u32]
         ensures { result.now ≡ called self.now function }
     {

@@ -1,23 +1,23 @@
-//! The size of a function with its calls unfolded.
+//! The size of a function with calls inlined.
 
 ghost use Rattle.cost.specs.Ranks.{IsRanking};
-ghost use Rattle.cost.specs.Sizes.{TellsSize};
+ghost use Rattle.cost.specs.Sizes.{IsReportedSize};
 
 use crate::table::Ranks;
 use validate::Valid;
 
-/// The largest size that is told.
+/// The largest size that is reported, in units.
 pub const MAX_SIZE: u32 = 8_388_608;
 
-/// The size of the function with its calls unfolded: each instruction counts its units by the table of weights, a
-/// block, loop or `if` also what it holds, and a call of a function that the module defines also the body of that
-/// function. There is no answer exactly where the size passes `MAX_SIZE`. The size of an imported function is 0.
+/// Returns the size of the function with calls inlined, or `None` exactly where it passes `MAX_SIZE`.
 ///
-/// It takes no memory and no time by the length of the code: the size comes with the ranks, which must be those of this
-/// module.
-pub fn unfolded(valid: &Valid, ranks: &Ranks, function: u32) -> Option<u32>
+/// Each instruction counts its units by the table of weights. A block, loop or `if` also counts the instructions inside
+/// it, and a call of a defined function also counts that function's body. The size of an imported function is 0.
+///
+/// It allocates nothing and takes constant time, since the size comes with the ranks. They must be those of this module.
+pub fn inlined_size(valid: &Valid, ranks: &Ranks, function: u32) -> Option<u32>
     requires { IsRanking valid.now ranks.now }
-    ensures { TellsSize valid.now function result }
+    ensures { IsReportedSize valid.now function result }
 {
     let size = ranks.size(function);
     if size <= MAX_SIZE { Some(size) } else { None }

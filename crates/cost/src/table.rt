@@ -1,4 +1,4 @@
-//! Ranks and sizes of functions.
+//! The ranks and the sizes of a module's functions.
 
 ghost use Rattle.std.specs.Prelude.{◌≡◌, ◌<◌, length, set, replicate, IfOk};
 ghost use Rattle.cost.specs.declared.table.Mark.TheVariants.{Unseen, Open, Done};
@@ -7,17 +7,18 @@ ghost use Rattle.cost.specs.Marks.{mark_at, rank_at, size_at};
 use std::alloc::{AllocError, Global};
 use std::marker::Model;
 
-/// How far the walk along calls is with a function.
+/// The state of a function in the depth-first walk of the call graph.
 #[derive(Clone, Copy)]
 pub enum Mark {
     Unseen,
-    /// It stands on the path that the walk is on.
+    /// The function is on the walk's current path.
     Open,
-    /// All that it calls are done: its rank, and its size with its calls unfolded, at most `CAP`.
+    /// The function and all that it calls are done. The fields are its rank, and its size with calls inlined, at most
+    /// `CAP`.
     Done(u32, u32),
 }
 
-/// The rank of each function of a module, which falls at each call, and its size with its calls unfolded.
+/// The rank and the size with calls inlined of each function of a module. A callee's rank is below its caller's.
 #[derive(Drop)]
 pub struct Ranks {
     marks: Vec<Mark>,
@@ -33,7 +34,7 @@ impl Model for Ranks {
 }
 
 impl Ranks {
-    /// So many functions, none of them seen.
+    /// Creates a table of `count` functions, all unseen.
     pub(crate) fn unseen(alloc: Global, count: usize) -> Result<Ranks, AllocError>
         ensures { IfOk result (λ ranks. ranks ≡ replicate count Unseen) }
     {
@@ -42,6 +43,7 @@ impl Ranks {
         })
     }
 
+    /// Returns the state of the function. A number that names no function is done, with rank and size 0.
     pub(crate) fn mark(&self, function: u32) -> Mark
         ensures { result ≡ mark_at self.now function }
     {
@@ -51,8 +53,8 @@ impl Ranks {
         }
     }
 
-    /// The rank of the function: how many functions of the module are in the longest chain of calls that begins with
-    /// it. It is 0 for an imported function and for a number that names none.
+    /// Returns the rank of the function: how many functions of the module are in the longest chain of calls that
+    /// starts with it. It is 0 for an imported function, and for an index that names none.
     pub fn rank(&self, function: u32) -> u32
         ensures { result ≡ rank_at self.now function }
     {
@@ -62,6 +64,7 @@ impl Ranks {
         }
     }
 
+    /// Returns the size of the function with calls inlined, at most `CAP`, or 0 where it is not done.
     pub(crate) fn size(&self, function: u32) -> u32
         ensures { result ≡ size_at self.now function }
     {
@@ -71,6 +74,7 @@ impl Ranks {
         }
     }
 
+    /// Marks the function as on the walk's current path.
     pub(crate) fn open(&mut self, function: u32)
         requires { function < length self.old }
         ensures { self.new ≡ set self.old function Open }
@@ -78,6 +82,7 @@ impl Ranks {
         self.marks[function as usize] = Mark::Open;
     }
 
+    /// Marks the function as done, with its rank and its size.
     pub(crate) fn finish(&mut self, function: u32, rank: u32, size: u32)
         requires { function < length self.old }
         ensures { self.new ≡ set self.old function (Done rank size) }

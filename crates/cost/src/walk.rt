@@ -1,4 +1,4 @@
-//! A walk along calls, which ranks functions after those that they call.
+//! The depth-first walk of the call graph, which ranks each function after those that it calls.
 
 ghost use Rattle.std.specs.Prelude.{◌≡◌, ◌+◌, ◌<◌, ◌^◌, ℕ, length, min, sum_by, IfErr, OnOk};
 ghost use Rattle.cost.specs.declared.table.Mark.TheVariants.{Open};
@@ -14,7 +14,7 @@ use crate::outline::{CAP, Outlines};
 use crate::table::{Mark, Ranks};
 use std::alloc::Global;
 
-// The greatest rank of these functions, 0 where there are none.
+// Finds the greatest rank of these functions, or 0 where there are none.
 fn greatest_rank(functions: &[u32], ranks: &Ranks) -> u32
     ensures { result ≡ most (rank_at ranks.now) functions.now }
 {
@@ -25,7 +25,7 @@ fn greatest_rank(functions: &[u32], ranks: &Ranks) -> u32
     greatest
 }
 
-// One above all that the function calls; 0 where it has no body.
+// Returns one more than the greatest rank that the function calls, or 0 where it has no body.
 fn height(outlines: &Outlines, function: u32, ranks: &Ranks) -> u32
     requires { most (rank_at ranks.now) (called outlines.now function) + 1 < 2 ^ 32 }
     ensures { result ≡ height_at (rank_at ranks.now) (outline_at outlines.now function) }
@@ -36,7 +36,7 @@ fn height(outlines: &Outlines, function: u32, ranks: &Ranks) -> u32
     }
 }
 
-// The sizes of these functions and the rest, at most `CAP`.
+// Adds the sizes of these functions to `own`. The sum stops at `CAP`.
 fn whole_size(own: u32, functions: &[u32], ranks: &Ranks) -> u32
     ensures { result ≡ min cap (own + sum_by (size_at ranks.now) functions.now) }
 {
@@ -47,8 +47,7 @@ fn whole_size(own: u32, functions: &[u32], ranks: &Ranks) -> u32
     total as u32
 }
 
-/// Ranks a function and, before it, all that it calls. It stops where the walk comes back to a function that it has not
-/// done yet.
+/// Ranks all that a function calls, then the function. It stops where the walk comes back to a function on its path.
 pub fn visit(
     alloc: Global,
     outlines: &Outlines,

@@ -1,4 +1,4 @@
-//! What instructions count.
+//! The table of weights: the units that each instruction costs.
 
 ghost use Rattle.std.specs.Prelude.{◌≡◌, ◌≤◌, IfOk};
 ghost use Rattle.wasm_ast.specs.Limits.{is_function};
@@ -9,7 +9,7 @@ use std::alloc::{AllocError, Global};
 use std::marker::Model;
 use wasm_ast::{Binary, Branch, Import, ImportDescription, Instr, Memory, Module, Numeric, Plain};
 
-/// What an instruction that neither branches nor calls counts.
+/// Returns the units of an instruction that neither branches nor calls: 1, 2, 3 or 6.
 #[inline]
 pub fn plain_units(plain: Plain) -> u32
     ensures { result ≡ plain_units plain }
@@ -22,7 +22,7 @@ pub fn plain_units(plain: Plain) -> u32
     }
 }
 
-/// What a branch counts.
+/// Returns the units of a branch: 2 for `br_table`, else 1.
 #[inline]
 pub fn branch_units(branch: &Branch) -> u32
     ensures { result ≡ branch_units branch.now }
@@ -33,7 +33,7 @@ pub fn branch_units(branch: &Branch) -> u32
     }
 }
 
-/// What a call of this function of the host counts, or, where there is none, a call of another function.
+/// Returns the units of a call of this host function: 8 for `send` and `aggregate`, else 2. `None` is any other function.
 #[inline]
 pub fn host_units(call: Option<HostCall>) -> u32
     ensures { result ≡ host_units call }
@@ -44,11 +44,11 @@ pub fn host_units(call: Option<HostCall>) -> u32
     }
 }
 
-/// What the instructions of a module count.
+/// The units of a module's instructions. Its model is the module.
 #[derive(Drop)]
 pub struct Weights<'a> {
     module: &'a Module,
-    // what a call of each imported function counts
+    // the units of a call of each imported function
     imported: Vec<u32>,
 }
 
@@ -68,7 +68,7 @@ impl<'a> Model for Weights<'a> {
 }
 
 impl<'a> Weights<'a> {
-    /// Those of the module.
+    /// Looks up the units of the module's imports. It fails only where an allocation fails.
     pub fn of(alloc: Global, module: &'a Module) -> Result<Weights<'a>, AllocError>
         ensures { IfOk result (λ weights. weights ≡ «module».now) }
     {
@@ -78,7 +78,7 @@ impl<'a> Weights<'a> {
         })
     }
 
-    /// What the instruction counts.
+    /// Returns the units of the instruction, without those of any instructions inside it.
     pub fn units(&self, instr: &Instr) -> u32
         ensures { result ≡ units_of self.now instr.now }
     {
@@ -97,7 +97,7 @@ impl<'a> Weights<'a> {
     }
 }
 
-// What a call of the function with this number counts, where those of the imported functions count so.
+// Returns the units of a call of the function with this index, given those of the imported functions.
 fn units_at(imported: &[u32], function: u32) -> u32
     ensures { result ≡ units_at imported.now function }
 {
@@ -120,7 +120,7 @@ fn imported_units(alloc: Global, imports: &[Import]) -> Result<Vec<u32>, AllocEr
     Ok(units)
 }
 
-/// Whether the import is a function.
+/// Reports whether the import is a function.
 pub fn is_function(import: &Import) -> bool
     ensures { result ≡ is_function import.now }
 {

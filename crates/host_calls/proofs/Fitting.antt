@@ -6,11 +6,11 @@ use Rattle.wasm_ast.specs.declared.types.Value.{Value}
 use Rattle.wasm_ast.specs.declared.types.Value.TheVariants.{I32, I64}
 use Rattle.wasm_ast.specs.Numeric.{truth}
 use Rattle.wasm_ast.specs.Values.{type_of}
-use Rattle.host_calls.specs.declared.call.TheConstants.{SLOTS}
+use Rattle.host_calls.specs.declared.call.TheConstants.{AGGREGATORS}
 use Rattle.host_calls.specs.declared.imports.HostCall.{HostCall}
 use Rattle.host_calls.specs.declared.imports.HostCall.TheVariants.{VertexId, Superstep, NumVertices, GetValue, SetValue, NextMessage, MessageValue, NextEdge, EdgeTarget, EdgeValue, Send, Aggregate, Aggregated, VoteToHalt}
 use Rattle.host_calls.specs.Effects.{HostEffect, Traps, signed, host_effect, Answers}
-use Rattle.host_calls.specs.Host.{Host, take_message, take_edge, slot_value}
+use Rattle.host_calls.specs.Host.{Host, take_message, take_edge, aggregator_value}
 use Rattle.host_calls.specs.Imports.{type_of_call}
 
 no_argument : (vs : List Value) → map type_of vs ≡ [] → vs ≡ []
@@ -57,8 +57,8 @@ fits Send vs others host e =
 fits Aggregate vs others host e =
     let top = first_i64 vs val_type.I32 e in
     let next = one_i32 top.1 top.3 in
-    rw (top.2, next.1) (slotted (nat_lt next.0 SLOTS) Aggregate others _ ([], refl, refl) (inl refl))
+    rw (top.2, next.1) (slotted (nat_lt next.0 AGGREGATORS) Aggregate others _ ([], refl, refl) (inl refl))
 fits Aggregated vs others host e =
     let only = one_i32 vs e in
-    rw only.1 (slotted (nat_lt only.0 SLOTS) Aggregated others _ (signed (slot_value host only.0) ∷ [], refl, refl) (inr refl))
+    rw only.1 (slotted (nat_lt only.0 AGGREGATORS) Aggregated others _ (signed (aggregator_value host only.0) ∷ [], refl, refl) (inr refl))
 fits VoteToHalt vs others host e = rw (no_argument vs e) ([], refl, refl)

@@ -1,5 +1,5 @@
--- What the calls of the host do to operands, the topmost first (Core 1.0, 4.4.7): they take their arguments and leave
--- their results.
+-- The effect of host calls on the operands, the topmost first (Core 1.0, 4.4.7). A call takes its arguments and leaves
+-- its results.
 use Rattle.std.specs.Prelude.{◌≡◌, ℕ, ℤ, List, ◌∷◌, ◌++◌, ◌⊎◌, map, Bool, nat_lt, if◌then◌else◌}
 use Rattle.std.specs.Int.{cast_unsigned, cast_signed, w64}
 use Rattle.wasm_ast.specs.declared.types.ValType.TheVariants as val_type
@@ -7,31 +7,31 @@ use Rattle.wasm_ast.specs.declared.types.Value.{Value}
 use Rattle.wasm_ast.specs.declared.types.Value.TheVariants.{I32, I64}
 use Rattle.wasm_ast.specs.Numeric.{truth}
 use Rattle.wasm_ast.specs.Values.{type_of}
-use Rattle.host_calls.specs.declared.call.TheConstants.{SLOTS}
+use Rattle.host_calls.specs.declared.call.TheConstants.{AGGREGATORS}
 use Rattle.host_calls.specs.declared.imports.HostCall.{HostCall}
 use Rattle.host_calls.specs.declared.imports.HostCall.TheVariants.{VertexId, Superstep, NumVertices, GetValue, SetValue, NextMessage, MessageValue, NextEdge, EdgeTarget, EdgeValue, Send, Aggregate, Aggregated, VoteToHalt}
 use Rattle.host_calls.specs.Imports.{type_of_call}
 use Rattle.host_calls.specs.Operands.{pop}
-use Rattle.host_calls.specs.Host.{Host, with_value, take_message, take_edge, with_send, with_contribution, with_halt, slot_value}
+use Rattle.host_calls.specs.Host.{Host, with_value, take_message, take_edge, with_send, with_contribution, with_halt, aggregator_value}
 
 pub data HostEffect : Type 0 where
   Gives : (operands : List Value) (host : Host) → HostEffect
-  -- a slot past the last
+  -- there is no aggregator with this number
   Traps : HostEffect
   -- an operand is missing or of the wrong type
   Misses : HostEffect
 
--- a signed number as an operand
+-- a signed number as an i64 operand
 abbrev pub signed : ℤ → Value
 signed z = I64 (cast_unsigned w64 z)
 
--- whether something was taken, as an operand
+-- whether something was taken, as an i32 operand
 abbrev pub answer : Bool × Host → List Value → HostEffect
 answer taken vs = Gives (I32 (truth taken.0) ∷ vs) taken.1
 
--- only at a slot that there is
+-- the effect where there is an aggregator with this number, else a trap
 abbrev pub at_slot : ℕ → HostEffect → HostEffect
-at_slot slot effect = if nat_lt slot SLOTS then effect else Traps
+at_slot slot effect = if nat_lt slot AGGREGATORS then effect else Traps
 
 abbrev pub host_effect : HostCall → List Value → Host → HostEffect
 host_effect VertexId vs host = Gives (signed host.id ∷ vs) host
@@ -51,11 +51,11 @@ host_effect Aggregate vs host =
     pop Misses val_type.I64 vs (λ value us. pop Misses val_type.I32 us (λ slot ws.
     at_slot slot (Gives ws (with_contribution host slot (cast_signed w64 value)))))
 host_effect Aggregated vs host =
-    pop Misses val_type.I32 vs (λ slot us. at_slot slot (Gives (signed (slot_value host slot) ∷ us) host))
+    pop Misses val_type.I32 vs (λ slot us. at_slot slot (Gives (signed (aggregator_value host slot) ∷ us) host))
 host_effect VoteToHalt vs host = Gives vs (with_halt host)
 
--- what a call may do where its arguments lie on other operands: it leaves its results on them, or traps where it takes a
--- slot
+-- what a call may do where its arguments are on top of other operands: it leaves its results on them, or traps if it is
+-- `aggregate` or `aggregated`
 abbrev pub Answers : HostCall → List Value → HostEffect → Type 0
 Answers call others (Gives operands host) =
     (results : List Value) × (operands ≡ results ++ others) × (map type_of results ≡ (type_of_call call).results)

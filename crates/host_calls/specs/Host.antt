@@ -1,25 +1,25 @@
--- What a compute call sees of its vertex, and how the calls of the host change it, a line each. What a call only reads
--- is a field.
+-- The state of a vertex during a compute call, and how each host call changes it. A host call that only reads returns a
+-- field.
 use Rattle.std.specs.Prelude.{◌≡◌, ℕ, ℤ, pos, List, [], ◌∷◌, ◌++◌, map, Bool, true, false, slice_index_or}
 use Rattle.std.specs.Int.{cast_signed, w64}
 use Rattle.host_calls.specs.declared.call.CallInput.{CallInput}
 use Rattle.host_calls.specs.declared.call.CallOutcome.{CallOutcome}
 
--- The vertex, as the call has left it so far. Its numbers are signed, as the guest sees them.
+-- The state of the vertex so far. Its numbers are signed, as the guest sees them.
 pub record Host : Type 0 where
   pub id : ℤ
   pub superstep : ℤ
   pub num_vertices : ℤ
   pub value : ℤ
-  -- the messages and the edges that are still to be taken, an edge with its target and its value
+  -- the messages and the edges not taken yet, each edge with its target and its value
   pub messages : List ℤ
   pub edges : List (ℤ × ℤ)
-  -- those that were taken last
+  -- the message and the edge that were taken last
   pub message : ℤ
   pub edge : ℤ × ℤ
-  -- what the slots were aggregated to in the superstep before
+  -- the aggregators' values of the superstep before
   pub aggregated : List ℤ
-  -- what was sent and what was given to slots, which grow at their end
+  -- the messages sent and the contributions to aggregators, the latest last
   pub sends : List (ℤ × ℤ)
   pub contributions : List (ℕ × ℤ)
   pub halted : Bool
@@ -28,7 +28,7 @@ pub record Host : Type 0 where
 abbrev pub seen_edge : ℕ × ℤ → ℤ × ℤ
 seen_edge e = (cast_signed w64 e.0, e.1)
 
--- the vertex before the call
+-- the state before the call
 abbrev pub host_of : CallInput → Host
 host_of input = record {
   id = cast_signed w64 input.id;
@@ -49,12 +49,12 @@ host_of input = record {
 abbrev pub with_value : Host → ℤ → Host
 with_value host value = record host { value = value }
 
--- next_message, at the messages that are left: whether one was taken
+-- next_message, where these messages remain: whether one was taken
 abbrev pub take_message : List ℤ → Host → Bool × Host
 take_message [] host = (false, host)
 take_message (m ∷ ms) host = (true, record host { messages = ms; message = m })
 
--- next_edge, at the edges that are left
+-- next_edge, where these edges remain: whether one was taken
 abbrev pub take_edge : List (ℤ × ℤ) → Host → Bool × Host
 take_edge [] host = (false, host)
 take_edge (e ∷ es) host = (true, record host { edges = es; edge = e })
@@ -68,14 +68,14 @@ abbrev pub with_contribution : Host → ℕ → ℤ → Host
 with_contribution host slot value = record host { contributions = host.contributions ++ (slot, value) ∷ [] }
 
 -- aggregated
-abbrev pub slot_value : Host → ℕ → ℤ
-slot_value host slot = slice_index_or host.aggregated slot (pos 0)
+abbrev pub aggregator_value : Host → ℕ → ℤ
+aggregator_value host slot = slice_index_or host.aggregated slot (pos 0)
 
 -- vote_to_halt
 abbrev pub with_halt : Host → Host
 with_halt host = record host { halted = true }
 
--- The outcome has what the call left of the vertex, and its units.
+-- The outcome has the state after the call, and the call's units.
 pub record Leaves (outcome : CallOutcome) (host : Host) (units : ℕ) : Type 0 where
   pub value : outcome.value ≡ host.value
   pub sends : outcome.sends.items ≡ host.sends

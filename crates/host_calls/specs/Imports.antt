@@ -49,16 +49,16 @@ all_calls =
     VertexId ∷ Superstep ∷ NumVertices ∷ GetValue ∷ SetValue ∷ NextMessage ∷ MessageValue ∷ NextEdge ∷ EdgeTarget
     ∷ EdgeValue ∷ Send ∷ Aggregate ∷ Aggregated ∷ VoteToHalt ∷ []
 
--- the call that an import of this module and name brings in
+-- the host function with this module and name
 abbrev pub call_named : List ℕ → List ℕ → Option HostCall
 call_named «module» name =
     if bytes_eq «module» module_name then find (λ call. bytes_eq (name_of call) name) all_calls else None
 
--- the call that the import brings in by its module and its name, whatever its type
+-- the host function with the import's module and name, whatever its type
 abbrev pub call_of : Import → Option HostCall
 call_of i = call_named i.«module» i.name
 
--- An import of this module, name and type brings in the call.
+-- An import of this module, name and type brings in the host function `call`.
 pub record BringsIn («module» name : List ℕ) (func_type : FuncType) (call : HostCall) : Type 0 where
   pub of_module : «module» ≡ module_name
   pub of_name : name ≡ name_of call

@@ -1,7 +1,7 @@
--- What a reader has to believe, in this order: which functions a module may import, what the slots start with, what a
--- call sees of its vertex and what each function changes of it, and what a call does to operands.
+-- The definitions that a reader has to believe, in reading order. First come the functions that a module may import and
+-- the start of the aggregators. Then come the state that a call reads and changes, and its effect on the operands.
 pub mod Imports
-pub mod Slots
+pub mod Aggregators
 pub mod Host
 pub mod Operands
 pub mod Effects

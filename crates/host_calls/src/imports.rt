@@ -4,7 +4,7 @@ ghost use Rattle.host_calls.specs.Imports.{name_of, type_of_call, call_named, Br
 
 use wasm_ast::{FuncType, ValType};
 
-/// A function of module `pregel`.
+/// A host function: a function of module `pregel` that a vertex program may import.
 #[derive(Clone, Copy)]
 pub enum HostCall {
     VertexId,
@@ -23,7 +23,7 @@ pub enum HostCall {
     VoteToHalt,
 }
 
-/// What a function of the host takes and gives.
+/// The types of a host function's parameters and results.
 #[derive(Clone, Copy)]
 pub struct CallType {
     pub parameters: &'static [ValType],
@@ -48,7 +48,7 @@ const ALL: [HostCall; 14] = [
 ];
 
 impl HostCall {
-    /// The one that an import of this module, name and type brings in, if there is one.
+    /// Finds the host function that an import of this module, name and type brings in, if there is one.
     pub fn of_import(module: &str, name: &str, func_type: &FuncType) -> Option<HostCall>
         ensures found { IfSome result (BringsIn «module».now name.now func_type.now) }
         ensures none { IfNone result ((call : AnyCall)
@@ -62,7 +62,7 @@ impl HostCall {
         }
     }
 
-    /// The one that an import of this module and name brings in where its type is right.
+    /// Finds the host function with this module and name, whatever the type of the import.
     pub fn named(module: &str, name: &str) -> Option<HostCall>
         ensures { result ≡ call_named «module».now name.now }
     {
@@ -73,7 +73,7 @@ impl HostCall {
         }
     }
 
-    /// The name by which a module imports it.
+    /// Returns the name by which a program imports the function.
     pub fn name(self) -> &'static str
         ensures { result.now ≡ name_of self }
     {
@@ -95,7 +95,7 @@ impl HostCall {
         }
     }
 
-    /// What it takes and gives.
+    /// Returns the types of the function's parameters and results.
     pub fn type_of(self) -> CallType
         ensures parameters { result.parameters.now ≡ (type_of_call self).parameters }
         ensures results { result.results.now ≡ (type_of_call self).results }

@@ -6,15 +6,15 @@ ghost use Rattle.host_calls.specs.Effects.{Answers, host_effect};
 ghost use Rattle.host_calls.specs.Host.{Host};
 ghost use Rattle.host_calls.specs.Imports.{module_name, name_of, type_of_call, call_named};
 
-/// Each function of the host is brought in under its name, and no other name brings it in.
+/// States that each host function is imported by its module and name, and by no others.
 pub fn each_import_is_one_call()
     ensures named { (call : AnyCall) → call_named module_name (name_of call) ≡ Some call }
     ensures only { («module» name : List ℕ) (call : AnyCall) → call_named «module» name ≡ Some call
         → («module» ≡ module_name) × (name ≡ name_of call) }
 {}
 
-/// A call whose arguments have the types of its parameters leaves results of its types on the operands
-/// beneath, and traps only where it takes a slot (Core 1.0, 4.4.7).
+/// States what a call does whose arguments have the types of its parameters (Core 1.0, 4.4.7). It leaves
+/// results of its types on the operands beneath, or traps. Only `aggregate` and `aggregated` may trap.
 pub fn calls_fit_their_types()
     ensures { (call : AnyCall) (arguments others : List AnyValue) (host : Host)
         → map type_of arguments ≡ reverse (type_of_call call).parameters

@@ -1,12 +1,12 @@
-use crate::call::{CallInput, CallOutcome, SLOTS};
+use crate::call::{AGGREGATORS, CallInput, CallOutcome};
 use std::alloc::{AllocError, Global};
 use std::marker::Model;
 
-// The first message makes room for so many. A list that grows by a few at a time asks the allocator each time, and the lists of
-// all workers' calls come from places that they share, where they wait for one another.
-const FIRST_ROOM: usize = 16;
+// The number of messages that the first `send` allocates space for. Growing a few at a time would call the allocator
+// more often, and there all workers wait for the same locks.
+const FIRST_CAPACITY: usize = 16;
 
-/// A vertex during a compute call.
+/// The state of a vertex during a compute call. Its model is `Host`.
 #[derive(Drop)]
 pub struct CallState<'a> {
     id: u64,
@@ -48,9 +48,9 @@ impl<'a> Model for CallState<'a> {
 
 impl<'a> CallState<'a> {
     ghost use Rattle.std.specs.Prelude.{◌≡◌, ◌<◌, OnOk, OnErr};
-    ghost use Rattle.host_calls.specs.Host.{host_of, with_value, take_message, take_edge, with_send, with_contribution, with_halt, slot_value, Leaves};
+    ghost use Rattle.host_calls.specs.Host.{host_of, with_value, take_message, take_edge, with_send, with_contribution, with_halt, aggregator_value, Leaves};
 
-    /// The vertex before the call. It takes no memory, and copies neither messages nor edges.
+    /// Creates the state before the call. It allocates nothing, and copies neither messages nor edges.
     pub fn new(alloc: Global, input: &CallInput<'a>) -> CallState<'a>
         ensures { result ≡ host_of input.now }
     {
@@ -70,39 +70,42 @@ impl<'a> CallState<'a> {
         }
     }
 
-    /// The vertex's id, which is not negative where it is in its range.
+    /// Returns the vertex's id. It is at least 0, since ids are at most 9,223,372,036,854,775,807.
     pub fn vertex_id(&self) -> i64
         ensures { result ≡ self.now.id }
     {
         self.id.cast_signed()
     }
 
+    /// Returns the superstep of the call, counted from 0.
     pub fn superstep(&self) -> i64
         ensures { result ≡ self.now.superstep }
     {
         i64::from(self.superstep)
     }
 
+    /// Returns how many vertices the graph has.
     pub fn num_vertices(&self) -> i64
         ensures { result ≡ self.now.num_vertices }
     {
         i64::from(self.num_vertices)
     }
 
-    /// The vertex's value, as the call has left it so far.
+    /// Returns the vertex's value, as the call has set it so far.
     pub fn get_value(&self) -> i64
         ensures { result ≡ self.now.value }
     {
         self.value
     }
 
+    /// Sets the vertex's value.
     pub fn set_value(&mut self, value: i64)
         ensures { self.new ≡ with_value self.old value }
     {
         self.value = value;
     }
 
-    /// Takes the next message, or answers that there is none and changes nothing.
+    /// Takes the next message. Where there is none it returns `false` and changes nothing.
     pub fn next_message(&mut self) -> bool
         ensures { (result, self.new) ≡ take_message self.old.messages self.old }
     {
@@ -116,14 +119,14 @@ impl<'a> CallState<'a> {
         }
     }
 
-    /// The message that was taken last; 0 before any was.
+    /// Returns the message that was taken last, or 0 before the first.
     pub fn message_value(&self) -> i64
         ensures { result ≡ self.now.message }
     {
         self.last_message
     }
 
-    /// Takes the next edge, or answers that there is none and changes nothing.
+    /// Takes the next edge. Where there is none it returns `false` and changes nothing.
     pub fn next_edge(&mut self) -> bool
         ensures { (result, self.new) ≡ take_edge self.old.edges self.old }
     {
@@ -137,35 +140,35 @@ impl<'a> CallState<'a> {
         }
     }
 
-    /// The target of the edge that was taken last; 0 before any was.
+    /// Returns the target of the edge that was taken last, or 0 before the first.
     pub fn edge_target(&self) -> i64
         ensures { result ≡ self.now.edge.0 }
     {
         self.last_edge.0
     }
 
-    /// The value of the edge that was taken last; 0 before any was.
+    /// Returns the value of the edge that was taken last, or 0 before the first.
     pub fn edge_value(&self) -> i64
         ensures { result ≡ self.now.edge.1 }
     {
         self.last_edge.1
     }
 
-    /// Sends a message to a vertex. An `Err` is want of memory.
+    /// Sends a message to the vertex with id `target`. An `Err` means out of memory, and changes nothing.
     pub fn send(&mut self, target: i64, value: i64) -> Result<(), AllocError>
         ensures ok { OnOk result (self.new ≡ with_send self.old target value) }
         ensures err { OnErr result (self.new ≡ self.old) }
     {
         if self.sends.is_empty() {
-            self.sends.reserve(FIRST_ROOM)?;
+            self.sends.reserve(FIRST_CAPACITY)?;
         }
         self.sends.push((target, value))?;
         Ok(())
     }
 
-    /// Gives a number to a slot. An `Err` is want of memory.
+    /// Contributes a number to an aggregator. An `Err` means out of memory, and changes nothing.
     pub fn aggregate(&mut self, slot: u32, value: i64) -> Result<(), AllocError>
-        requires { slot < SLOTS }
+        requires { slot < AGGREGATORS }
         ensures ok { OnOk result (self.new ≡ with_contribution self.old slot value) }
         ensures err { OnErr result (self.new ≡ self.old) }
     {
@@ -173,22 +176,22 @@ impl<'a> CallState<'a> {
         Ok(())
     }
 
-    /// What the slot was aggregated to in the superstep before.
+    /// Returns the aggregator's value of the superstep before.
     pub fn aggregated(&self, slot: u32) -> i64
-        requires { slot < SLOTS }
-        ensures { result ≡ slot_value self.now slot }
+        requires { slot < AGGREGATORS }
+        ensures { result ≡ aggregator_value self.now slot }
     {
         self.aggregated[slot as usize]
     }
 
-    /// Makes the vertex inactive after the call.
+    /// Votes to halt: the vertex is inactive after the call.
     pub fn vote_to_halt(&mut self)
         ensures { self.new ≡ with_halt self.old }
     {
         self.halted = true;
     }
 
-    /// What the call leaves, where it took so many units.
+    /// Ends the call, and returns its outcome with the `units` that it took.
     pub fn into_outcome(self, units: u128) -> CallOutcome
         ensures { Leaves result self.entry units }
     {

@@ -6,7 +6,7 @@ use Rattle.leb.specs.declared.fault.LebFault.TheVariants.{Truncated, TooLong, Un
 use Rattle.leb.specs.inside.Bytes.{IsBytes}
 use Rattle.leb.specs.Faults.{HasUnusedBits, IsCutShort, IsTooLong}
 use Rattle.leb.specs.inside.Reading.{Gives, unsigned_at, signed_at}
-use Rattle.leb.specs.Spelling.{StandsAt, IsUnsigned, IsSigned}
+use Rattle.leb.specs.Spelling.{IsSpelledAt, IsUnsigned, IsSigned}
 use Rattle.leb.proofs.Faults.{EndsWithin, ReadsOn, IsMost, has_unused_bits, is_truncated, is_too_long, same_bits_asked}
 use Rattle.leb.proofs.Places.{IsInside, Takes, is_found, is_only}
 use Rattle.leb.proofs.Signed.{signed_takes, signed_again, signed_nonempty, signed_reads_on}
@@ -23,8 +23,8 @@ pub record IsReader {N : Type 0} (spelled : ℕ → List ℕ → N → Type 0) (
 
 -- the clauses
 pub record Answers {N : Type 0} (spelled : List ℕ → N → Type 0) (last : ℕ) (asked : ℕ → Type 0) (bytes : List ℕ) (at : ℕ) (r : Result (N × ℕ) LebFault) : Type 0 where
-  pub found : IfOk r (λ x. StandsAt spelled bytes at x.0 x.1)
-  pub only : (n : N) (next : ℕ) → StandsAt spelled bytes at n next → r ≡ Ok (n, next)
+  pub found : IfOk r (λ x. IsSpelledAt spelled bytes at x.0 x.1)
+  pub only : (n : N) (next : ℕ) → IsSpelledAt spelled bytes at n next → r ≡ Ok (n, next)
   pub truncated : (r ≡ Err Truncated) ↔ IsCutShort (suc last) (drop at bytes)
   pub too_long : (r ≡ Err TooLong) ↔ IsTooLong (suc last) (drop at bytes)
   pub unused_bits : (r ≡ Err UnusedBits) ↔ HasUnusedBits last asked (drop at bytes)

@@ -5,7 +5,7 @@ use Rattle.std.proofs.lemmas.List.{length-drop, length-append, get_or-drop, appe
 use Rattle.leb.specs.declared.fault.LebFault.{LebFault}
 use Rattle.leb.specs.inside.Bytes.{IsBytes}
 use Rattle.leb.specs.inside.Reading.{Gives}
-use Rattle.leb.specs.Spelling.{StandsAt}
+use Rattle.leb.specs.Spelling.{IsSpelledAt}
 
 -- which way a test went
 pub chosen : {A : Type 0} (b : Bool) (x y z : A) → cond b x y ≡ z → ((b ≡ true) × (x ≡ z)) ⊎ ((b ≡ false) × (y ≡ z))
@@ -32,9 +32,9 @@ Takes spelled bytes x = (front : List ℕ) × spelled front x.0 × (bytes ≡ fr
 abbrev pub IsInside : {N : Type 0} → List ℕ → ℕ → Result (N × ℕ) LebFault → Type 0
 IsInside bytes at r = IfOk r (λ x. (at < x.1) × (x.1 ≤ length bytes))
 
-pub StandsAt-from_takes : {N : Type 0} (spelled : List ℕ → N → Type 0) (bytes : List ℕ) (at : ℕ) (n : N) (next : ℕ)
-    → at < next → next ≤ length bytes → Takes spelled (drop at bytes) (n, drop next bytes) → StandsAt spelled bytes at n next
-StandsAt-from_takes spelled bytes at n next after inside t =
+pub IsSpelledAt-from_takes : {N : Type 0} (spelled : List ℕ → N → Type 0) (bytes : List ℕ) (at : ℕ) (n : N) (next : ℕ)
+    → at < next → next ≤ length bytes → Takes spelled (drop at bytes) (n, drop next bytes) → IsSpelledAt spelled bytes at n next
+IsSpelledAt-from_takes spelled bytes at n next after inside t =
     let lengths = ap length t.2 in
     record {
       spelling = t.0;
@@ -47,9 +47,9 @@ pub is_found : {N : Type 0} (spelled : List ℕ → N → Type 0) (reader : List
     → ((bytes : List ℕ) (x : N × List ℕ) → IsBytes bytes → reader bytes ≡ Ok x → Takes spelled bytes x)
     → (bytes : List ℕ) (at : ℕ) (r : Result (N × ℕ) LebFault) → IsBytes bytes → IsInside bytes at r
     → Gives (λ x. (x.0, drop x.1 bytes)) r (reader (drop at bytes))
-    → IfOk r (λ x. StandsAt spelled bytes at x.0 x.1)
+    → IfOk r (λ x. IsSpelledAt spelled bytes at x.0 x.1)
 is_found spelled reader takes bytes at (Ok x) fits inside gives =
-    StandsAt-from_takes spelled bytes at x.0 x.1 inside.0 inside.1
+    IsSpelledAt-from_takes spelled bytes at x.0 x.1 inside.0 inside.1
     (takes (drop at bytes) (x.0, drop x.1 bytes) (IsBytes-drop at bytes fits) gives)
 is_found spelled reader takes bytes at (Err e) fits inside gives = tt
 
@@ -61,9 +61,9 @@ length-spelling : {N : Type 0} (spelled : List ℕ → N → Type 0) (spelling :
 length-spelling spelled [] n nonempty spells = absurd (nonempty n spells)
 length-spelling spelled (b ∷ bs) n nonempty spells = omega arith
 
-pub StandsAt-inside : {N : Type 0} (spelled : List ℕ → N → Type 0) (bytes : List ℕ) (at : ℕ) (n : N) (next : ℕ)
-    → ((n : N) → spelled [] n → ⊥) → StandsAt spelled bytes at n next → next ≤ length bytes
-StandsAt-inside spelled bytes at n next nonempty s =
+pub IsSpelledAt-inside : {N : Type 0} (spelled : List ℕ → N → Type 0) (bytes : List ℕ) (at : ℕ) (n : N) (next : ℕ)
+    → ((n : N) → spelled [] n → ⊥) → IsSpelledAt spelled bytes at n next → next ≤ length bytes
+IsSpelledAt-inside spelled bytes at n next nonempty s =
     let some = length-spelling spelled s.spelling n nonempty s.spells in
     let lengths = ap length s.stands in
     omega (arith, s.ends, simp (length-drop, length-append) at lengths)
@@ -73,13 +73,13 @@ pub is_only : {N : Type 0} (spelled : List ℕ → N → Type 0) (reader : List 
     → ((n : N) → spelled [] n → ⊥)
     → (bytes : List ℕ) (at : ℕ) (r : Result (N × ℕ) LebFault) → IsInside bytes at r
     → Gives (λ x. (x.0, drop x.1 bytes)) r (reader (drop at bytes))
-    → (n : N) (next : ℕ) → StandsAt spelled bytes at n next → r ≡ Ok (n, next)
+    → (n : N) (next : ℕ) → IsSpelledAt spelled bytes at n next → r ≡ Ok (n, next)
 is_only {N} spelled reader again nonempty bytes at (Ok x) inside gives n next s =
     let read : reader (drop at bytes) ≡ Ok (n, drop next bytes) = ap reader s.stands ∙ again s.spelling n (drop next bytes) s.spells in
     let pair : (x.0, drop x.1 bytes) ≡ (n, drop next bytes) = cc in
     let number : x.0 ≡ n = ap (λ (p : N × List ℕ). p.0) pair in
     let rest : drop x.1 bytes ≡ drop next bytes = ap (λ (p : N × List ℕ). p.1) pair in
-    let place : x.1 ≡ next = same_drop bytes x.1 next inside.1 (StandsAt-inside spelled bytes at n next nonempty s) rest in
+    let place : x.1 ≡ next = same_drop bytes x.1 next inside.1 (IsSpelledAt-inside spelled bytes at n next nonempty s) rest in
     let same : (x.0, x.1) ≡ (n, next) = cc in
     ap Ok same
 is_only spelled reader again nonempty bytes at (Err e) inside gives n next s =

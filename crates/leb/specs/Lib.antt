@@ -1,5 +1,6 @@
--- What a reader has to believe, in this order: how a number is spelled, and which fault is told where none is.
+-- The definitions that a reader has to believe, in reading order: the spellings of a number, and the fault that is
+-- returned where there is none.
 pub mod Spelling
 pub mod Faults
--- what only mirrors the code, for its proofs
+-- definitions that only mirror the code, for its proofs
 pub mod inside

@@ -1,4 +1,4 @@
--- Reading from left to right, which gives what the other clauses say of a read, in the form that a reader's proof takes.
+-- Reading from left to right. It says the same as the other clauses of a read, in the form that a reader's proof uses.
 pub mod Reading
--- that a program's bytes are bytes
+-- the bytes of a program's slice are below 256
 pub mod Bytes

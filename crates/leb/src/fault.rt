@@ -1,16 +1,16 @@
 use thiserror::Error;
 
-/// Why no number begins at a place (Core 1.0, 5.2.2).
+/// The reason why no number starts at a position (Core 1.0, 5.2.2).
 #[derive(Clone, Copy, Debug, PartialEq, Eq, Error)]
 pub enum LebFault {
-    /// The bytes end within the number, or before it.
+    /// The bytes end before or within the number.
     #[error("the bytes end within a number")]
     Truncated,
-    /// More bytes belong to the number than a number of its width may take.
+    /// The number has more bytes than its width allows.
     #[error("a number takes more bytes than its width allows")]
     TooLong,
-    /// The last byte has bits beyond the width that are no zeros, or of a signed number no copies
-    /// of its sign.
+    /// The last byte has wrong bits beyond the width. They must be 0, or copies of the sign in a
+    /// signed number.
     #[error("a number has bits beyond its width")]
     UnusedBits,
 }

@@ -1,8 +1,7 @@
-//! Whole numbers in LEB128, seven bits a byte and the lowest first, as the WebAssembly Core
-//! Specification 1.0 has them (5.2.2).
+//! Integers in LEB128, seven bits a byte with the lowest first, as in WebAssembly (Core 1.0, 5.2.2).
 //!
-//! A number may be spelled with more bytes than it needs, up to the most that its width may take: 5
-//! bytes at 32 bits and 10 at 64. Reading takes every such spelling; writing gives the shortest.
+//! A spelling may have more bytes than the number needs: up to 5 bytes for 32 bits, and up to 10 for 64.
+//! Readers accept every such spelling. Writers write the shortest.
 #![tactic(auto)]
 
 mod fault;

@@ -3,8 +3,8 @@ ghost use Rattle.leb.specs.Spelling.{FitsBits, shortest_signed, u32_spelling, s3
 
 use std::alloc::AllocError;
 
-/// Appends the shortest spelling of the number, of at most 5 bytes (Core 1.0, 5.2.2). An `Err` is
-/// want of memory.
+/// Appends the shortest spelling of the number, of at most 5 bytes (Core 1.0, 5.2.2). An `Err` means
+/// out of memory, and leaves `out` unchanged.
 pub fn write_u32(out: &mut Vec<u8>, number: u32) -> Result<(), AllocError>
     ensures ok { OnOk result (out.new.items ≡ out.old.items ++ u32_spelling number) }
     ensures err { OnErr result (out.new.items ≡ out.old.items) }
@@ -20,7 +20,7 @@ pub fn write_u32(out: &mut Vec<u8>, number: u32) -> Result<(), AllocError>
 }
 
 /// Appends the shortest spelling of the signed number, of at most 5 bytes (Core 1.0, 5.2.2). An
-/// `Err` is want of memory.
+/// `Err` means out of memory, and leaves `out` unchanged.
 pub fn write_s32(out: &mut Vec<u8>, number: i32) -> Result<(), AllocError>
     ensures ok { OnOk result (out.new.items ≡ out.old.items ++ s32_spelling number) }
     ensures err { OnErr result (out.new.items ≡ out.old.items) }
@@ -29,7 +29,7 @@ pub fn write_s32(out: &mut Vec<u8>, number: i32) -> Result<(), AllocError>
 }
 
 /// Appends the shortest spelling of the signed number, of at most 10 bytes (Core 1.0, 5.2.2). An
-/// `Err` is want of memory.
+/// `Err` means out of memory, and leaves `out` unchanged.
 pub fn write_s64(out: &mut Vec<u8>, number: i64) -> Result<(), AllocError>
     ensures ok { OnOk result (out.new.items ≡ out.old.items ++ s64_spelling number) }
     ensures err { OnErr result (out.new.items ≡ out.old.items) }
@@ -37,7 +37,7 @@ pub fn write_s64(out: &mut Vec<u8>, number: i64) -> Result<(), AllocError>
     write_signed(out, 10, number)
 }
 
-// Appends the shortest spelling of a signed number for which so many bytes are enough.
+// Appends the shortest spelling of a signed number that fits in `most` bytes.
 fn write_signed(out: &mut Vec<u8>, most: usize, number: i64) -> Result<(), AllocError>
     requires some { 0 < most }
     requires fits { FitsBits (7 * most) number }

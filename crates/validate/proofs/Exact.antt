@@ -20,8 +20,8 @@ use Rattle.wasm_ast.specs.Code.{Code}
 use Rattle.wasm_ast.specs.Code as code
 use Rattle.wasm_ast.specs.NumericTypes.{numeric_takes, numeric_gives}
 use Rattle.wasm_ast.specs.Values.{type_of}
-use Rattle.validate.specs.declared.operands.Slot.{Slot}
-use Rattle.validate.specs.declared.operands.Slot.TheVariants.{Known, Unknown}
+use Rattle.validate.specs.declared.operands.OperandType.{OperandType}
+use Rattle.validate.specs.declared.operands.OperandType.TheVariants.{Known, Unknown}
 use Rattle.validate.specs.Spaces.{function_type, first_type}
 use Rattle.wasm_ast.specs.Widths.{load_type, load_width, store_type, store_width}
 use Rattle.validate.specs.Instructions.{Context, with_label, operands_of, Changes, Leaves, LabelsTake, VariableTyped, MemoryTyped, PlainTyped, BranchTyped, CallTyped, CallIndirectTyped, Typed}
@@ -30,7 +30,7 @@ use Rattle.validate.specs.inside.Steps.{at_some, only_if, is_variable, variable_
 
 -- every stack describes some operands
 
-some_kind : (k : Slot) → (t : ValType) × (agrees k t ≡ true)
+some_kind : (k : OperandType) → (t : ValType) × (agrees k t ≡ true)
 some_kind Unknown = (I32, refl)
 some_kind (Known I32) = (I32, refl)
 some_kind (Known I64) = (I64, refl)
@@ -206,7 +206,7 @@ some_exact n f r d = if_exact (nat_lt 0 n) (0 < n) f r (some_to n) (some_from n)
 
 -- select
 
-join_to : (j k : Slot) (o : Stack) (out : List ValType) → MayFit (push_if (join j k) o) out → (t : ValType) × (below : List ValType) × (out ≡ t ∷ below) × (agrees j t ≡ true) × (agrees k t ≡ true) × Fits o below
+join_to : (j k : OperandType) (o : Stack) (out : List ValType) → MayFit (push_if (join j k) o) out → (t : ValType) × (below : List ValType) × (out ≡ t ∷ below) × (agrees j t ≡ true) × (agrees k t ≡ true) × Fits o below
 join_to Unknown k o [] h = absurd h
 join_to Unknown k o (t ∷ ts) h = (t, ts, refl, refl, h.0, h.1)
 join_to (Known s) Unknown o [] h = absurd h
@@ -218,7 +218,7 @@ join_to (Known I64) (Known I32) o out h = absurd h
 join_to (Known I64) (Known I64) o [] h = absurd h
 join_to (Known I64) (Known I64) o (t ∷ ts) h = (t, ts, refl, h.0, h.0, h.1)
 
-join_from : (j k : Slot) (o : Stack) (t : ValType) (below : List ValType) → agrees j t ≡ true → agrees k t ≡ true → Fits o below → MayFit (push_if (join j k) o) (t ∷ below)
+join_from : (j k : OperandType) (o : Stack) (t : ValType) (below : List ValType) → agrees j t ≡ true → agrees k t ≡ true → Fits o below → MayFit (push_if (join j k) o) (t ∷ below)
 join_from Unknown k o t below a b h = (b, h)
 join_from (Known s) Unknown o t below a b h = (a, h)
 join_from (Known I32) (Known I32) o t below a b h = (a, h)

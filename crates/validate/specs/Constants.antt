@@ -12,7 +12,7 @@ use Rattle.wasm_ast.specs.Code as code
 use Rattle.wasm_ast.specs.Values.{type_of}
 use Rattle.validate.specs.Spaces.{Spaces}
 
--- the value of a global that is a constant
+-- a read of a global that is constant
 abbrev pub VariableConstant : Spaces → Variable → ValType → Type 0
 VariableConstant s (variable.GlobalGet x) t =
     (g : GlobalType) × (slice_get s.globals x ≡ Some g) × ((g.mutability ≡ Constant) × (g.value ≡ t))
@@ -21,7 +21,7 @@ VariableConstant s (variable.LocalSet x) t = ⊥
 VariableConstant s (variable.LocalTee x) t = ⊥
 VariableConstant s (variable.GlobalSet x) t = ⊥
 
--- the instruction is constant, and gives t
+-- the instruction is constant, and its value has type t
 abbrev pub PlainConstant : Spaces → Plain → ValType → Type 0
 PlainConstant s (plain.Const v) t = type_of v ≡ t
 PlainConstant s (plain.Variable op) t = VariableConstant s op t
@@ -31,6 +31,6 @@ PlainConstant s plain.Select t = ⊥
 PlainConstant s (plain.Numeric op) t = ⊥
 PlainConstant s (plain.Memory op) t = ⊥
 
--- the code is one such instruction: constants take nothing and give one value each, so no other number gives one
+-- the code is exactly one such instruction: each pushes one value and pops none, so only one leaves a single value
 abbrev pub ConstantTyped : Spaces → ValType → Code → Type 0
 ConstantTyped s t body = (p : Plain) × (body ≡ code.plain p code.end) × PlainConstant s p t

@@ -1,4 +1,4 @@
--- How a refusal is told: the rule's word and the place.
+-- How a fault is printed: the rule's name and the place.
 use Rattle.std.specs.Prelude.{ℕ, List, ◌++◌, codes, Option, Some, None}
 use Rattle.std.specs.Fmt.{decimal}
 use Rattle.validate.specs.declared.fault.Rule.{Rule}
@@ -7,7 +7,7 @@ use Rattle.validate.specs.declared.fault.Place.{Place}
 use Rattle.validate.specs.declared.fault.ValidFault.{ValidFault}
 use Rattle.validate.specs.declared.fault.ValidFault.TheVariants as fault
 
--- no function and no instruction
+-- the place of a fault that is in no function
 abbrev pub nowhere : Place
 nowhere = record { function = None; instruction = None }
 
@@ -32,11 +32,11 @@ abbrev pub number_text : Option ℕ → List ℕ
 number_text None = codes "-"
 number_text (Some number) = decimal number
 
--- the function's number and the instruction's
+-- the index of the function and the number of the instruction
 abbrev pub place_text : Place → List ℕ
 place_text place = number_text place.function ++ codes " " ++ number_text place.instruction
 
--- the rule that is broken and the place that breaks it, or want of memory
+-- the rule that is broken and the place, or out of memory
 abbrev pub fault_text : ValidFault → List ℕ
 fault_text (fault.Breaks broken place) = rule_word broken ++ codes " " ++ place_text place
 fault_text fault.OutOfMemory = codes "OutOfMemory - -"

@@ -1,4 +1,4 @@
--- Which code is typed (Core 1.0, 3.3), by one rule an instruction. Operands are lists, the topmost first.
+-- The typing of code (Core 1.0, 3.3), with one rule for each instruction. Operands are lists, the topmost first.
 use Rattle.std.specs.Prelude.{◌≡◌, ℕ, List, [], ◌∷◌, ◌++◌, ◌≤◌, ◌<◌, ◌^◌, length, reverse, Option, Some, None, slice_get}
 use Rattle.wasm_ast.specs.declared.types.ValType.{ValType}
 use Rattle.wasm_ast.specs.declared.types.ValType.TheVariants.{I32}
@@ -20,8 +20,8 @@ use Rattle.wasm_ast.specs.Values.{type_of}
 use Rattle.validate.specs.Spaces.{Spaces, function_type, first_type}
 use Rattle.wasm_ast.specs.Widths.{load_type, load_width, store_type, store_width}
 
--- What instructions are looked at in (3.1.1): the index spaces, the types of the locals, what a branch to each label
--- takes, the innermost first, and what a return takes.
+-- The context of an instruction (3.1.1): the index spaces, the types of the locals, and the types that branches and
+-- returns take. The type of the innermost label comes first.
 pub record Context : Type 0 where
   pub spaces : Spaces
   pub locals : List ValType
@@ -36,11 +36,11 @@ abbrev pub operands_of : Option ValType → List ValType
 operands_of None = []
 operands_of (Some t) = t ∷ []
 
--- [taken] -> [given]; the operands below are left alone
+-- [taken] -> [given]; the operands below are unchanged
 abbrev pub Changes : List ValType → List ValType → List ValType → List ValType → Type 0
 Changes taken given from to = (below : List ValType) × (from ≡ taken ++ below) × (to ≡ given ++ below)
 
--- [any.., taken] -> [any..]: what comes after it is not reached, and any operands may be there
+-- [any.., taken] -> [any..]: the code after it is unreachable, and any operands may be there
 abbrev pub Leaves : List ValType → List ValType → Type 0
 Leaves taken from = (below : List ValType) × (from ≡ taken ++ below)
 
@@ -107,7 +107,7 @@ abbrev pub CallTyped : Context → ℕ → List ValType → List ValType → Typ
 CallTyped c f from to =
     (t : FuncType) × (function_type c.spaces f ≡ Some t) × Changes (reverse t.parameters) (operands_of (first_type t.results)) from to
 
--- the function's number in the table is on top
+-- the topmost operand is the function's index in the table
 abbrev pub CallIndirectTyped : Context → ℕ → List ValType → List ValType → Type 0
 CallIndirectTyped c n from to =
     (t : FuncType) × (slice_get c.spaces.types n ≡ Some t) × ((0 < length c.spaces.tables) × Changes (I32 ∷ reverse t.parameters) (operands_of (first_type t.results)) from to)

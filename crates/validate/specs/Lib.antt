@@ -1,10 +1,10 @@
--- What a reader has to believe, in this order: what the numbers of a module name, which code is typed, which expressions
--- are constant, and by these which modules are typed.
+-- The definitions that a reader has to believe, in reading order: the index spaces of a module, the typing of code,
+-- constant expressions, and by these the typing of modules.
 pub mod Spaces
 pub mod Instructions
 pub mod Constants
 pub mod Modules
--- how a refusal is told
+-- how a fault is printed
 pub mod Faults
--- what only mirrors the code, for its proofs
+-- definitions that only mirror the code, for its proofs
 pub mod inside

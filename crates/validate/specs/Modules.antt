@@ -1,4 +1,4 @@
--- Which modules are typed (Core 1.0, 3.2 and 3.4), by one rule a part.
+-- The typing of modules (Core 1.0, 3.2 and 3.4), with one rule for each part.
 use Rattle.std.specs.Prelude.{◌≡◌, ◌≢◌, ℕ, ◌<◌, ◌≤◌, ⊤, List, [], ◌∷◌, ◌++◌, map, length, slice_get, Option, Some, None}
 use Rattle.std.specs.List.{AllByRecursion}
 use Rattle.wasm_ast.specs.declared.types.ValType.TheVariants.{I32}
@@ -31,7 +31,7 @@ MaximumHolds minimum (Some maximum) = minimum ≤ maximum
 abbrev pub TableHolds : Limits → Type 0
 TableHolds t = MaximumHolds t.minimum t.maximum
 
--- how many pages a memory of 32-bit addresses has at most (3.2.4)
+-- the most pages of a memory with 32-bit addresses (3.2.4)
 abbrev pub max_pages : ℕ
 max_pages = 65536
 
@@ -51,7 +51,7 @@ pub record MemoryHolds (t : Limits) : Type 0 where
 abbrev pub GlobalTyped : Spaces → Global → Type 0
 GlobalTyped s g = ConstantTyped s g.global_type.value g.initial
 
--- what is exported is there (3.4.8)
+-- the exported item exists (3.4.8)
 abbrev pub ExportTyped : Spaces → ExportDescription → Type 0
 ExportTyped s (export.Function x) = x < length s.functions
 ExportTyped s (export.Table x) = x < length s.tables
@@ -61,12 +61,12 @@ ExportTyped s (export.Global x) = x < length s.globals
 abbrev pub name_of_export : Export → List ℕ
 name_of_export e = e.name
 
--- no two are the same
+-- no two of these names are the same
 abbrev pub AreDistinct : List (List ℕ) → Type 0
 AreDistinct [] = ⊤
 AreDistinct (x ∷ xs) = AllByRecursion (λ y. y ≢ x) xs × AreDistinct xs
 
--- a function that takes nothing and gives nothing (3.4.7)
+-- the start function, if any, has no parameters and no results (3.4.7)
 abbrev pub StartTyped : Spaces → Option ℕ → Type 0
 StartTyped s None = ⊤
 StartTyped s (Some f) = (t : FuncType) × (function_type s f ≡ Some t) × ((t.parameters ≡ []) × (t.results ≡ []))
@@ -82,7 +82,7 @@ pub record DataTyped (s : Spaces) (d : Data) : Type 0 where
   pub «memory» : d.memory < length s.memories
   pub offset : ConstantTyped s I32 d.offset
 
--- the type is there, and the body gives its result (3.4.1)
+-- the function's type exists, and the body is typed by it (3.4.1)
 abbrev pub FunctionTyped : Spaces → Function → Type 0
 FunctionTyped s f =
     (t : FuncType) × (slice_get s.types f.type_number ≡ Some t) × BodyTyped s (t.parameters ++ f.locals) (first_type t.results) f.body
@@ -90,7 +90,7 @@ FunctionTyped s f =
 -- 3.4.10
 pub record IsTyped (m : Module) : Type 0 where
   pub types : AllByRecursion TypeHolds m.types
-  -- the type of each function is there, imports among them (3.4.9)
+  -- the type of each function exists, imports included (3.4.9)
   pub functions : AllByRecursion (λ n. n < length m.types) (spaces_of m).functions
   pub one_table : length (spaces_of m).tables ≤ 1
   pub tables : AllByRecursion TableHolds (spaces_of m).tables

@@ -1,4 +1,4 @@
--- The index spaces of a module (Core 1.0, 2.5.1 and 3.1.1): what each number names, the imports first.
+-- The index spaces of a module (Core 1.0, 2.5.1 and 3.1.1), the imports first.
 use Rattle.std.specs.Prelude.{ℕ, List, [], ◌∷◌, ◌++◌, map, slice_get, Option, Some, None}
 use Rattle.std.specs.Option.{option_and_then}
 use Rattle.std.specs.List.{filter_map}
@@ -15,22 +15,22 @@ use Rattle.wasm_ast.specs.declared.module.Module.{Module}
 
 pub record Spaces : Type 0 where
   pub types : List FuncType
-  -- the type number of each function
+  -- the index of each function's type
   pub functions : List ℕ
   pub tables : List Limits
   pub memories : List Limits
   pub globals : List GlobalType
 
--- the type of the function with this number, where there are both
+-- the type of the function with this index, where both exist
 abbrev pub function_type : Spaces → ℕ → Option FuncType
 function_type s f = option_and_then (λ n. slice_get s.types n) (slice_get s.functions f)
 
--- what a function of the type gives, where it gives one value at most (3.2.2)
+-- the type of a function's result, where it has at most one (3.2.2)
 abbrev pub first_type : List ValType → Option ValType
 first_type [] = None
 first_type (t ∷ ts) = Some t
 
--- ---- what is imported (2.5.11)
+-- ---- imports (2.5.11)
 
 abbrev pub function_import : ImportDescription → Option ℕ
 function_import (import.Function n) = Some n
@@ -56,13 +56,13 @@ global_import (import.Table t) = None
 global_import (import.Memory t) = None
 global_import (import.Global t) = Some t
 
--- what the imports bring in of one kind, in order
+-- the imports of one kind, in order
 abbrev pub imported : {A : Type 0} → (ImportDescription → Option A) → List Import → List A
 imported kind imports = filter_map (λ (i : Import). kind i.description) imports
 
--- ---- what there is
+-- ---- the spaces
 
--- the spaces that global initialisers are looked at in (3.4.10): of the globals the imported ones alone
+-- the spaces in which global initialisers are checked (3.4.10): only the imported globals
 abbrev pub outer_spaces_of : Module → Spaces
 outer_spaces_of m = record {
   types = m.types;
@@ -72,7 +72,7 @@ outer_spaces_of m = record {
   globals = imported global_import m.imports;
 }
 
--- and with these globals after those that are there
+-- the spaces, with these globals after their own
 abbrev pub with_globals : List Global → Spaces → Spaces
 with_globals gs s = record s { globals = s.globals ++ map (λ (g : Global). g.global_type) gs }
 

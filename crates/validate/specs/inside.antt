@@ -1,4 +1,4 @@
--- What the code finds, as its functions find it. No contract of a public function cites these.
+-- The findings of the checks, as the code's functions find them. No contract of a public function cites these.
 pub mod Findings
 pub mod Stack
 pub mod Steps

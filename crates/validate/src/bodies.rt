@@ -1,18 +1,18 @@
-//! Code that holds code (Core 1.0, 3.3.5 and 3.3.6), and bodies (3.4.1).
+//! Blocks, loops and ifs (Core 1.0, 3.3.5 and 3.3.6), and function bodies (3.4.1).
 
 ghost use Rattle.std.specs.Prelude.{◌≡◌, OnOk};
 ghost use Rattle.validate.specs.inside.Answers.{StepsOver, context_of, inside_passes, passes_in};
 ghost use Rattle.validate.specs.inside.Findings.{Says, answer_at};
 
+use crate::context::BodyContext;
 use crate::fault::{Place, ValidFault};
-use crate::frame::Frame;
 use crate::instructions::{check_branch, check_call, check_call_indirect, check_plain};
-use crate::nesting::Nesting;
+use crate::labels::Labels;
 use crate::operands::Operands;
 use std::alloc::Global;
 use wasm_ast::{BlockType, Body, Instr, ValType};
 
-// A sequence that begins with no operands: its result alone is left.
+// Checks a sequence that starts with no operands: at its end there is exactly its result.
 #[cycle(inside)]
 fn check_inside(
     alloc: Global,
@@ -20,19 +20,19 @@ fn check_inside(
     gives: BlockType,
     body: &Body,
     place: Place,
-    frame: &Frame,
-    nesting: &mut Nesting,
+    context: &BodyContext,
+    scope: &mut Labels,
 ) -> Result<(), ValidFault>
-    ensures kept { OnOk result (nesting.new.labels.items ≡ nesting.old.labels.items) }
+    ensures kept { OnOk result (scope.new.labels.items ≡ scope.old.labels.items) }
     ensures says { Says
-        (inside_passes label gives body.now (context_of frame.now nesting.old)) result }
+        (inside_passes label gives body.now (context_of context.now scope.old)) result }
 {
-    nesting.enter(label)?;
+    scope.enter(label)?;
     let mut operands = Operands::new(alloc);
     for instr in body.as_slice() {
-        check_instr(alloc, instr, frame, nesting, &mut operands)?;
+        check_instr(alloc, instr, context, scope, &mut operands)?;
     }
-    nesting.leave();
+    scope.leave();
     match operands.close(gives) {
         Ok(()) => Ok(()),
         Err(fault) => Err(fault.at(place)),
@@ -43,46 +43,46 @@ fn check_inside(
 fn check_instr(
     alloc: Global,
     instr: &Instr,
-    frame: &Frame,
-    nesting: &mut Nesting,
+    context: &BodyContext,
+    scope: &mut Labels,
     operands: &mut Operands,
 ) -> Result<(), ValidFault>
-    ensures kept { OnOk result (nesting.new.labels.items ≡ nesting.old.labels.items) }
-    ensures finds { StepsOver instr.now (context_of frame.now nesting.old)
+    ensures kept { OnOk result (scope.new.labels.items ≡ scope.old.labels.items) }
+    ensures finds { StepsOver instr.now (context_of context.now scope.old)
         operands.old operands.new result }
 {
-    let place = frame.place_of(nesting.count());
+    let place = context.place_of(scope.count());
     match instr {
-        Instr::Plain(plain) => at_place(check_plain(*plain, frame, nesting, operands), place),
-        Instr::Branch(branch) => at_place(check_branch(branch, frame, nesting, operands), place),
-        Instr::Call(function) => at_place(check_call(*function, frame, nesting, operands), place),
+        Instr::Plain(plain) => at_place(check_plain(*plain, context, scope, operands), place),
+        Instr::Branch(branch) => at_place(check_branch(branch, context, scope, operands), place),
+        Instr::Call(function) => at_place(check_call(*function, context, scope, operands), place),
         Instr::CallIndirect(type_number) => at_place(
-            check_call_indirect(*type_number, frame, nesting, operands),
+            check_call_indirect(*type_number, context, scope, operands),
             place,
         ),
         Instr::Unreachable => {
-            operands.die();
+            operands.mark_unreachable();
             Ok(())
         }
-        // What the inner code gives is given first: it has operands of its own.
+        // The result is pushed before the inner code is checked, which has operands of its own.
         Instr::Block(gives, body) => {
             operands.give(*gives)?;
-            check_inside(alloc, *gives, *gives, body, place, frame, nesting)
+            check_inside(alloc, *gives, *gives, body, place, context, scope)
         }
         Instr::Loop(gives, body) => {
             operands.give(*gives)?;
-            check_inside(alloc, None, *gives, body, place, frame, nesting)
+            check_inside(alloc, None, *gives, body, place, context, scope)
         }
         Instr::If(gives, body, other) => {
             at_place(operands.take(ValType::I32), place)?;
             operands.give(*gives)?;
-            check_inside(alloc, *gives, *gives, body, place, frame, nesting)?;
-            check_inside(alloc, *gives, *gives, other, place, frame, nesting)
+            check_inside(alloc, *gives, *gives, body, place, context, scope)?;
+            check_inside(alloc, *gives, *gives, other, place, context, scope)
         }
     }
 }
 
-// The answer, a fault told at this place.
+// Returns the answer, with this place in its fault.
 fn at_place(answer: Result<(), ValidFault>, place: Place) -> Result<(), ValidFault>
     ensures { result ≡ answer_at answer place }
 {
@@ -92,18 +92,18 @@ fn at_place(answer: Result<(), ValidFault>, place: Place) -> Result<(), ValidFau
     }
 }
 
-/// Checks the body of a function.
-pub fn check_body(alloc: Global, frame: &Frame, body: &Body) -> Result<(), ValidFault>
-    ensures { Says (passes_in frame.now body.now) result }
+/// Checks the body of a function (Core 1.0, 3.4.1).
+pub fn check_body(alloc: Global, context: &BodyContext, body: &Body) -> Result<(), ValidFault>
+    ensures { Says (passes_in context.now body.now) result }
 {
-    let mut nesting = Nesting::new(alloc);
+    let mut scope = Labels::new(alloc);
     check_inside(
         alloc,
-        frame.outcome,
-        frame.outcome,
+        context.outcome,
+        context.outcome,
         body,
-        frame.place(),
-        frame,
-        &mut nesting,
+        context.place(),
+        context,
+        &mut scope,
     )
 }

@@ -10,8 +10,8 @@ use crate::fault::{Rule, ValidFault};
 use crate::spaces::IndexSpaces;
 use wasm_ast::{Body, Instr, Mutability, Plain, ValType, Variable};
 
-/// Whether an initialiser or an offset is one constant instruction of the type that is wanted. The module has so many
-/// globals, of which those of `spaces` may be read.
+/// Checks that an initialiser or an offset is one constant instruction of the wanted type. It may read only the globals
+/// of `spaces`; the module has `globals` in all.
 pub fn check_constant(
     wanted: ValType,
     body: &Body,
@@ -31,7 +31,7 @@ pub fn check_constant(
     }
 }
 
-// The one instruction of the body.
+// Returns the only instruction of the body, where there is exactly one and it is plain.
 fn only_plain(body: &Body) -> Option<Plain>
     ensures { result ≡ only_plain body.now }
 {
@@ -41,7 +41,7 @@ fn only_plain(body: &Body) -> Option<Plain>
     }
 }
 
-// What the instruction gives, if it is constant.
+// Returns the type of the instruction's value, where the instruction is constant.
 fn constant_type(plain: Plain, spaces: &IndexSpaces, globals: usize) -> Result<ValType, ValidFault>
     ensures { Gives (plain_constant spaces.now plain) result }
 {

@@ -11,7 +11,7 @@ use std::alloc::{AllocError, Global};
 use std::collections::BTreeSet;
 use wasm_ast::{Export, ExportDescription};
 
-/// Core 1.0, 3.4.8: each exports something that is there.
+/// Checks that each export names something that exists (Core 1.0, 3.4.8).
 pub fn check_exports(exports: &[Export], spaces: &IndexSpaces) -> Result<(), ValidFault>
     ensures { Settles (ExportsTyped spaces.now exports.now) result }
 {
@@ -37,7 +37,7 @@ fn check_export(description: ExportDescription, spaces: &IndexSpaces) -> Result<
     }
 }
 
-/// Core 1.0, 3.4.10: no two exports have one name.
+/// Checks that no two exports have the same name (Core 1.0, 3.4.10).
 pub fn check_names(alloc: Global, exports: &[Export]) -> Result<(), ValidFault>
     ensures { Settles (HaveDistinctNames exports.now) result }
 {
@@ -60,7 +60,7 @@ fn have_distinct_names(alloc: Global, exports: &[Export]) -> Result<bool, AllocE
     Ok(true)
 }
 
-/// Core 1.0, 3.4.7: a start function takes nothing and gives nothing.
+/// Checks that the start function, if any, has no parameters and no results (Core 1.0, 3.4.7).
 pub fn check_start(start: Option<u32>, spaces: &IndexSpaces) -> Result<(), ValidFault>
     ensures { Settles (StartTyped spaces.now start) result }
 {

@@ -1,4 +1,4 @@
-//! Why a module is not valid.
+//! The faults of validation.
 
 ghost use Rattle.std.specs.Prelude.{◌≡◌, Some};
 ghost use Rattle.std.specs.Fmt.{DisplaysOnOk};
@@ -13,39 +13,39 @@ use std::fmt;
 /// A rule that a module breaks.
 #[derive(Clone, Copy)]
 pub enum Rule {
-    /// A number names no type.
+    /// A type index names no type.
     TypeNumber,
-    /// A number names no function.
+    /// A function index names no function.
     Function,
-    /// A number names no local.
+    /// A local index names no local.
     Local,
-    /// A number names no global.
+    /// A global index names no global.
     Global,
-    /// A number names no label.
+    /// A label index names no label.
     Label,
-    /// There is no such memory.
+    /// The memory that is used does not exist.
     Memory,
-    /// There is no such table.
+    /// The table that is used does not exist.
     Table,
-    /// Operands or results of the wrong type or number.
+    /// The operands or results have the wrong types, or there are too many or too few.
     Mismatch,
     /// A constant global is set.
     Immutable,
     /// An alignment is greater than the width of the access.
     Alignment,
-    /// Two exports have one name.
+    /// Two exports have the same name.
     DuplicateExport,
     /// An initialiser or an offset is not one constant instruction.
     ConstExpr,
-    /// More than one result, table or memory, a maximum below its minimum, a memory above 65,536 pages, or a limit of
-    /// `wasm_ast::within_limits`.
+    /// There is more than one result, table or memory, a maximum is below its minimum, or a memory is above 65,536 pages.
+    /// Or the module is not `wasm_ast::within_limits`.
     Limits,
-    /// The start function takes or gives something.
+    /// The start function has parameters or results.
     StartType,
 }
 
 impl Rule {
-    // The rule's name.
+    // Returns the rule's name, as it is printed.
     fn word(self) -> &'static str
         ensures { result.now ≡ rule_word self }
     {
@@ -68,13 +68,13 @@ impl Rule {
     }
 }
 
-/// Where a rule is broken. It is shown as its two numbers, with `-` for what is not there.
+/// The place where a rule is broken. It is printed as its two numbers, with `-` for one that is absent.
 #[derive(Clone, Copy)]
 pub struct Place {
-    /// The number of the function, imports counted, where there is one.
+    /// The index of the function, imports first, where the fault is in one.
     pub function: Option<u32>,
-    /// The number of the instruction in the function's body, where there is one: from 0, each before those that it
-    /// holds. The last number that is told is 4,294,967,295.
+    /// The number of the instruction in the function's body, where the fault is in one. The first is 0, and a block comes
+    /// before the instructions inside it. Numbers stop at 4,294,967,295.
     pub instruction: Option<u32>,
 }
 
@@ -88,7 +88,7 @@ impl fmt::Display for Place {
     }
 }
 
-// The number, or `-` where there is none.
+// Writes the number, or `-` where there is none.
 fn write_number<W: fmt::Write>(number: Option<u32>, f: &mut fmt::Formatter<W>) -> fmt::Result
     ensures { DisplaysOnOk W.write_str_gives f.old result (Some (number_text number)) f.new }
 {
@@ -98,12 +98,12 @@ fn write_number<W: fmt::Write>(number: Option<u32>, f: &mut fmt::Formatter<W>) -
     }
 }
 
-/// Why a module is not valid. It is shown as the rule's word and the place.
+/// The reason why a module is not valid. It is printed as the rule's name and the place.
 #[derive(Clone, Copy)]
 pub enum ValidFault {
     /// The module breaks the rule at this place.
     Breaks(Rule, Place),
-    /// Memory ran out.
+    /// An allocation failed.
     OutOfMemory,
 }
 
@@ -129,14 +129,14 @@ impl fmt::Debug for ValidFault {
 
 impl Error for ValidFault {}
 
-/// No function and no instruction.
+/// The place of a fault that is in no function.
 pub const NOWHERE: Place = Place {
     function: None,
     instruction: None,
 };
 
 impl ValidFault {
-    /// The fault, told at this place.
+    /// Returns the fault with this place. Out of memory has no place.
     pub(crate) fn at(self, place: Place) -> ValidFault
         ensures { result ≡ placed self place }
     {

@@ -7,14 +7,14 @@ ghost use Rattle.validate.specs.inside.Checks.{FunctionTypesHold, all_locals};
 ghost use Rattle.validate.specs.inside.Findings.{IsRefusal, Settles};
 
 use crate::bodies::check_body;
+use crate::context::BodyContext;
 use crate::fault::{Place, Rule, ValidFault};
-use crate::frame::Frame;
 use crate::operands::first_of;
 use crate::spaces::IndexSpaces;
 use std::alloc::{AllocError, Global};
 use wasm_ast::{FuncType, Function, ValType};
 
-/// The type of each function is there, imports among them.
+/// Checks that the type of each function exists, imports included.
 pub fn check_function_types(spaces: &IndexSpaces) -> Result<(), ValidFault>
     ensures { Settles (FunctionTypesHold spaces.now) result }
 {
@@ -38,7 +38,7 @@ fn no_type(function: Option<u32>) -> ValidFault
     )
 }
 
-/// The body of each function gives its result.
+/// Checks the body of each function that the module defines.
 pub fn check_bodies(
     alloc: Global,
     functions: &[Function],
@@ -65,16 +65,16 @@ fn check_function(
     let Some(function_type) = spaces.type_at(function.type_number) else {
         return Err(no_type(number));
     };
-    let frame = Frame {
+    let context = BodyContext {
         spaces,
         locals: locals_of(alloc, function_type, function)?,
         outcome: first_of(function_type.results.as_slice()),
         function: number,
     };
-    check_body(alloc, &frame, &function.body)
+    check_body(alloc, &context, &function.body)
 }
 
-// The types of the locals, the parameters first.
+// Lists the types of the locals, the parameters first.
 fn locals_of(
     alloc: Global,
     function_type: &FuncType,

@@ -1,14 +1,14 @@
-//! Which modules are valid (Core 1.0, section 3).
+//! Validation: which modules are valid (Core 1.0, section 3).
 #![tactic(auto)]
 
 mod bodies;
 mod constants;
+mod context;
 mod exports;
 mod fault;
-mod frame;
 mod functions;
 mod instructions;
-mod nesting;
+mod labels;
 mod operands;
 mod segments;
 mod spaces;
@@ -16,6 +16,6 @@ mod types;
 mod valid;
 
 pub use fault::{Place, Rule, ValidFault};
-pub use nesting::Nesting;
+pub use labels::Labels;
 pub use operands::first_of;
 pub use valid::{Valid, validate};

@@ -1,4 +1,4 @@
-//! What is known of the operands at a place in a body.
+//! The operand stack of validation: what is known of the operands at an instruction.
 
 ghost use Rattle.std.specs.Prelude.{◌≡◌, OnOk, reverse};
 ghost use Rattle.validate.specs.inside.Stack.{bottom, any_below, on, agrees, take_one, take_all, change, leave, join, is_empty};
@@ -14,70 +14,72 @@ use crate::fault::{Rule, ValidFault};
 use std::alloc::{AllocError, Global};
 use wasm_ast::{BlockType, Conversion, FuncType, Numeric, ValType};
 
-/// What is known of one operand.
+/// The type of an operand, as far as it is known. After a branch an operand may have any type.
 #[derive(Clone, Copy, PartialEq, Eq)]
-pub enum Slot {
+pub enum OperandType {
     Known(ValType),
     Unknown,
 }
 
-/// The operands, the topmost last. Where the code is not reached any others may be below.
+/// The types of the operands, the topmost last. Where the code is unreachable, any others may be below.
 #[derive(Drop)]
 pub struct Operands {
-    pub slots: Vec<Slot>,
-    pub is_dead: bool,
+    pub types: Vec<OperandType>,
+    pub is_unreachable: bool,
 }
 
-fn is_of_type(slot: Slot, expected: ValType) -> bool
-    ensures { result ≡ agrees slot expected }
+fn is_of_type(operand: OperandType, expected: ValType) -> bool
+    ensures { result ≡ agrees operand expected }
 {
-    match (slot, expected) {
-        (Slot::Unknown, _) => true,
-        (Slot::Known(ValType::I32), ValType::I32) => true,
-        (Slot::Known(ValType::I64), ValType::I64) => true,
-        (Slot::Known(_), _) => false,
+    match (operand, expected) {
+        (OperandType::Unknown, _) => true,
+        (OperandType::Known(ValType::I32), ValType::I32) => true,
+        (OperandType::Known(ValType::I64), ValType::I64) => true,
+        (OperandType::Known(_), _) => false,
     }
 }
 
 impl Operands {
-    /// No operands; it takes no memory.
+    /// Creates an empty stack. It allocates nothing.
     pub fn new(alloc: Global) -> Operands
         ensures { stack_of result ≡ bottom }
     {
         Operands {
-            slots: Vec::new(alloc),
-            is_dead: false,
+            types: Vec::new(alloc),
+            is_unreachable: false,
         }
     }
 
-    fn push(&mut self, slot: Slot) -> Result<(), AllocError>
-        ensures { OnOk result (stack_of self.new ≡ on slot (stack_of self.old)) }
+    // Pushes an operand.
+    fn push(&mut self, operand: OperandType) -> Result<(), AllocError>
+        ensures { OnOk result (stack_of self.new ≡ on operand (stack_of self.old)) }
     {
-        self.slots.push(slot)?;
+        self.types.push(operand)?;
         Ok(())
     }
 
-    /// What comes after this is not reached.
-    pub fn die(&mut self)
+    /// Marks the code after this instruction as unreachable.
+    pub fn mark_unreachable(&mut self)
         ensures { stack_of self.new ≡ any_below }
     {
-        self.slots.clear();
-        self.is_dead = true;
+        self.types.clear();
+        self.is_unreachable = true;
     }
 
+    /// Pops an operand of this type. It is `Mismatch` where the topmost has another type or there is none.
     pub fn take(&mut self, expected: ValType) -> Result<(), ValidFault>
         ensures { Makes (take_one expected) self.old self.new result }
     {
-        match self.slots.pop() {
-            Some(slot) => {
-                if is_of_type(slot, expected) {
+        match self.types.pop() {
+            Some(operand) => {
+                if is_of_type(operand, expected) {
                     Ok(())
                 } else {
                     Err(ValidFault::from(Rule::Mismatch))
                 }
             }
             None => {
-                if self.is_dead {
+                if self.is_unreachable {
                     Ok(())
                 } else {
                     Err(ValidFault::from(Rule::Mismatch))
@@ -86,15 +88,15 @@ impl Operands {
         }
     }
 
-    /// Takes the topmost, whatever it is.
-    pub fn take_any(&mut self) -> Result<Slot, ValidFault>
+    /// Pops the topmost operand, whatever its type. It is `Mismatch` where there is none.
+    pub fn take_any(&mut self) -> Result<OperandType, ValidFault>
         ensures { TakesTopmost self.old self.new result }
     {
-        match self.slots.pop() {
-            Some(slot) => Ok(slot),
+        match self.types.pop() {
+            Some(operand) => Ok(operand),
             None => {
-                if self.is_dead {
-                    Ok(Slot::Unknown)
+                if self.is_unreachable {
+                    Ok(OperandType::Unknown)
                 } else {
                     Err(ValidFault::from(Rule::Mismatch))
                 }
@@ -102,7 +104,7 @@ impl Operands {
         }
     }
 
-    /// Takes these, the first of which is topmost.
+    // Pops operands of these types, the first topmost.
     fn take_all(&mut self, taken: &[ValType]) -> Result<(), ValidFault>
         ensures { Makes (take_all taken.now) self.old self.new result }
     {
@@ -112,6 +114,7 @@ impl Operands {
         Ok(())
     }
 
+    /// Pops an operand of this type, where one is given.
     pub fn take_result(&mut self, taken: BlockType) -> Result<(), ValidFault>
         ensures { Makes (take_all (operands_of taken)) self.old self.new result }
     {
@@ -121,16 +124,17 @@ impl Operands {
         }
     }
 
+    /// Pushes an operand of this type, where one is given.
     pub fn give(&mut self, given: BlockType) -> Result<(), AllocError>
         ensures { OnOk result (stack_of self.new ≡ with_result given (stack_of self.old)) }
     {
         match given {
-            Some(known) => self.push(Slot::Known(known)),
+            Some(known) => self.push(OperandType::Known(known)),
             None => Ok(()),
         }
     }
 
-    /// Takes these, the first of which is topmost, and gives a result.
+    /// Pops operands of these types, the first topmost, and pushes a result.
     pub fn change(&mut self, taken: &[ValType], given: BlockType) -> Result<(), ValidFault>
         ensures { Makes (change taken.now (operands_of given)) self.old self.new result }
     {
@@ -139,7 +143,7 @@ impl Operands {
         Ok(())
     }
 
-    /// Takes the parameters, of which the last is topmost.
+    // Pops operands of the parameters' types, the last topmost.
     fn take_parameters(&mut self, parameters: &[ValType]) -> Result<(), ValidFault>
         ensures { Makes (take_all (reverse parameters.now)) self.old self.new result }
     {
@@ -151,6 +155,7 @@ impl Operands {
         Ok(())
     }
 
+    /// Pops the arguments of a call and pushes its result.
     pub fn call(&mut self, called: &FuncType) -> Result<(), ValidFault>
         ensures { Makes (called_step called.now) self.old self.new result }
     {
@@ -159,6 +164,7 @@ impl Operands {
         Ok(())
     }
 
+    /// Pops the operands of a numeric instruction and pushes its result (Core 1.0, 3.3.1).
     pub fn apply(&mut self, op: Numeric) -> Result<(), ValidFault>
         ensures { Makes (numeric_step op) self.old self.new result }
     {
@@ -180,19 +186,19 @@ impl Operands {
     fn is_empty(&self) -> bool
         ensures { result ≡ is_empty (stack_of self.now) }
     {
-        self.slots.is_empty()
+        self.types.is_empty()
     }
 
-    /// Takes a result, and what comes after this is not reached.
+    /// Pops a branch's operand, where it has one, and marks the code after it as unreachable.
     pub fn leave(&mut self, taken: BlockType) -> Result<(), ValidFault>
         ensures { Makes (leave (operands_of taken)) self.old self.new result }
     {
         self.take_result(taken)?;
-        self.die();
+        self.mark_unreachable();
         Ok(())
     }
 
-    /// The end of a sequence: there is the result, and nothing else.
+    /// Checks the end of a sequence: exactly its result is there, else `Mismatch`.
     pub fn close(&mut self, gives: BlockType) -> Result<(), ValidFault>
         ensures { Says (closes (Some (stack_of self.old)) gives) result }
     {
@@ -204,6 +210,7 @@ impl Operands {
         }
     }
 
+    /// Checks `select`: pops an i32 and two operands of one type, and pushes one of that type (Core 1.0, 3.3.2).
     pub fn select(&mut self) -> Result<(), ValidFault>
         ensures { Makes select_step self.old self.new result }
     {
@@ -220,7 +227,7 @@ impl Operands {
     }
 }
 
-/// What a function of these results gives, of which there is at most one (Core 1.0, 3.2.2).
+/// Returns the first of a function's results. A valid function has at most one (Core 1.0, 3.2.2).
 pub fn first_of(results: &[ValType]) -> BlockType
     ensures { result ≡ first_type results.now }
 {
@@ -248,15 +255,15 @@ fn converted_to(conversion: Conversion) -> ValType
     }
 }
 
-/// What is known of two operands of one type.
-fn join(first: Slot, second: Slot) -> Option<Slot>
+// Returns what is known of the type of two operands that must have the same type; `None` where they differ.
+fn join(first: OperandType, second: OperandType) -> Option<OperandType>
     ensures { result ≡ join first second }
 {
     match (first, second) {
-        (Slot::Unknown, slot) => Some(slot),
-        (slot, Slot::Unknown) => Some(slot),
-        (Slot::Known(ValType::I32), Slot::Known(ValType::I32)) => Some(first),
-        (Slot::Known(ValType::I64), Slot::Known(ValType::I64)) => Some(first),
+        (OperandType::Unknown, operand) => Some(operand),
+        (operand, OperandType::Unknown) => Some(operand),
+        (OperandType::Known(ValType::I32), OperandType::Known(ValType::I32)) => Some(first),
+        (OperandType::Known(ValType::I64), OperandType::Known(ValType::I64)) => Some(first),
         _ => None,
     }
 }

@@ -10,8 +10,8 @@ use crate::fault::{Rule, ValidFault};
 use crate::spaces::IndexSpaces;
 use wasm_ast::{Data, Element, Global, ValType};
 
-/// Core 1.0, 3.4.4: each initialiser is constant and of its global's type; it may read the globals of `spaces`, of the
-/// module's so many.
+/// Checks that each initialiser is constant and of its global's type (Core 1.0, 3.4.4). It may read only the globals of
+/// `spaces`; the module has `count` in all.
 pub fn check_globals(
     globals: &[Global],
     spaces: &IndexSpaces,
@@ -25,7 +25,7 @@ pub fn check_globals(
     Ok(())
 }
 
-/// Core 1.0, 3.4.5.
+/// Checks the element segments (Core 1.0, 3.4.5).
 pub fn check_elements(elements: &[Element], spaces: &IndexSpaces) -> Result<(), ValidFault>
     ensures { Settles (AllByRecursion (ElementTyped spaces.now) elements.now) result }
 {
@@ -55,7 +55,7 @@ fn check_element(element: &Element, spaces: &IndexSpaces) -> Result<(), ValidFau
     }
 }
 
-/// Core 1.0, 3.4.6.
+/// Checks the data segments (Core 1.0, 3.4.6).
 pub fn check_data(segments: &[Data], spaces: &IndexSpaces) -> Result<(), ValidFault>
     ensures { Settles (AllByRecursion (DataTyped spaces.now) segments.now) result }
 {

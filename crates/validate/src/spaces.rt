@@ -1,4 +1,4 @@
-//! What each number of a module names (Core 1.0, 2.5.1).
+//! The index spaces of a module (Core 1.0, 2.5.1).
 
 ghost use Rattle.std.specs.Prelude.{◌≡◌, ◌++◌, slice_get, IfOk, OnOk};
 ghost use Rattle.std.specs.Option.{option_copied};
@@ -10,11 +10,11 @@ use std::alloc::{AllocError, Global as Heap};
 use std::marker::Model;
 use wasm_ast::{FuncType, Function, Global, GlobalType, Import, ImportDescription, Limits, Module};
 
-/// What each number names, the imports first.
+/// The type of each item of the index spaces, the imports first.
 #[derive(Drop)]
 pub struct IndexSpaces<'a> {
     pub types: &'a [FuncType],
-    // the type number of each function
+    // the index of each function's type
     pub functions: Vec<u32>,
     pub tables: Vec<Limits>,
     pub memories: Vec<Limits>,
@@ -36,7 +36,7 @@ impl<'a> Model for IndexSpaces<'a> {
 }
 
 impl<'a> IndexSpaces<'a> {
-    /// The spaces of a module, with no globals but those that are imported.
+    /// Creates the index spaces of a module, with only its imported globals.
     pub fn outer(alloc: Heap, module: &'a Module) -> Result<IndexSpaces<'a>, AllocError>
         ensures { IfOk result (λ spaces. spaces ≡ outer_spaces_of «module».now) }
     {
@@ -50,7 +50,7 @@ impl<'a> IndexSpaces<'a> {
         })
     }
 
-    /// These globals too.
+    /// Adds the types of these globals.
     pub fn define_globals(&mut self, alloc: Heap, globals: &[Global]) -> Result<(), AllocError>
         ensures { OnOk result (self.new ≡ with_globals globals.now self.old) }
     {
@@ -58,13 +58,14 @@ impl<'a> IndexSpaces<'a> {
         Ok(())
     }
 
+    /// Returns the function type with this index, where there is one.
     pub fn type_at(&self, number: u32) -> Option<&FuncType>
         ensures { option_copied result ≡ slice_get self.now.types number }
     {
         self.types.get(number as usize)
     }
 
-    /// The type of the function with this number.
+    /// Returns the type of the function with this index, where both exist.
     pub fn function_type(&self, number: u32) -> Option<&FuncType>
         ensures { option_copied result ≡ function_type self.now number }
     {
@@ -74,18 +75,21 @@ impl<'a> IndexSpaces<'a> {
         }
     }
 
+    /// Returns the type of the global with this index, where there is one.
     pub fn global_at(&self, number: u32) -> Option<GlobalType>
         ensures { result ≡ slice_get self.now.globals number }
     {
         self.globals.get(number as usize).copied()
     }
 
+    /// Reports whether there is a memory.
     pub fn has_memory(&self) -> bool
         ensures { result ≡ has_memory self.now }
     {
         !self.memories.is_empty()
     }
 
+    /// Reports whether there is a table.
     pub fn has_table(&self) -> bool
         ensures { result ≡ has_table self.now }
     {
@@ -93,7 +97,7 @@ impl<'a> IndexSpaces<'a> {
     }
 }
 
-// The type number of each function.
+// Lists the index of each function's type, the imports first.
 fn function_types(
     alloc: Heap,
     imports: &[Import],
@@ -138,7 +142,7 @@ fn global_types(alloc: Heap, imports: &[Import]) -> Result<Vec<GlobalType>, Allo
         .collect(alloc)
 }
 
-// These types, and then those of the globals.
+// Lists these types, and after them those of the globals.
 fn with_types_of(
     alloc: Heap,
     types: &[GlobalType],

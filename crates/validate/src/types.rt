@@ -8,10 +8,10 @@ ghost use Rattle.validate.specs.inside.Findings.{Settles};
 use crate::fault::{Rule, ValidFault};
 use wasm_ast::{FuncType, Limits};
 
-/// How many pages a memory has at most (Core 1.0, 3.2.4).
+/// The most pages of a memory, of 65,536 bytes each (Core 1.0, 3.2.4).
 const MAX_PAGES: u32 = 65_536;
 
-/// Core 1.0, 3.2.2: each type has at most one result.
+/// Checks that each type has at most one result (Core 1.0, 3.2.2).
 pub fn check_types(types: &[FuncType]) -> Result<(), ValidFault>
     ensures { Settles (AllByRecursion TypeHolds types.now) result }
 {
@@ -22,7 +22,7 @@ pub fn check_types(types: &[FuncType]) -> Result<(), ValidFault>
     }
 }
 
-/// Core 1.0, 3.2.3 and 3.4.10: at most one table, with a maximum of at least its minimum.
+/// Checks that there is at most one table, and that its maximum is at least its minimum (Core 1.0, 3.2.3 and 3.4.10).
 pub fn check_tables(tables: &[Limits]) -> Result<(), ValidFault>
     ensures { Settles ((length tables.now ≤ 1) × AllByRecursion TableHolds tables.now) result }
 {
@@ -33,7 +33,8 @@ pub fn check_tables(tables: &[Limits]) -> Result<(), ValidFault>
     }
 }
 
-/// Core 1.0, 3.2.4 and 3.4.10: at most one memory, of so many pages at most, and with a maximum of at least its minimum.
+/// Checks that there is at most one memory, of at most `MAX_PAGES` pages, and that its maximum is at least its minimum
+/// (Core 1.0, 3.2.4 and 3.4.10).
 pub fn check_memories(memories: &[Limits]) -> Result<(), ValidFault>
     ensures { Settles ((length memories.now ≤ 1) × AllByRecursion MemoryHolds memories.now) result }
 {

@@ -16,10 +16,10 @@ use std::alloc::Global;
 use std::marker::Model;
 use wasm_ast::{Module, within_limits};
 
-/// A module that is typed (Core 1.0, 3.4.10). Only `validate` makes one.
+/// A valid module (Core 1.0, 3.4.10). Only `validate` makes one.
 #[derive(Drop)]
 pub struct Valid {
-    // In a box, so that an owner drops it by one call.
+    // The box keeps the owners' drop code small: one call.
     module: Box<Module>,
 }
 
@@ -40,7 +40,7 @@ impl Model for Valid {
 }
 
 impl Valid {
-    /// The module; it takes no memory.
+    /// Borrows the module.
     pub fn module(&self) -> &Module
         ensures value { result.now ≡ self.now }
         ensures typed { IsTyped self.now }
@@ -50,12 +50,13 @@ impl Valid {
     }
 }
 
-/// The module as it is, exactly where it is typed (Core 1.0, 3.4.10) and `within_limits`; any other is refused, with a
-/// rule that it breaks and the place. The limits are looked at first, then types, types of functions, tables and
-/// memories, globals, exports, the start function, elements, data and bodies.
+/// Validates a module: accepts it exactly where it is typed (Core 1.0, 3.4.10) and `within_limits`.
 ///
-/// It takes time by the length of the module, but for the names of exports, which are sorted, and memory by the
-/// number of functions, globals and exports and by the operands and labels at a place of a body.
+/// A fault has a rule that the module breaks, and the place. The limits are checked first. Then come types, the types of
+/// functions, tables and memories, globals, exports, the start function, elements, data and bodies.
+///
+/// Time is linear in the length of the module, except that the names of exports are sorted. Memory is linear in the
+/// number of functions, globals and exports, and in the operands and labels at one place of a body.
 pub fn validate(alloc: Global, module: Module) -> Result<Valid, ValidFault>
     ensures kept { IfOk result (λ valid. valid ≡ «module») }
     ensures accepted { OnOk result (IsTyped «module» × IsWithinLimits «module») }
@@ -80,7 +81,7 @@ fn check_module(alloc: Global, module: &Module) -> Result<(), ValidFault>
     check_inner(alloc, module, &spaces)
 }
 
-// What is looked at with no globals but those that are imported.
+// Checks the parts that may refer only to imported globals.
 fn check_outer(module: &Module, spaces: &IndexSpaces) -> Result<(), ValidFault>
     ensures { Settles (OuterTyped «module».now spaces.now) result }
 {
@@ -92,7 +93,7 @@ fn check_outer(module: &Module, spaces: &IndexSpaces) -> Result<(), ValidFault>
     check_globals(globals, spaces, count)
 }
 
-// What is looked at with all globals.
+// Checks the parts that may refer to all globals.
 fn check_inner(alloc: Global, module: &Module, spaces: &IndexSpaces) -> Result<(), ValidFault>
     ensures { Settles (InnerTyped «module».now spaces.now) result }
 {

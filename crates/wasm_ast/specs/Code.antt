@@ -1,4 +1,4 @@
--- Code as pure syntax (Core 1.0, 2.4.6): a sequence of instructions, of which some hold sequences.
+-- Code, the model of an instruction sequence (Core 1.0, 2.4.6). Some instructions contain sequences themselves.
 use Rattle.std.specs.Prelude.{◌≡◌, ℕ, ◌+◌, Option, refl}
 use Rattle.std.specs.Coded.{Coded, coded_option}
 use base.Stored.{Gv, gnil, gnum, gcons}
@@ -9,7 +9,7 @@ use Rattle.wasm_ast.specs.contracts.types.ValType as val_type
 use Rattle.wasm_ast.specs.contracts.plain.Plain as plain_type
 use Rattle.wasm_ast.specs.contracts.plain.Branch as branch_type
 
--- each constructor but the first is an instruction and what comes after it
+-- each constructor except the first is an instruction and the code after it
 pub data Code : Type 0 where
   end : Code
   plain : Plain → Code → Code
@@ -21,7 +21,7 @@ pub data Code : Type 0 where
   loop : Option ValType → (body rest : Code) → Code
   choice : Option ValType → (then_body else_body rest : Code) → Code
 
--- how many instructions and ends there are
+-- the number of instructions and ends
 abbrev pub size_of : Code → ℕ
 size_of end = 1
 size_of (plain p rest) = 1 + size_of rest
@@ -42,7 +42,7 @@ branch_code = branch_type.the_row.coded
 abbrev type_code : Coded (Option ValType)
 type_code = coded_option val_type.the_row.coded
 
--- code as the stored form of values, from which it can be had again
+-- code in stored form, from which it can be restored
 abbrev gv_of : Code → Gv
 gv_of end = gnil
 gv_of (plain p rest) = gcons (gnum 0) (gcons (plain_code.code p) (gv_of rest))

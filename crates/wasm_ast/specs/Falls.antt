@@ -1,4 +1,4 @@
--- A body is larger than those in it.
+-- A body is larger than each body inside it, so a recursion over bodies ends.
 use Rattle.std.specs.Prelude.{◌≡◌, ℕ, zero, suc, ◌+◌, ◌<◌, ◌≤◌, List, [], ◌∷◌, length, get_or}
 use Rattle.std.proofs.Common.{arith, subst, sym}
 use denote.Param.Weighed.{most}
@@ -46,7 +46,7 @@ at_falls (i ∷ is) (suc k) d h =
     let g : k < length is = omega arith in
     omega (arith, b.1, at_falls is k d g)
 
--- the measure of a recursion that goes through a body's instructions
+-- the measure of a recursion over a body's instructions
 pub item_falls : (is : List Instr) (k : ℕ) (i : Instr) (body : Code) → k < length is → i ≡ get_or is k i → code_of is ≡ body → deep-Instr i < size_of body
 item_falls is k i body h e f =
     subst (λ c. deep-Instr i < size_of c) f (subst (λ x. deep-Instr x < size_of (code_of is)) (sym e) (at_falls is k i h))

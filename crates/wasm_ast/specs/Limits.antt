@@ -1,5 +1,5 @@
--- How large a module may be, beside the number of its bytes. The limits are this engine's own: the standard leaves
--- them to each (Core 1.0, A.2).
+-- Limits on the size of a module. They are this engine's own: the standard leaves them to each implementation
+-- (Core 1.0, A.2).
 use Rattle.std.specs.Prelude.{ℕ, ◌+◌, ◌-◌, ◌≤◌, ⊤, Bool, true, false, List, length, count_by, Option, Some, None, slice_get}
 use Rattle.std.specs.List.{AllByRecursion}
 use Rattle.wasm_ast.specs.declared.types.FuncType.{FuncType}
@@ -21,35 +21,35 @@ use Rattle.wasm_ast.specs.Code.{Code, end, plain, branch, call, call_indirect, u
 
 -- ---- the numbers
 
--- bytes of a module's binary form
+-- the most bytes of a module's binary form
 abbrev pub max_module_bytes : ℕ
 max_module_bytes = 1048576
 
--- functions of a module, imports counted
+-- the most functions of a module, imports included
 abbrev pub max_functions : ℕ
 max_functions = 1024
 
--- parameters of a type
+-- the most parameters of a function type
 abbrev pub max_parameters : ℕ
 max_parameters = 1024
 
--- results of a type
+-- the most results of a function type
 abbrev pub max_results : ℕ
 max_results = 1024
 
--- parameters and locals of a function together
+-- the most parameters and locals of a function together
 abbrev pub max_locals : ℕ
 max_locals = 1024
 
--- labels of a `br_table` besides its default
+-- the most labels of a `br_table`, not counting its default
 abbrev pub max_labels : ℕ
 max_labels = 1024
 
--- blocks, loops and ifs inside each other
+-- the deepest nesting of blocks, loops and ifs
 abbrev pub max_nesting : ℕ
 max_nesting = 128
 
--- the exponent of an alignment
+-- the largest exponent of an alignment
 abbrev pub max_align : ℕ
 max_align = 31
 
@@ -69,7 +69,7 @@ abbrev pub IsBranchWithin : Branch → Type 0
 IsBranchWithin (jump.BrTable labels default) = length labels ≤ max_labels
 IsBranchWithin _ = ⊤
 
--- at most so many blocks, loops and ifs inside each other, and each instruction within the limits
+-- at most this many blocks, loops and ifs are inside each other, and each instruction is within the limits
 abbrev pub IsCodeWithin : ℕ → Code → Type 0
 IsCodeWithin levels end = ⊤
 IsCodeWithin levels (plain p rest) = IsPlainWithin p × IsCodeWithin levels rest
@@ -95,11 +95,11 @@ abbrev pub length_of_parameters : Option FuncType → ℕ
 length_of_parameters None = 0
 length_of_parameters (Some t) = length t.parameters
 
--- how many parameters the type with this number has: none where the number names no type
+-- how many parameters the type with this index has: 0 where the index names no type
 abbrev pub parameters_of : List FuncType → ℕ → ℕ
 parameters_of types type_number = length_of_parameters (slice_get types type_number)
 
--- a function of a module with these types
+-- a function of a module that has these types
 abbrev pub IsFunctionWithin : List FuncType → Function → Type 0
 IsFunctionWithin types f = (parameters_of types f.type_number + length f.locals ≤ max_locals) × IsBodyWithin f.body
 

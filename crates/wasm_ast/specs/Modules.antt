@@ -1,4 +1,4 @@
--- The module that has nothing.
+-- The module with no contents.
 use Rattle.std.specs.Prelude.{[], None}
 use Rattle.wasm_ast.specs.declared.module.Module.{Module}
 

@@ -1,5 +1,5 @@
--- The values of numeric instructions (Core 1.0, 4.3). A value of N bits is a number below 2 ^ N, and each
--- operation takes N first.
+-- The values of numeric instructions (Core 1.0, 4.3). A value of N bits is a number below 2 ^ N. The first argument
+-- of each operation is N.
 use Rattle.std.specs.Prelude.{ℕ, suc, ◌+◌, ◌-◌, ◌*◌, ◌/◌, ◌%◌, ◌^◌, ℤ, pos, negsuc, ◌-ℤ◌, Bool, true, false, not, ◌==◌, ◌&&◌, ◌||◌, nat_lt, nat_le, int_lt, int_le, int_div, int_rem, if◌then◌else◌, bit_and, bit_or, bit_xor, count_ones}
 use Rattle.std.specs.Int.{int_div_euclid}
 use lib.Count.{count_leading_zeros, count_trailing_zeros}
@@ -23,22 +23,22 @@ bits_of I64 = 64
 
 -- ---- values as signed numbers (4.3.2, sign interpretation)
 
--- signed_N: what the value stands for in two's complement
+-- signed_N: the number that the value represents in two's complement
 abbrev pub signed : ℕ → ℕ → ℤ
 signed bits x = if nat_lt x (2 ^ (bits - 1)) then pos x else pos x -ℤ pos (2 ^ bits)
 
--- the value that stands for this number, signed_N turned round; `negsuc n` is -(n + 1)
+-- the value that represents this number, the inverse of signed_N; `negsuc n` is -(n + 1)
 abbrev pub unsigned : ℕ → ℤ → ℕ
 unsigned bits (pos n) = n
 unsigned bits (negsuc n) = 2 ^ bits - suc n
 
 -- ---- one operand (4.3.2)
 
--- how many zeros stand above the highest bit that is 1: all of them for 0
+-- the number of zero bits above the highest 1 bit: N for 0
 abbrev pub clz : ℕ → ℕ → ℕ
 clz bits x = count_leading_zeros bits x
 
--- how many zeros stand below the lowest bit that is 1: all of them for 0
+-- the number of zero bits below the lowest 1 bit: N for 0
 abbrev pub ctz : ℕ → ℕ → ℕ
 ctz bits x = count_trailing_zeros bits x
 
@@ -57,25 +57,25 @@ sub bits x y = (x + (2 ^ bits - y)) % 2 ^ bits
 abbrev pub mul : ℕ → ℕ → ℕ → ℕ
 mul bits x y = (x * y) % 2 ^ bits
 
--- shifts and rotations go by `y` modulo N
+-- shifts and rotations are by `y` modulo N
 abbrev pub shl : ℕ → ℕ → ℕ → ℕ
 shl bits x y = (x * 2 ^ (y % bits)) % 2 ^ bits
 
 abbrev pub shr_u : ℕ → ℕ → ℕ → ℕ
 shr_u bits x y = x / 2 ^ (y % bits)
 
--- on the signed number, rounded down
+-- a shift of the signed number, rounded down
 abbrev pub shr_s : ℕ → ℕ → ℕ → ℕ
 shr_s bits x y = unsigned bits (int_div_euclid (signed bits x) (pos (2 ^ (y % bits))))
 
--- the bits that a shift leaves, and those that it drops, at the other end
+-- the bits that a shift keeps, and at the other end those that it drops
 abbrev pub rotl : ℕ → ℕ → ℕ → ℕ
 rotl bits x y = (x * 2 ^ (y % bits)) % 2 ^ bits + x / 2 ^ (bits - y % bits)
 
 abbrev pub rotr : ℕ → ℕ → ℕ → ℕ
 rotr bits x y = x / 2 ^ (y % bits) + (x * 2 ^ (bits - y % bits)) % 2 ^ bits
 
--- ---- divisions (4.3.2), which some operands have no value for
+-- ---- divisions (4.3.2), which are undefined on some operands
 
 -- the quotient of the signed numbers, rounded towards 0
 abbrev pub div_s : ℕ → ℕ → ℕ → ℕ
@@ -84,14 +84,14 @@ div_s bits x y = unsigned bits (int_div (signed bits x) (signed bits y))
 abbrev pub div_u : ℕ → ℕ → ℕ → ℕ
 div_u bits x y = x / y
 
--- what that quotient leaves of the first: it has the sign of the first
+-- the remainder of that quotient, which has the sign of the first operand
 abbrev pub rem_s : ℕ → ℕ → ℕ → ℕ
 rem_s bits x y = unsigned bits (int_rem (signed bits x) (signed bits y))
 
 abbrev pub rem_u : ℕ → ℕ → ℕ → ℕ
 rem_u bits x y = x % y
 
--- the least of the signed numbers, and -1
+-- the least signed number, and -1
 abbrev pub least : ℕ → ℕ
 least bits = 2 ^ (bits - 1)
 
@@ -134,7 +134,7 @@ division_value bits DivU x y = div_u bits x y
 division_value bits RemS x y = rem_s bits x y
 division_value bits RemU x y = rem_u bits x y
 
--- whether there is no such value: by 0, and where the quotient of the signed numbers is greater than all of them
+-- whether there is no value: the divisor is 0, or the signed quotient is greater than every signed number of N bits
 abbrev pub division_traps : ℕ → Division → ℕ → ℕ → Bool
 division_traps bits DivS x y = y == 0 || (x == least bits && y == minus_one bits)
 division_traps bits DivU x y = y == 0

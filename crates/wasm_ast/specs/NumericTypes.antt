@@ -1,4 +1,4 @@
--- What numeric instructions take and give (Core 1.0, 3.3.1).
+-- The types of the operands and the results of numeric instructions (Core 1.0, 3.3.1).
 use Rattle.std.specs.Prelude.{List, [], ◌∷◌}
 use Rattle.wasm_ast.specs.declared.types.ValType.{ValType}
 use Rattle.wasm_ast.specs.declared.types.ValType.TheVariants.{I32}
@@ -6,7 +6,7 @@ use Rattle.wasm_ast.specs.declared.numeric.Numeric.{Numeric}
 use Rattle.wasm_ast.specs.declared.numeric.Numeric.TheVariants.{Eqz, Comparison, Unary, Binary, Division, Conversion}
 use Rattle.wasm_ast.specs.Numeric.{conversion_from, conversion_to}
 
--- the operands, the topmost first
+-- the types of the operands, the topmost first
 abbrev pub numeric_takes : Numeric → List ValType
 numeric_takes (Eqz t) = t ∷ []
 numeric_takes (Comparison t op) = t ∷ t ∷ []

@@ -1,6 +1,6 @@
--- What the types of a program keep of a module: numbers of 32 bits, constants of their width, names in UTF-8 and data of
--- bytes (Core 1.0, 2.2). A module that a program holds is so, and no other has a spelling; to the definitions here a number
--- may be any.
+-- The modules that the program's types can represent: numbers have 32 bits, constants have their type's width, names
+-- are UTF-8 and data are bytes (Core 1.0, 2.2). No other module has a binary form. The definitions in this folder
+-- otherwise allow any number.
 use Rattle.std.specs.Prelude.{ℕ, ◌<◌, ◌^◌, ⊤, Option, Some, None}
 use Rattle.std.specs.List.{AllByRecursion}
 use Rattle.std.specs.Str.{IsUtf8}
@@ -92,7 +92,7 @@ IsCodeHeld (code.block t body rest) = IsCodeHeld body × IsCodeHeld rest
 IsCodeHeld (code.loop t body rest) = IsCodeHeld body × IsCodeHeld rest
 IsCodeHeld (code.choice t body other rest) = IsCodeHeld body × IsCodeHeld other × IsCodeHeld rest
 
--- ---- what the sections hold
+-- ---- the contents of the sections
 
 abbrev pub IsImportDescriptionHeld : ImportDescription → Type 0
 IsImportDescriptionHeld (import.Function t) = IsU32 t

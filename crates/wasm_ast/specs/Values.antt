@@ -8,7 +8,7 @@ abbrev pub type_of : Value → ValType
 type_of (value.I32 x) = val_type.I32
 type_of (value.I64 x) = val_type.I64
 
--- what a local of the type begins as (4.4.7)
+-- the value that a local of the type starts with (4.4.7)
 abbrev pub zero_of : ValType → Value
 zero_of val_type.I32 = value.I32 0
 zero_of val_type.I64 = value.I64 0

@@ -1,10 +1,10 @@
--- What contracts see of instructions.
+-- The model of instructions: the code that contracts speak of.
 use Rattle.std.specs.Prelude.{List, [], ◌∷◌}
 use Rattle.wasm_ast.specs.Code.{Code, end, plain, branch, call, call_indirect, unreachable, block, loop, choice}
 use Rattle.wasm_ast.specs.declared.body.Instr.{Instr}
 use Rattle.wasm_ast.specs.declared.body.Instr.TheVariants as instr
 
--- an instruction, and the code after it
+-- the code that consists of an instruction and the code after it
 abbrev pub then_code : Instr → Code → Code
 then_code (instr.Plain p) rest = plain p rest
 then_code (instr.Branch b) rest = branch b rest

@@ -1,4 +1,4 @@
--- How many bytes loads read and stores write, and of which type their values are (Core 1.0, 2.4.4 and 3.3.4).
+-- How many bytes loads read and stores write, and the types of their values (Core 1.0, 2.4.4 and 3.3.4).
 use Rattle.std.specs.Prelude.{ℕ}
 use Rattle.wasm_ast.specs.declared.types.ValType.{ValType}
 use Rattle.wasm_ast.specs.declared.types.ValType.TheVariants as val_type
@@ -7,7 +7,7 @@ use Rattle.wasm_ast.specs.declared.plain.Load.TheVariants as load
 use Rattle.wasm_ast.specs.declared.plain.Store.{Store}
 use Rattle.wasm_ast.specs.declared.plain.Store.TheVariants as store
 
--- in bytes
+-- the width in bytes
 abbrev pub load_width : Load → ℕ
 load_width load.I32 = 4
 load_width load.I64 = 8
@@ -22,7 +22,7 @@ load_width load.I64From16U = 2
 load_width load.I64From32S = 4
 load_width load.I64From32U = 4
 
--- what is given
+-- the type of the result
 abbrev pub load_type : Load → ValType
 load_type load.I32 = val_type.I32
 load_type load.I64 = val_type.I64
@@ -37,7 +37,7 @@ load_type load.I64From16U = val_type.I64
 load_type load.I64From32S = val_type.I64
 load_type load.I64From32U = val_type.I64
 
--- in bytes
+-- the width in bytes
 abbrev pub store_width : Store → ℕ
 store_width store.I32 = 4
 store_width store.I64 = 8
@@ -47,7 +47,7 @@ store_width store.I64To8 = 1
 store_width store.I64To16 = 2
 store_width store.I64To32 = 4
 
--- what is taken
+-- the type of the stored operand
 abbrev pub store_type : Store → ValType
 store_type store.I32 = val_type.I32
 store_type store.I64 = val_type.I64

@@ -1,4 +1,5 @@
--- What mirrors the code for its proofs: the test that `==` is, which is equality, and a copy that is made part by part.
+-- Definitions that mirror the code, for its proofs: the test that `==` performs, and a module that is copied part by
+-- part.
 pub mod Same
 pub mod Stored
 pub mod Copies

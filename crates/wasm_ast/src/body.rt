@@ -1,4 +1,4 @@
-//! Instructions in sequence, and those that hold sequences.
+//! Instruction sequences, and the instructions that contain them.
 
 use crate::copies::Duplicate;
 use crate::plain::{Branch, Plain};
@@ -6,7 +6,7 @@ use crate::types::BlockType;
 use std::alloc::{AllocError, Global};
 use std::marker::Model;
 
-/// Instructions in sequence (Core 1.0, 2.4.6), which contracts see as `Code`.
+/// A sequence of instructions (Core 1.0, 2.4.6). Its model is `Code`.
 #[cycle(syntax)]
 #[derive(Drop)]
 pub struct Body {
@@ -19,14 +19,14 @@ pub struct Body {
 pub enum Instr {
     Plain(Plain),
     Branch(Branch),
-    /// A call of the function with this number, imports counted.
+    /// A call of the function with this index. Imported functions are counted first.
     Call(u32),
-    /// A call through the table of a function that has the type with this number.
+    /// A call through the table, of a function that has the type with this index.
     CallIndirect(u32),
     Unreachable,
     Block(BlockType, Body),
     Loop(BlockType, Body),
-    /// The instructions for an operand other than 0, and those for 0.
+    /// The instructions for an operand other than 0, then those for 0.
     If(BlockType, Body, Body),
 }
 
@@ -54,7 +54,7 @@ impl Body {
     ghost use Rattle.wasm_ast.specs.Code.{end};
     ghost use Rattle.wasm_ast.specs.View.{code_of};
 
-    /// No instructions; it takes no memory.
+    /// Creates a body without instructions. It allocates nothing.
     pub fn empty(alloc: Global) -> Body
         ensures { result ≡ end }
     {
@@ -63,19 +63,21 @@ impl Body {
         }
     }
 
+    /// Borrows the instructions, in order.
     pub fn as_slice(&self) -> &[Instr]
         ensures { code_of result.now ≡ self.now }
     {
         &self.instrs
     }
 
+    /// Takes the instructions out, in order.
     pub fn into_vec(self) -> Vec<Instr>
         ensures { code_of result.items ≡ self }
     {
         self.instrs
     }
 
-    /// The same instructions once more. The only refusal is that there is no memory for them.
+    /// Copies the instructions. It fails only where an allocation fails.
     pub fn copy(&self, alloc: Global) -> Result<Body, AllocError>
         ensures { IfOk result (λ copy. copy ≡ self.now) }
     {

@@ -1,4 +1,4 @@
-//! Copies of syntax, which are equal to what they are copies of.
+//! Copies of syntax, each equal to its original.
 
 ghost use Rattle.std.specs.Prelude.{◌≡◌, IfOk, OnOk};
 ghost use Rattle.wasm_ast.specs.inside.Copies.{with_functions_of, with_segments_of, with_spaces_of};
@@ -10,7 +10,7 @@ use crate::sequence::{Name, Sequence};
 use crate::types::{FuncType, Limits, ValType};
 use std::alloc::{AllocError, Global as Heap};
 
-/// Types whose values can be had once more.
+/// A type whose values can be copied. A copy fails only where an allocation fails.
 pub trait Duplicate: Drop {
     ghost use Rattle.std.specs.Prelude.{◌≡◌, IfOk};
 
@@ -155,7 +155,7 @@ impl Duplicate for Module {
     }
 }
 
-// The types, the imports and the functions.
+// Copies the types, the imports and the functions.
 fn duplicate_functions(module: &Module, alloc: Heap, copy: &mut Module) -> Result<(), AllocError>
     ensures { OnOk result (copy.new ≡ with_functions_of copy.old «module».now) }
 {
@@ -165,7 +165,7 @@ fn duplicate_functions(module: &Module, alloc: Heap, copy: &mut Module) -> Resul
     Ok(())
 }
 
-// The tables, the memories, the globals and the exports.
+// Copies the tables, the memories, the globals and the exports.
 fn duplicate_spaces(module: &Module, alloc: Heap, copy: &mut Module) -> Result<(), AllocError>
     ensures { OnOk result (copy.new ≡ with_spaces_of copy.old «module».now) }
 {
@@ -176,7 +176,7 @@ fn duplicate_spaces(module: &Module, alloc: Heap, copy: &mut Module) -> Result<(
     Ok(())
 }
 
-// The element and the data segments.
+// Copies the element and the data segments.
 fn duplicate_segments(module: &Module, alloc: Heap, copy: &mut Module) -> Result<(), AllocError>
     ensures { OnOk result (copy.new ≡ with_segments_of copy.old «module».now) }
 {

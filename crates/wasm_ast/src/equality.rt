@@ -1,4 +1,4 @@
-//! `==` of what holds lists: it tells exactly whether two values are the same.
+//! `==` of the types that hold lists: it is true exactly where the two values are the same.
 
 use crate::body::{Body, Instr};
 use crate::module::{Data, Element, Export, Function, Global, Import, Module};

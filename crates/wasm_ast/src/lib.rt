@@ -1,4 +1,4 @@
-//! The syntax of WebAssembly modules, integers alone (Core 1.0, section 2), and the value of each
+//! The syntax of WebAssembly modules with integers only (Core 1.0, section 2), and the value of each
 //! numeric instruction (4.3).
 #![tactic(auto)]
 

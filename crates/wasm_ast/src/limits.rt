@@ -1,4 +1,5 @@
-//! How large a module may be. The limits are this engine's own: the standard leaves them to each (Core 1.0, A.2).
+//! Limits on the size of a module. They are this engine's own: the standard leaves them to each implementation
+//! (Core 1.0, A.2).
 
 ghost use Rattle.std.specs.Prelude.{◌≡◌, ◌↔◌, ◌+◌, ◌≤◌, length, IsTrue};
 ghost use Rattle.std.specs.List.{AllByRecursion};
@@ -14,31 +15,32 @@ use crate::module::{Data, Element, Function, Global, Import, ImportDescription, 
 use crate::plain::{Branch, Memory, Plain};
 use crate::types::FuncType;
 
-/// Bytes of a module's binary form.
+/// The most bytes of a module's binary form.
 pub const MAX_MODULE_BYTES: usize = 1_048_576;
 
-/// Functions of a module, imports counted.
+/// The most functions of a module, imports included.
 pub const MAX_FUNCTIONS: u32 = 1024;
 
-/// Parameters of a type.
+/// The most parameters of a function type.
 pub const MAX_PARAMETERS: u32 = 1024;
 
-/// Results of a type.
+/// The most results of a function type.
 pub const MAX_RESULTS: u32 = 1024;
 
-/// Parameters and locals of a function together. Where the number of its type names no type, it has no parameters.
+/// The most parameters and locals of a function together. A function whose type index names no type counts as one
+/// without parameters.
 pub const MAX_LOCALS: u32 = 1024;
 
-/// Labels of a `br_table` besides its default.
+/// The most labels of a `br_table`, not counting its default.
 pub const MAX_LABELS: u32 = 1024;
 
-/// Blocks, loops and ifs inside each other, in bodies, initial values and offsets.
+/// The deepest nesting of blocks, loops and ifs, in bodies, initial values and offsets.
 pub const MAX_NESTING: u32 = 128;
 
-/// The exponent of the alignment of a load or a store.
+/// The largest exponent of the alignment of a load or a store.
 pub const MAX_ALIGN: u32 = 31;
 
-/// Whether the module is within all of the limits but that on its bytes, which are not there yet.
+/// Checks all the limits except `MAX_MODULE_BYTES`, since the module has no binary form yet.
 pub fn within_limits(module: &Module) -> bool
     ensures { IsTrue result ↔ IsWithinLimits «module».now }
 {
@@ -130,8 +132,8 @@ fn is_body_within(body: &Body) -> bool
     is_code_within(body, MAX_NESTING)
 }
 
-// Whether there are at most so many blocks, loops and ifs inside each other, and the instructions are within the
-// limits. It goes no deeper than that.
+// Checks that at most `levels` blocks, loops and ifs are inside each other, and that each instruction is within its
+// limits. The recursion goes no deeper than `levels`.
 #[cycle(code)]
 fn is_code_within(body: &Body, levels: u32) -> bool
     ensures { IsTrue result ↔ IsCodeWithin levels body.now }

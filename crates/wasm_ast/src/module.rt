@@ -1,5 +1,5 @@
-//! Modules (Core 1.0, 2.5). What is imported is counted first in the numbers of functions, tables, memories
-//! and globals.
+//! Modules (Core 1.0, 2.5). In the index spaces of functions, tables, memories and globals, the imports come
+//! first.
 
 use crate::body::Body;
 use crate::copies::Duplicate;
@@ -7,10 +7,10 @@ use crate::sequence::{Name, Sequence};
 use crate::types::{FuncType, GlobalType, Limits, ValType};
 use std::alloc::{AllocError, Global as Heap};
 
-/// What an import brings in (Core 1.0, 2.5.11).
+/// The kind and the type of an import (Core 1.0, 2.5.11).
 #[derive(Clone, Copy, PartialEq, Eq)]
 pub enum ImportDescription {
-    /// A function of the type with this number.
+    /// A function of the type with this index.
     Function(u32),
     Table(Limits),
     Memory(Limits),
@@ -28,9 +28,9 @@ pub struct Import {
 /// A function that the module defines (Core 1.0, 2.5.3).
 #[derive(Drop)]
 pub struct Function {
-    /// The number of its type.
+    /// The index of its type.
     pub type_number: u32,
-    /// The locals beside the parameters, which are counted before them.
+    /// The locals. In the index space of locals, the parameters come before them.
     pub locals: Sequence<ValType>,
     pub body: Body,
 }
@@ -42,7 +42,7 @@ pub struct Global {
     pub initial: Body,
 }
 
-/// What an export names, by its number (Core 1.0, 2.5.10).
+/// The kind and the index of an export (Core 1.0, 2.5.10).
 #[derive(Clone, Copy, PartialEq, Eq)]
 pub enum ExportDescription {
     Function(u32),
@@ -58,7 +58,7 @@ pub struct Export {
     pub description: ExportDescription,
 }
 
-/// Functions that a table holds from an offset on (Core 1.0, 2.5.7).
+/// An element segment: functions that fill a table from an offset on (Core 1.0, 2.5.7).
 #[derive(Drop)]
 pub struct Element {
     pub table: u32,
@@ -66,7 +66,7 @@ pub struct Element {
     pub functions: Sequence<u32>,
 }
 
-/// Bytes that a memory holds from an offset on (Core 1.0, 2.5.8).
+/// A data segment: bytes that fill a memory from an offset on (Core 1.0, 2.5.8).
 #[derive(Drop)]
 pub struct Data {
     pub memory: u32,
@@ -74,7 +74,7 @@ pub struct Data {
     pub bytes: Sequence<u8>,
 }
 
-/// A module (Core 1.0, 2.5). Tables hold functions; memories are bytes.
+/// A module (Core 1.0, 2.5). Tables hold functions and memories hold bytes.
 #[derive(Drop)]
 pub struct Module {
     pub types: Sequence<FuncType>,
@@ -93,7 +93,7 @@ impl Module {
     ghost use Rattle.std.specs.Prelude.{◌≡◌, [], None, IfOk};
     ghost use Rattle.wasm_ast.specs.Modules.{empty_module};
 
-    /// The module that has nothing; it takes no memory.
+    /// Creates a module with no contents. It allocates nothing.
     pub fn empty(alloc: Heap) -> Module
         ensures { result ≡ empty_module }
     {
@@ -111,7 +111,7 @@ impl Module {
         }
     }
 
-    /// The same module once more. The only refusal is that there is no memory for it.
+    /// Copies the module. It fails only where an allocation fails.
     pub fn copy(&self, alloc: Heap) -> Result<Module, AllocError>
         ensures { IfOk result (λ copy. copy ≡ self.now) }
     {

@@ -1,4 +1,4 @@
-//! Numeric instructions (Core 1.0, 2.4.1), grouped by what they take and give.
+//! Numeric instructions (Core 1.0, 2.4.1), grouped by their operands and results.
 
 pub mod convert;
 pub mod i32;
@@ -16,7 +16,7 @@ use self::i64::{
 };
 use crate::types::ValType;
 
-/// One operand of a type, one result of the same type.
+/// A unary operator: one operand, and a result of the same type.
 #[derive(Clone, Copy, PartialEq, Eq)]
 pub enum Unary {
     Clz,
@@ -28,7 +28,7 @@ impl Unary {
     ghost use Rattle.std.specs.Prelude.{◌≡◌};
     ghost use Rattle.wasm_ast.specs.Numeric.{unary_value};
 
-    /// The result at i32.
+    /// Computes the result for i32.
     pub fn apply_i32(self, x: u32) -> u32
         ensures { result ≡ unary_value 32 self x }
     {
@@ -39,7 +39,7 @@ impl Unary {
         }
     }
 
-    /// The result at i64.
+    /// Computes the result for i64.
     pub fn apply_i64(self, x: u64) -> u64
         ensures { result ≡ unary_value 64 self x }
     {
@@ -51,7 +51,7 @@ impl Unary {
     }
 }
 
-/// Two operands of a type, one result of the same type; defined on all operands.
+/// A binary operator that never traps: two operands of a type, and a result of the same type.
 #[derive(Clone, Copy, PartialEq, Eq)]
 pub enum Binary {
     Add,
@@ -71,7 +71,7 @@ impl Binary {
     ghost use Rattle.std.specs.Prelude.{◌≡◌};
     ghost use Rattle.wasm_ast.specs.Numeric.{binary_value};
 
-    /// The result at i32.
+    /// Computes the result for i32.
     pub fn apply_i32(self, x: u32, y: u32) -> u32
         ensures { result ≡ binary_value 32 self x y }
     {
@@ -90,7 +90,7 @@ impl Binary {
         }
     }
 
-    /// The result at i64.
+    /// Computes the result for i64.
     pub fn apply_i64(self, x: u64, y: u64) -> u64
         ensures { result ≡ binary_value 64 self x y }
     {
@@ -110,7 +110,7 @@ impl Binary {
     }
 }
 
-/// Two operands of a type, one result of the same type; a trap on some operands.
+/// A binary operator that traps on some operands: two operands of a type, and a result of the same type.
 #[derive(Clone, Copy, PartialEq, Eq)]
 pub enum Division {
     DivS,
@@ -123,7 +123,7 @@ impl Division {
     ghost use Rattle.std.specs.Prelude.{◌≡◌, false};
     ghost use Rattle.wasm_ast.specs.Numeric.{division_value, division_traps};
 
-    /// Whether the operands trap at i32: `y` is 0, or for the signed quotient -1 where `x` is the least signed number.
+    /// Reports whether the i32 operator traps: `y` is 0, or the operator is `DivS`, `y` is -1 and `x` is -2^31.
     pub fn traps_i32(self, x: u32, y: u32) -> bool
         ensures { result ≡ division_traps 32 self x y }
     {
@@ -133,7 +133,7 @@ impl Division {
         }
     }
 
-    /// Whether the operands trap at i64: `y` is 0, or for the signed quotient -1 where `x` is the least signed number.
+    /// Reports whether the i64 operator traps: `y` is 0, or the operator is `DivS`, `y` is -1 and `x` is -2^63.
     pub fn traps_i64(self, x: u64, y: u64) -> bool
         ensures { result ≡ division_traps 64 self x y }
     {
@@ -143,7 +143,7 @@ impl Division {
         }
     }
 
-    /// The result at i32. It asks operands that do not trap.
+    /// Computes the result for i32. The operands must not trap.
     pub fn apply_i32(self, x: u32, y: u32) -> u32
         requires { division_traps 32 self x y ≡ false }
         ensures { result ≡ division_value 32 self x y }
@@ -156,7 +156,7 @@ impl Division {
         }
     }
 
-    /// The result at i64. It asks operands that do not trap.
+    /// Computes the result for i64. The operands must not trap.
     pub fn apply_i64(self, x: u64, y: u64) -> u64
         requires { division_traps 64 self x y ≡ false }
         ensures { result ≡ division_value 64 self x y }
@@ -170,7 +170,7 @@ impl Division {
     }
 }
 
-/// Two operands of a type, and an i32 that is 1 where the comparison holds, else 0.
+/// A comparison: two operands of a type, and an i32 result of 1 where it holds, else 0.
 #[derive(Clone, Copy, PartialEq, Eq)]
 pub enum Comparison {
     Eq,
@@ -189,7 +189,7 @@ impl Comparison {
     ghost use Rattle.std.specs.Prelude.{◌≡◌};
     ghost use Rattle.wasm_ast.specs.Numeric.{comparison_holds};
 
-    /// Whether it holds at i32.
+    /// Reports whether the comparison of i32 operands holds.
     pub fn holds_i32(self, x: u32, y: u32) -> bool
         ensures { result ≡ comparison_holds 32 self x y }
     {
@@ -207,7 +207,7 @@ impl Comparison {
         }
     }
 
-    /// Whether it holds at i64.
+    /// Reports whether the comparison of i64 operands holds.
     pub fn holds_i64(self, x: u64, y: u64) -> bool
         ensures { result ≡ comparison_holds 64 self x y }
     {
@@ -226,7 +226,7 @@ impl Comparison {
     }
 }
 
-/// From one type to the other.
+/// A conversion from one integer type to the other.
 #[derive(Clone, Copy, PartialEq, Eq)]
 pub enum Conversion {
     /// `i32.wrap_i64`
@@ -240,7 +240,7 @@ pub enum Conversion {
 /// A numeric instruction other than a constant.
 #[derive(Clone, Copy, PartialEq, Eq)]
 pub enum Numeric {
-    /// `eqz`: one operand, and an i32 that is 1 where it is 0, else 0.
+    /// `eqz`: one operand, and an i32 result of 1 where the operand is 0, else 0.
     Eqz(ValType),
     Comparison(ValType, Comparison),
     Unary(ValType, Unary),

@@ -1,10 +1,10 @@
-//! Instructions that hold no others.
+//! Instructions that contain no others.
 
 use crate::numeric::Numeric;
 use crate::sequence::Sequence;
 use crate::types::{ValType, Value};
 
-/// Reads and writes of locals and globals (Core 1.0, 2.4.3), each with the number of its variable.
+/// A read or write of a local or global, with the index of the variable (Core 1.0, 2.4.3).
 #[derive(Clone, Copy, PartialEq, Eq)]
 pub enum Variable {
     LocalGet(u32),
@@ -14,14 +14,16 @@ pub enum Variable {
     GlobalSet(u32),
 }
 
-/// The immediates of a load or a store (Core 1.0, 2.4.4): the alignment is 2 to the power `align`, a hint.
+/// The immediates of a load or a store (Core 1.0, 2.4.4).
+///
+/// The alignment is 2 to the power `align` bytes. It is only a hint.
 #[derive(Clone, Copy, PartialEq, Eq)]
 pub struct MemoryArgument {
     pub align: u32,
     pub offset: u32,
 }
 
-/// The loads (Core 1.0, 2.4.4): the type that is given, and the bytes that are read where they are fewer.
+/// A load (Core 1.0, 2.4.4), named by the type of its result and by the bits that it reads where they are fewer.
 #[derive(Clone, Copy, PartialEq, Eq)]
 pub enum Load {
     I32,
@@ -42,7 +44,7 @@ impl Load {
     ghost use Rattle.std.specs.Prelude.{◌≡◌};
     ghost use Rattle.wasm_ast.specs.Widths.{load_width, load_type};
 
-    /// How many bytes are read: 1, 2, 4 or 8.
+    /// Returns how many bytes the load reads: 1, 2, 4 or 8.
     pub fn width(self) -> u32
         ensures { result ≡ load_width self }
     {
@@ -54,7 +56,7 @@ impl Load {
         }
     }
 
-    /// The type of the value that is given.
+    /// Returns the type of the result.
     pub fn val_type(self) -> ValType
         ensures { result ≡ load_type self }
     {
@@ -72,7 +74,7 @@ impl Load {
     }
 }
 
-/// The stores (Core 1.0, 2.4.4): the type that is taken, and the bytes that are written where they are fewer.
+/// A store (Core 1.0, 2.4.4), named by the type of its operand and by the bits that it writes where they are fewer.
 #[derive(Clone, Copy, PartialEq, Eq)]
 pub enum Store {
     I32,
@@ -88,7 +90,7 @@ impl Store {
     ghost use Rattle.std.specs.Prelude.{◌≡◌};
     ghost use Rattle.wasm_ast.specs.Widths.{store_width, store_type};
 
-    /// How many bytes are written: 1, 2, 4 or 8.
+    /// Returns how many bytes the store writes: 1, 2, 4 or 8.
     pub fn width(self) -> u32
         ensures { result ≡ store_width self }
     {
@@ -100,7 +102,7 @@ impl Store {
         }
     }
 
-    /// The type of the value that is taken.
+    /// Returns the type of the stored operand.
     pub fn val_type(self) -> ValType
         ensures { result ≡ store_type self }
     {
@@ -111,7 +113,7 @@ impl Store {
     }
 }
 
-/// Memory instructions (Core 1.0, 2.4.4).
+/// A memory instruction (Core 1.0, 2.4.4).
 #[derive(Clone, Copy, PartialEq, Eq)]
 pub enum Memory {
     Load(Load, MemoryArgument),
@@ -120,7 +122,7 @@ pub enum Memory {
     Grow,
 }
 
-/// An instruction that neither branches nor calls: it acts on operands, locals, globals and memory alone.
+/// An instruction that neither branches nor calls. It acts only on operands, locals, globals and memory.
 #[derive(Clone, Copy, PartialEq, Eq)]
 pub enum Plain {
     Nop,
@@ -132,12 +134,12 @@ pub enum Plain {
     Memory(Memory),
 }
 
-/// An instruction that goes on elsewhere (Core 1.0, 2.4.5). Labels count from 0, the innermost.
+/// A branch or a return (Core 1.0, 2.4.5). Label 0 is the innermost.
 #[derive(Drop)]
 pub enum Branch {
     Br(u32),
     BrIf(u32),
-    /// The labels by operand, and the one for all operands past them.
+    /// The labels by operand, then the label for every operand past them.
     BrTable(Sequence<u32>, u32),
     Return,
 }

@@ -1,4 +1,4 @@
-//! Whether two values of the syntax are the same.
+//! Tests of whether two values of the syntax are the same.
 
 ghost use Rattle.std.specs.Prelude.{◌≡◌, ◌↔◌, IsTrue};
 
@@ -8,7 +8,7 @@ use crate::plain::{Branch, Plain};
 use crate::sequence::{Name, Sequence};
 use crate::types::{FuncType, Limits, ValType};
 
-/// Types whose values can be told apart.
+/// A type whose values can be compared exactly.
 pub trait Same {
     ghost use Rattle.std.specs.Prelude.{◌≡◌, ◌↔◌, IsTrue};
     ghost use Rattle.std.specs.Coded.{Coded};
@@ -260,7 +260,7 @@ fn are_same_bodies(left: &Body, right: &Body) -> bool
             return false;
         }
     }
-    // whether no instruction is left over
+    // `others` has no instruction past those of `instrs`.
     others.len() <= instrs.len()
 }
 

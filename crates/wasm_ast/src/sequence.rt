@@ -1,9 +1,9 @@
-//! Lists and names, as the syntax holds them.
+//! The lists and names that the syntax is made of.
 
 use std::alloc::Global;
 use std::marker::Model;
 
-/// Items in order, which contracts see as their list.
+/// A list of items. Its model is the list.
 #[derive(Drop)]
 pub struct Sequence<T> {
     items: Vec<T>,
@@ -20,7 +20,7 @@ impl<T> Model for Sequence<T> {
 impl<T> Sequence<T> {
     ghost use Rattle.std.specs.Prelude.{◌≡◌, []};
 
-    /// No items; it takes no memory.
+    /// Creates an empty list. It allocates nothing.
     pub fn empty(alloc: Global) -> Sequence<T>
         ensures { result ≡ [] }
     {
@@ -29,12 +29,14 @@ impl<T> Sequence<T> {
         }
     }
 
+    /// Borrows the items, in order.
     pub fn as_slice(&self) -> &[T]
         ensures { result.now ≡ self.now }
     {
         &self.items
     }
 
+    /// Takes the items out, in order.
     pub fn into_vec(self) -> Vec<T>
         ensures { result.items ≡ self }
     {
@@ -52,7 +54,7 @@ impl<T> From<Vec<T>> for Sequence<T> {
     }
 }
 
-/// The name of an import or an export (Core 1.0, 2.2.4), which contracts see as its bytes in UTF-8.
+/// The name of an import or an export (Core 1.0, 2.2.4). Its model is its bytes in UTF-8.
 #[derive(Drop)]
 pub struct Name {
     text: String,
@@ -69,6 +71,7 @@ impl Model for Name {
 impl Name {
     ghost use Rattle.std.specs.Prelude.{◌≡◌};
 
+    /// Borrows the name's text.
     pub fn as_str(&self) -> &str
         ensures { result.now ≡ self.now }
     {

@@ -20,7 +20,7 @@ impl Value {
     ghost use Rattle.std.specs.Prelude.{◌≡◌};
     ghost use Rattle.wasm_ast.specs.Values.{type_of, zero_of};
 
-    /// What a local of this type begins as (Core 1.0, 4.4.7).
+    /// Returns the value that a local of this type starts with: 0 (Core 1.0, 4.4.7).
     pub fn zero(val_type: ValType) -> Value
         ensures { result ≡ zero_of val_type }
     {
@@ -30,6 +30,7 @@ impl Value {
         }
     }
 
+    /// Returns the type of the value.
     pub fn val_type(self) -> ValType
         ensures { result ≡ type_of self }
     {
@@ -40,25 +41,26 @@ impl Value {
     }
 }
 
-/// What a block, loop or `if` gives, if anything (Core 1.0, 2.4.5).
+/// The type of the result of a block, loop or `if`, where it has one (Core 1.0, 2.4.5).
 pub type BlockType = Option<ValType>;
 
-/// What a function takes and gives (Core 1.0, 2.3.3).
+/// The parameters and the results of a function (Core 1.0, 2.3.3).
 #[derive(Drop)]
 pub struct FuncType {
     pub parameters: Sequence<ValType>,
     pub results: Sequence<ValType>,
 }
 
-/// How small a table or a memory begins and how large it may grow, in elements or pages of 65,536 bytes
-/// (Core 1.0, 2.3.4).
+/// The size that a table or a memory starts with, and the largest to which it may grow (Core 1.0, 2.3.4).
+///
+/// A table's unit is an element, a memory's a page of 65,536 bytes.
 #[derive(Clone, Copy, PartialEq, Eq)]
 pub struct Limits {
     pub minimum: u32,
     pub maximum: Option<u32>,
 }
 
-/// Whether a global may be set (Core 1.0, 2.3.7).
+/// The mutability of a global: only a `Variable` may be set (Core 1.0, 2.3.7).
 #[derive(Clone, Copy, PartialEq, Eq)]
 pub enum Mutability {
     Constant,

@@ -1,4 +1,4 @@
--- What every part of the binary format is made of (Core 1.0, 5.1 and 5.2).
+-- The elements of the binary format: numbers, vectors, names and sized parts (Core 1.0, 5.1 and 5.2).
 use Rattle.std.specs.Prelude.{◌≡◌, ℕ, ◌<◌, ◌^◌, List, [], ◌∷◌, ◌++◌, length}
 use Rattle.std.specs.List.{AllByRecursion}
 use Rattle.std.specs.Str.{IsUtf8}
@@ -6,8 +6,8 @@ use Rattle.leb.specs.Spelling.{IsUnsigned, IsSigned}
 use Rattle.wasm_ast.specs.Numeric.{signed}
 use Rattle.wasm_ast.specs.Representable.{IsByte}
 
--- How items are spelled: which bytes spell which item. An item may have several spellings, and none spells two items.
--- The bytes are one item and then another.
+-- A spelling relation says which bytes spell which item. An item may have several spellings; no bytes spell two items.
+-- The bytes are a spelling of one item, then of another.
 pub record Then (first second : List ℕ → Type 0) (bytes : List ℕ) : Type 0 where
   pub front : List ℕ
   pub back : List ℕ
@@ -23,7 +23,7 @@ Byte b bytes = bytes ≡ b ∷ []
 abbrev pub U32 : ℕ → List ℕ → Type 0
 U32 n bytes = IsUnsigned 32 bytes n
 
--- a number whose sign is not told, spelled as the signed number that it stands for (5.2.2)
+-- an uninterpreted integer, spelled as the signed number that it represents (5.2.2)
 pub record Uninterpreted (bits n : ℕ) (bytes : List ℕ) : Type 0 where
   pub fits : n < 2 ^ bits
   pub spelled : IsSigned bits bytes (signed bits n)
@@ -33,7 +33,7 @@ abbrev pub Items : {A : Type 0} → (A → List ℕ → Type 0) → List A → L
 Items item [] bytes = bytes ≡ []
 Items item (x ∷ xs) bytes = Then (item x) (Items item xs) bytes
 
--- a count and so many items (5.1.3)
+-- a count, and that many items (5.1.3)
 abbrev pub Vector : {A : Type 0} → (A → List ℕ → Type 0) → List A → List ℕ → Type 0
 Vector item xs bytes = Then (U32 (length xs)) (Items item xs) bytes
 
@@ -47,7 +47,7 @@ pub record Name (name bytes : List ℕ) : Type 0 where
   pub utf8 : IsUtf8 name
   pub spelled : Vector Byte name bytes
 
--- a size, and a content of just so many bytes
+-- a size, and a content of exactly that many bytes
 pub record Sized (content : List ℕ → Type 0) (bytes : List ℕ) : Type 0 where
   pub size : List ℕ
   pub inside : List ℕ

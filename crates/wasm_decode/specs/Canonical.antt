@@ -1,6 +1,6 @@
--- The canonical spelling of a module: the one that is written (Core 1.0, section 5). Of the spellings of each part it is
--- the shortest, so it has no custom section, no section whose vector is empty, one group for neighbouring locals of one
--- type, and no `else` where that arm is empty.
+-- The canonical spelling of a module: the one that the encoder writes (Core 1.0, section 5). It is the shortest spelling
+-- of each part. So it has no custom section, no section whose vector is empty, one group for neighbouring locals of one
+-- type, and no `else` for an empty arm.
 use Rattle.std.specs.Prelude.{ℕ, ◌+◌, Bool, true, false, if◌then◌else◌, List, [], ◌∷◌, ◌++◌, length, Option, Some, None, flat_map}
 use Rattle.leb.specs.Spelling.{u32_spelling, s32_spelling, s64_spelling}
 use Rattle.wasm_ast.specs.declared.types.ValType.{ValType}
@@ -41,15 +41,15 @@ use Rattle.wasm_decode.specs.Grammar.{magic, version}
 
 -- ---- numbers and vectors (5.1 and 5.2)
 
--- bytes behind their number: a name, the bytes of a data segment, the content of a section or of a body
+-- bytes after their length: a name, the bytes of a data segment, the content of a section or of a body
 unfoldable pub sized : List ℕ → List ℕ
 sized bytes = u32_spelling (length bytes) ++ bytes
 
--- a count and the items (5.1.3)
+-- the number of the items, then the items (5.1.3)
 unfoldable pub vector : {A : Type 0} → (A → List ℕ) → List A → List ℕ
 vector item xs = u32_spelling (length xs) ++ flat_map item xs
 
--- a section with this number and content (5.5.2)
+-- a section with this id and content (5.5.2)
 unfoldable pub section : ℕ → List ℕ → List ℕ
 section number content = number ∷ sized content
 
@@ -102,7 +102,7 @@ memory_bytes (memory.Store s a) = store_opcode s ∷ memory_argument_bytes a
 memory_bytes memory.Size = 0x3F ∷ 0x00 ∷ []
 memory_bytes memory.Grow = 0x40 ∷ 0x00 ∷ []
 
--- the signed number that the value stands for (5.2.2)
+-- a constant is spelled as a signed number (5.2.2)
 abbrev pub const_bytes : Value → List ℕ
 const_bytes (value.I32 n) = 0x41 ∷ s32_spelling (signed 32 n)
 const_bytes (value.I64 n) = 0x42 ∷ s64_spelling (signed 64 n)
@@ -122,12 +122,12 @@ branch_bytes (branch.BrIf l) = 0x0D ∷ u32_spelling l
 branch_bytes (branch.BrTable ls l) = 0x0E ∷ (vector u32_spelling ls ++ u32_spelling l)
 branch_bytes branch.Return = 0x0F ∷ []
 
--- the bytes of the arm for 0, behind its `else`, or nothing where the arm is empty
+-- the bytes of the arm for 0 after its `else`, or nothing where the arm is empty
 abbrev pub else_bytes : Code → List ℕ → List ℕ
 else_bytes code.end bytes = []
 else_bytes _ bytes = 0x05 ∷ bytes
 
--- instructions in sequence, without the byte that ends them
+-- an instruction sequence, without its `end`
 abbrev pub code_bytes : Code → List ℕ
 code_bytes code.end = []
 code_bytes (code.plain p rest) = plain_bytes p ++ code_bytes rest
@@ -144,11 +144,11 @@ code_bytes (code.choice t body other rest) =
 abbrev pub instr_bytes : Instr → List ℕ
 instr_bytes i = code_bytes (then_code i code.end)
 
--- 5.4.6
+-- an expression: a sequence and its `end` (5.4.6)
 unfoldable pub expression_bytes : Code → List ℕ
 expression_bytes c = code_bytes c ++ 0x0B ∷ []
 
--- ---- what the sections hold (5.5)
+-- ---- the items of the sections (5.5)
 
 abbrev pub import_description_bytes : ImportDescription → List ℕ
 import_description_bytes (import.Function t) = 0x00 ∷ u32_spelling t
@@ -186,13 +186,13 @@ is_same_type val_type.I32 val_type.I64 = false
 is_same_type val_type.I64 val_type.I32 = false
 is_same_type val_type.I64 val_type.I64 = true
 
--- the group that begins with so many locals of one type, and those after it
+-- the groups of the locals, where `count` locals of this type come before them
 abbrev pub groups_from : ℕ → ValType → List ValType → List (ℕ × ValType)
 groups_from count t [] = (count, t) ∷ []
 groups_from count t (u ∷ us) =
     if is_same_type u t then groups_from (count + 1) t us else (count, t) ∷ groups_from 1 u us
 
--- locals in groups: neighbours of one type stand in one
+-- locals in groups: neighbours of one type are in one group
 abbrev pub groups_of : List ValType → List (ℕ × ValType)
 groups_of [] = []
 groups_of (t ∷ ts) = groups_from 1 t ts
@@ -203,7 +203,7 @@ group_bytes g = u32_spelling g.0 ++ val_type_bytes g.1
 unfoldable pub locals_bytes : List ValType → List ℕ
 locals_bytes locals = vector group_bytes (groups_of locals)
 
--- locals and body of a function, behind their size (5.5.13)
+-- the size of a function's locals and body, then the two (5.5.13)
 unfoldable pub function_bytes : Function → List ℕ
 function_bytes f = sized (locals_bytes f.locals ++ expression_bytes f.body)
 

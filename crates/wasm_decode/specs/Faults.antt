@@ -1,4 +1,4 @@
--- What a refusal is told by.
+-- How a fault is printed.
 use Rattle.std.specs.Prelude.{List, ℕ, ◌++◌, codes}
 use Rattle.std.specs.Fmt.{decimal}
 use Rattle.wasm_decode.specs.declared.fault.DecodeRule.{DecodeRule}
@@ -19,7 +19,7 @@ rule_word rule.CountMismatch = codes "CountMismatch"
 rule_word rule.Unsupported = codes "Unsupported"
 rule_word rule.OverLimit = codes "OverLimit"
 
--- the rule and the place in the bytes
+-- the rule and the position in the bytes
 abbrev pub fault_text : DecodeFault → List ℕ
 fault_text (fault.Refused broken place) = rule_word broken ++ codes " " ++ decimal place
 fault_text fault.OutOfMemory = codes "OutOfMemory -"

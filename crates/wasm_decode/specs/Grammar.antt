@@ -1,5 +1,5 @@
--- Which bytes spell which module: the binary format (Core 1.0, section 5), integers alone. A number has many spellings,
--- custom sections may stand anywhere, and so a module has many spellings too. All that spells is of bytes, below 256.
+-- The binary format: which bytes spell which module (Core 1.0, section 5), with integers only. A number has many
+-- spellings, and custom sections may be anywhere. So a module has many spellings too. Each byte is below 256.
 use Rattle.std.specs.Prelude.{◌≡◌, ℕ, ◌≤◌, ◌⊎◌, List, [], ◌∷◌, ◌++◌, length, Option, Some, None, replicate, flat_map}
 use Rattle.std.specs.List.{AllByRecursion}
 use Rattle.wasm_ast.specs.declared.types.ValType.{ValType}
@@ -20,7 +20,7 @@ use Rattle.wasm_decode.specs.Bytes.{Then, Byte, U32, Items, Vector, ByteVector, 
 use Rattle.wasm_decode.specs.Types.{SpellsValType, SpellsFuncType, SpellsLimits, SpellsTableType, SpellsGlobalType}
 use Rattle.wasm_decode.specs.Instructions.{SpellsExpression}
 
--- ---- what the sections hold (5.5.5 to 5.5.14)
+-- ---- the items of the sections (5.5.5 to 5.5.14)
 
 abbrev pub SpellsImportDescription : ImportDescription → List ℕ → Type 0
 SpellsImportDescription (import.Function t) bytes = Then (Byte 0x00) (U32 t) bytes
@@ -49,20 +49,20 @@ SpellsElement e bytes = Then (U32 e.table) (Then (SpellsExpression e.offset) (Ve
 abbrev pub SpellsData : Data → List ℕ → Type 0
 SpellsData d bytes = Then (U32 d.memory) (Then (SpellsExpression d.offset) (ByteVector d.bytes)) bytes
 
--- so many locals of one type
+-- a group: a count, and the type of that many locals
 abbrev pub SpellsGroup : ℕ × ValType → List ℕ → Type 0
 SpellsGroup g bytes = Then (U32 g.0) (SpellsValType g.1) bytes
 
 abbrev pub locals_of : List (ℕ × ValType) → List ValType
 locals_of groups = flat_map (λ g. replicate g.0 g.1) groups
 
--- locals in groups, which may be empty, and neighbours of one type
+-- locals in groups; groups may be empty, and neighbouring groups may have the same type
 pub record SpellsLocals (locals : List ValType) (bytes : List ℕ) : Type 0 where
   pub groups : List (ℕ × ValType)
   pub grouped : locals ≡ locals_of groups
   pub spelled : Vector SpellsGroup groups bytes
 
--- locals and body of a function; its type stands in a section of its own
+-- the locals and the body of a function; its type is in another section
 abbrev pub SpellsFunction : Function → List ℕ → Type 0
 SpellsFunction f bytes = Sized (Then (SpellsLocals f.locals) (SpellsExpression f.body)) bytes
 
@@ -90,7 +90,7 @@ pub record Customs (bytes : List ℕ) : Type 0 where
   pub contents : List (List ℕ)
   pub spelled : Items SpellsCustom contents bytes
 
--- a section with this number and content
+-- a section with this id and content
 abbrev pub Section : ℕ → (List ℕ → Type 0) → List ℕ → Type 0
 Section number content bytes = Then (Byte number) (Sized content) bytes
 
@@ -98,18 +98,18 @@ Section number content bytes = Then (Byte number) (Sized content) bytes
 abbrev pub VectorSection : {A : Type 0} → ℕ → (A → List ℕ → Type 0) → List A → List ℕ → Type 0
 VectorSection number item xs bytes = Section number (Vector item xs) bytes ⊎ ((xs ≡ []) × (bytes ≡ []))
 
--- a section of the function that starts the module, or nothing where there is none
+-- the start section, or nothing where there is no start function
 abbrev pub StartSection : Option ℕ → List ℕ → Type 0
 StartSection None bytes = bytes ≡ []
 StartSection (Some f) bytes = Section 8 (U32 f) bytes
 
 -- ---- modules (5.5.15)
 
--- custom sections may stand before a section
+-- a section, with any custom sections before it
 abbrev pub AfterCustoms : (section others : List ℕ → Type 0) → List ℕ → Type 0
 AfterCustoms section others bytes = Then Customs (Then section others) bytes
 
--- the sections in their order, with custom ones between them
+-- the sections in their order, with custom sections between them
 abbrev pub SpellsSections : Module → List ℕ → Type 0
 SpellsSections m bytes =
     AfterCustoms (VectorSection 1 SpellsFuncType m.types)
@@ -130,7 +130,7 @@ magic = 0x00 ∷ 0x61 ∷ 0x73 ∷ 0x6D ∷ []
 abbrev pub version : List ℕ
 version = 0x01 ∷ 0x00 ∷ 0x00 ∷ 0x00 ∷ []
 
--- all of the bytes are the module, and they and it are within the limits
+-- the bytes spell the module, and both are within the limits
 pub record Spells (bytes : List ℕ) (m : Module) : Type 0 where
   pub sections : List ℕ
   pub spelled : SpellsSections m sections

@@ -35,7 +35,7 @@ use Rattle.wasm_decode.specs.Types.{SpellsBlockType}
 
 -- ---- numeric instructions (5.4.5)
 
--- the place of an operation among those of its group
+-- the position of an operation among those of its group
 abbrev pub comparison_place : Comparison → ℕ
 comparison_place Eq = 0
 comparison_place Ne = 1
@@ -72,7 +72,7 @@ division_place DivU = 7
 division_place RemS = 8
 division_place RemU = 9
 
--- where the tests and comparisons of a type begin, and where its arithmetic begins
+-- the first opcode of a type's tests and comparisons, and that of its arithmetic
 abbrev pub test_opcode : ValType → ℕ
 test_opcode val_type.I32 = 0x45
 test_opcode val_type.I64 = 0x50
@@ -132,14 +132,14 @@ store_opcode store.I64To32 = 0x3E
 abbrev pub SpellsMemoryArgument : MemoryArgument → List ℕ → Type 0
 SpellsMemoryArgument a bytes = Then (U32 a.align) (U32 a.offset) bytes
 
--- the byte behind the last two stands for the memory
+-- the 0 byte after `memory.size` and `memory.grow` names the memory
 abbrev pub SpellsMemory : Memory → List ℕ → Type 0
 SpellsMemory (memory.Load op a) bytes = Then (Byte (load_opcode op)) (SpellsMemoryArgument a) bytes
 SpellsMemory (memory.Store op a) bytes = Then (Byte (store_opcode op)) (SpellsMemoryArgument a) bytes
 SpellsMemory memory.Size bytes = Then (Byte 0x3F) (Byte 0x00) bytes
 SpellsMemory memory.Grow bytes = Then (Byte 0x40) (Byte 0x00) bytes
 
--- ---- instructions that hold no others (5.4.1 and 5.4.2)
+-- ---- instructions that contain no others (5.4.1 and 5.4.2)
 
 abbrev pub SpellsPlain : Plain → List ℕ → Type 0
 SpellsPlain plain.Nop bytes = Byte 0x01 bytes
@@ -157,21 +157,21 @@ SpellsBranch (branch.BrIf l) bytes = Then (Byte 0x0D) (U32 l) bytes
 SpellsBranch (branch.BrTable ls l) bytes = Then (Byte 0x0E) (Then (Vector U32 ls) (U32 l)) bytes
 SpellsBranch branch.Return bytes = Byte 0x0F bytes
 
--- the byte at the end stands for the table
+-- the 0 byte at the end names the table
 abbrev pub SpellsCallIndirect : ℕ → List ℕ → Type 0
 SpellsCallIndirect t bytes = Then (Byte 0x11) (Then (U32 t) (Byte 0x00)) bytes
 
--- ---- instructions in sequence
+-- ---- instruction sequences
 
--- this, and the byte that ends it
+-- this, and then `end`
 abbrev pub Ended : (List ℕ → Type 0) → List ℕ → Type 0
 Ended inside bytes = Then inside (Byte 0x0B) bytes
 
--- the other arm of an `if`, spelled so, and the end; an empty one may be left out (5.4.1)
+-- the arm for 0 of an `if`, and then `end`; an empty arm may be omitted with its `else` (5.4.1)
 abbrev pub Arm : (List ℕ → Type 0) → Code → List ℕ → Type 0
 Arm spelled other bytes = Then (Byte 0x05) (Ended spelled) bytes ⊎ ((other ≡ code.end) × Byte 0x0B bytes)
 
--- instructions in sequence, without the byte that ends them
+-- an instruction sequence, without its `end`
 abbrev pub SpellsCode : Code → List ℕ → Type 0
 SpellsCode code.end bytes = bytes ≡ []
 SpellsCode (code.plain p rest) bytes = Then (SpellsPlain p) (SpellsCode rest) bytes
@@ -186,6 +186,6 @@ SpellsCode (code.loop t body rest) bytes =
 SpellsCode (code.choice t body other rest) bytes =
     Then (Then (Byte 0x04) (Then (SpellsBlockType t) (Then (SpellsCode body) (Arm (SpellsCode other) other)))) (SpellsCode rest) bytes
 
--- 5.4.6
+-- an expression: a sequence and its `end` (5.4.6)
 abbrev pub SpellsExpression : Code → List ℕ → Type 0
 SpellsExpression c bytes = Ended (SpellsCode c) bytes

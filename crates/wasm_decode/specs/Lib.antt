@@ -1,11 +1,11 @@
--- What a reader has to believe: which bytes spell which module (Core 1.0, section 5), from its parts to the whole.
+-- The definitions that a reader has to believe, in reading order: which bytes spell which module (Core 1.0, section 5).
 pub mod Bytes
 pub mod Types
 pub mod Instructions
 pub mod Grammar
--- of the spellings of a module, the one that is written
+-- the spelling of a module that the encoder writes
 pub mod Canonical
--- how a refusal is told
+-- how a fault is printed
 pub mod Faults
--- what only mirrors the code, for its proofs
+-- definitions that only mirror the code, for its proofs
 pub mod inside

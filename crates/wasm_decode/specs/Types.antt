@@ -9,7 +9,7 @@ use Rattle.wasm_ast.specs.declared.types.Mutability.TheVariants as mutability
 use Rattle.wasm_ast.specs.declared.types.GlobalType.{GlobalType}
 use Rattle.wasm_decode.specs.Bytes.{Then, Byte, U32, Vector}
 
--- 5.3.1
+-- the byte of a value type (5.3.1)
 abbrev pub val_type_byte : ValType → ℕ
 val_type_byte val_type.I32 = 0x7F
 val_type_byte val_type.I64 = 0x7E
@@ -22,11 +22,11 @@ abbrev pub SpellsBlockType : Option ValType → List ℕ → Type 0
 SpellsBlockType None bytes = Byte 0x40 bytes
 SpellsBlockType (Some t) bytes = SpellsValType t bytes
 
--- 5.3.3
+-- a function type (5.3.3)
 abbrev pub SpellsFuncType : FuncType → List ℕ → Type 0
 SpellsFuncType t bytes = Then (Byte 0x60) (Then (Vector SpellsValType t.parameters) (Vector SpellsValType t.results)) bytes
 
--- from so many on, up to so many if that is told (5.3.4)
+-- limits: a minimum, and a maximum where there is one (5.3.4)
 abbrev pub SpellsRange : ℕ → Option ℕ → List ℕ → Type 0
 SpellsRange minimum None bytes = Then (Byte 0x00) (U32 minimum) bytes
 SpellsRange minimum (Some maximum) bytes = Then (Byte 0x01) (Then (U32 minimum) (U32 maximum)) bytes
@@ -38,7 +38,7 @@ SpellsLimits l bytes = SpellsRange l.minimum l.maximum bytes
 abbrev pub SpellsTableType : Limits → List ℕ → Type 0
 SpellsTableType l bytes = Then (Byte 0x70) (SpellsLimits l) bytes
 
--- 5.3.7
+-- the byte of a mutability (5.3.7)
 abbrev pub mutability_byte : Mutability → ℕ
 mutability_byte mutability.Constant = 0x00
 mutability_byte mutability.Variable = 0x01

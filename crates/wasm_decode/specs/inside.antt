@@ -1,6 +1,6 @@
--- Reading from left to right, on lists: each function that reads is proved to be one of these.
+-- Reading from left to right, on lists: each reader is proved equal to one of these functions.
 pub mod Reading
 pub mod ReadingCode
 pub mod ReadingModule
--- what functions append
+-- the bytes that the writers append
 pub mod Writing

@@ -1,4 +1,4 @@
-//! Instructions one after another, and those that hold others (Core 1.0, 5.4.1 and 5.4.6).
+//! Readers of instruction sequences, and of the instructions that contain them (Core 1.0, 5.4.1 and 5.4.6).
 
 ghost use Rattle.std.specs.Prelude.{◌≡◌, ◌<◌, ◌≤◌, ℕ, length, slice_get};
 ghost use Rattle.wasm_decode.specs.inside.Reading.{GivesAndLeaves};
@@ -15,7 +15,7 @@ const ELSE: u8 = 0x05;
 
 const END: u8 = 0x0B;
 
-/// Instructions up to the `end` that closes them (Core 1.0, 5.4.6).
+/// Reads an instruction sequence and its `end` (Core 1.0, 5.4.6).
 #[tactic(auto, unfolding(crate::specs::inside::ReadingCode::expression_at))]
 pub fn expression(alloc: Global, reader: &mut Reader) -> Result<Body, DecodeFault>
     ensures { GivesAndLeaves result reader.new (expression_at reader.old) }
@@ -23,7 +23,7 @@ pub fn expression(alloc: Global, reader: &mut Reader) -> Result<Body, DecodeFaul
     ended(alloc, reader, MAX_NESTING)
 }
 
-// Whether a byte follows that ends a sequence.
+// Reports whether the next byte ends a sequence: `end` or `else`.
 fn is_closing(reader: &Reader) -> bool
     ensures { result ≡ stops (slice_get reader.now 0) }
 {
@@ -33,7 +33,7 @@ fn is_closing(reader: &Reader) -> bool
     }
 }
 
-// Reads the byte that ends a sequence, and gives what it ends.
+// Reads the `end` of a sequence, and returns `whole`, which it ends.
 #[tactic(auto, unfolding(crate::specs::inside::ReadingCode::closed_at))]
 fn closed<T: Drop>(reader: &mut Reader, whole: T) -> Result<T, DecodeFault>
     ensures { GivesAndLeaves result reader.new (closed_as whole reader.old) }
@@ -45,7 +45,7 @@ fn closed<T: Drop>(reader: &mut Reader, whole: T) -> Result<T, DecodeFault>
     Ok(whole)
 }
 
-// Instructions and the `end` that closes them.
+// Reads an instruction sequence and its `end`.
 #[cycle(decoder)]
 #[tactic(auto, unfolding(crate::specs::inside::ReadingCode::ended_with))]
 fn ended(alloc: Global, reader: &mut Reader, levels: u32) -> Result<Body, DecodeFault>
@@ -56,7 +56,7 @@ fn ended(alloc: Global, reader: &mut Reader, levels: u32) -> Result<Body, Decode
     closed(reader, body)
 }
 
-// Instructions up to a byte that ends them, in at most so many blocks, loops and ifs inside each other.
+// Reads instructions up to a byte that ends them, with at most `levels` blocks, loops and ifs inside each other.
 #[cycle(decoder)]
 fn sequence(alloc: Global, reader: &mut Reader, levels: u32) -> Result<Body, DecodeFault>
     ensures { (n : ℕ) → length reader.old < n
@@ -71,7 +71,7 @@ fn sequence(alloc: Global, reader: &mut Reader, levels: u32) -> Result<Body, Dec
     Ok(Body::from(instrs))
 }
 
-// One instruction.
+// Reads one instruction.
 #[cycle(decoder)]
 #[tactic(auto, unfolding(crate::specs::inside::ReadingCode::instr_with))]
 fn instruction(alloc: Global, reader: &mut Reader, levels: u32) -> Result<Instr, DecodeFault>
@@ -83,7 +83,7 @@ fn instruction(alloc: Global, reader: &mut Reader, levels: u32) -> Result<Instr,
     after_opcode(alloc, reader, levels, opcode, place)
 }
 
-// What follows an opcode, which stands at `place`.
+// Reads what follows the opcode at `place`.
 #[cycle(decoder)]
 #[tactic(auto, unfolding(crate::specs::inside::ReadingCode::opcode_with, crate::specs::inside::ReadingCode::block_with, crate::specs::inside::ReadingCode::loop_with))]
 fn after_opcode(
@@ -110,7 +110,7 @@ fn after_opcode(
     }
 }
 
-// A block's type and its body, whose end is not read. The opcode stands at `place`.
+// Reads a block's type and its body, but not its end. The opcode is at `place`.
 #[cycle(decoder)]
 #[tactic(auto, unfolding(crate::specs::inside::ReadingCode::typed_with))]
 fn typed_body(
@@ -130,7 +130,7 @@ fn typed_body(
     Ok((result_type, body))
 }
 
-// What follows the opcode of an `if`, which stands at `place`.
+// Reads what follows the opcode of an `if` at `place`.
 #[cycle(decoder)]
 #[tactic(auto, unfolding(crate::specs::inside::ReadingCode::if_with))]
 fn choice(
@@ -147,7 +147,7 @@ fn choice(
     Ok(Instr::If(result_type, body, other))
 }
 
-// The other arm of an `if`, which is empty where there is no `else`, and the end.
+// Reads the arm for 0 of an `if`, which is empty where there is no `else`, and the `end`.
 #[cycle(decoder)]
 #[tactic(auto, unfolding(crate::specs::inside::ReadingCode::else_with, crate::specs::inside::ReadingCode::arm_with))]
 fn else_body(alloc: Global, reader: &mut Reader, levels: u32) -> Result<Body, DecodeFault>

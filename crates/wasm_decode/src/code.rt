@@ -1,4 +1,4 @@
-//! Locals and bodies of functions (Core 1.0, 5.5.13).
+//! Readers of the locals and bodies of functions (Core 1.0, 5.5.13).
 
 ghost use Rattle.std.specs.Prelude.{◌≡◌, ◌++◌, replicate, OnOk};
 ghost use Rattle.wasm_ast.specs.Limits.{parameters_of};
@@ -12,7 +12,7 @@ use crate::types::val_type;
 use std::alloc::{AllocError, Global};
 use wasm_ast::{FuncType, Function, MAX_LOCALS, Sequence, ValType};
 
-/// What the code section holds: a body for each of the functions, whose type numbers are given.
+/// Reads the content of the code section: a body for each function, whose type index is given.
 #[tactic(auto, unfolding(crate::specs::inside::ReadingModule::functions_at))]
 pub fn code(
     alloc: Global,
@@ -49,7 +49,7 @@ fn bodies(
     Ok(functions)
 }
 
-// How many parameters a type has: none where its number names nothing.
+// Returns how many parameters the type with this index has: 0 where there is no such type.
 fn parameter_count(types: &[FuncType], type_number: u32) -> usize
     ensures { result ≡ parameters_of types.now type_number }
 {
@@ -59,7 +59,7 @@ fn parameter_count(types: &[FuncType], type_number: u32) -> usize
     }
 }
 
-// A size, and the locals and the body of a function of just so many bytes.
+// Reads a size, and a function's locals and body of exactly that many bytes.
 #[tactic(auto, unfolding(crate::specs::inside::ReadingModule::function_at))]
 fn function(
     alloc: Global,
@@ -74,7 +74,7 @@ fn function(
     function_inside(alloc, inside, type_number, parameters)
 }
 
-// All of the bytes are the locals and the body of a function with so many parameters.
+// Reads all remaining bytes as the locals and the body of a function with `parameters` parameters.
 #[tactic(auto, unfolding(crate::specs::inside::ReadingModule::function_in))]
 fn function_inside(
     alloc: Global,
@@ -95,7 +95,7 @@ fn function_inside(
     })
 }
 
-// Locals in groups of one type, at most so many in all.
+// Reads locals in groups of one type, at most `room` in all.
 #[tactic(auto, unfolding(crate::specs::inside::ReadingModule::locals_at))]
 fn locals(alloc: Global, reader: &mut Reader, room: u32) -> Result<Sequence<ValType>, DecodeFault>
     ensures { GivesAndLeaves result reader.new (locals_at room reader.old) }

@@ -1,4 +1,4 @@
-//! Modules to the binary format (Core 1.0, section 5), in the fewest bytes.
+//! The encoder: modules to the binary format (Core 1.0, section 5), in the fewest bytes.
 
 mod fault;
 mod functions;

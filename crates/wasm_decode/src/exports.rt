@@ -1,4 +1,4 @@
-//! Exports (Core 1.0, 5.5.10).
+//! Readers of exports (Core 1.0, 5.5.10).
 
 ghost use Rattle.wasm_decode.specs.inside.Reading.{GivesAndLeaves};
 ghost use Rattle.wasm_decode.specs.inside.ReadingModule.{export_at, export_description_at};

@@ -1,4 +1,4 @@
-//! Why bytes are no module.
+//! The faults of the decoder.
 
 ghost use Rattle.std.specs.Prelude.{◌≡◌, Some};
 ghost use Rattle.wasm_decode.specs.declared.fault.DecodeFault.TheVariants.{OutOfMemory};
@@ -8,37 +8,38 @@ use std::alloc::{AllocError, AllocFailed};
 use std::error::Error;
 use std::fmt;
 
-/// A rule that bytes break. The place in the bytes, from 0, is told beside it.
+/// A rule that the bytes break. Its position in the bytes, counted from 0, is reported with it.
 #[derive(Clone, Copy)]
 pub enum DecodeRule {
-    /// The bytes do not begin with `00 61 73 6D`; the place is 0.
+    /// The bytes do not start with `00 61 73 6D`. The position is 0.
     Magic,
-    /// The four bytes after those are not version 1; the place is 4.
+    /// The four bytes after those are not version 1. The position is 4.
     Version,
-    /// The bytes end within the module; the place is their end.
+    /// The bytes end within the module. The position is their end.
     Truncated,
-    /// A number is not spelled as its width allows (Core 1.0, 5.2.2); the place is its first byte.
+    /// A number is not spelled as its width allows (Core 1.0, 5.2.2). The position is its first byte.
     Leb,
-    /// A section stands twice, or behind one that has to follow it; the place is its number.
+    /// A section occurs twice, or after one that must follow it. The position is that of its id.
     SectionOrder,
-    /// A section or a body is longer than its size says, with its end as the place, or shorter, with the first byte
-    /// that is left over.
+    /// A section or a body is longer than its size, and the position is its end. Or it is shorter, and the position is
+    /// the first byte that remains.
     SectionSize,
-    /// A byte stands where the format has no such byte; the place is that byte.
+    /// The format has no such byte here. The position is that byte.
     BadByte,
-    /// A name is not in UTF-8; the place is the first byte of its text.
+    /// A name is not UTF-8. The position is the first byte of its text.
     Utf8,
-    /// There are not as many bodies as functions; the place is the number of bodies, or the end of the file where there
-    /// is no code section.
+    /// There are not as many bodies as functions. The position is where their count starts, or the end of the file where
+    /// there is no code section.
     CountMismatch,
-    /// The format knows this byte, and this decoder does not read what it stands for.
+    /// The byte is for something that this decoder does not support: floats, or a version after 1.0.
     Unsupported,
-    /// A number is above its limit, with its first byte as the place, or the file is too long, with the limit.
+    /// A number is above its limit, and the position is its first byte. Or the file is too long, and the position is the
+    /// limit.
     OverLimit,
 }
 
 impl DecodeRule {
-    // The rule's name.
+    // Returns the rule's name, as it is printed.
     fn word(self) -> &'static str
         ensures { result.now ≡ rule_word self }
     {
@@ -58,12 +59,13 @@ impl DecodeRule {
     }
 }
 
-/// Why bytes are no module. Faults are met from left to right. It is shown as the rule's word and the place.
+/// The reason why bytes are not a module: the first fault from the left. It is printed as the rule's name and the
+/// position.
 #[derive(Clone, Copy)]
 pub enum DecodeFault {
-    /// The bytes break the rule at this place.
+    /// The bytes break the rule at this position.
     Refused(DecodeRule, usize),
-    /// Memory ran out.
+    /// An allocation failed.
     OutOfMemory,
 }
 

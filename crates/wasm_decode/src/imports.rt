@@ -1,4 +1,4 @@
-//! Imports (Core 1.0, 5.5.5).
+//! Readers of imports (Core 1.0, 5.5.5).
 
 ghost use Rattle.std.specs.Prelude.{◌≡◌};
 ghost use Rattle.wasm_ast.specs.Limits.{imported_functions as functions_of};
@@ -13,7 +13,7 @@ use crate::types::{global_type, limits, table_type};
 use std::alloc::Global;
 use wasm_ast::{Import, ImportDescription, MAX_FUNCTIONS, Sequence};
 
-/// What the import section holds; its functions are at most as many as a module may have.
+/// Reads the content of the import section. It may import at most as many functions as a module may have.
 #[tactic(auto, unfolding(crate::specs::inside::ReadingModule::imports_at))]
 pub fn imports(alloc: Global, reader: &mut Reader) -> Result<Sequence<Import>, DecodeFault>
     ensures { GivesAndLeaves result reader.new (imports_at reader.old) }
@@ -26,7 +26,7 @@ pub fn imports(alloc: Global, reader: &mut Reader) -> Result<Sequence<Import>, D
     Ok(imports)
 }
 
-/// How many of the imports are functions.
+/// Counts the imports that are functions.
 pub fn imported_functions(imports: &[Import]) -> usize
     ensures { result ≡ functions_of imports.now }
 {
@@ -63,7 +63,7 @@ fn import_description(reader: &mut Reader) -> Result<ImportDescription, DecodeFa
     import_of(reader, kind, place)
 }
 
-// What follows the byte of a kind, which stands at `place`.
+// Reads what follows the byte of a kind at `place`.
 #[tactic(auto, unfolding(crate::specs::inside::ReadingModule::import_of))]
 fn import_of(reader: &mut Reader, kind: u8, place: usize) -> Result<ImportDescription, DecodeFault>
     ensures { GivesAndLeaves result reader.new (import_of kind reader.old) }

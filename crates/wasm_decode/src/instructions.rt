@@ -1,4 +1,4 @@
-//! Instructions that hold no others (Core 1.0, 5.4).
+//! Readers of instructions that contain no others (Core 1.0, 5.4).
 
 ghost use Rattle.std.specs.Prelude.{◌≡◌};
 ghost use Rattle.wasm_decode.specs.inside.Reading.{GivesAndLeaves, IsRefusal};
@@ -12,7 +12,7 @@ use crate::reader::Reader;
 use std::alloc::Global;
 use wasm_ast::{Branch, Instr, MAX_LABELS, Plain, Value, Variable};
 
-/// What follows the opcode of an instruction that holds no others; the opcode stands at `place`.
+/// Reads what follows the opcode of an instruction that contains no others. The opcode is at `place`.
 #[tactic(auto, unfolding(crate::specs::inside::ReadingCode::flat_at))]
 pub fn flat(
     alloc: Global,
@@ -53,7 +53,7 @@ fn call_indirect(reader: &mut Reader) -> Result<Instr, DecodeFault>
     after_zero(reader, Instr::CallIndirect(type_number))
 }
 
-// What follows an opcode from 0C to 0F.
+// Reads what follows an opcode from 0C to 0F: a branch or a return.
 #[tactic(auto, unfolding(crate::specs::inside::ReadingCode::branch_at, crate::specs::inside::ReadingCode::br_at, crate::specs::inside::ReadingCode::br_if_at))]
 fn branch(alloc: Global, reader: &mut Reader, opcode: u8) -> Result<Branch, DecodeFault>
     ensures { GivesAndLeaves result reader.new (branch_at opcode reader.old) }
@@ -81,7 +81,7 @@ fn branch_table(alloc: Global, reader: &mut Reader) -> Result<Branch, DecodeFaul
     Ok(Branch::BrTable(labels, default))
 }
 
-// What follows the opcode of an instruction that neither branches nor calls.
+// Reads what follows the opcode of an instruction that neither branches nor calls.
 #[tactic(auto, unfolding(crate::specs::inside::ReadingCode::plain_at, crate::specs::inside::ReadingCode::numeric_at))]
 fn plain(reader: &mut Reader, opcode: u8, place: usize) -> Result<Plain, DecodeFault>
     ensures { GivesAndLeaves result reader.new (plain_at opcode reader.old) }
@@ -120,7 +120,7 @@ fn i64_constant(reader: &mut Reader) -> Result<Plain, DecodeFault>
     Ok(Plain::Const(Value::I64(number.cast_unsigned())))
 }
 
-// What follows an opcode from 20 to 24.
+// Reads what follows an opcode from 20 to 24: the index of a local or global.
 #[tactic(auto, unfolding(crate::specs::inside::ReadingCode::variable_at))]
 fn variable(reader: &mut Reader, opcode: u8) -> Result<Plain, DecodeFault>
     ensures { GivesAndLeaves result reader.new (variable_at opcode reader.old) }
@@ -141,7 +141,7 @@ fn accessed(opcode: u8, number: u32) -> Variable
     }
 }
 
-// An opcode that is not read is one of floats, or it is none.
+// Returns the fault of an opcode that is not read: `Unsupported` for floats, else `BadByte`.
 fn no_instruction(opcode: u8, place: usize) -> DecodeFault
     ensures { IsRefusal result }
 {

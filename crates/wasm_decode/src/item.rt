@@ -1,4 +1,4 @@
-//! What stands one after another in a vector.
+//! Readers of vectors (Core 1.0, 5.1.3).
 
 ghost use Rattle.std.specs.Prelude.{◌≡◌, List, ℕ, Option};
 ghost use Rattle.wasm_decode.specs.inside.Reading.{Gives, GivesAndLeaves, vector_at, items_at, u32_at};
@@ -8,9 +8,9 @@ use crate::reader::Reader;
 use std::alloc::Global;
 use wasm_ast::Sequence;
 
-/// A form of bytes that can be read from their front.
+/// An item of a vector, which can be read from the front of the bytes.
 pub trait Item {
-    /// What they are read as.
+    /// The type of the item that is read.
     type Read;
 
     ghost item_at: { List ℕ → Option (Self.Read × List ℕ) };
@@ -29,7 +29,7 @@ impl Item for u32 {
     }
 }
 
-/// A count that is at most so many, and so many items (Core 1.0, 5.1.3).
+/// Reads a count of at most `most`, and that many items (Core 1.0, 5.1.3). A greater count is `OverLimit`.
 #[tactic(auto, unfolding(crate::specs::inside::Reading::vector_at))]
 pub fn vector<T: Item>(
     alloc: Global,

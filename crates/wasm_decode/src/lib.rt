@@ -1,4 +1,4 @@
-//! Modules from the binary format (Core 1.0, section 5).
+//! The decoder and the encoder of the binary format (Core 1.0, section 5).
 #![tactic(auto)]
 
 mod body;

@@ -1,4 +1,4 @@
-//! Memory instructions (Core 1.0, 5.4.4).
+//! Readers of memory instructions (Core 1.0, 5.4.4).
 
 ghost use Rattle.std.specs.Prelude.{◌≡◌, ◌-◌, ◌≤◌};
 ghost use Rattle.wasm_decode.specs.inside.Reading.{GivesAndLeaves};
@@ -8,7 +8,7 @@ use crate::fault::{DecodeFault, DecodeRule};
 use crate::reader::Reader;
 use wasm_ast::{Load, MAX_ALIGN, Memory, MemoryArgument, Store};
 
-/// What follows an opcode from `28` to `40`, which stands at `place`.
+/// Reads what follows an opcode from 28 to 40 at `place`.
 #[tactic(auto, unfolding(crate::specs::inside::ReadingCode::memory_at))]
 pub fn memory(reader: &mut Reader, opcode: u8, place: usize) -> Result<Memory, DecodeFault>
     requires { 0x28 ≤ opcode }
@@ -46,7 +46,7 @@ fn store(reader: &mut Reader, opcode: u8, place: usize) -> Result<Memory, Decode
     Ok(Memory::Store(store, argument))
 }
 
-// The load at a place among the loads; those of floats are not read.
+// Returns the load at a position among the loads. Those of floats are not supported.
 fn load_at(place: u8) -> Option<Load>
     ensures { result ≡ load_of place }
 {
@@ -67,7 +67,7 @@ fn load_at(place: u8) -> Option<Load>
     })
 }
 
-// The store at a place among the stores; those of floats are not read.
+// Returns the store at a position among the stores. Those of floats are not supported.
 fn store_at(place: u8) -> Option<Store>
     ensures { result ≡ store_of place }
 {
@@ -96,7 +96,7 @@ fn memory_argument(reader: &mut Reader) -> Result<MemoryArgument, DecodeFault>
     Ok(MemoryArgument { align, offset })
 }
 
-/// Reads the byte that stands for the only memory or table, and gives what it stands in.
+/// Reads the 0 byte that names the only memory or table, and returns `whole`.
 #[tactic(auto, unfolding(crate::specs::inside::ReadingCode::after_zero))]
 pub fn after_zero<T: Drop>(reader: &mut Reader, whole: T) -> Result<T, DecodeFault>
     ensures { GivesAndLeaves result reader.new (after_zero whole reader.old) }

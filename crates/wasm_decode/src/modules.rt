@@ -1,4 +1,4 @@
-//! Modules (Core 1.0, 5.5.15).
+//! The reader of modules (Core 1.0, 5.5.15).
 
 ghost use Rattle.std.specs.Prelude.{◌≡◌, IfOk, MatchResult};
 ghost use Rattle.wasm_ast.specs.declared.module.Module.{Module as AnyModule};
@@ -24,19 +24,23 @@ pub const MAGIC: [u8; 4] = *b"\0asm";
 
 pub const VERSION: [u8; 4] = [1, 0, 0, 0];
 
-/// The module that the bytes spell, all of the bytes (Core 1.0, section 5).
+/// Decodes the module that all the bytes spell (Core 1.0, section 5).
 ///
-/// Custom sections are skipped. Faults are met from left to right, each with its place, and
-/// `OutOfMemory` comes only where memory ran out. Refused as `Unsupported` are the types and
-/// instructions of floats and section 12, which came after 1.0. Refused as `OverLimit` are files of
-/// more than 1,048,576 bytes, types of more than 1,024 parameters or results, modules of more than
-/// 1,024 functions, imports counted, functions of more than 1,024 parameters and locals, more than
-/// 1,024 labels of a `br_table` beside its default, more than 128 blocks, loops and ifs inside each
-/// other, and alignments above 2 to the power 31.
+/// Custom sections are skipped. The fault is the first from the left, with its position. It is
+/// `OutOfMemory` only where an allocation fails. It is `Unsupported` for types and instructions of
+/// floats, and for section 12, which is later than 1.0. It is `OverLimit` for:
+///
+/// - a file of more than 1,048,576 bytes;
+/// - a type of more than 1,024 parameters or more than 1,024 results;
+/// - a module of more than 1,024 functions, imports included;
+/// - a function of more than 1,024 parameters and locals together;
+/// - a `br_table` of more than 1,024 labels, not counting its default;
+/// - more than 128 blocks, loops and ifs inside each other;
+/// - an alignment above 2 to the power 31.
 pub fn decode(alloc: Global, bytes: &[u8]) -> Result<Module, DecodeFault>
-    // What is read is spelled so.
+    // The bytes spell the module returned.
     ensures found { IfOk result (Spells bytes.now) }
-    // What is spelled so is read, unless memory runs out.
+    // A module that the bytes spell is returned, unless memory runs out.
     ensures only { (m : AnyModule) → Spells bytes.now m
         → MatchResult result (λ x. x ≡ m) (λ fault. fault ≡ DecodeFault.OutOfMemory) }
 {
@@ -64,7 +68,7 @@ fn module(alloc: Global, bytes: &[u8]) -> Result<Module, DecodeFault>
     sections(alloc, &mut reader)
 }
 
-// Reads these bytes; another byte in their place is the given fault.
+// Reads exactly these bytes. Any other byte is the given fault.
 #[tactic(auto, unfolding(crate::specs::inside::ReadingModule::after_bytes))]
 fn expect(reader: &mut Reader, wanted: &[u8], fault: DecodeFault) -> Result<(), DecodeFault>
     requires { IsRefusal fault }
@@ -87,7 +91,7 @@ fn sections(alloc: Global, reader: &mut Reader) -> Result<Module, DecodeFault>
     Ok(module)
 }
 
-// Reads all sections into a module, in place of what it has.
+// Reads all sections into a module, and replaces its contents.
 #[tactic(auto, unfolding(crate::specs::inside::ReadingModule::filled_at))]
 fn fill(alloc: Global, reader: &mut Reader, module: &mut Module) -> Result<(), DecodeFault>
     ensures { Gives (λ _. «module».new) result (filled_at «module».old reader.old) }
@@ -99,7 +103,7 @@ fn fill(alloc: Global, reader: &mut Reader, module: &mut Module) -> Result<(), D
     remaining(alloc, reader, &type_numbers, module)
 }
 
-// The sections behind the type numbers of functions, to the end of the file.
+// Reads the sections after the function section, to the end of the file.
 #[tactic(auto, unfolding(crate::specs::inside::ReadingModule::remaining_at))]
 fn remaining(
     alloc: Global,
@@ -130,7 +134,7 @@ fn types_and_imports(
     Ok(())
 }
 
-// The function section, where so many functions are imported.
+// Reads the function section of a module that imports `imported` functions.
 #[tactic(auto, unfolding(crate::specs::inside::ReadingModule::numbers_at))]
 fn type_numbers(
     alloc: Global,
@@ -143,7 +147,7 @@ fn type_numbers(
     vector_section::<u32>(alloc, reader, FUNCTION, room)
 }
 
-// Tables, memories and globals.
+// Reads tables, memories and globals.
 #[tactic(auto, unfolding(crate::specs::inside::ReadingModule::spaces_at))]
 fn spaces(alloc: Global, reader: &mut Reader, module: &mut Module) -> Result<(), DecodeFault>
     ensures { Gives (λ _. («module».new, reader.new)) result (spaces_at «module».old reader.old) }
@@ -154,7 +158,7 @@ fn spaces(alloc: Global, reader: &mut Reader, module: &mut Module) -> Result<(),
     Ok(())
 }
 
-// Exports, the function that starts the module, and elements.
+// Reads exports, the start function, and elements.
 #[tactic(auto, unfolding(crate::specs::inside::ReadingModule::exports_at))]
 fn exports(alloc: Global, reader: &mut Reader, module: &mut Module) -> Result<(), DecodeFault>
     ensures { Gives (λ _. («module».new, reader.new)) result (exports_at «module».old reader.old) }
@@ -165,7 +169,7 @@ fn exports(alloc: Global, reader: &mut Reader, module: &mut Module) -> Result<()
     Ok(())
 }
 
-// Functions with these type numbers, and data.
+// Reads functions with these type indices, and data.
 #[tactic(auto, unfolding(crate::specs::inside::ReadingModule::contents_at))]
 fn contents(
     alloc: Global,

@@ -1,4 +1,4 @@
-//! Names.
+//! Readers of names (Core 1.0, 5.2.4).
 
 ghost use Rattle.wasm_decode.specs.inside.Reading.{Gives, GivesAndLeaves, name_at};
 
@@ -8,7 +8,7 @@ use std::alloc::Global;
 use std::str;
 use wasm_ast::Name;
 
-/// The text of a name (Core 1.0, 5.2.4), where it lies in the bytes.
+/// Reads a name, and borrows its text from the bytes (Core 1.0, 5.2.4).
 #[tactic(auto, unfolding(crate::specs::inside::Reading::name_at, crate::specs::inside::Reading::part_at))]
 pub fn text<'a>(reader: &mut Reader<'a>) -> Result<&'a str, DecodeFault>
     ensures { Gives (λ text. (text.now, reader.new)) result (name_at reader.old) }
@@ -22,7 +22,7 @@ pub fn text<'a>(reader: &mut Reader<'a>) -> Result<&'a str, DecodeFault>
     }
 }
 
-/// A name (Core 1.0, 5.2.4).
+/// Reads a name, and copies its text (Core 1.0, 5.2.4).
 pub fn name(alloc: Global, reader: &mut Reader) -> Result<Name, DecodeFault>
     ensures { GivesAndLeaves result reader.new (name_at reader.old) }
 {

@@ -1,11 +1,11 @@
-//! Numeric instructions (Core 1.0, 5.4.5).
+//! The numeric instructions by opcode (Core 1.0, 5.4.5).
 
 ghost use Rattle.std.specs.Prelude.{◌≡◌};
 ghost use Rattle.wasm_decode.specs.inside.ReadingCode.{numeric_of, test_of, arithmetic_of};
 
 use wasm_ast::{Binary, Comparison, Conversion, Division, Numeric, Unary, ValType};
 
-/// The instruction with this opcode, or `None` where it is no numeric one, a constant, or one on floats.
+/// Returns the instruction with this opcode, or `None` where it is not numeric, a constant, or on floats.
 #[tactic(auto, unfolding(crate::specs::inside::ReadingCode::numeric_of))]
 pub fn numeric(opcode: u8) -> Option<Numeric>
     ensures { result ≡ numeric_of opcode }
@@ -22,7 +22,7 @@ pub fn numeric(opcode: u8) -> Option<Numeric>
     }
 }
 
-// The test or comparison at a place among those of its type.
+// Returns the test or comparison at a position among those of its type.
 fn test(operand: ValType, place: u8) -> Option<Numeric>
     ensures { result ≡ test_of operand place }
 {
@@ -43,7 +43,7 @@ fn test(operand: ValType, place: u8) -> Option<Numeric>
     Some(Numeric::Comparison(operand, comparison))
 }
 
-// The arithmetic at a place among that of its type.
+// Returns the arithmetic instruction at a position among those of its type.
 fn arithmetic(operand: ValType, place: u8) -> Option<Numeric>
     ensures { result ≡ arithmetic_of operand place }
 {

@@ -1,4 +1,4 @@
-//! A reader of bytes from left to right.
+//! A reader of bytes, from left to right.
 
 ghost use Rattle.std.specs.Prelude.{◌≡◌, ◌≤◌, ◌<◌, drop, length, slice_get, true, false, OnOk, IfErr};
 ghost use Rattle.wasm_decode.specs.inside.Reading.{Gives, GivesAndLeaves, IsRefusal, byte_at, u32_at, signed_number_at, take_at, part_at, is_empty};
@@ -7,21 +7,21 @@ use crate::fault::{DecodeFault, DecodeRule};
 use leb::{LebFault, read_s32, read_s64, read_u32};
 use std::marker::Model;
 
-/// What ends the bytes of a reader.
+/// The kind of end of a reader's bytes, which decides the fault where they end too early.
 #[derive(Clone, Copy)]
 enum End {
     /// The end of the file.
     File,
-    /// The end of a section or a body that lies in the file.
+    /// The end of a section or a body in the file.
     Part,
 }
 
-/// The bytes of a file, of a section or of a body that are not read yet, which contracts see as their list.
+/// A reader of a file, a section or a body. Its model is the list of the bytes that are not read yet.
 #[derive(Drop)]
 pub struct Reader<'a> {
-    // the file up to the end of what is read
+    // the file, up to the end of the part that is read
     bytes: &'a [u8],
-    // the place in the file of the next byte
+    // the position in the file of the next byte
     at: usize,
     end: End,
 }
@@ -37,7 +37,7 @@ impl<'a> Model for Reader<'a> {
 }
 
 impl<'a> Reader<'a> {
-    /// A reader of a whole file.
+    /// Creates a reader of a whole file.
     pub fn new(bytes: &'a [u8]) -> Reader<'a>
         ensures { result ≡ bytes.now }
     {
@@ -48,12 +48,12 @@ impl<'a> Reader<'a> {
         }
     }
 
-    /// The place in the file of the next byte.
+    /// Returns the position in the file of the next byte.
     pub fn place(&self) -> usize {
         self.at
     }
 
-    // What it means that the bytes end here.
+    // Returns the fault of bytes that end too early: `Truncated` in a file, `SectionSize` in a section or a body.
     fn past_end(&self) -> DecodeFault
         ensures { IsRefusal result }
     {
@@ -63,7 +63,7 @@ impl<'a> Reader<'a> {
         }
     }
 
-    /// The next byte.
+    /// Reads the next byte.
     #[tactic(auto, unfolding(crate::specs::inside::Reading::byte_at))]
     pub fn byte(&mut self) -> Result<u8, DecodeFault>
         ensures { GivesAndLeaves result self.new (byte_at self.old) }
@@ -77,7 +77,7 @@ impl<'a> Reader<'a> {
         }
     }
 
-    // What it means that a number is not read here.
+    // Returns the fault of a number that is not spelled correctly here.
     fn misspelled(&self, fault: LebFault) -> DecodeFault
         ensures { IsRefusal result }
     {
@@ -90,14 +90,14 @@ impl<'a> Reader<'a> {
         }
     }
 
-    /// The next byte, which is not read yet, or `None` at the end.
+    /// Returns the next byte without reading it, or `None` at the end.
     pub fn peek(&self) -> Option<u8>
         ensures { result ≡ slice_get self.now 0 }
     {
         self.bytes.get(self.at).copied()
     }
 
-    /// Passes the next byte, which has been looked at.
+    /// Skips the next byte. There must be one.
     pub fn pass(&mut self)
         requires { 0 < length self.old }
         ensures { self.new ≡ drop 1 self.old }
@@ -105,7 +105,7 @@ impl<'a> Reader<'a> {
         self.at += 1;
     }
 
-    /// The next number of 32 bits (Core 1.0, 5.2.2).
+    /// Reads an unsigned number of 32 bits (Core 1.0, 5.2.2).
     #[tactic(auto, unfolding(crate::specs::inside::Reading::u32_at))]
     pub fn u32(&mut self) -> Result<u32, DecodeFault>
         ensures { GivesAndLeaves result self.new (u32_at self.old) }
@@ -119,7 +119,7 @@ impl<'a> Reader<'a> {
         }
     }
 
-    /// The next signed number of 32 bits (Core 1.0, 5.2.2).
+    /// Reads a signed number of 32 bits (Core 1.0, 5.2.2).
     #[tactic(auto, unfolding(crate::specs::inside::Reading::signed_number_at))]
     pub fn s32(&mut self) -> Result<i32, DecodeFault>
         ensures { GivesAndLeaves result self.new (signed_number_at 32 self.old) }
@@ -133,7 +133,7 @@ impl<'a> Reader<'a> {
         }
     }
 
-    /// The next signed number of 64 bits (Core 1.0, 5.2.2).
+    /// Reads a signed number of 64 bits (Core 1.0, 5.2.2).
     #[tactic(auto, unfolding(crate::specs::inside::Reading::signed_number_at))]
     pub fn s64(&mut self) -> Result<i64, DecodeFault>
         ensures { GivesAndLeaves result self.new (signed_number_at 64 self.old) }
@@ -147,7 +147,7 @@ impl<'a> Reader<'a> {
         }
     }
 
-    /// The next bytes, so many.
+    /// Reads the next `len` bytes.
     #[tactic(auto, unfolding(crate::specs::inside::Reading::take_at))]
     pub fn take(&mut self, len: u32) -> Result<&'a [u8], DecodeFault>
         ensures { Gives (λ s. (s.now, self.new)) result (take_at len self.old) }
@@ -162,7 +162,7 @@ impl<'a> Reader<'a> {
         }
     }
 
-    /// A size, and a reader of the section or the body of just so many bytes that follows it.
+    /// Reads a size, and returns a reader of the section or body of exactly that many bytes after it.
     #[tactic(auto, unfolding(crate::specs::inside::Reading::part_at, crate::specs::inside::Reading::take_at))]
     pub fn part(&mut self) -> Result<Reader<'a>, DecodeFault>
         ensures { GivesAndLeaves result self.new (part_at self.old) }
@@ -180,7 +180,7 @@ impl<'a> Reader<'a> {
         })
     }
 
-    /// Ends a section or a body: bytes that are left over are refused, at the first of them.
+    /// Ends a section or a body. Bytes that remain are a `SectionSize` fault, at the first of them.
     pub fn finish(self) -> Result<(), DecodeFault>
         ensures ok { OnOk result (is_empty self.entry ≡ true) }
         ensures err { IfErr result (λ fault. IsRefusal fault × (is_empty self.entry ≡ false)) }

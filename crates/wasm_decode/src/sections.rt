@@ -1,4 +1,4 @@
-//! Sections (Core 1.0, 5.5.2), and the custom ones between them.
+//! Readers of sections (Core 1.0, 5.5.2), and of the custom sections between them.
 
 ghost use Rattle.std.specs.Prelude.{◌≡◌, Some, None, [], true, false, OnOk, IfErr};
 ghost use Rattle.wasm_decode.specs.inside.Reading.{Gives, GivesAndLeaves, IsRefusal, found, is_empty};
@@ -13,7 +13,7 @@ use crate::reader::Reader;
 use std::alloc::Global;
 use wasm_ast::{Data, FuncType, Function, Import, Sequence};
 
-// The numbers of the sections (Core 1.0, 5.5.2).
+// The ids of the sections (Core 1.0, 5.5.2).
 const CUSTOM: u8 = 0;
 
 pub const TYPE: u8 = 1;
@@ -50,7 +50,7 @@ pub fn skip_customs(reader: &mut Reader) -> Result<(), DecodeFault>
     Ok(())
 }
 
-// Skips what follows the number of a custom section; its name is looked at.
+// Skips what follows the id of a custom section. Its name is checked.
 #[tactic(auto, unfolding(crate::specs::inside::ReadingModule::custom_at))]
 fn skip_custom(reader: &mut Reader) -> Result<(), DecodeFault>
     ensures { Gives (λ _. reader.new) result (custom_at reader.old) }
@@ -60,7 +60,7 @@ fn skip_custom(reader: &mut Reader) -> Result<(), DecodeFault>
     Ok(())
 }
 
-/// The section of a vector with this number, or nothing where it is absent, and the custom sections behind it.
+/// Reads the section of a vector with this id, empty where it is absent, and skips the custom sections after it.
 #[tactic(auto, unfolding(crate::specs::inside::ReadingModule::section_with))]
 pub fn vector_section<T: Item>(
     alloc: Global,
@@ -79,7 +79,7 @@ where
     closed(inside, reader, items)
 }
 
-/// The import section (Core 1.0, 5.5.5), or nothing where it is absent, and the custom sections behind it.
+/// Reads the import section (Core 1.0, 5.5.5), empty where it is absent, and skips the custom sections after it.
 #[tactic(auto, unfolding(crate::specs::inside::ReadingModule::section_with))]
 pub fn import_section(alloc: Global, reader: &mut Reader) -> Result<Sequence<Import>, DecodeFault>
     ensures { GivesAndLeaves result reader.new (imports_in reader.old) }
@@ -91,7 +91,7 @@ pub fn import_section(alloc: Global, reader: &mut Reader) -> Result<Sequence<Imp
     closed(inside, reader, items)
 }
 
-/// The start section (Core 1.0, 5.5.11), or nothing where it is absent, and the custom sections behind it.
+/// Reads the start section (Core 1.0, 5.5.11), `None` where it is absent, and skips the custom sections after it.
 #[tactic(auto, unfolding(crate::specs::inside::ReadingModule::section_with, crate::specs::inside::ReadingModule::start_at))]
 pub fn start_section(reader: &mut Reader) -> Result<Option<u32>, DecodeFault>
     ensures { GivesAndLeaves result reader.new (start_in reader.old) }
@@ -103,8 +103,8 @@ pub fn start_section(reader: &mut Reader) -> Result<Option<u32>, DecodeFault>
     closed(inside, reader, Some(function))
 }
 
-/// The code section (Core 1.0, 5.5.13), and the custom sections behind it. It may be absent where
-/// there are no functions.
+/// Reads the code section (Core 1.0, 5.5.13), and skips the custom sections after it. It may be absent
+/// where there are no functions.
 #[tactic(auto, unfolding(crate::specs::inside::ReadingModule::section_with))]
 pub fn code_section(
     alloc: Global,
@@ -124,7 +124,7 @@ pub fn code_section(
     closed(inside, reader, functions)
 }
 
-// The fault of a module whose functions have no bodies: it is met at the end of the file, behind the section of data.
+// Returns the fault of a module whose functions have no bodies. It is at the end of the file, after the data section.
 fn without_bodies(alloc: Global, reader: &mut Reader) -> DecodeFault {
     let data = vector_section::<Data>(alloc, reader, DATA, u32::MAX);
     if let Err(fault) = data {
@@ -136,7 +136,7 @@ fn without_bodies(alloc: Global, reader: &mut Reader) -> DecodeFault {
     }
 }
 
-/// Ends the module: a section that still comes is refused.
+/// Checks that no section remains at the end of the module.
 pub fn end_of_sections(reader: &Reader) -> Result<(), DecodeFault>
     ensures ok { OnOk result (is_empty reader.now ≡ true) }
     ensures err { IfErr result (λ fault. IsRefusal fault × (is_empty reader.now ≡ false)) }
@@ -147,7 +147,7 @@ pub fn end_of_sections(reader: &Reader) -> Result<(), DecodeFault>
     }
 }
 
-// Ends a section whose content was read, skips the custom sections behind it, and gives the content.
+// Ends a section whose content was read, skips the custom sections after it, and returns the content.
 fn closed<T: Drop>(inside: Reader, reader: &mut Reader, content: T) -> Result<T, DecodeFault>
     ensures { GivesAndLeaves result reader.new
         (closed_behind (found (content, inside.entry)) reader.old) }
@@ -157,7 +157,7 @@ fn closed<T: Drop>(inside: Reader, reader: &mut Reader, content: T) -> Result<T,
     Ok(content)
 }
 
-// The content of the section with this number, or `None` where it is absent: a later one comes, or nothing.
+// Returns a reader of the section with this id, or `None` where a later section or the end comes next.
 #[tactic(auto, unfolding(crate::specs::inside::ReadingModule::section_at))]
 fn section<'a>(reader: &mut Reader<'a>, number: u8) -> Result<Option<Reader<'a>>, DecodeFault>
     ensures { GivesAndLeaves result reader.new (section_at number reader.old) }
@@ -176,14 +176,14 @@ fn section<'a>(reader: &mut Reader<'a>, number: u8) -> Result<Option<Reader<'a>>
     }
 }
 
-// Whether the section may come behind the one with this number.
+// Reports whether the section `id` may come after the section `number`.
 fn is_later(id: u8, number: u8) -> bool
     ensures { result ≡ may_follow number id }
 {
     number < id && id <= DATA
 }
 
-// A section that cannot come now is out of order, or one that came after 1.0, or none.
+// Returns the fault of a section that may not come here: out of order, later than 1.0, or not a section.
 fn no_section(id: u8, place: usize) -> DecodeFault
     ensures { IsRefusal result }
 {

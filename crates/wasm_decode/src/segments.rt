@@ -1,4 +1,4 @@
-//! Globals, elements and data (Core 1.0, 5.5.9, 5.5.12 and 5.5.14).
+//! Readers of globals, elements and data (Core 1.0, 5.5.9, 5.5.12 and 5.5.14).
 
 ghost use Rattle.wasm_decode.specs.inside.Reading.{GivesAndLeaves, part_at};
 ghost use Rattle.wasm_decode.specs.inside.ReadingModule.{global_at, element_at, data_at};
@@ -63,7 +63,7 @@ impl Item for Data {
     }
 }
 
-// A count, and so many bytes.
+// Reads a count, and that many bytes.
 #[tactic(auto, unfolding(crate::specs::inside::Reading::part_at))]
 fn bytes(alloc: Global, reader: &mut Reader) -> Result<Sequence<u8>, DecodeFault>
     ensures { GivesAndLeaves result reader.new (part_at reader.old) }

@@ -1,4 +1,4 @@
-//! Types.
+//! Readers of types (Core 1.0, 5.3).
 
 ghost use Rattle.wasm_decode.specs.inside.Reading.{GivesAndLeaves, val_type_at, block_type_at, func_type_at, at_least_at, between_at, range_at, limits_at, table_type_at, mutability_at, global_type_at};
 
@@ -10,7 +10,7 @@ use wasm_ast::{
     BlockType, FuncType, GlobalType, Limits, MAX_PARAMETERS, MAX_RESULTS, Mutability, ValType,
 };
 
-/// The type of a number (Core 1.0, 5.3.1).
+/// Reads a value type (Core 1.0, 5.3.1).
 impl Item for ValType {
     type Read = ValType;
 
@@ -21,7 +21,7 @@ impl Item for ValType {
     }
 }
 
-/// The type of a number (Core 1.0, 5.3.1).
+/// Reads a value type (Core 1.0, 5.3.1).
 #[tactic(auto, unfolding(crate::specs::inside::Reading::val_type_at, crate::specs::inside::Reading::byte_at))]
 pub fn val_type(reader: &mut Reader) -> Result<ValType, DecodeFault>
     ensures { GivesAndLeaves result reader.new (val_type_at reader.old) }
@@ -30,13 +30,13 @@ pub fn val_type(reader: &mut Reader) -> Result<ValType, DecodeFault>
     match reader.byte()? {
         0x7F => Ok(ValType::I32),
         0x7E => Ok(ValType::I64),
-        // the types of floats
+        // The types of floats are `Unsupported`.
         0x7C | 0x7D => Err(DecodeFault::Refused(DecodeRule::Unsupported, place)),
         _ => Err(DecodeFault::Refused(DecodeRule::BadByte, place)),
     }
 }
 
-/// What a block, loop or `if` gives (Core 1.0, 5.3.2).
+/// Reads the type of the result of a block, loop or `if` (Core 1.0, 5.3.2).
 #[tactic(auto, unfolding(crate::specs::inside::Reading::block_type_at, crate::specs::inside::Reading::byte_at))]
 pub fn block_type(reader: &mut Reader) -> Result<BlockType, DecodeFault>
     ensures { GivesAndLeaves result reader.new (block_type_at reader.old) }
@@ -46,13 +46,13 @@ pub fn block_type(reader: &mut Reader) -> Result<BlockType, DecodeFault>
         0x40 => Ok(None),
         0x7F => Ok(Some(ValType::I32)),
         0x7E => Ok(Some(ValType::I64)),
-        // the types of floats
+        // The types of floats are `Unsupported`.
         0x7C | 0x7D => Err(DecodeFault::Refused(DecodeRule::Unsupported, place)),
         _ => Err(DecodeFault::Refused(DecodeRule::BadByte, place)),
     }
 }
 
-/// The type of a function (Core 1.0, 5.3.3).
+/// Reads a function type (Core 1.0, 5.3.3).
 impl Item for FuncType {
     type Read = FuncType;
 
@@ -73,7 +73,7 @@ impl Item for FuncType {
     }
 }
 
-/// The limits of a table or a memory (Core 1.0, 5.3.4), which are a memory's type (5.3.5).
+/// Reads the limits of a table or a memory (Core 1.0, 5.3.4). A memory's type is just its limits (5.3.5).
 impl Item for Limits {
     type Read = Limits;
 
@@ -84,7 +84,7 @@ impl Item for Limits {
     }
 }
 
-/// The limits of a table or a memory (Core 1.0, 5.3.4).
+/// Reads the limits of a table or a memory (Core 1.0, 5.3.4).
 #[tactic(auto, unfolding(crate::specs::inside::Reading::limits_at, crate::specs::inside::Reading::range_at, crate::specs::inside::Reading::at_least_at, crate::specs::inside::Reading::between_at))]
 pub fn limits(reader: &mut Reader) -> Result<Limits, DecodeFault>
     ensures { GivesAndLeaves result reader.new (limits_at reader.old) }
@@ -110,7 +110,7 @@ pub fn limits(reader: &mut Reader) -> Result<Limits, DecodeFault>
     }
 }
 
-/// The type of a table of functions (Core 1.0, 5.3.6), which is read as its limits.
+/// The type of a table of functions (Core 1.0, 5.3.6). It is read as the table's limits.
 pub struct TableType;
 
 impl Item for TableType {
@@ -123,7 +123,7 @@ impl Item for TableType {
     }
 }
 
-/// The limits of a table of functions (Core 1.0, 5.3.6).
+/// Reads the type of a table of functions, and returns its limits (Core 1.0, 5.3.6).
 #[tactic(auto, unfolding(crate::specs::inside::Reading::table_type_at))]
 pub fn table_type(reader: &mut Reader) -> Result<Limits, DecodeFault>
     ensures { GivesAndLeaves result reader.new (table_type_at reader.old) }
@@ -147,7 +147,7 @@ fn mutability(reader: &mut Reader) -> Result<Mutability, DecodeFault>
     }
 }
 
-/// The type of a global (Core 1.0, 5.3.7).
+/// Reads the type of a global (Core 1.0, 5.3.7).
 #[tactic(auto, unfolding(crate::specs::inside::Reading::global_type_at))]
 pub fn global_type(reader: &mut Reader) -> Result<GlobalType, DecodeFault>
     ensures { GivesAndLeaves result reader.new (global_type_at reader.old) }

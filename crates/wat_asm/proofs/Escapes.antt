@@ -4,7 +4,7 @@ use Rattle.std.specs.List.{AllByRecursion}
 use Rattle.std.specs.Prelude.{nat_eq, nat_le, nat_lt}
 use Rattle.std.specs.Fmt.{digit_glyph}
 use Rattle.std.proofs.lemmas.Bool.{ne_eqb}
-use Rattle.wat_asm.specs.Quoted.{stands_as_itself, escape, escaped, quoted}
+use Rattle.wat_asm.specs.Quoted.{needs_no_escape, escape, escaped, quoted}
 use Rattle.wat_asm.specs.inside.Strings.{hex_digit, plain, onto, quote_at}
 
 le_test : (a b : ℕ) → a ≤ b → nat_le a b ≡ true
@@ -48,18 +48,18 @@ escape_again b after lt =
 third : {A : Type 0} (x y z : Bool) (a b c d : A) → x ≡ false → y ≡ false → z ≡ true → cond x a (cond y b (cond z c d)) ≡ c
 third x y z a b c d e f g = rw (e, f, g) refl
 
-itself_again : (b : ℕ) (after : List ℕ) → stands_as_itself b ≡ true → quote_at plain (b ∷ after) ≡ onto b (quote_at plain after)
+itself_again : (b : ℕ) (after : List ℕ) → needs_no_escape b ≡ true → quote_at plain (b ∷ after) ≡ onto b (quote_at plain after)
 unfolding quote_at
 itself_again b after h =
-    let quote : b ≢ 34 = λ e. let z : stands_as_itself 34 ≡ true = subst (λ (x : ℕ). stands_as_itself x ≡ true) e h in cc in
-    let slash : b ≢ 92 = λ e. let z : stands_as_itself 92 ≡ true = subst (λ (x : ℕ). stands_as_itself x ≡ true) e h in cc in
-    third (nat_eq b 34) (nat_eq b 92) (stands_as_itself b) (Some ([], after)) _ (onto b (quote_at plain after)) None
+    let quote : b ≢ 34 = λ e. let z : needs_no_escape 34 ≡ true = subst (λ (x : ℕ). needs_no_escape x ≡ true) e h in cc in
+    let slash : b ≢ 92 = λ e. let z : needs_no_escape 92 ≡ true = subst (λ (x : ℕ). needs_no_escape x ≡ true) e h in cc in
+    third (nat_eq b 34) (nat_eq b 92) (needs_no_escape b) (Some ([], after)) _ (onto b (quote_at plain after)) None
     (ne_eqb b 34 quote) (ne_eqb b 92 slash) h
 
 escaped_again : (b : ℕ) (after : List ℕ) → b < 256 → quote_at plain (escaped b ++ after) ≡ onto b (quote_at plain after)
-escaped_again b after lt = by_test (stands_as_itself b) refl
+escaped_again b after lt = by_test (needs_no_escape b) refl
   where
-    by_test : (c : Bool) → stands_as_itself b ≡ c → quote_at plain (escaped b ++ after) ≡ onto b (quote_at plain after)
+    by_test : (c : Bool) → needs_no_escape b ≡ c → quote_at plain (escaped b ++ after) ≡ onto b (quote_at plain after)
     by_test true e = rw e (itself_again b after e)
     by_test false e = rw e (escape_again b after lt)
 

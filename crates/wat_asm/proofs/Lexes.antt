@@ -9,7 +9,7 @@ use Rattle.wat_asm.specs.inside.Follows.{◌>>=◌, Follows, IsMemory}
 use Rattle.wat_asm.specs.inside.Lexing.{EndsWith, begins_comment, is_blank, one_at, opening_at, quoted_at, read_of, word_at, word_of, listed, tokens_at}
 use Rattle.wat_asm.specs.Words.{is_word}
 use Rattle.wat_asm.specs.Pieces.{Piece}
-use Rattle.wat_asm.specs.Quoted.{stands_as_itself}
+use Rattle.wat_asm.specs.Quoted.{needs_no_escape}
 use Rattle.wat_asm.specs.inside.Strings.{Within, plain, escape, digit, hex_digit, onto, quote_at}
 use Rattle.wat_asm.specs.inside.Tokens.{Tok, opens, closes, text, tok_of, toks_of, sorted, ArePiecesHeld, IsPrinted}
 use Rattle.wat_asm.proofs.Spelled.{lexes_printed}
@@ -45,7 +45,7 @@ quote_ends w [] = tt
 quote_ends plain (b ∷ bs) =
     ends_if (b ∷ bs) (nat_eq b 34) (Some ([], bs)) _ (tail_ends b bs)
     (ends_if (b ∷ bs) (nat_eq b 92) (quote_at escape bs) _ (ends_more b bs (quote_at escape bs) (quote_ends escape bs))
-    (ends_if (b ∷ bs) (stands_as_itself b) (onto b (quote_at plain bs)) None (ends_more b bs (onto b (quote_at plain bs)) (ends_onto bs b (quote_at plain bs) (quote_ends plain bs))) tt))
+    (ends_if (b ∷ bs) (needs_no_escape b) (onto b (quote_at plain bs)) None (ends_more b bs (onto b (quote_at plain bs)) (ends_onto bs b (quote_at plain bs) (quote_ends plain bs))) tt))
 quote_ends escape (b ∷ bs) = ends_bind (b ∷ bs) (hex_digit b) (λ high. quote_at (digit high) bs) (λ high. ends_more b bs (quote_at (digit high) bs) (quote_ends (digit high) bs))
 quote_ends (digit high) (b ∷ bs) =
     ends_bind (b ∷ bs) (hex_digit b) (λ low. onto (high * 16 + low) (quote_at plain bs))

@@ -9,7 +9,7 @@ mod Left
 mod Numerals
 mod Words
 mod Quotes
-mod Cutting
+mod Scanner
 mod WordText
 mod Escapes
 mod KeywordWords

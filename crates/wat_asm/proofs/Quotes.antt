@@ -5,7 +5,7 @@ use Rattle.std.proofs.lemmas.List.{append-nil}
 use Rattle.wat_asm.specs.declared.lexer.strings.Part.{Part}
 use Rattle.wat_asm.specs.declared.lexer.strings.Part.TheVariants as part
 use Rattle.wat_asm.specs.inside.Follows.{◌>>=◌, FollowsSome}
-use Rattle.wat_asm.specs.Quoted.{stands_as_itself}
+use Rattle.wat_asm.specs.Quoted.{needs_no_escape}
 use Rattle.wat_asm.specs.inside.Strings.{hex_digit, plain, escape, digit, onto, quote_at, string_of, escape_at, step_at}
 
 some_same : {A : Type 0} (x y : A) → ◌≡◌ {A = Option A} (Some x) (Some y) → x ≡ y
@@ -56,7 +56,7 @@ by_tests false false false b bs bytes rest e = absurd cc
 pub steps : (bs bytes rest : List ℕ) → quote_at plain bs ≡ Some (bytes, rest) → Steps (step_at bs) bytes rest
 unfolding quote_at
 steps [] bytes rest e = absurd cc
-steps (b ∷ bs) bytes rest e = by_tests (nat_eq b 34) (nat_eq b 92) (stands_as_itself b) b bs bytes rest e
+steps (b ∷ bs) bytes rest e = by_tests (nat_eq b 34) (nat_eq b 92) (needs_no_escape b) b bs bytes rest e
 
 -- the same of what the function returns
 abbrev pub Stepped : Option (Part × Bor (List ℕ)) → List ℕ → List ℕ → Type 0

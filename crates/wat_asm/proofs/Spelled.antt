@@ -17,7 +17,7 @@ use Rattle.wat_asm.specs.Pieces.{Piece, indent, gap_text, piece_text}
 use Rattle.wat_asm.specs.Pieces as piece
 use Rattle.wat_asm.specs.Quoted.{quoted}
 use Rattle.wat_asm.specs.inside.Tokens.{Tok, opens, closes, key, number, signed, offset_is, align_is, text, number_of, onto_sorted, sorted, IsSignedHeld, IsPieceHeld, ArePiecesHeld}
-use Rattle.wat_asm.proofs.Cutting.{IsOther, one_at-other}
+use Rattle.wat_asm.proofs.Scanner.{IsOther, one_at-other}
 use Rattle.wat_asm.proofs.Escapes.{quoted_again}
 use Rattle.wat_asm.proofs.KeywordWords.{keyword_word, keyword_reads}
 use Rattle.wat_asm.proofs.Numerals.{own, and_parts, numeral_again, decimal_begins}

@@ -11,11 +11,11 @@ use borrow.Author.Tests.{ltb-true}
 use Rattle.wat_asm.specs.declared.lexer.token.Token.{Token}
 use Rattle.wat_asm.specs.declared.lexer.token.Token.TheVariants as token
 use Rattle.wat_asm.specs.inside.Tokens.{Tok, tok_of, signed}
-use Rattle.wat_asm.specs.inside.Lexing.{Tells, as_negative, behind}
+use Rattle.wat_asm.specs.inside.Lexing.{Means, as_negative, behind}
 
 -- ---- numbers behind a minus
 
-tells_if : (t : Token) (b : Bool) (x : Tok) → (b ≡ true → (source : List ℕ) → tok_of source t ≡ x) → Tells t (cond b (Some x) None)
+tells_if : (t : Token) (b : Bool) (x : Tok) → (b ≡ true → (source : List ℕ) → tok_of source t ≡ x) → Means t (cond b (Some x) None)
 tells_if t true x h = h refl
 tells_if t false x h = tt
 
@@ -23,7 +23,7 @@ some_same : {A : Type 0} (x y : A) → ◌≡◌ {A = Option A} (Some x) (Some y
 some_same x y e = cc
 
 pub negated_tells : (n : ℕ) (z : ℤ) → ((m : ℕ) → n ≡ suc m → m < 2 ^ 63 → ◌≡◌ {A = Option ℤ} (Some z) (Some (negsuc m)))
-    → Tells (token.Signed (to_z w64 (of_z w64 z))) (as_negative (Some n))
+    → Means (token.Signed (to_z w64 (of_z w64 z))) (as_negative (Some n))
 negated_tells zero z h = tt
 negated_tells (suc m) z h =
     tells_if (token.Signed (to_z w64 (of_z w64 z))) (nat_lt m (2 ^ 63)) (signed (negsuc m)) (λ lt source.
@@ -32,7 +32,7 @@ negated_tells (suc m) z h =
     ap signed (ap (λ (x : ℤ). to_z w64 (of_z w64 x)) (some_same z (negsuc m) (h m refl small)) ∙ to_z-of_z fits))
 
 pub not_negated_tells : (n : ℕ) → ((m : ℕ) → n ≡ suc m → m < 2 ^ 63 → ◌≡◌ {A = Option ℤ} None (Some (negsuc m)))
-    → Tells token.OutOfRange (as_negative (Some n))
+    → Means token.OutOfRange (as_negative (Some n))
 not_negated_tells zero h = tt
 not_negated_tells (suc m) h =
     tells_if token.OutOfRange (nat_lt m (2 ^ 63)) (signed (negsuc m)) (λ lt source. let e = h m refl (ltb-true m (2 ^ 63) lt) in absurd cc)

@@ -1,5 +1,5 @@
--- Instructions as they are printed (Core 1.0, 6.5): in a function's body each on a line of its own, in an initial value
--- or an offset all on one line.
+-- Instructions as they are printed (Core 1.0, 6.5). In a function's body each is on a line of its own. In an initial
+-- value or an offset all are on one line.
 use Rattle.std.specs.Prelude.{ℕ, ◌+◌, ◌≤◌, ⊤, ◌^◌, ◌==◌, List, ◌∷◌, Option, Some, None, if◌then◌else◌}
 use Rattle.wasm_ast.specs.declared.types.ValType.{ValType}
 use Rattle.wasm_ast.specs.declared.types.ValType.TheVariants as val_type
@@ -29,7 +29,7 @@ type_use n more = opens gap.Space keyword.FuncType ∷ counts n ∷ closes ∷ m
 abbrev pub number : ℕ → List Piece → List Piece
 number n more = counts n ∷ more
 
--- one group of types, as (param i32 i64), and nothing where there are none
+-- a type, with a blank before it
 abbrev pub type_word : ValType → List Piece → List Piece
 type_word t more = says gap.Space (keyword.Type t) ∷ more
 
@@ -56,7 +56,7 @@ memory_line g (memory.Store op argument) more = says g (keyword.Store op) ∷ me
 memory_line g memory.Size more = says g keyword.MemorySize ∷ more
 memory_line g memory.Grow more = says g keyword.MemoryGrow ∷ more
 
--- a constant is a signed number
+-- a constant, as a signed number
 abbrev pub constant_line : Gap → Value → List Piece → List Piece
 constant_line g (value.I32 x) more = says g (keyword.Const val_type.I32) ∷ signs (signed 32 x) ∷ more
 constant_line g (value.I64 x) more = says g (keyword.Const val_type.I64) ∷ signs (signed 64 x) ∷ more
@@ -70,14 +70,14 @@ plain_line g (leaf.Numeric op) more = says g (keyword.Numeric op) ∷ more
 plain_line g (leaf.Variable op) more = variable_line g op more
 plain_line g (leaf.Memory op) more = memory_line g op more
 
--- of a `br_table` the labels, and then the default
+-- a branch; a `br_table` has its labels and then the default
 abbrev pub branch_line : Gap → Branch → List Piece → List Piece
 branch_line g (jump.Br l) more = says g keyword.Br ∷ counts l ∷ more
 branch_line g (jump.BrIf l) more = says g keyword.BrIf ∷ counts l ∷ more
 branch_line g (jump.BrTable labels default) more = says g keyword.BrTable ∷ each number labels (counts default ∷ more)
 branch_line g jump.Return more = says g keyword.Return ∷ more
 
--- (result t), where a block gives something
+-- (result t), where a block has a result
 abbrev pub block_type : Option ValType → List Piece → List Piece
 block_type None more = more
 block_type (Some t) more = opens gap.Space keyword.Result ∷ says gap.Space (keyword.Type t) ∷ closes ∷ more
@@ -88,7 +88,7 @@ deeper gap.Nothing = gap.Nothing
 deeper gap.Space = gap.Space
 deeper (gap.Line level) = gap.Line (level + 1)
 
--- `else`, and nothing before an arm that is empty
+-- `else`, or nothing before an empty arm
 abbrev pub else_line : Gap → Code → List Piece → List Piece
 else_line g end more = more
 else_line g _ more = says g keyword.Else ∷ more
@@ -109,7 +109,7 @@ code g (choice t body other rest) more =
     says g keyword.If ∷ block_type t (code (deeper g) body
     (else_line g other (code (deeper g) other (says g keyword.End ∷ code g rest more))))
 
--- blocks inside each other, so many, can stand below this gap
+-- this many levels of blocks can be indented below this gap
 abbrev pub HasRoom : Gap → ℕ → Type 0
 HasRoom (gap.Line level) levels = level + levels ≤ 130
 HasRoom _ levels = ⊤

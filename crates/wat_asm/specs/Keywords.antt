@@ -1,4 +1,4 @@
--- The words of the text format that have a meaning of their own (Core 1.0, 6.3.1 and 6.5).
+-- The keywords of the text format, and their spellings (Core 1.0, 6.3.1 and 6.5).
 use Rattle.std.specs.Prelude.{ℕ, List, [], ◌∷◌, ◌++◌, codes, Option, Some, None, if◌then◌else◌}
 use Rattle.std.specs.Str.{bytes_eq}
 use Rattle.wasm_ast.specs.declared.types.ValType.{ValType}
@@ -149,7 +149,7 @@ keyword_text (keyword.Store op) = store_text op
 keyword_text (keyword.Const t) = of_type t (codes "const")
 keyword_text (keyword.Numeric op) = numeric_text op
 
--- the first of these that is spelled so
+-- the first of these keywords with this spelling
 abbrev pub lookup : List Keyword → List ℕ → Option Keyword
 lookup [] word = None
 lookup (k ∷ ks) word = if bytes_eq (keyword_text k) word then Some k else lookup ks word

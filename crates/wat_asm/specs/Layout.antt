@@ -1,5 +1,5 @@
--- The text of a module (Core 1.0, 6.6): types, imports, functions, tables, memories, globals, exports, the start function,
--- elements and data, in this order, each on a line one level in. Everything is referred to by its number.
+-- The text of a module (Core 1.0, 6.6): types, imports, functions, tables, memories, globals, exports, the start
+-- function, elements and data, in this order. Each field is on a line, one level in. References are indices.
 use Rattle.std.specs.Prelude.{ℕ, ◌==◌, List, [], ◌∷◌, ◌++◌, Option, Some, None, if◌then◌else◌}
 use Rattle.wasm_ast.specs.declared.types.ValType.{ValType}
 use Rattle.wasm_ast.specs.declared.types.FuncType.{FuncType}
@@ -27,7 +27,7 @@ use Rattle.wat_asm.specs.Instructions.{type_use, number, type_word, code}
 
 -- ---- parts of fields
 
--- a keyword and types in parentheses, as (param i32 i64), and nothing where there are no types
+-- a keyword and types in parentheses, as (param i32 i64), or nothing where there are no types
 abbrev pub type_group : Keyword → List ValType → List Piece → List Piece
 type_group k [] more = more
 type_group k (t ∷ ts) more = opens gap.Space k ∷ each type_word (t ∷ ts) (closes ∷ more)
@@ -48,7 +48,7 @@ value_type mutability.Variable t more = opens gap.Space keyword.Mut ∷ says gap
 abbrev pub global_type : GlobalType → List Piece → List Piece
 global_type t more = value_type t.mutability t.value more
 
--- the table or memory of a segment, where it is not the first
+-- the index of a segment's table or memory, where it is not 0
 abbrev pub number_part : ℕ → List Piece → List Piece
 number_part n more = if n == 0 then more else counts n ∷ more
 
@@ -58,7 +58,7 @@ offset body more = opens gap.Space keyword.Offset ∷ code gap.Space body (close
 
 -- ---- fields
 
--- a field's beginning, on a line of its own
+-- the start of a field, on a line of its own
 abbrev pub begins : Keyword → List Piece → List Piece
 begins k more = opens (gap.Line 1) k ∷ more
 
@@ -139,6 +139,6 @@ uses m more =
 abbrev pub pieces : Module → List Piece → List Piece
 pieces m more = opens gap.Nothing keyword.Module ∷ definitions m (uses m (closes_line 0 ∷ more))
 
--- the pieces, and the last line's end
+-- the text of the pieces, and the end of the last line
 unfoldable pub layout : Module → List ℕ
 layout m = text (pieces m []) ++ 10 ∷ []

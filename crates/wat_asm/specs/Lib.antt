@@ -1,5 +1,6 @@
--- What a reader believes, in this order: the words of the format, where a word ends, strings in it, a text as pieces, instructions, the layout
--- of a module, and the numbers that a text's names have. What only mirrors the code stands in `inside`.
+-- The definitions that a reader has to believe, in reading order: keywords, words, strings, a text as pieces,
+-- instructions, the layout of a module, and the numbers of names. The definitions in `inside` only mirror the code, for
+-- its proofs.
 pub mod Keywords
 pub mod Words
 pub mod Quoted

@@ -1,4 +1,4 @@
--- The numbers that the lexer gives to the names of a text (Core 1.0, 6.3.5).
+-- The numbers that the lexer assigns to the names of a text (Core 1.0, 6.3.5).
 use Rattle.std.specs.Prelude.{◌≡◌, ◌<◌, ℕ, List, drop, Option, Some, None}
 use Rattle.std.specs.BTreeMap.{get_by}
 use Rattle.std.specs.Cmp.Lexicographic.{slice_cmp}
@@ -13,29 +13,29 @@ use Rattle.wat_asm.specs.Words.{first_word}
 abbrev pub number_of_name : Numbering → List ℕ → Option ℕ
 number_of_name names name = get_by (λ k. slice_cmp nat_cmp name k.now) names.numbers
 
--- no two names have one number, and the number that comes next is no name's
+-- no two names have the same number, and no name has the number that comes next
 pub record AreApart (names : Numbering) : Type 0 where
   pub below : (name : List ℕ) (n : ℕ) → number_of_name names name ≡ Some n → n < names.count
   pub apart : (name other : List ℕ) (n : ℕ) → number_of_name names name ≡ Some n → number_of_name names other ≡ Some n → name ≡ other
 
--- each name keeps its number, and names that were apart are apart
+-- each name keeps its number, and different names still have different numbers
 pub record Grows (old new : Numbering) : Type 0 where
   pub kept : (name : List ℕ) (n : ℕ) → number_of_name old name ≡ Some n → number_of_name new name ≡ Some n
   pub apart : AreApart old → AreApart new
 
--- the number of the name that a token is, if it is one
+-- the number of a token that is a name
 abbrev pub number_in : Token → Option ℕ
 number_in (token.Name n) = Some n
 number_in _ = None
 
--- if the token is a name, it has the number of this word
+-- a token that is a name has the number of this word
 abbrev pub IsNumbered : Numbering → List ℕ → Token → Type 0
 IsNumbered names word t = (n : ℕ) → number_in t ≡ Some n → number_of_name names word ≡ Some n
 
--- in a text, each token that is a name has the number of the word at its place
+-- in a text, each token that is a name has the number of the word at its position
 abbrev pub AreNumbered : List ℕ → Numbering → List Token → List ℕ → Type 0
 AreNumbered source names ts places = AllZip (λ t place. IsNumbered names (first_word (drop place source)) t) ts places
 
--- so it is, and no two words have one number
-abbrev pub TellNames : List ℕ → List Token → List ℕ → Type 0
-TellNames source ts places = (names : Numbering) × AreApart names × AreNumbered source names ts places
+-- each token that is a name has the number of its word, and no two words have the same number
+abbrev pub AreNamesNumbered : List ℕ → List Token → List ℕ → Type 0
+AreNamesNumbered source ts places = (names : Numbering) × AreApart names × AreNumbered source names ts places

@@ -1,5 +1,5 @@
--- A printed text as pieces, each a token with the blanks before it. What comes after a piece is an argument of what
--- stands before it, so that nothing is regrouped.
+-- A printed text as pieces, each a token with the blanks before it. Each part takes the pieces after it as an argument,
+-- so that no list is regrouped.
 use Rattle.std.specs.Prelude.{ℕ, ℤ, List, [], ◌∷◌, ◌++◌, codes, replicate, ◌*◌}
 use Rattle.std.specs.Fmt.{decimal, signed_decimal}
 use Rattle.wat_asm.specs.declared.pieces.Gap.{Gap}
@@ -20,7 +20,7 @@ pub data Piece : Type 0 where
   -- a string of these bytes
   quotes : List ℕ → Piece
   closes : Piece
-  -- a closing parenthesis on a line of its own, so many levels in
+  -- a closing parenthesis on a line of its own, indented by this many levels
   closes_line : ℕ → Piece
 
 -- two blanks for each level
@@ -47,7 +47,7 @@ unfoldable pub text : List Piece → List ℕ
 text [] = []
 text (p ∷ ps) = piece_text p ++ text ps
 
--- each item's pieces in turn
+-- the pieces of each item in turn
 abbrev pub each : {A : Type 0} → (A → List Piece → List Piece) → List A → List Piece → List Piece
 each one [] more = more
 each one (x ∷ xs) more = one x (each one xs more)

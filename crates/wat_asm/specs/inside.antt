@@ -1,4 +1,5 @@
--- What mirrors the code for its proofs: readers of printed texts, and what functions say by them. No public call names these.
+-- Definitions that mirror the code, for its proofs: readers of printed texts, and the contracts of functions in their
+-- terms. No contract of a public function cites these.
 pub mod Writing
 pub mod Follows
 pub mod Strings

@@ -1,4 +1,4 @@
-//! A module from its text.
+//! The assembler: a module from its text.
 
 ghost use Rattle.std.specs.Prelude.{◌≡◌, ℕ, true, Some, IfOk, MatchResult};
 ghost use Rattle.wasm_ast.specs.declared.module.Module.{Module as AnyModule};
@@ -10,17 +10,17 @@ ghost use Rattle.wat_asm.specs.Layout.{layout};
 ghost use Rattle.wat_asm.specs.inside.ReadingModule.{module_at, nameless};
 ghost use Rattle.wat_asm.specs.inside.Tokens.{toks_of};
 
-use crate::fault::{Failure, Position, TextFault, Wrong};
+use crate::fault::{Failure, FaultKind, Position, TextFault};
 use crate::lexer::{Tokens, lex};
 use crate::parser::parse;
 use std::alloc::Global;
 use wasm_ast::Module;
 
-/// The module that this text spells (Core 1.0, section 6).
+/// Assembles the module that this text spells (Core 1.0, section 6).
 ///
-/// Instructions may stand in line or folded, and names in place of numbers. At most 512 parentheses stand inside each
-/// other. What is refused is told with its place: no text is `Ok` that is beyond the limits, and no module is validated.
-/// What `print` writes of a module is that module again, unless memory runs out.
+/// Instructions may be plain or folded, and names may replace indices. At most 512 parentheses may be inside each other.
+/// A fault has its position in the text. A module beyond the limits is `OverLimit`, but no module is validated. The text
+/// that `print` writes of a module is assembled to that module again, unless memory runs out.
 pub fn assemble(alloc: Global, text: &str) -> Result<Module, TextFault>
     ensures within { IfOk result IsWithinLimits }
     ensures printed { (m : AnyModule) → IsWithinLimits m → IsRepresentable m → text.now ≡ layout m
@@ -32,7 +32,7 @@ pub fn assemble(alloc: Global, text: &str) -> Result<Module, TextFault>
     }
 }
 
-// The module that these tokens of the text spell.
+// Parses the module that these tokens of the text spell.
 fn parsed(alloc: Global, text: &str, tokens: Tokens) -> Result<Module, TextFault>
     ensures within { IfOk result IsWithinLimits }
     ensures again { (n : ℕ) (m : AnyModule) → nameless tokens.tokens.items ≡ true
@@ -45,7 +45,7 @@ fn parsed(alloc: Global, text: &str, tokens: Tokens) -> Result<Module, TextFault
     }
 }
 
-// A failure whose place is told by the bytes that are left.
+// Returns the fault of a failure that has the number of bytes that remain.
 fn lexed_fault(text: &str, failure: Failure) -> TextFault
     ensures { IsMemory failure → result ≡ OutOfMemory }
 {
@@ -55,7 +55,7 @@ fn lexed_fault(text: &str, failure: Failure) -> TextFault
     }
 }
 
-// A failure whose place is told by the tokens that are left.
+// Returns the fault of a failure that has the number of tokens that remain.
 fn parsed_fault(text: &str, tokens: &Tokens, failure: Failure) -> TextFault
     ensures { IsMemory failure → result ≡ OutOfMemory }
 {
@@ -71,27 +71,27 @@ fn parsed_fault(text: &str, tokens: &Tokens, failure: Failure) -> TextFault
     }
 }
 
-// The fault at a place of the text.
-fn fault(text: &str, what: Wrong, place: usize) -> TextFault {
+// Returns the fault of this kind at a position of the text.
+fn fault(text: &str, what: FaultKind, place: usize) -> TextFault {
     let position = position(text.as_bytes(), place);
     match what {
-        Wrong::Lex => TextFault::Lex(position),
-        Wrong::Syntax => TextFault::Syntax(position),
-        Wrong::UnknownName => TextFault::UnknownName(position),
-        Wrong::DuplicateName => TextFault::DuplicateName(position),
-        Wrong::NumberRange => TextFault::NumberRange(position),
-        Wrong::TypeUse => TextFault::TypeUse(position),
-        Wrong::Unsupported => TextFault::Unsupported(position),
-        Wrong::OverLimit => TextFault::OverLimit(position),
+        FaultKind::Lex => TextFault::Lex(position),
+        FaultKind::Syntax => TextFault::Syntax(position),
+        FaultKind::UnknownName => TextFault::UnknownName(position),
+        FaultKind::DuplicateName => TextFault::DuplicateName(position),
+        FaultKind::NumberRange => TextFault::NumberRange(position),
+        FaultKind::TypeUse => TextFault::TypeUse(position),
+        FaultKind::Unsupported => TextFault::Unsupported(position),
+        FaultKind::OverLimit => TextFault::OverLimit(position),
     }
 }
 
-// Whether a character of a text in UTF-8 begins with this byte.
+// Reports whether a character in UTF-8 starts with this byte.
 fn begins_character(b: u8) -> bool {
     b & 0xc0 != 0x80
 }
 
-// The line and the column of the byte at this place.
+// Returns the line and the column of the byte at this position.
 fn position(text: &[u8], place: usize) -> Position {
     let mut line = 1usize;
     let mut column = 1usize;

@@ -7,38 +7,38 @@ use std::alloc::{AllocError, AllocFailed};
 use std::error::Error;
 use std::fmt;
 
-/// A place in a text. Lines and columns are counted from 1, columns in characters.
+/// A position in a text. Lines and columns are counted from 1, and columns are in characters.
 #[derive(Clone, Copy)]
 pub struct Position {
     pub line: usize,
     pub column: usize,
 }
 
-/// Why a text is no module, with the place of the fault.
+/// The reason why a text is not a module, with its position.
 #[derive(Clone, Copy)]
 pub enum TextFault {
-    /// No token of the format begins here, or a comment or a string does not end, or a name is not in UTF-8.
+    /// No token starts here, a comment or a string does not end, or a name is not UTF-8.
     Lex(Position),
-    /// The tokens spell no module from here on.
+    /// The tokens from here on do not fit the grammar of modules.
     Syntax(Position),
-    /// Nothing that is in scope has this name.
+    /// Nothing in scope has this name.
     UnknownName(Position),
-    /// Something else in the same space has this name.
+    /// Another item of the same kind has this name.
     DuplicateName(Position),
-    /// A number is out of the range of what it stands for.
+    /// A number is out of range here.
     NumberRange(Position),
-    /// The parameters and results beside the number of a type are not those of the type.
+    /// The parameters and results after the index of a type are not those of the type.
     TypeUse(Position),
-    /// The format knows this word, and this assembler does not take what it stands for.
+    /// The word is of the format, but this assembler does not support it: floats, or a version after 1.0.
     Unsupported(Position),
-    /// A limit is passed.
+    /// A limit is exceeded.
     OverLimit(Position),
-    /// Memory ran out.
+    /// An allocation failed.
     OutOfMemory,
 }
 
 impl TextFault {
-    // What is wrong, without the place.
+    // Returns the text of the reason, without the position.
     fn reason(self) -> &'static str {
         match self {
             TextFault::Lex(_) => "no token",
@@ -53,7 +53,7 @@ impl TextFault {
         }
     }
 
-    // Where it is, if it is at a place.
+    // Returns the position, where the fault has one.
     fn position(self) -> Option<Position> {
         match self {
             TextFault::Lex(position) => Some(position),
@@ -79,7 +79,7 @@ impl fmt::Display for TextFault {
     }
 }
 
-/// The same text as is displayed.
+/// Writes the same text as `Display`.
 impl fmt::Debug for TextFault {
     fn fmt<W: fmt::Write>(&self, f: &mut fmt::Formatter<W>) -> fmt::Result {
         fmt::Display::fmt(self, f)
@@ -88,9 +88,9 @@ impl fmt::Debug for TextFault {
 
 impl Error for TextFault {}
 
-/// What is wrong with a text.
+/// The kind of a fault, without its position.
 #[derive(Clone, Copy)]
-pub enum Wrong {
+pub enum FaultKind {
     Lex,
     Syntax,
     UnknownName,
@@ -101,11 +101,11 @@ pub enum Wrong {
     OverLimit,
 }
 
-/// Memory ran out, or something is wrong where so much is left to be read: bytes of a text, or tokens.
+/// A failure of the lexer or the parser. A fault has the number of bytes or tokens that remain at its place.
 #[derive(Clone, Copy)]
 pub enum Failure {
     OutOfMemory,
-    Fault(Wrong, usize),
+    Fault(FaultKind, usize),
 }
 
 impl From<AllocError> for Failure {

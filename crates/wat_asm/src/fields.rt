@@ -1,4 +1,4 @@
-//! The lines of a module's fields.
+//! The printer of a module's fields.
 
 ghost use Rattle.std.specs.Prelude.{◌≡◌, ◌∷◌, ℕ, OnOk, string_bytes};
 ghost use Rattle.wasm_ast.specs.declared.module.ImportDescription.TheVariants as import;
@@ -21,7 +21,7 @@ use wasm_ast::{
 
 // ---- parts of fields
 
-/// A type with a blank before it.
+/// Writes a type with a blank before it.
 impl Part for ValType {
     type Of = ValType;
 
@@ -32,7 +32,7 @@ impl Part for ValType {
     }
 }
 
-// A keyword and types in parentheses, as `(param i32 i64)`, and nothing where there are no types.
+// Writes a keyword and types in parentheses, as `(param i32 i64)`, or nothing where there are no types.
 #[tactic(auto, using(crate::proofs::Codes::all_held))]
 fn write_type_group(
     text: &mut String,
@@ -72,7 +72,7 @@ fn write_global_type(text: &mut String, global: GlobalType) -> Result<(), AllocE
     }
 }
 
-// The table or memory of a segment, where it is not the first.
+// Writes the index of a segment's table or memory, where it is not 0.
 fn write_number_part(text: &mut String, n: u32) -> Result<(), AllocError>
     ensures { Writes text.old text.new result (number_part n) }
 {
@@ -90,14 +90,14 @@ fn write_offset(text: &mut String, body: &Body) -> Result<(), AllocError>
 
 // ---- fields
 
-// A field's beginning, on a line of its own.
+// Writes the start of a field, on a line of its own.
 fn write_beginning(text: &mut String, keyword: Keyword) -> Result<(), AllocError>
     ensures { Writes text.old text.new result (begins keyword) }
 {
     write_opening(text, Gap::Line(1), keyword)
 }
 
-/// A type (Core 1.0, 6.6.2).
+/// Writes a type (Core 1.0, 6.6.2).
 impl Part for FuncType {
     type Of = FuncType;
 
@@ -160,7 +160,7 @@ fn write_imported_global(text: &mut String, global: GlobalType) -> Result<(), Al
     write_closing(text)
 }
 
-/// An import (Core 1.0, 6.6.4).
+/// Writes an import (Core 1.0, 6.6.4).
 impl Part for Import {
     type Of = Import;
 
@@ -175,7 +175,7 @@ impl Part for Import {
     }
 }
 
-/// A function (Core 1.0, 6.6.5).
+/// Writes a function (Core 1.0, 6.6.5).
 impl Part for Function {
     type Of = Function;
 
@@ -192,10 +192,10 @@ impl Part for Function {
     }
 }
 
-/// The limits of a table.
+/// A table, which is printed by its limits.
 pub struct Table;
 
-/// A table (Core 1.0, 6.6.6).
+/// Writes a table (Core 1.0, 6.6.6).
 impl Part for Table {
     type Of = Limits;
 
@@ -209,10 +209,10 @@ impl Part for Table {
     }
 }
 
-/// The limits of a memory.
+/// A memory, which is printed by its limits.
 pub struct Memory;
 
-/// A memory (Core 1.0, 6.6.7).
+/// Writes a memory (Core 1.0, 6.6.7).
 impl Part for Memory {
     type Of = Limits;
 
@@ -225,7 +225,7 @@ impl Part for Memory {
     }
 }
 
-/// A global (Core 1.0, 6.6.8).
+/// Writes a global (Core 1.0, 6.6.8).
 impl Part for Global {
     type Of = Global;
 
@@ -241,7 +241,7 @@ impl Part for Global {
     }
 }
 
-// The word and the number of what is exported.
+// Writes the keyword and the index of an exported item.
 fn write_numbered(text: &mut String, keyword: Keyword, n: u32) -> Result<(), AllocError>
     ensures { Writes text.old text.new result (numbered keyword n) }
 {
@@ -264,7 +264,7 @@ fn write_export_description(
     }
 }
 
-/// An export (Core 1.0, 6.6.9).
+/// Writes an export (Core 1.0, 6.6.9).
 impl Part for Export {
     type Of = Export;
 
@@ -291,7 +291,7 @@ pub fn write_start(text: &mut String, start: Option<u32>) -> Result<(), AllocErr
     }
 }
 
-/// Functions in a table (Core 1.0, 6.6.11).
+/// Writes an element segment (Core 1.0, 6.6.11).
 impl Part for Element {
     type Of = Element;
 
@@ -309,7 +309,7 @@ impl Part for Element {
     }
 }
 
-/// Bytes in a memory (Core 1.0, 6.6.12).
+/// Writes a data segment (Core 1.0, 6.6.12).
 impl Part for Data {
     type Of = Data;
 

@@ -1,4 +1,4 @@
-//! The lines of instructions.
+//! The printer of instructions.
 
 ghost use Rattle.std.specs.Prelude.{◌≡◌, ◌↔◌, ◌≤◌, ◌-◌, ◌∷◌, ◌^◌, IsTrue, OnOk, string_bytes};
 ghost use Rattle.wasm_ast.specs.Code.{end};
@@ -18,7 +18,7 @@ use wasm_ast::{
     BlockType, Body, Branch, Instr, Memory, MemoryArgument, Plain, ValType, Value, Variable,
 };
 
-/// A reference to a type, as `(type 0)`.
+/// Writes a reference to a type, as `(type 0)`.
 pub fn write_type_use(text: &mut String, type_number: u32) -> Result<(), AllocError>
     ensures { Writes text.old text.new result (type_use type_number) }
 {
@@ -27,7 +27,7 @@ pub fn write_type_use(text: &mut String, type_number: u32) -> Result<(), AllocEr
     write_closing(text)
 }
 
-/// A number with a blank before it.
+/// Writes a number with a blank before it.
 impl Part for u32 {
     type Of = u32;
 
@@ -77,7 +77,7 @@ fn write_align_part(text: &mut String, alignment: u32, width: u32) -> Result<(),
     }
 }
 
-// 2 to the power `align`.
+// Returns 2 to the power `align`.
 fn alignment(align: u32) -> u32
     requires { align ≤ max_align }
     ensures { result ≡ 2 ^ align }
@@ -178,7 +178,7 @@ impl Gap {
     ghost use Rattle.std.specs.Prelude.{◌≡◌};
     ghost use Rattle.wat_asm.specs.Instructions.{HasRoom, deeper};
 
-    // One level further in, where instructions have lines of their own.
+    // Returns the gap one level further in, where instructions have lines of their own.
     fn deeper(self, levels: u32) -> Gap
         requires room { HasRoom self levels }
         requires some { 1 ≤ levels }
@@ -192,8 +192,8 @@ impl Gap {
     }
 }
 
-/// Instructions, each with this gap before it. There are at most so many levels of blocks inside each other, and it goes
-/// no deeper than that.
+/// Writes instructions, each with this gap before it. At most `levels` blocks may be inside each other, and the recursion
+/// goes no deeper.
 #[cycle(code)]
 pub fn write_code(text: &mut String, gap: Gap, levels: u32, body: &Body) -> Result<(), AllocError>
     requires room { HasRoom gap levels }
@@ -206,7 +206,7 @@ pub fn write_code(text: &mut String, gap: Gap, levels: u32, body: &Body) -> Resu
     Ok(())
 }
 
-// A block's word, its type and what is in it.
+// Writes a block's keyword, its type and its instructions.
 #[cycle(code)]
 fn write_block(
     text: &mut String,
@@ -243,7 +243,7 @@ fn write_else_word(text: &mut String, gap: Gap, other: &Body) -> Result<(), Allo
     }
 }
 
-// The arm for 0 of an `if`, and its word where it is not empty.
+// Writes `else` and the arm for 0 of an `if`, or nothing where the arm is empty.
 #[cycle(code)]
 fn write_else(text: &mut String, gap: Gap, levels: u32, other: &Body) -> Result<(), AllocError>
     requires room { HasRoom gap levels }

@@ -1,15 +1,15 @@
-//! The words of the text format that have a meaning of their own.
+//! The keywords of the text format (Core 1.0, 6.3.1).
 
 ghost use Rattle.std.specs.Prelude.{◌≡◌};
 ghost use Rattle.wat_asm.specs.Keywords.{type_text, of_type, comparison_text, unary_text, binary_text, division_text, numeric_text, load_text, lookup, store_text};
 
 use wasm_ast::{Binary, Comparison, Conversion, Division, Load, Numeric, Store, Unary, ValType};
 
-/// A word with a meaning of its own (Core 1.0, 6.3.1): of a module's fields, of types, or of an instruction.
+/// A keyword of a module's fields, of types, or of an instruction (Core 1.0, 6.3.1).
 #[derive(Clone, Copy)]
 pub enum Keyword {
     Module,
-    /// `type`, of a field and of a use.
+    /// `type`, of a field or of a type use.
     FuncType,
     Func,
     Param,
@@ -189,7 +189,7 @@ impl Keyword {
     ghost use Rattle.wat_asm.specs.declared.keyword.Keyword.{Keyword as AnyKeyword};
     ghost use Rattle.wat_asm.specs.Keywords.{keyword_text, lookup};
 
-    /// How it is spelled.
+    /// Returns the spelling of the keyword.
     pub fn text(self) -> &'static str
         ensures { result.now ≡ keyword_text self }
     {
@@ -243,14 +243,14 @@ impl Keyword {
         }
     }
 
-    /// The keyword that is spelled so, if there is one. No two are spelled alike.
+    /// Finds the keyword with this spelling, if there is one. No two have the same.
     pub fn named(word: &str) -> Option<Keyword>
         ensures { (k : AnyKeyword) → (result ≡ Some k) ↔ (keyword_text k ≡ word.now) }
     {
         Keyword::spelled(word.as_bytes())
     }
 
-    /// The same of the bytes of a word.
+    /// Finds the keyword with these bytes, if there is one.
     pub fn spelled(word: &[u8]) -> Option<Keyword>
         ensures { result ≡ lookup KEYWORDS word.now }
     {

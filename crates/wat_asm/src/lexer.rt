@@ -1,8 +1,8 @@
-//! From a text to its tokens.
+//! The lexer: from a text to its tokens.
 
-mod cutting;
 mod numbering;
 mod numeral;
+mod scanner;
 mod strings;
 mod token;
 mod words;
@@ -10,21 +10,21 @@ mod words;
 ghost use Rattle.std.specs.Prelude.{List, IfOk};
 ghost use Rattle.wat_asm.specs.Pieces.{Piece};
 ghost use Rattle.wat_asm.specs.inside.Follows.{IsRead};
-ghost use Rattle.wat_asm.specs.Numbering.{TellNames};
+ghost use Rattle.wat_asm.specs.Numbering.{AreNamesNumbered};
 ghost use Rattle.wat_asm.specs.inside.Tokens.{ArePiecesHeld, IsPrinted, sorted, toks_of};
 
 use crate::fault::Failure;
-use cutting::one;
 use numbering::Numbering;
+use scanner::one;
 use std::alloc::Global;
 pub use strings::string;
 pub use token::{Token, Tokens};
 
-/// The tokens of a text. A failure's place is told by the bytes that are left.
+/// Cuts a text into tokens. A failure has the number of bytes that remain at its place.
 pub fn lex(alloc: Global, source: &str) -> Result<Tokens, Failure>
     ensures again { (ps : List Piece) → ArePiecesHeld ps → IsPrinted source.now ps
         → IsRead (λ x. toks_of source.now x.tokens.items) result (sorted ps) }
-    ensures names { IfOk result (λ x. TellNames source.now x.tokens.items x.places.items) }
+    ensures names { IfOk result (λ x. AreNamesNumbered source.now x.tokens.items x.places.items) }
 {
     let text = source.as_bytes();
     let mut names = Numbering::new(alloc);

@@ -1,4 +1,4 @@
-//! Modules in the text format (Core 1.0, section 6).
+//! The assembler and the printer of the text format (Core 1.0, section 6).
 #![tactic(auto)]
 
 mod assembling;

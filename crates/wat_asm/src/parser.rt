@@ -1,4 +1,4 @@
-//! From tokens to a module.
+//! The parser: from tokens to a module.
 
 mod code;
 mod draft;

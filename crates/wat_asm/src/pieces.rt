@@ -1,20 +1,20 @@
-//! The pieces of a printed text: tokens, each with the blanks before it.
+//! Writers of the pieces of a printed text: tokens, each with the blanks before it.
 
 ghost use Rattle.std.specs.Prelude.{◌≡◌, ◌∷◌, ◌++◌, List, OnOk, string_bytes};
 ghost use Rattle.std.specs.List.{AllByRecursion};
-ghost use Rattle.wat_asm.specs.Quoted.{escape, escaped, quoted, stands_as_itself};
+ghost use Rattle.wat_asm.specs.Quoted.{escape, escaped, quoted, needs_no_escape};
 ghost use Rattle.wat_asm.specs.inside.Writing.{Writes};
 ghost use Rattle.wat_asm.specs.Pieces.{Piece, align_is, closes, closes_line, counts, each, gap_text, indent, offset_is, opens, quotes, says, signs};
 
 use crate::keyword::Keyword;
 use std::alloc::AllocError;
 
-/// What stands before a token.
+/// The blanks before a token.
 #[derive(Clone, Copy)]
 pub enum Gap {
     Nothing,
     Space,
-    /// A new line, and two blanks for each level.
+    /// A new line, then two blanks for each level.
     Line(u32),
 }
 
@@ -40,7 +40,7 @@ fn write_gap(text: &mut String, gap: Gap) -> Result<(), AllocError>
     }
 }
 
-/// A parenthesis and a keyword.
+/// Writes a parenthesis and a keyword.
 #[tactic(auto, unfolding(crate::specs::Pieces::text))]
 pub fn write_opening(text: &mut String, gap: Gap, keyword: Keyword) -> Result<(), AllocError>
     ensures { Writes text.old text.new result (λ more. opens gap keyword ∷ more) }
@@ -58,7 +58,7 @@ pub fn write_keyword(text: &mut String, gap: Gap, keyword: Keyword) -> Result<()
     text.push_str(keyword.text())
 }
 
-/// A number without a sign, in decimal.
+/// Writes an unsigned number, in decimal.
 #[tactic(auto, unfolding(crate::specs::Pieces::text))]
 pub fn write_count(text: &mut String, n: u32) -> Result<(), AllocError>
     ensures { Writes text.old text.new result (λ more. counts n ∷ more) }
@@ -66,7 +66,7 @@ pub fn write_count(text: &mut String, n: u32) -> Result<(), AllocError>
     write!(text, " {n}")
 }
 
-/// A number with a sign where it is below 0, in decimal.
+/// Writes a number in decimal, with a sign where it is below 0.
 #[tactic(auto, unfolding(crate::specs::Pieces::text))]
 pub fn write_i32(text: &mut String, z: i32) -> Result<(), AllocError>
     ensures { Writes text.old text.new result (λ more. signs z ∷ more) }
@@ -74,7 +74,7 @@ pub fn write_i32(text: &mut String, z: i32) -> Result<(), AllocError>
     write!(text, " {z}")
 }
 
-/// A number with a sign where it is below 0, in decimal.
+/// Writes a number in decimal, with a sign where it is below 0.
 #[tactic(auto, unfolding(crate::specs::Pieces::text))]
 pub fn write_i64(text: &mut String, z: i64) -> Result<(), AllocError>
     ensures { Writes text.old text.new result (λ more. signs z ∷ more) }
@@ -89,7 +89,7 @@ pub fn write_offset(text: &mut String, n: u32) -> Result<(), AllocError>
     write!(text, " offset={n}")
 }
 
-/// An alignment in bytes.
+/// Writes an alignment, in bytes.
 #[tactic(auto, unfolding(crate::specs::Pieces::text))]
 pub fn write_alignment(text: &mut String, n: u32) -> Result<(), AllocError>
     ensures { Writes text.old text.new result (λ more. align_is n ∷ more) }
@@ -97,13 +97,13 @@ pub fn write_alignment(text: &mut String, n: u32) -> Result<(), AllocError>
     write!(text, " align={n}")
 }
 
-fn stands_as_itself(b: u8) -> bool
-    ensures { result ≡ stands_as_itself b }
+fn needs_no_escape(b: u8) -> bool
+    ensures { result ≡ needs_no_escape b }
 {
     b >= b' ' && b <= b'~' && b != b'"' && b != b'\\'
 }
 
-// A backslash and two hexadecimal digits in small letters.
+// Writes a backslash and two lower-case hexadecimal digits.
 #[tactic(auto, using(std::proofs::lemmas::Fmt::hex_byte))]
 fn write_escape(text: &mut String, b: u8) -> Result<(), AllocError>
     ensures { OnOk result (string_bytes text.new ≡ string_bytes text.old ++ escape b) }
@@ -114,14 +114,14 @@ fn write_escape(text: &mut String, b: u8) -> Result<(), AllocError>
 fn write_escaped(text: &mut String, b: u8) -> Result<(), AllocError>
     ensures { OnOk result (string_bytes text.new ≡ string_bytes text.old ++ escaped b) }
 {
-    if stands_as_itself(b) {
+    if needs_no_escape(b) {
         text.push(char::from(b))
     } else {
         write_escape(text, b)
     }
 }
 
-/// A string of these bytes.
+/// Writes a string of these bytes.
 #[tactic(auto, unfolding(crate::specs::Pieces::text))]
 pub fn write_string(text: &mut String, bytes: &[u8]) -> Result<(), AllocError>
     ensures { Writes text.old text.new result (λ more. quotes bytes.now ∷ more) }
@@ -140,7 +140,7 @@ fn write_all_escaped(text: &mut String, bytes: &[u8]) -> Result<(), AllocError>
     Ok(())
 }
 
-/// A closing parenthesis.
+/// Writes a closing parenthesis.
 #[tactic(auto, unfolding(crate::specs::Pieces::text))]
 pub fn write_closing(text: &mut String) -> Result<(), AllocError>
     ensures { Writes text.old text.new result (λ more. closes ∷ more) }
@@ -148,7 +148,7 @@ pub fn write_closing(text: &mut String) -> Result<(), AllocError>
     text.push_str(")")
 }
 
-/// A closing parenthesis on a line of its own.
+/// Writes a closing parenthesis on a line of its own.
 #[tactic(auto, unfolding(crate::specs::Pieces::text))]
 pub fn write_closing_line(text: &mut String, level: u32) -> Result<(), AllocError>
     ensures { Writes text.old text.new result (λ more. closes_line level ∷ more) }
@@ -158,9 +158,9 @@ pub fn write_closing_line(text: &mut String, level: u32) -> Result<(), AllocErro
     text.push_str(")")
 }
 
-/// What is printed as pieces of its own.
+/// A part of a module that is printed as pieces of its own.
 pub trait Part {
-    /// What is printed.
+    /// The type of the part.
     type Of;
 
     ghost pieces: { Self.Of → List Piece → List Piece };
@@ -172,7 +172,7 @@ pub trait Part {
         ensures { Writes text.old text.new result (pieces part.now) };
 }
 
-/// Parts of one kind, one after another.
+/// Writes parts of one kind, one after another.
 pub fn write_each<P: Part>(text: &mut String, parts: &[P::Of]) -> Result<(), AllocError>
     requires { AllByRecursion P.IsWithin parts.now }
     ensures { Writes text.old text.new result (each P.pieces parts.now) }

@@ -1,4 +1,4 @@
-//! A module's text.
+//! The printer: the text of a module.
 
 ghost use Rattle.std.specs.Prelude.{◌≡◌, IfOk, OnOk, string_bytes};
 ghost use Rattle.wasm_ast.specs.Limits.{IsWithinLimits};
@@ -11,12 +11,12 @@ use crate::pieces::{Gap, write_closing_line, write_each, write_opening};
 use std::alloc::{AllocError, Global};
 use wasm_ast::{Data, Element, Export, FuncType, Function, Global as ModuleGlobal, Import, Module};
 
-/// The module in the text format (Core 1.0, 6.6).
+/// Prints the module in the text format (Core 1.0, 6.6).
 ///
-/// Types, imports, functions, tables, memories, globals, exports, the start function, elements and data stand in this
-/// order, each field on a line two blanks in, and each instruction of a function on a line four blanks in and two more
-/// for each block round it. Everything is referred to by its number, and constants are signed decimals. The module need
-/// not be valid, but within the limits. It fails only for want of memory.
+/// The order is types, imports, functions, tables, memories, globals, exports, the start function, elements and data.
+/// Each field is on a line, indented by two blanks. Each instruction of a function is on a line, indented by four blanks
+/// and two more for each block around it. References are indices, and constants are signed decimals. The module must be
+/// within the limits, but need not be valid. It fails only where an allocation fails.
 pub fn print(alloc: Global, module: &Module) -> Result<String, AllocError>
     requires { IsWithinLimits «module».now }
     ensures { IfOk result (λ text. string_bytes text ≡ layout «module».now) }
@@ -37,7 +37,7 @@ fn write_module(text: &mut String, module: &Module) -> Result<(), AllocError>
     write_closing_line(text, 0)
 }
 
-// What the module brings in and defines.
+// Writes the types, the imports and the definitions of the module.
 #[tactic(auto, using(crate::proofs::Codes::bodies_within, crate::proofs::Codes::all_held))]
 fn write_definitions(text: &mut String, module: &Module) -> Result<(), AllocError>
     requires { IsWithinLimits «module».now }
@@ -51,7 +51,7 @@ fn write_definitions(text: &mut String, module: &Module) -> Result<(), AllocErro
     write_each::<ModuleGlobal>(text, module.globals.as_slice())
 }
 
-// What stands for the module's use.
+// Writes the exports, the start function and the segments of the module.
 #[tactic(auto, using(crate::proofs::Codes::all_held))]
 fn write_uses(text: &mut String, module: &Module) -> Result<(), AllocError>
     requires { IsWithinLimits «module».now }

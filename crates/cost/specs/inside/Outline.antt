@@ -1,4 +1,4 @@
--- An outline of code: how much its own instructions count, its calls not unfolded, and its calls.
+-- An outline of code: the units of its own instructions without its callees, and the functions that it calls.
 use Rattle.std.specs.Prelude.{ℕ, ◌+◌, min, List, [], ◌∷◌, ◌++◌}
 use Rattle.wasm_ast.specs.declared.body.Instr.TheVariants as instr
 use Rattle.wasm_ast.specs.Code.{Code, end, plain, branch, call, call_indirect, unreachable, block, loop, choice}
@@ -6,7 +6,7 @@ use Rattle.wasm_ast.specs.declared.module.Module.{Module}
 use Rattle.cost.specs.Weights.{units_of}
 use Rattle.cost.specs.Sizes.{max_size}
 
--- the count stops at one above the largest size that is told
+-- counts stop at one more than the largest size that is reported
 abbrev pub cap : ℕ
 cap = max_size + 1
 
@@ -23,7 +23,7 @@ with_units units o = record o { own = min (o.own + units) cap }
 abbrev pub with_call : ℕ → Summary → Summary
 with_call f o = record o { calls = o.calls ++ f ∷ [] }
 
--- the outline, and the code after it
+-- the outline, extended by the code
 abbrev pub with_code : Module → Summary → Code → Summary
 with_code m o end = o
 with_code m o (plain p rest) = with_code m (with_units (units_of m (instr.Plain p)) o) rest

@@ -1,4 +1,4 @@
--- Outlines of the functions of a module, which the walk goes by.
+-- The outlines of a module's functions, which the walk reads.
 use Rattle.std.specs.Prelude.{◌≡◌, ℕ, ◌+◌, ◌-◌, ◌≤◌, min, List, [], map, sum_by, length, slice_get, nat_lt, Option, Some, None, if◌then◌else◌}
 use Rattle.wasm_ast.specs.declared.module.Function.{Function}
 use Rattle.wasm_ast.specs.declared.module.Module.{Module}
@@ -7,7 +7,7 @@ use Rattle.cost.specs.declared.outline.Outlines.{Outlines}
 use Rattle.cost.specs.inside.Outline.{Summary, nothing, with_code, cap}
 use Rattle.cost.specs.Heights.{most}
 
--- each body in outline
+-- the outline of each body
 abbrev pub outlines_of : Module → List Function → List Summary
 outlines_of m fs = map (λ (f : Function). with_code m nothing f.body) fs
 
@@ -20,7 +20,7 @@ pub record AreOutlines (m : Module) (os : Outlines) : Type 0 where
 abbrev pub count_of : Outlines → ℕ
 count_of os = os.imported + length os.defined.items
 
--- the outline of the function with this number, where it has a body
+-- the outline of the function with this index, where it has a body
 abbrev pub outline_at : Outlines → ℕ → Option Summary
 outline_at os f = if nat_lt f os.imported then None else slice_get os.defined.items (f - os.imported)
 
@@ -40,7 +40,7 @@ height_at rank (Some o) = 1 + most rank o.calls
 abbrev pub called : Outlines → ℕ → List ℕ
 called os f = calls_at (outline_at os f)
 
--- up to the cap each function has the size that its outline tells
+-- each function's size is its outline's own units plus the sizes of its calls, where counts stop at the cap
 abbrev pub AreSizesOf : Outlines → (ℕ → ℕ) → Type 0
 AreSizesOf os sizes =
     (f : ℕ) → min cap (sizes f) ≡ min cap (own_at (outline_at os f) + sum_by sizes (called os f))

@@ -1,4 +1,4 @@
--- How far a walk along calls has come.
+-- The progress of a walk of the call graph.
 use Rattle.std.specs.Prelude.{◌≡◌, ℕ, ◌+◌, ◌≤◌, min, List, length, sum_by}
 use Rattle.cost.specs.declared.table.Mark.{Mark}
 use Rattle.cost.specs.declared.table.Mark.TheVariants.{Unseen, Open, Done}
@@ -31,14 +31,14 @@ unfinished_weight (Done rank size) = 0
 abbrev pub unfinished : List Mark → ℕ
 unfinished ms = sum_by unfinished_weight ms
 
--- what is done has its rank and its size, and so has all that it calls
+-- each function that is done has its rank and its size, and so have all that it calls
 pub record Settled (os : Outlines) (ms : List Mark) : Type 0 where
   pub long : length ms ≡ count_of os
   pub closed : (f g : ℕ) → IsDone (mark_at ms f) → Calls (called os) f g → IsDone (mark_at ms g)
   pub high : (f : ℕ) → IsDone (mark_at ms f) → rank_at ms f ≡ height_at (rank_at ms) (outline_at os f)
   pub sized : (sizes : ℕ → ℕ) → AreSizesOf os sizes →
       (f : ℕ) → IsDone (mark_at ms f) → size_at ms f ≡ min cap (sizes f)
-  -- a rank has room below the functions that are not done
+  -- a rank is at most the number of functions that are done
   pub below : (f : ℕ) → rank_at ms f + unfinished ms ≤ length ms
 
 -- the walk from f has gone from ms to ns

@@ -1,4 +1,4 @@
--- How the code's values and answers are read.
+-- The models of the code's values, and the meaning of its answers.
 use Rattle.std.specs.Prelude.{◌≡◌, Bool, true, false, List, [], reverse, Option, Result, MatchResult}
 use Rattle.wasm_ast.specs.declared.types.ValType.{ValType}
 use Rattle.wasm_ast.specs.declared.body.Instr.{Instr}
@@ -6,43 +6,44 @@ use Rattle.wasm_ast.specs.Code.{Code}
 use Rattle.wasm_ast.specs.View.{then_code}
 use Rattle.validate.specs.declared.fault.ValidFault.{ValidFault}
 use Rattle.validate.specs.declared.operands.Operands.{Operands}
-use Rattle.validate.specs.declared.operands.Slot.{Slot}
-use Rattle.validate.specs.declared.frame.Frame.{Frame}
-use Rattle.validate.specs.declared.nesting.Nesting.{Nesting}
+use Rattle.validate.specs.declared.operands.OperandType.{OperandType}
+use Rattle.validate.specs.declared.context.BodyContext.{BodyContext}
+use Rattle.validate.specs.declared.labels.Labels.{Labels}
 use Rattle.validate.specs.Spaces.{Spaces}
 use Rattle.validate.specs.Instructions.{Context, operands_of, with_label}
 use Rattle.validate.specs.inside.Findings.{Finds, NoneBut}
 use Rattle.validate.specs.inside.Steps.{run, closes}
-use Rattle.validate.specs.inside.Stack.{Stack, bottom, any_below, give_all, pile, take_any}
+use Rattle.validate.specs.inside.Stack.{Stack, bottom, any_below, give_all, push_all, take_any}
 
 abbrev pub base_of : Bool → Stack
 base_of true = any_below
 base_of false = bottom
 
 abbrev pub stack_of : Operands → Stack
-stack_of o = pile (base_of o.is_dead) o.slots.items
+stack_of o = push_all (base_of o.is_unreachable) o.types.items
 
--- the labels, the innermost last
-abbrev pub context_of : Frame → Nesting → Context
+-- the context of an instruction; the code keeps the innermost label last
+abbrev pub context_of : BodyContext → Labels → Context
 context_of f n = record { spaces = f.spaces.now; locals = f.locals.items; labels = reverse n.labels.items; outcome = f.outcome }
 
--- ---- what is done with operands
+-- ---- operands
 
--- they are as the step leaves them, or there is no such step
+-- the operands are as the step leaves them; a fault means that there is no such step
 abbrev pub Makes : (Stack → Option Stack) → (old new : Operands) → Result (Unit {0}) ValidFault → Type 0
 Makes step old new answer = Finds (step (stack_of old)) answer (stack_of new)
 
--- with the result of this type given
+-- the stack with a result of this type pushed
 abbrev pub with_result : Option ValType → Stack → Stack
 with_result t s = give_all (operands_of t) s
 
--- whatever comes next, it comes upon the operand that was topmost, and there is none to come upon where that is refused
-abbrev pub TakesTopmost : (old new : Operands) → Result Slot ValidFault → Type 0
+-- whatever step comes next, it gets the operand that was topmost; a fault means that there is none
+abbrev pub TakesTopmost : (old new : Operands) → Result OperandType ValidFault → Type 0
 TakesTopmost old new answer =
-    (next : Slot → Stack → Option Stack)
+    (next : OperandType → Stack → Option Stack)
     → MatchResult answer (λ k. take_any (stack_of old) next ≡ next k (stack_of new)) (λ e. NoneBut e (take_any (stack_of old) next))
 
--- whatever code comes after the instruction, it finds the operands as they are then, and none where that is refused
+-- whatever code comes after the instruction, it starts with the operands as they are then; a fault means that no such
+-- code is typed
 abbrev pub StepsOver : Instr → Context → (old new : Operands) → Result (Unit {0}) ValidFault → Type 0
 StepsOver instr c old new answer =
     (rest : Code)
@@ -51,7 +52,7 @@ StepsOver instr c old new answer =
 
 -- ---- bodies
 
--- code that begins with no operands, in a block of this label, leaves the block's result and nothing else
+-- code that starts with no operands, in a block with this label, leaves exactly the block's result
 abbrev pub inside_passes : (label gives : Option ValType) → Code → Context → Bool
 inside_passes label gives body c = closes (run body (with_label label c) bottom) gives
 
@@ -60,5 +61,5 @@ abbrev pub body_passes : Spaces → List ValType → Option ValType → Code →
 body_passes s locals outcome body =
     inside_passes outcome outcome body (record { spaces = s; locals = locals; labels = []; outcome = outcome })
 
-abbrev pub passes_in : Frame → Code → Bool
+abbrev pub passes_in : BodyContext → Code → Bool
 passes_in f body = body_passes f.spaces.now f.locals.items f.outcome body

@@ -1,5 +1,5 @@
--- What the checks of constant expressions find, one function a rule of `Constants`, and how the rules of `Modules`
--- fall in two.
+-- The findings of the checks of constant expressions, one function for each rule of `Constants`. The rules of `Modules`
+-- are in two parts here.
 use Rattle.std.specs.Prelude.{ℕ, ◌<◌, ◌≤◌, ◌++◌, List, length, map, Option, Some, None, slice_get}
 use Rattle.std.specs.List.{AllByRecursion}
 use Rattle.std.specs.Option.{option_and_then}
@@ -22,7 +22,7 @@ use Rattle.wasm_ast.specs.Values.{type_of}
 use Rattle.validate.specs.Spaces.{Spaces}
 use Rattle.validate.specs.Modules.{TableHolds, MemoryHolds, GlobalTyped, ExportTyped, name_of_export, AreDistinct, StartTyped, ElementTyped, DataTyped, FunctionTyped}
 
--- the instruction, where nothing comes after it
+-- the instruction, where no code comes after it
 abbrev pub if_last : Plain → Code → Option Plain
 if_last p code.end = Some p
 if_last p (code.plain q rest) = None
@@ -34,7 +34,7 @@ if_last p (code.block t body rest) = None
 if_last p (code.loop t body rest) = None
 if_last p (code.choice t body other rest) = None
 
--- the one instruction, if it holds no others and neither branches nor calls
+-- the only instruction, if there is exactly one and it is plain
 abbrev pub only_plain : Code → Option Plain
 only_plain code.end = None
 only_plain (code.plain p rest) = if_last p rest
@@ -61,7 +61,7 @@ variable_constant s (variable.LocalSet x) = None
 variable_constant s (variable.LocalTee x) = None
 variable_constant s (variable.GlobalSet x) = None
 
--- what the instruction gives, if it is constant
+-- the type of the instruction's value, if the instruction is constant
 abbrev pub plain_constant : Spaces → Plain → Option ValType
 plain_constant s (plain.Const v) = Some (type_of v)
 plain_constant s (plain.Variable op) = variable_constant s op
@@ -76,19 +76,19 @@ constant_type s body = option_and_then (plain_constant s) (only_plain body)
 
 -- ---- parts of modules
 
--- the type of each function is there
+-- the type of each function exists
 abbrev pub FunctionTypesHold : Spaces → Type 0
 FunctionTypesHold s = AllByRecursion (λ n. n < length s.types) s.functions
 
--- each exports something that is there
+-- each export names something that exists
 abbrev pub ExportsTyped : Spaces → List Export → Type 0
 ExportsTyped s exports = AllByRecursion (λ (e : Export). ExportTyped s e.description) exports
 
--- no two exports have one name
+-- no two exports have the same name
 abbrev pub HaveDistinctNames : List Export → Type 0
 HaveDistinctNames exports = AreDistinct (map name_of_export exports)
 
--- the type numbers of functions
+-- the indices of the functions' types
 abbrev pub type_numbers : List Function → List ℕ
 type_numbers functions = map (λ (f : Function). f.type_number) functions
 
@@ -102,14 +102,14 @@ all_locals t f = t.parameters ++ f.locals
 
 -- ---- modules
 
--- the rules that speak of no globals but those that are imported
+-- the rules that use only the imported globals
 pub record OuterTyped (m : Module) (s : Spaces) : Type 0 where
   pub functions : FunctionTypesHold s
   pub tables : (length s.tables ≤ 1) × AllByRecursion TableHolds s.tables
   pub memories : (length s.memories ≤ 1) × AllByRecursion MemoryHolds s.memories
   pub globals : AllByRecursion (GlobalTyped s) m.globals
 
--- those that speak of all globals
+-- the rules that use all globals
 pub record InnerTyped (m : Module) (s : Spaces) : Type 0 where
   pub exports : ExportsTyped s m.exports
   pub names : HaveDistinctNames m.exports

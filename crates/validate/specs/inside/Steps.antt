@@ -1,4 +1,4 @@
--- What is known after code, if it is typed at all: one function a rule of `Instructions`.
+-- The operand stack after code, if the code is typed: one function for each rule of `Instructions`.
 use Rattle.std.specs.Prelude.{Bool, true, false, ◌&&◌, ℕ, List, [], ◌∷◌, Option, Some, None, slice_get, reverse, length, nat_le, nat_lt, ◌^◌}
 use Rattle.wasm_ast.specs.declared.types.ValType.{ValType}
 use Rattle.wasm_ast.specs.declared.types.ValType.TheVariants.{I32}
@@ -51,7 +51,7 @@ has_memory s = nat_lt 0 (length s.memories)
 abbrev pub has_table : Spaces → Bool
 has_table s = nat_lt 0 (length s.tables)
 
--- the alignment is no more than the width
+-- the alignment is at most the width
 abbrev pub is_aligned : ℕ → ℕ → Bool
 is_aligned align width = nat_le (2 ^ align) width
 
@@ -65,7 +65,7 @@ memory_step c memory.Grow s = only_if (has_memory c.spaces) (change (I32 ∷ [])
 
 -- ---- other instructions without control
 
--- what an operation takes and gives
+-- the operands that a numeric instruction pops, and the result that it pushes
 abbrev pub numeric_step : Numeric → Stack → Option Stack
 numeric_step op s = change (numeric_takes op) (numeric_gives op ∷ []) s
 
@@ -94,7 +94,7 @@ abbrev pub takes_same : Option ValType → Option (Option ValType) → Bool
 takes_same t None = false
 takes_same t (Some u) = same_taken t u
 
--- each of the labels of that number takes t
+-- a branch to each of these labels takes t
 abbrev pub all_take : List (Option ValType) → Option ValType → List ℕ → Bool
 all_take labels t [] = true
 all_take labels t (l ∷ ls) = takes_same t (slice_get labels l) && all_take labels t ls
@@ -107,7 +107,7 @@ branch_step c (branch.BrTable ls l) s =
     at_some (slice_get c.labels l) (λ t. only_if (all_take c.labels t ls) (leave (I32 ∷ operands_of t) s))
 branch_step c branch.Return s = leave (operands_of c.outcome) s
 
--- what a call of a function of this type takes and gives
+-- the arguments that a call of a function of this type pops, and the result that it pushes
 abbrev pub called_step : FuncType → Stack → Option Stack
 called_step t s = change (reverse t.parameters) (operands_of (first_type t.results)) s
 
@@ -119,7 +119,7 @@ abbrev pub call_indirect_step : Context → ℕ → Stack → Option Stack
 call_indirect_step c n s =
     at_some (slice_get c.spaces.types n) (λ t. only_if (has_table c.spaces) (change (I32 ∷ reverse t.parameters) (operands_of (first_type t.results)) s))
 
--- exactly those operands are left
+-- exactly those operands remain
 abbrev pub is_some_empty : Option Stack → Bool
 is_some_empty None = false
 is_some_empty (Some s) = is_empty s

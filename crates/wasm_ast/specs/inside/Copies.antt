@@ -1,4 +1,4 @@
--- A copy of a module in its making: what it has by then, and these parts of the module.
+-- A copy of a module part by part: each function replaces some fields of a copy by those of the module.
 use Rattle.wasm_ast.specs.declared.module.Module.{Module}
 
 abbrev pub with_functions_of : (made m : Module) → Module

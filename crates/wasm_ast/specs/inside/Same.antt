@@ -36,7 +36,7 @@ same_tree-is (gnum m) (gcons c d) e = absurd cc
 same_tree-is (gcons a b) gnil e = absurd cc
 same_tree-is (gcons a b) (gnum n) e = absurd cc
 
--- whether the two are the same
+-- whether the two values are the same
 unfoldable pub same_by : {A : Type 0} → Coded A → A → A → Bool
 same_by c x y = same_tree (c.code x) (c.code y)
 
@@ -45,7 +45,7 @@ unfolding same_by
 same_decides c x y =
     (λ e. c.inj x y (same_tree-is (c.code x) (c.code y) e), λ e. subst (λ z. same_tree (c.code x) (c.code z) ≡ true) e (same_tree-refl (c.code x)))
 
--- a test that is true just for values that are the same is this one
+-- every test that is true exactly where the two values are the same equals this one
 pub same_is : {A : Type 0} (c : Coded A) (x y : A) (r : Bool) → IsTrue r ↔ (x ≡ y) → r ≡ same_by c x y
 same_is c x y r h = same_from_decides r (same_by c x y) h (same_decides c x y)
 

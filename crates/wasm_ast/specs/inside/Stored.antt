@@ -1,4 +1,4 @@
--- The stored form of each type of the syntax that holds lists. Nothing but that there is one is used.
+-- The stored form of each type of the syntax that holds lists. The proofs use only that there is one.
 use Rattle.std.specs.Coded.{Coded}
 use Rattle.wasm_ast.specs.declared.sequence.Name.{Name}
 use Rattle.wasm_ast.specs.declared.types.FuncType.{FuncType}

@@ -4,21 +4,21 @@ ghost use Rattle.std.specs.Prelude.{◌≡◌};
 ghost use Rattle.wasm_ast.specs.Numeric.{conversion_value};
 ghost use Rattle.wasm_ast.specs.declared.numeric.Conversion.TheVariants.{Wrap, ExtendS, ExtendU};
 
-/// `i32.wrap_i64`: the low 32 bits.
+/// Computes `i32.wrap_i64`: the low 32 bits.
 pub fn i32_wrap_i64(x: u64) -> u32
     ensures { result ≡ conversion_value Wrap x }
 {
     (x % 0x1_0000_0000) as u32
 }
 
-/// `i64.extend_i32_s`: the same signed number in 64 bits.
+/// Computes `i64.extend_i32_s`: the same signed number in 64 bits.
 pub fn i64_extend_i32_s(x: u32) -> u64
     ensures { result ≡ conversion_value ExtendS x }
 {
     i64::from(x.cast_signed()).cast_unsigned()
 }
 
-/// `i64.extend_i32_u`: the same number in 64 bits.
+/// Computes `i64.extend_i32_u`: the same number in 64 bits.
 pub fn i64_extend_i32_u(x: u32) -> u64
     ensures { result ≡ conversion_value ExtendU x }
 {

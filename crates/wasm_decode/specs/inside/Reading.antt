@@ -1,4 +1,4 @@
--- Reading from left to right: what stands at the front of the bytes, if it does, and the bytes after it.
+-- Reading from left to right: the item at the front of the bytes, if there is one, and the bytes after it.
 use Rattle.std.specs.Prelude.{◌≡◌, ℕ, zero, suc, ℤ, Bool, true, false, List, [], ◌∷◌, length, take, drop, nat_le, Option, Some, None, Result, Ok, Err, ◌==◌, if◌then◌else◌}
 use Rattle.std.specs.Str.{is_utf8}
 use Rattle.leb.specs.declared.fault.LebFault.{LebFault}
@@ -19,33 +19,33 @@ abbrev pub ◌>>=◌ : {A B : Type 0} → Option A → (A → Option B) → Opti
 (Some x) >>= f = f x
 None >>= f = None
 
--- the fault is one of the bytes
+-- the fault is not out of memory
 abbrev pub IsRefusal : DecodeFault → Type 0
 IsRefusal fault.OutOfMemory = ⊥
 IsRefusal _ = Unit {0}
 
--- A fault of the bytes says that nothing stands there, and want of memory says nothing.
+-- A fault of the bytes means that there is no such item. Out of memory means nothing.
 abbrev pub Fails : {Y : Type 0} → DecodeFault → Option Y → Type 0
 Fails fault.OutOfMemory read = Unit {0}
 Fails _ read = read ≡ None
 
--- What a function returned, seen by view, is what reading gives, unless memory ran out.
+-- The result that a function returned, mapped by `view`, is the result of reading, unless memory ran out.
 abbrev pub Gives : {X Y : Type 0} → (X → Y) → Result X DecodeFault → Option Y → Type 0
 Gives view (Ok x) read = read ≡ Some (view x)
 Gives view (Err e) read = Fails e read
 
--- What a function returned, and the bytes that it left, are what reading gives, unless memory ran out.
+-- The result that a function returned and the bytes that remain are the result of reading, unless memory ran out.
 abbrev pub GivesAndLeaves : {X : Type 0} → Result X DecodeFault → List ℕ → Option (X × List ℕ) → Type 0
 GivesAndLeaves result left read = Gives (λ x. (x, left)) result read
 
 abbrev pub found : {A : Type 0} → A → Option A
 found x = Some x
 
--- goes on where a test holds
+-- the option where a test holds, else none
 abbrev pub guarded : {A : Type 0} → Bool → Option A → Option A
 guarded b read = if b then read else None
 
--- what reads something of a type
+-- a reader of items of a type
 abbrev pub Reads : Type 0 → Type 0
 Reads A = List ℕ → Option (A × List ℕ)
 
@@ -65,11 +65,11 @@ u32_at bytes = of_leb (unsigned_at 32 bytes)
 unfoldable pub signed_number_at : (bits : ℕ) → List ℕ → Option (ℤ × List ℕ)
 signed_number_at bits bytes = of_leb (signed_at bits bytes)
 
--- so many bytes
+-- this many bytes
 unfoldable pub take_at : ℕ → List ℕ → Option (List ℕ × List ℕ)
 take_at n bytes = guarded (nat_le n (length bytes)) (Some (take n bytes, drop n bytes))
 
--- a size, and so many bytes
+-- a size, and that many bytes
 unfoldable pub part_at : List ℕ → Option (List ℕ × List ℕ)
 part_at bytes = do
   n ← u32_at bytes
@@ -82,7 +82,7 @@ items_at item (suc n) bytes = do
   others ← items_at item n first.1
   Some (first.0 ∷ others.0, others.1)
 
--- a vector of at most so many items
+-- a vector of at most this many items
 unfoldable pub vector_at : {A : Type 0} → (List ℕ → Option (A × List ℕ)) → ℕ → List ℕ → Option (List A × List ℕ)
 vector_at item most bytes = do
   n ← u32_at bytes
@@ -93,12 +93,12 @@ name_at bytes = do
   name ← part_at bytes
   guarded (is_utf8 name.0) (Some name)
 
--- nothing is left
+-- no bytes remain
 abbrev pub is_empty : List ℕ → Bool
 is_empty [] = true
 is_empty (b ∷ bytes) = false
 
--- so large a count as a number of 32 bits can say
+-- the largest count that a number of 32 bits can express
 abbrev pub any_count : ℕ
 any_count = 4294967295
 

@@ -1,4 +1,4 @@
--- Reading instructions: what follows an opcode, and instructions one after another.
+-- Reading instructions: what follows an opcode, and instruction sequences.
 use Rattle.std.specs.Prelude.{ℕ, zero, suc, ◌-◌, Bool, false, ◌||◌, ◌&&◌, List, [], ◌∷◌, length, slice_get, nat_le, Option, Some, None, ◌==◌, if◌then◌else◌}
 use Rattle.std.specs.Int.{cast_unsigned, w32, w64}
 use Rattle.wasm_ast.specs.declared.types.ValType.{ValType}
@@ -37,7 +37,7 @@ use Rattle.wasm_decode.specs.inside.Reading.{◌>>=◌, guarded, Reads, byte_at,
 abbrev pub comparisons : List Comparison
 comparisons = Eq ∷ Ne ∷ LtS ∷ LtU ∷ GtS ∷ GtU ∷ LeS ∷ LeU ∷ GeS ∷ GeU ∷ []
 
--- the test or comparison at a place
+-- the test or comparison at a position
 abbrev pub test_of : ValType → ℕ → Option Numeric
 test_of t zero = Some (numeric.Eqz t)
 test_of t (suc place) = slice_get comparisons place >>= λ op. Some (numeric.Comparison t op)
@@ -50,7 +50,7 @@ arithmetic t =
     ∷ numeric.Binary t And ∷ numeric.Binary t Or ∷ numeric.Binary t Xor ∷ numeric.Binary t Shl ∷ numeric.Binary t ShrS
     ∷ numeric.Binary t ShrU ∷ numeric.Binary t Rotl ∷ numeric.Binary t Rotr ∷ []
 
--- the arithmetic at a place
+-- the arithmetic instruction at a position
 abbrev pub arithmetic_of : ValType → ℕ → Option Numeric
 arithmetic_of t place = slice_get (arithmetic t) place
 
@@ -82,7 +82,7 @@ i64_at bytes = do
   z ← signed_number_at 64 bytes
   Some (plain.Const (value.I64 (cast_unsigned w64 z.0)), z.1)
 
--- what an opcode from 0x20 to 0x24 does with a variable
+-- the instruction with an opcode from 0x20 to 0x24 and this index
 abbrev pub variable_of : ℕ → ℕ → Variable
 variable_of opcode x =
     if opcode == 0x20 then variable.LocalGet x
@@ -107,7 +107,7 @@ loads =
     Some load.I32 ∷ Some load.I64 ∷ None ∷ None ∷ Some load.I32From8S ∷ Some load.I32From8U ∷ Some load.I32From16S ∷ Some load.I32From16U
     ∷ Some load.I64From8S ∷ Some load.I64From8U ∷ Some load.I64From16S ∷ Some load.I64From16U ∷ Some load.I64From32S ∷ Some load.I64From32U ∷ []
 
--- the load at a place behind 0x28; those of floats are not read
+-- the load at a position from 0x28 on; those of floats are not supported
 abbrev pub load_of : ℕ → Option Load
 load_of place = slice_get loads place >>= λ op. op
 
@@ -116,7 +116,7 @@ stores =
     Some store.I32 ∷ Some store.I64 ∷ None ∷ None ∷ Some store.I32To8 ∷ Some store.I32To16 ∷ Some store.I64To8 ∷ Some store.I64To16
     ∷ Some store.I64To32 ∷ []
 
--- the store at a place behind 0x36; those of floats are not read
+-- the store at a position from 0x36 on; those of floats are not supported
 abbrev pub store_of : ℕ → Option Store
 store_of place = slice_get stores place >>= λ op. op
 
@@ -132,7 +132,7 @@ store_at opcode bytes = do
   argument ← memory_argument_at bytes
   Some (memory.Store op argument.0, argument.1)
 
--- the byte that stands for the memory or the table, and what it stands in
+-- the 0 byte that names the memory or the table; the result is the argument
 unfoldable pub after_zero : {A : Type 0} → A → Reads A
 after_zero x bytes = do
   index ← byte_at bytes
@@ -145,9 +145,9 @@ memory_at opcode bytes =
     else (if opcode == 0x40 then after_zero memory.Grow bytes
     else (if nat_le opcode 0x35 then load_at opcode bytes else store_at opcode bytes))
 
--- ---- instructions that hold no others
+-- ---- instructions that contain no others
 
--- what follows an opcode of an instruction without control
+-- what follows the opcode of an instruction that neither branches nor calls
 unfoldable pub plain_at : ℕ → Reads Plain
 plain_at opcode bytes =
     if opcode == 0x01 then Some (plain.Nop, bytes)
@@ -193,7 +193,7 @@ call_indirect_at bytes = do
   t ← u32_at bytes
   after_zero (instr.CallIndirect t.0) t.1
 
--- what follows an opcode of an instruction that holds no others
+-- what follows the opcode of an instruction that contains no others
 unfoldable pub flat_at : ℕ → Reads Instr
 flat_at opcode bytes =
     if opcode == 0x00 then Some (instr.Unreachable, bytes)
@@ -202,23 +202,23 @@ flat_at opcode bytes =
     else (if opcode == 0x11 then call_indirect_at bytes
     else (plain_at opcode bytes >>= λ p. Some (instr.Plain p.0, p.1)))))
 
--- ---- instructions that hold others
+-- ---- instructions that contain others
 
--- instructions up to a byte that ends them, at most so many blocks, loops and ifs inside each other
+-- instructions up to a byte that ends them, with at most this many blocks, loops and ifs inside each other
 abbrev pub Inner : Type 0
 Inner = ℕ → Reads Code
 
--- the byte that ends a sequence
+-- the `end` of a sequence
 unfoldable pub closed_at : List ℕ → Option (List ℕ)
 closed_at bytes = do
   b ← byte_at bytes
   guarded (b.0 == 0x0B) (Some b.1)
 
--- the byte that ends what this is
+-- the `end` of a sequence; the result is the argument
 abbrev pub closed_as : {A : Type 0} → A → Reads A
 closed_as whole bytes = closed_at bytes >>= λ rest. Some (whole, rest)
 
--- a block's type, and the instructions in it, without the byte that ends them
+-- a block's type and its instructions, without the `end`
 unfoldable pub typed_with : Inner → ℕ → Reads (Option ValType × Code)
 typed_with inner levels bytes =
     guarded (nat_le 1 levels) (do
@@ -238,14 +238,14 @@ loop_with inner levels bytes = do
   rest ← closed_at x.1
   Some (instr.Loop x.0.0 x.0.1, rest)
 
--- instructions and the byte that ends them
+-- instructions and their `end`
 unfoldable pub ended_with : Inner → ℕ → Reads Code
 ended_with inner levels bytes = do
   body ← inner levels bytes
   rest ← closed_at body.1
   Some (body.0, rest)
 
--- an `else` and the other arm, or the end, of which the first byte is given
+-- an `else` and the arm for 0, or the `end`; `first` is the first byte
 unfoldable pub arm_with : Inner → ℕ → (first : ℕ) → Reads Code
 arm_with inner levels first bytes =
     if first == 0x05 then ended_with inner (levels - 1) bytes
@@ -275,12 +275,12 @@ instr_with inner levels bytes = do
   b ← byte_at bytes
   opcode_with inner levels b.0 b.1
 
--- a byte follows that ends a sequence
+-- whether this byte ends a sequence
 abbrev pub stops : Option ℕ → Bool
 stops None = false
 stops (Some b) = (b == 0x0B) || (b == 0x05)
 
--- instructions in sequence; the first number bounds how many there are
+-- an instruction sequence; the first argument bounds its length
 unfoldable pub code_at : ℕ → Inner
 code_at zero levels bytes = None
 code_at (suc n) levels bytes =

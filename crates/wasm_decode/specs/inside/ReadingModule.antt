@@ -1,4 +1,4 @@
--- Reading sections, of which each may be absent, and the module that they make.
+-- Reading sections, each of which may be absent, and the module that they make up.
 use Rattle.std.specs.Prelude.{ℕ, zero, suc, ◌-◌, Bool, ◌&&◌, List, [], ◌∷◌, ◌++◌, length, replicate, nat_le, nat_lt, Option, Some, None, ◌==◌, if◌then◌else◌}
 use Rattle.wasm_ast.specs.declared.types.ValType.{ValType}
 use Rattle.wasm_ast.specs.declared.types.FuncType.{FuncType}
@@ -19,9 +19,9 @@ use Rattle.wasm_decode.specs.Grammar.{magic, version}
 use Rattle.wasm_decode.specs.inside.Reading.{◌>>=◌, guarded, Reads, byte_at, u32_at, part_at, vector_at, name_at, is_empty, any_count, val_type_at, func_type_at, limits_at, table_type_at, global_type_at}
 use Rattle.wasm_decode.specs.inside.ReadingCode.{expression_at}
 
--- ---- what the sections hold
+-- ---- the items of the sections
 
--- what follows a kind of import
+-- what follows the byte of a kind of import
 unfoldable pub import_of : (kind : ℕ) → Reads ImportDescription
 import_of kind bytes =
     if kind == 0x00 then (u32_at bytes >>= λ t. Some (import.Function t.0, t.1))
@@ -41,7 +41,7 @@ import_at bytes = do
   description ← import_description_at name.1
   Some (record { «module» = from.0; name = name.0; description = description.0 }, description.1)
 
--- imports, of which at most so many are functions as a module may have
+-- imports; at most as many are functions as a module may have
 unfoldable pub imports_at : Reads (List Import)
 imports_at bytes = do
   imports ← vector_at import_at any_count bytes
@@ -53,7 +53,7 @@ global_at bytes = do
   initial ← expression_at t.1
   Some (record { global_type = t.0; initial = initial.0 }, initial.1)
 
--- what a kind of export and a number name
+-- the export of this kind and index
 abbrev pub export_of : ℕ → ℕ → Option ExportDescription
 export_of kind x =
     if kind == 0x00 then Some (export.Function x)
@@ -96,7 +96,7 @@ data_at bytes = do
 
 -- ---- functions
 
--- groups of locals, so many, of which there may be as many more
+-- `groups` groups of locals, of at most `room` locals in all
 unfoldable pub groups_at : (groups room : ℕ) → Reads (List ValType)
 groups_at zero room bytes = Some ([], bytes)
 groups_at (suc n) room bytes = do
@@ -111,7 +111,7 @@ locals_at room bytes = do
   n ← u32_at bytes
   groups_at n.0 room n.1
 
--- all of the bytes are the locals and the body of a function with this type number and so many parameters
+-- all bytes, as the locals and the body of a function with this type index and this many parameters
 unfoldable pub function_in : (type_number parameters : ℕ) → List ℕ → Option Function
 function_in t parameters bytes = do
   locals ← locals_at (max_locals - parameters) bytes
@@ -124,7 +124,7 @@ function_at types t bytes = do
   f ← function_in t (parameters_of types t) inside.0
   Some (f, inside.1)
 
--- one for each type number
+-- a body for each type index
 unfoldable pub bodies_at : List FuncType → List ℕ → Reads (List Function)
 bodies_at types [] bytes = Some ([], bytes)
 bodies_at types (t ∷ ts) bytes = do
@@ -139,14 +139,14 @@ functions_at types ts bytes = do
 
 -- ---- sections
 
--- what follows the number of a custom section, whose name is looked at; its bytes are skipped
+-- what follows the id of a custom section; its name is checked, and its other bytes are skipped
 unfoldable pub custom_at : List ℕ → Option (List ℕ)
 custom_at bytes = do
   inside ← part_at bytes
   name ← name_at inside.0
   Some inside.1
 
--- custom sections, as many as there are; the first number bounds how many there may be
+-- custom sections, as many as there are; the first argument bounds how many may be read
 unfoldable pub customs_at : ℕ → List ℕ → Option (List ℕ)
 customs_at zero bytes = None
 customs_at (suc n) [] = Some []
@@ -161,11 +161,11 @@ customs_at (suc n) (b ∷ bytes) =
 unfoldable pub skip_customs : List ℕ → Option (List ℕ)
 skip_customs bytes = customs_at (suc (length bytes)) bytes
 
--- a section may come behind the one with this number
+-- whether the section b may come after the section `number`
 abbrev pub is_later : (number b : ℕ) → Bool
 is_later number b = nat_lt number b && nat_le b 11
 
--- the content of the section with this number, or none where a later one comes or nothing
+-- the content of the section with this id, or none where a later section or the end comes next
 unfoldable pub section_at : (number : ℕ) → Reads (Option (List ℕ))
 section_at number [] = Some (None, [])
 section_at number (b ∷ bytes) =
@@ -174,11 +174,11 @@ section_at number (b ∷ bytes) =
       Some (Some inside.0, inside.1))
     else guarded (is_later number b) (Some (None, b ∷ bytes))
 
--- all of a section's content is read, and the custom sections behind it are skipped
+-- the end of a section whose content is read; the custom sections after it are skipped
 abbrev pub closed : {A : Type 0} → Option (A × List ℕ) → List ℕ → Option (A × List ℕ)
 closed read after = read >>= λ x. guarded (is_empty x.1) (skip_customs after >>= λ rest. Some (x.0, rest))
 
--- what a section holds, or what stands for it where it is absent
+-- the content of a section, or the default where it is absent
 abbrev pub present_or : {A : Type 0} → Reads A → Option A → Option (List ℕ) → Reads A
 present_or content absent None rest = absent >>= λ x. Some (x, rest)
 present_or content absent (Some inside) rest = closed (content inside) rest
@@ -188,7 +188,7 @@ section_with content absent number bytes = do
   section ← section_at number bytes
   present_or content absent section.0 section.1
 
--- a section of a vector of at most so many items
+-- a section of a vector of at most `most` items
 abbrev pub vector_in : {A : Type 0} → Reads A → (most number : ℕ) → Reads (List A)
 vector_in item most number bytes = section_with (vector_at item most) (Some []) number bytes
 
@@ -206,7 +206,7 @@ abbrev pub no_bodies : List ℕ → Option (List Function)
 no_bodies [] = Some []
 no_bodies (t ∷ ts) = None
 
--- the bodies of functions with these type numbers
+-- the bodies of functions with these type indices
 abbrev pub code_in : List FuncType → List ℕ → Reads (List Function)
 code_in types ts bytes = section_with (functions_at types ts) (no_bodies ts) 10 bytes
 
@@ -219,7 +219,7 @@ types_at m bytes = do
   imports ← imports_in types.1
   Some (record m { types = types.0; imports = imports.0 }, imports.1)
 
--- the type numbers of functions, where so many are imported
+-- the type indices of functions, where `imported` functions are imported
 unfoldable pub numbers_at : (imported : ℕ) → Reads (List ℕ)
 numbers_at imported bytes = vector_in u32_at (max_functions - imported) 3 bytes
 
@@ -231,7 +231,7 @@ spaces_at m bytes = do
   globals ← items_in global_at 6 memories.1
   Some (record m { tables = tables.0; memories = memories.0; globals = globals.0 }, globals.1)
 
--- exports, the function that starts the module, and elements
+-- exports, the start function, and elements
 unfoldable pub exports_at : Module → Reads Module
 exports_at m bytes = do
   exports ← items_in export_at 7 bytes
@@ -239,14 +239,14 @@ exports_at m bytes = do
   elements ← items_in element_at 9 start.1
   Some (record m { exports = exports.0; start = start.0; elements = elements.0 }, elements.1)
 
--- functions with these type numbers, and data
+-- functions with these type indices, and data
 unfoldable pub contents_at : List ℕ → Module → Reads Module
 contents_at ts m bytes = do
   functions ← code_in m.types ts bytes
   segments ← items_in data_at 11 functions.1
   Some (record m { functions = functions.0; «data» = segments.0 }, segments.1)
 
--- the sections behind that of the type numbers, to the end of the bytes
+-- the sections after the function section, to the end of the bytes
 unfoldable pub remaining_at : List ℕ → Module → List ℕ → Option Module
 remaining_at ts m bytes = do
   spaces ← spaces_at m bytes
@@ -254,7 +254,7 @@ remaining_at ts m bytes = do
   contents ← contents_at ts exports.0 exports.1
   guarded (is_empty contents.1) (Some contents.0)
 
--- all of the bytes, whose sections take the place of what the module has
+-- all bytes, whose sections replace the contents of the module
 unfoldable pub filled_at : Module → List ℕ → Option Module
 filled_at m bytes = do
   first ← skip_customs bytes
@@ -262,11 +262,11 @@ filled_at m bytes = do
   numbers ← numbers_at (imported_functions types.0.imports) types.1
   remaining_at numbers.0 types.0 numbers.1
 
--- all of the bytes
+-- all bytes
 unfoldable pub sections_at : List ℕ → Option Module
 sections_at bytes = filled_at empty_module bytes
 
--- the bytes begin with these, which are not given
+-- the bytes after these, which must come first
 unfoldable pub after_bytes : List ℕ → List ℕ → Option (List ℕ)
 after_bytes [] bytes = Some bytes
 after_bytes (c ∷ cs) [] = None

@@ -1,4 +1,4 @@
--- What the functions that write append, where it has no name of its own in the canonical spelling.
+-- The bytes that the writers append, where the canonical spelling has no name for them.
 use Rattle.std.specs.Prelude.{ℕ, List, [], ◌∷◌, ◌++◌, Option}
 use Rattle.leb.specs.Spelling.{u32_spelling}
 use Rattle.wasm_ast.specs.declared.types.ValType.{ValType}
@@ -9,7 +9,7 @@ use Rattle.wasm_decode.specs.Canonical.{vector_section, func_type_bytes, block_t
 
 -- ---- instructions
 
--- an opcode and the type of a block
+-- an opcode and a block type
 abbrev pub opening_bytes : ℕ → Option ValType → List ℕ
 opening_bytes opcode t = opcode ∷ block_type_byte t ∷ []
 
@@ -17,7 +17,7 @@ opening_bytes opcode t = opcode ∷ block_type_byte t ∷ []
 abbrev pub block_bytes : ℕ → Option ValType → Code → List ℕ
 block_bytes opcode t body = opcode ∷ block_type_byte t ∷ (code_bytes body ++ 0x0B ∷ [])
 
--- the arm for 0 behind its `else`, or nothing where it is empty
+-- the arm for 0 after its `else`, or nothing where it is empty
 abbrev pub arm_bytes : Code → List ℕ
 arm_bytes other = else_bytes other (code_bytes other)
 
@@ -40,7 +40,7 @@ declarations_bytes m =
     vector_section 1 func_type_bytes m.types ++ (vector_section 2 import_bytes m.imports
     ++ (vector_section 3 type_number_bytes m.functions ++ vector_section 4 table_bytes m.tables))
 
--- memories, globals, exports, and the function that starts the module
+-- memories, globals, exports, and the start function
 unfoldable pub spaces_bytes : Module → List ℕ
 spaces_bytes m =
     vector_section 5 limits_bytes m.memories ++ (vector_section 6 global_bytes m.globals

@@ -1,4 +1,4 @@
-//! Why a module is not encoded.
+//! The faults of the encoder.
 
 ghost use Rattle.std.specs.Prelude.{◌≡◌};
 ghost use Rattle.wasm_decode.specs.declared.encoder.fault.EncodeFault.TheVariants.{OutOfMemory};
@@ -6,13 +6,13 @@ ghost use Rattle.wasm_decode.specs.declared.encoder.fault.EncodeFault.TheVariant
 use std::alloc::AllocError;
 use thiserror::Error;
 
-/// Why a module is not encoded.
+/// The reason why a module is not encoded.
 #[derive(Clone, Copy, Debug, Error)]
 pub enum EncodeFault {
-    /// The shortest spelling takes more than 1,048,576 bytes.
+    /// The module's shortest binary form has more than 1,048,576 bytes.
     #[error("the module takes more than 1,048,576 bytes")]
     OverLimit,
-    /// Memory ran out.
+    /// An allocation failed.
     #[error("out of memory")]
     OutOfMemory,
 }

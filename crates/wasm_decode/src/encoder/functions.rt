@@ -1,4 +1,4 @@
-//! Functions: the numbers of their types, their locals and their bodies (Core 1.0, 5.5.6 and 5.5.13).
+//! Writers of functions: the indices of their types, their locals and their bodies (Core 1.0, 5.5.6 and 5.5.13).
 
 ghost use Rattle.std.specs.Prelude.{◌≡◌, ◌++◌, OnOk, length, flat_map};
 ghost use Rattle.wasm_decode.specs.Canonical.{vector, vector_section, type_number_bytes, function_bytes, locals_bytes, group_bytes, groups_of, groups_from};
@@ -11,7 +11,7 @@ use leb::write_u32;
 use std::alloc::AllocError;
 use wasm_ast::{Function, ValType};
 
-/// What the function section has of a function: the number of its type (Core 1.0, 5.5.6).
+/// Writes a function's entry in the function section: the index of its type (Core 1.0, 5.5.6).
 impl Part for Function {
     ghost spelling = { type_number_bytes };
 
@@ -21,8 +21,8 @@ impl Part for Function {
     }
 }
 
-/// Appends the section of the bodies, or nothing where there are no functions. The content is put together in
-/// `content`, and each body in `scratch`, whatever they held.
+/// Appends the code section, or nothing where there are no functions. `content` is a buffer for the section's content,
+/// and `scratch` one for each body. Both are cleared first.
 pub fn write_code_section(
     out: &mut Vec<u8>,
     content: &mut Vec<u8>,
@@ -55,7 +55,7 @@ fn write_functions(
     Ok(())
 }
 
-// The size of the locals and the body, and then the two.
+// Appends the size of the locals and the body, then the two.
 #[tactic(auto, unfolding(crate::specs::Canonical::function_bytes))]
 fn write_function(
     out: &mut Vec<u8>,
@@ -83,7 +83,7 @@ fn write_locals(out: &mut Vec<u8>, locals: &[ValType]) -> Result<(), AllocError>
     }
 }
 
-// How many groups of neighbours of one type there are.
+// Counts the groups of neighbours of one type.
 fn group_count(first: ValType, others: &[ValType]) -> usize
     ensures { result ≡ length (groups_from 1 first others.now) }
 {

@@ -1,4 +1,4 @@
-//! Instructions (Core 1.0, 5.4).
+//! Writers of instructions (Core 1.0, 5.4).
 
 ghost use Rattle.std.specs.Prelude.{◌≡◌, ◌++◌, ◌∷◌, [], OnOk};
 ghost use Rattle.leb.specs.Spelling.{u32_spelling};
@@ -16,7 +16,7 @@ const ELSE: u8 = 0x05;
 
 const END: u8 = 0x0B;
 
-/// Appends instructions and the `end` that closes them (Core 1.0, 5.4.6).
+/// Appends an instruction sequence and its `end` (Core 1.0, 5.4.6).
 #[tactic(auto, unfolding(crate::specs::Canonical::expression_bytes))]
 pub fn write_expression(out: &mut Vec<u8>, body: &Body) -> Result<(), AllocError>
     ensures { OnOk result (out.new.items ≡ out.old.items ++ expression_bytes body.now) }
@@ -26,7 +26,7 @@ pub fn write_expression(out: &mut Vec<u8>, body: &Body) -> Result<(), AllocError
     Ok(())
 }
 
-// Appends instructions in sequence, without an `end`.
+// Appends an instruction sequence, without its `end`.
 #[cycle(instructions)]
 fn write_body(out: &mut Vec<u8>, body: &Body) -> Result<(), AllocError>
     ensures { OnOk result (out.new.items ≡ out.old.items ++ code_bytes body.now) }
@@ -53,7 +53,7 @@ fn write_instr(out: &mut Vec<u8>, instr: &Instr) -> Result<(), AllocError>
     }
 }
 
-// A block or a loop.
+// Appends a block or a loop.
 #[cycle(instructions)]
 fn write_block(
     out: &mut Vec<u8>,
@@ -70,7 +70,7 @@ fn write_block(
     Ok(())
 }
 
-// An `if`, with both arms.
+// Appends an `if`, with both arms.
 #[cycle(instructions)]
 fn write_choice(
     out: &mut Vec<u8>,
@@ -87,7 +87,7 @@ fn write_choice(
     write_byte(out, END)
 }
 
-// The arm for 0, with its `else`; nothing where the arm is empty.
+// Appends the arm for 0 with its `else`, or nothing where the arm is empty.
 #[cycle(instructions)]
 fn write_else(out: &mut Vec<u8>, arm: &Body) -> Result<(), AllocError>
     ensures { OnOk result (out.new.items ≡ out.old.items ++ arm_bytes arm.now) }
@@ -99,7 +99,7 @@ fn write_else(out: &mut Vec<u8>, arm: &Body) -> Result<(), AllocError>
     write_body(out, arm)
 }
 
-// An opcode and the type of a block.
+// Appends an opcode and a block type.
 fn write_opening(out: &mut Vec<u8>, opcode: u8, block_type: BlockType) -> Result<(), AllocError>
     ensures { OnOk result (out.new.items ≡ out.old.items ++ opening_bytes opcode block_type) }
 {
@@ -117,7 +117,7 @@ fn block_type_byte(block_type: BlockType) -> u8
     }
 }
 
-/// Appends a byte and a number.
+/// Appends an opcode and an index.
 pub fn write_numbered(out: &mut Vec<u8>, opcode: u8, number: u32) -> Result<(), AllocError>
     ensures { OnOk result (out.new.items ≡ out.old.items ++ opcode ∷ u32_spelling number) }
 {
@@ -197,7 +197,7 @@ fn write_memory(out: &mut Vec<u8>, memory: Memory) -> Result<(), AllocError>
     }
 }
 
-// A load or a store, by its opcode.
+// Appends a load or a store with this opcode.
 fn write_access(out: &mut Vec<u8>, opcode: u8, argument: MemoryArgument) -> Result<(), AllocError>
     ensures { OnOk result (out.new.items ≡ out.old.items ++ access_bytes opcode argument) }
 {

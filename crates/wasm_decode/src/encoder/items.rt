@@ -1,4 +1,4 @@
-//! What the sections hold (Core 1.0, 5.5), but for functions.
+//! Writers of the items of the sections (Core 1.0, 5.5), except functions.
 
 ghost use Rattle.std.specs.Prelude.{◌≡◌, ◌++◌, OnOk};
 ghost use Rattle.wasm_decode.specs.Canonical.{import_bytes, import_description_bytes, global_bytes, export_bytes, export_description_bytes, element_bytes, data_bytes};
@@ -10,7 +10,7 @@ use leb::write_u32;
 use std::alloc::AllocError;
 use wasm_ast::{Data, Element, Export, ExportDescription, Global, Import, ImportDescription};
 
-/// An import (Core 1.0, 5.5.5).
+/// Writes an import (Core 1.0, 5.5.5).
 impl Part for Import {
     ghost spelling = { import_bytes };
 
@@ -45,7 +45,7 @@ fn write_import_description(
     }
 }
 
-/// A global that the module defines (Core 1.0, 5.5.9).
+/// Writes a global that the module defines (Core 1.0, 5.5.9).
 impl Part for Global {
     ghost spelling = { global_bytes };
 
@@ -56,7 +56,7 @@ impl Part for Global {
     }
 }
 
-/// An export (Core 1.0, 5.5.10).
+/// Writes an export (Core 1.0, 5.5.10).
 impl Part for Export {
     ghost spelling = { export_bytes };
 
@@ -81,7 +81,7 @@ fn write_export_description(
     }
 }
 
-/// Functions that a table begins with (Core 1.0, 5.5.12).
+/// Writes an element segment (Core 1.0, 5.5.12).
 impl Part for Element {
     ghost spelling = { element_bytes };
 
@@ -93,7 +93,7 @@ impl Part for Element {
     }
 }
 
-/// Bytes that a memory begins with (Core 1.0, 5.5.14).
+/// Writes a data segment (Core 1.0, 5.5.14).
 impl Part for Data {
     ghost spelling = { data_bytes };
 

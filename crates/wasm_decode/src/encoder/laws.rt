@@ -1,4 +1,4 @@
-//! What the canonical spelling keeps, whoever writes it.
+//! Laws of the canonical spelling.
 
 ghost use Rattle.std.specs.Prelude.{◌≡◌, ◌≤◌, ℕ, List, length};
 ghost use Rattle.wasm_ast.specs.declared.module.Module.{Module as AnyModule};
@@ -9,9 +9,9 @@ ghost use Rattle.wasm_ast.specs.Representable.{IsRepresentable};
 
 use crate::laws::spells_one_module;
 
-/// The canonical spelling of a module is one of its spellings, and of no other module, if it is no
-/// longer than a file may be (Core 1.0, section 5): what is decoded from it is the module again. The
-/// module is within the limits, and as a program holds it: to the clauses its numbers may be any.
+/// States that the canonical spelling of a module spells this module and no other (Core 1.0, section
+/// 5). So decoding it gives the module back. The module must be within the limits and representable
+/// in the program's types, and the spelling no longer than a file may be.
 pub fn canonical_spells_its_module()
     ensures spells { (m : AnyModule) → IsRepresentable m → IsWithinLimits m
         → length (canonical m) ≤ max_module_bytes → Spells (canonical m) m }
@@ -21,9 +21,9 @@ pub fn canonical_spells_its_module()
     spells_one_module();
 }
 
-/// No spelling of a module is shorter than the canonical one (Core 1.0, section 5). So each module
-/// that has a spelling has the canonical one: a module that was decoded is encoded, unless memory
-/// runs out, and that decodes to the module again.
+/// States that no spelling of a module is shorter than the canonical one (Core 1.0, section 5). So
+/// each module that was decoded can be encoded, unless memory runs out, and the result decodes to the
+/// same module.
 pub fn canonical_is_shortest()
     ensures shortest { (bytes : List ℕ) (m : AnyModule) → Spells bytes m
         → length (canonical m) ≤ length bytes }

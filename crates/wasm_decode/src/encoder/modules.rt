@@ -1,4 +1,4 @@
-//! Modules (Core 1.0, 5.5.15).
+//! The writer of modules (Core 1.0, 5.5.15).
 
 ghost use Rattle.std.specs.Prelude.{◌≡◌, ◌++◌, ◌<◌, ◌≤◌, length, OnOk, IfOk, IsOkUnless};
 ghost use Rattle.wasm_ast.specs.Limits.{max_module_bytes, IsWithinLimits};
@@ -17,12 +17,13 @@ use leb::write_u32;
 use std::alloc::{AllocError, Global};
 use wasm_ast::{Limits, MAX_MODULE_BYTES, Module};
 
-/// The module's canonical spelling (Core 1.0, section 5): of all its spellings the shortest, with no
-/// custom section, no section whose vector is empty, one group for neighbouring locals of one type,
-/// and no `else` for an arm that is empty.
+/// Encodes a module in its canonical spelling, the shortest of all its spellings (Core 1.0, section
+/// 5).
 ///
-/// `OverLimit` comes where that spelling is longer than 1,048,576 bytes, and `OutOfMemory` where memory runs out. The
-/// work is linear in the module.
+/// The canonical spelling has no custom section and no section whose vector is empty. It has one
+/// group for neighbouring locals of one type, and no `else` for an empty arm. The fault is
+/// `OverLimit` where it is longer than 1,048,576 bytes, and `OutOfMemory` where an allocation fails.
+/// Time is linear in the size of the module.
 pub fn encode(alloc: Global, module: &Module) -> Result<Vec<u8>, EncodeFault>
     requires { IsWithinLimits «module».now }
     ensures ok { IfOk result (λ bytes. bytes.items ≡ canonical «module».now) }
@@ -37,7 +38,7 @@ pub fn encode(alloc: Global, module: &Module) -> Result<Vec<u8>, EncodeFault>
     Ok(bytes)
 }
 
-// All of the bytes, however many.
+// Writes all bytes of the module, however many.
 #[tactic(auto, unfolding(crate::specs::Canonical::canonical))]
 fn spelling(alloc: Global, module: &Module) -> Result<Vec<u8>, AllocError>
     ensures { IfOk result (λ bytes. bytes.items ≡ canonical «module».now) }
@@ -59,7 +60,7 @@ fn write_sections(alloc: Global, out: &mut Vec<u8>, module: &Module) -> Result<(
     write_contents(alloc, out, &mut content, module)
 }
 
-// Types, imports, the types of functions, and tables.
+// Appends types, imports, the types of functions, and tables.
 #[tactic(auto, unfolding(crate::specs::inside::Writing::declarations_bytes))]
 fn write_declarations(
     out: &mut Vec<u8>,
@@ -74,7 +75,7 @@ fn write_declarations(
     write_table_section(out, content, module.tables.as_slice())
 }
 
-// Memories, globals, exports, and the function that starts the module.
+// Appends memories, globals, exports, and the start function.
 #[tactic(auto, unfolding(crate::specs::inside::Writing::spaces_bytes))]
 fn write_spaces(out: &mut Vec<u8>, content: &mut Vec<u8>, module: &Module) -> Result<(), AllocError>
     ensures { OnOk result (out.new.items ≡ out.old.items ++ spaces_bytes «module».now) }
@@ -85,7 +86,7 @@ fn write_spaces(out: &mut Vec<u8>, content: &mut Vec<u8>, module: &Module) -> Re
     write_start_section(out, content, module.start)
 }
 
-// Elements, functions and data.
+// Appends elements, functions and data.
 #[tactic(auto, unfolding(crate::specs::inside::Writing::contents_bytes))]
 fn write_contents(
     alloc: Global,

@@ -1,4 +1,4 @@
-//! The opcodes of instructions that come in groups (Core 1.0, 5.4).
+//! The opcodes of groups of instructions (Core 1.0, 5.4).
 
 ghost use Rattle.std.specs.Prelude.{◌≡◌};
 ghost use Rattle.wasm_decode.specs.Types.{val_type_byte};
@@ -6,7 +6,7 @@ ghost use Rattle.wasm_decode.specs.Instructions.{comparison_place, unary_place, 
 
 use wasm_ast::{Binary, Comparison, Conversion, Division, Load, Numeric, Store, Unary, ValType};
 
-/// The byte of a value type (Core 1.0, 5.3.1).
+/// Returns the byte of a value type (Core 1.0, 5.3.1).
 pub fn val_type_byte(val_type: ValType) -> u8
     ensures { result ≡ val_type_byte val_type }
 {
@@ -16,7 +16,7 @@ pub fn val_type_byte(val_type: ValType) -> u8
     }
 }
 
-/// The opcode of a numeric instruction (Core 1.0, 5.4.5).
+/// Returns the opcode of a numeric instruction (Core 1.0, 5.4.5).
 pub fn numeric_opcode(numeric: Numeric) -> u8
     ensures { result ≡ numeric_opcode numeric }
 {
@@ -117,7 +117,7 @@ fn conversion_opcode(operation: Conversion) -> u8
     }
 }
 
-/// The opcode of a load (Core 1.0, 5.4.4).
+/// Returns the opcode of a load (Core 1.0, 5.4.4).
 pub fn load_opcode(load: Load) -> u8
     ensures { result ≡ load_opcode load }
 {
@@ -137,7 +137,7 @@ pub fn load_opcode(load: Load) -> u8
     }
 }
 
-/// The opcode of a store (Core 1.0, 5.4.4).
+/// Returns the opcode of a store (Core 1.0, 5.4.4).
 pub fn store_opcode(store: Store) -> u8
     ensures { result ≡ store_opcode store }
 {

@@ -1,4 +1,4 @@
-//! What every part of the binary format is made of (Core 1.0, 5.1 and 5.2), written in the fewest bytes.
+//! Writers of numbers, vectors and sections (Core 1.0, 5.1 and 5.2), in the fewest bytes.
 
 ghost use Rattle.std.specs.Prelude.{◌≡◌, ◌++◌, ℕ, List, [], OnOk};
 ghost use Rattle.leb.specs.Spelling.{u32_spelling};
@@ -6,16 +6,16 @@ ghost use Rattle.wasm_decode.specs.Canonical.{sized, vector, section, vector_sec
 
 use std::alloc::AllocError;
 
-/// What has a canonical spelling of its own.
+/// A part of a module that has a canonical spelling of its own.
 pub trait Part {
     ghost spelling: { Self → List ℕ };
 
-    /// Appends the canonical spelling. An `Err` is want of memory.
+    /// Appends the canonical spelling. An `Err` means out of memory.
     fn write(&self, out: &mut Vec<u8>) -> Result<(), AllocError>
         ensures { OnOk result (out.new.items ≡ out.old.items ++ spelling self.now) };
 }
 
-/// A number (Core 1.0, 5.2.2).
+/// Writes an unsigned number (Core 1.0, 5.2.2).
 impl Part for u32 {
     ghost spelling = { u32_spelling };
 
@@ -24,8 +24,8 @@ impl Part for u32 {
     }
 }
 
-/// Appends a count or a size. One that is no number of 32 bits stands in no spelling that is short enough to be given
-/// out, so it does not matter that five bytes cannot hold it.
+/// Appends a count or a size, in at most five bytes. One of more than 35 bits needs more, but its module is over the size
+/// limit anyway.
 pub fn write_count(out: &mut Vec<u8>, count: usize) -> Result<(), AllocError>
     ensures { OnOk result (out.new.items ≡ out.old.items ++ u32_spelling count) }
 {
@@ -41,7 +41,7 @@ pub fn write_count(out: &mut Vec<u8>, count: usize) -> Result<(), AllocError>
     Ok(())
 }
 
-/// Appends the number of the bytes, and the bytes.
+/// Appends the length of the bytes, then the bytes.
 #[tactic(auto, unfolding(crate::specs::Canonical::sized))]
 pub fn write_sized(out: &mut Vec<u8>, bytes: &[u8]) -> Result<(), AllocError>
     ensures { OnOk result (out.new.items ≡ out.old.items ++ sized bytes.now) }
@@ -51,7 +51,7 @@ pub fn write_sized(out: &mut Vec<u8>, bytes: &[u8]) -> Result<(), AllocError>
     Ok(())
 }
 
-/// Appends a count and the items (Core 1.0, 5.1.3).
+/// Appends the number of the items, then the items (Core 1.0, 5.1.3).
 #[tactic(auto, unfolding(crate::specs::Canonical::vector))]
 pub fn write_vector<T: Part>(out: &mut Vec<u8>, items: &[T]) -> Result<(), AllocError>
     ensures { OnOk result (out.new.items ≡ out.old.items ++ vector T.spelling items.now) }
@@ -63,7 +63,7 @@ pub fn write_vector<T: Part>(out: &mut Vec<u8>, items: &[T]) -> Result<(), Alloc
     Ok(())
 }
 
-/// Appends a section with this number and content (Core 1.0, 5.5.2).
+/// Appends a section with this id and content (Core 1.0, 5.5.2).
 #[tactic(auto, unfolding(crate::specs::Canonical::section))]
 pub fn write_section(out: &mut Vec<u8>, number: u8, content: &[u8]) -> Result<(), AllocError>
     ensures { OnOk result (out.new.items ≡ out.old.items ++ section number content.now) }
@@ -72,8 +72,8 @@ pub fn write_section(out: &mut Vec<u8>, number: u8, content: &[u8]) -> Result<()
     write_sized(out, content)
 }
 
-/// Appends the section of a vector, or nothing where the vector is empty. The content is put together in `content`,
-/// whatever it held.
+/// Appends the section of a vector, or nothing where the vector is empty. `content` is a buffer for the section's
+/// content; it is cleared first.
 pub fn write_vector_section<T: Part>(
     out: &mut Vec<u8>,
     content: &mut Vec<u8>,

@@ -1,4 +1,4 @@
-//! Types (Core 1.0, 5.3).
+//! Writers of types (Core 1.0, 5.3).
 
 ghost use Rattle.std.specs.Prelude.{◌≡◌, ◌++◌, OnOk};
 ghost use Rattle.wasm_decode.specs.Canonical.{val_type_bytes, func_type_bytes, limits_bytes, maximum_bytes, table_bytes, global_type_bytes};
@@ -10,7 +10,7 @@ use leb::write_u32;
 use std::alloc::AllocError;
 use wasm_ast::{FuncType, GlobalType, Limits, Mutability, ValType};
 
-/// The type of a number (Core 1.0, 5.3.1).
+/// Writes a value type (Core 1.0, 5.3.1).
 impl Part for ValType {
     ghost spelling = { val_type_bytes };
 
@@ -20,7 +20,7 @@ impl Part for ValType {
     }
 }
 
-/// The type of a function (Core 1.0, 5.3.3).
+/// Writes a function type (Core 1.0, 5.3.3).
 impl Part for FuncType {
     ghost spelling = { func_type_bytes };
 
@@ -32,7 +32,7 @@ impl Part for FuncType {
     }
 }
 
-/// The limits of a memory, which are its type (Core 1.0, 5.3.4 and 5.3.5).
+/// Writes the limits of a memory, which are its type (Core 1.0, 5.3.4 and 5.3.5).
 impl Part for Limits {
     ghost spelling = { limits_bytes };
 
@@ -65,7 +65,7 @@ pub fn write_table_type(out: &mut Vec<u8>, limits: Limits) -> Result<(), AllocEr
     limits.write(out)
 }
 
-/// The type of a global (Core 1.0, 5.3.7).
+/// Writes the type of a global (Core 1.0, 5.3.7).
 impl Part for GlobalType {
     ghost spelling = { global_type_bytes };
 

@@ -1,5 +1,5 @@
 -- How a text is cut into tokens (Core 1.0, 6.3), as far as printed texts need it: numbers are decimal, and there are no
--- comments and no names. None claims nothing.
+-- comments and no names. None claims nothing about other texts.
 use Rattle.std.specs.Prelude.{◌≡◌, ◌≤◌, ◌-◌, ℕ, zero, suc, pos, negsuc, ◌^◌, Bool, false, ◌&&◌, ◌||◌, not, nat_lt, nat_le, ◌==◌, List, [], ◌∷◌, ◌++◌, length, take, drop, codes, Option, Some, None, option_map, if◌then◌else◌}
 use Rattle.std.specs.Borrow.{Bor}
 use Rattle.std.specs.List.{prefix_len}
@@ -56,7 +56,7 @@ abbrev pub as_key : Option Keyword → Option Tok
 as_key None = None
 as_key (Some k) = Some (key k)
 
--- what is left behind the first of these, where the second begins with it
+-- the rest of the second list after the first, where it starts with the first
 abbrev pub behind : List ℕ → List ℕ → Option (List ℕ)
 behind [] word = Some word
 behind (p ∷ ps) [] = None
@@ -91,11 +91,11 @@ begins_comment (b ∷ bs) = b == 59
 unfoldable pub word_at : List ℕ → Option (Option Tok × List ℕ)
 word_at bs = word_of (first_word bs) >>= λ t. Some (Some t, drop (prefix_len is_word bs) bs)
 
--- behind a parenthesis
+-- what follows a parenthesis
 abbrev pub opening_at : List ℕ → Option (Option Tok × List ℕ)
 opening_at bs = if begins_comment bs then None else Some (Some opens, bs)
 
--- behind a quotation mark
+-- what follows a quotation mark
 abbrev pub quoted_at : List ℕ → Option (Option Tok × List ℕ)
 quoted_at bs = quote_at plain bs >>= λ x. Some (Some (text x.0), x.1)
 
@@ -103,7 +103,7 @@ quoted_at bs = quote_at plain bs >>= λ x. Some (Some (text x.0), x.1)
 abbrev pub is_blank : ℕ → Bool
 is_blank b = (b == 32) || (b == 10) || (b == 9) || (b == 13)
 
--- one blank, or one token, and what is left behind it
+-- one blank or one token, and the text after it
 unfoldable pub one_at : List ℕ → Option (Option Tok × List ℕ)
 one_at [] = None
 one_at (b ∷ bs) =
@@ -118,7 +118,7 @@ abbrev pub listed : Option Tok → List Tok → List Tok
 listed None ts = ts
 listed (Some t) ts = t ∷ ts
 
--- all tokens, of a text with at most so many blanks and tokens
+-- all tokens of a text with at most this many blanks and tokens
 unfoldable pub tokens_at : ℕ → List ℕ → Option (List Tok)
 tokens_at n [] = Some []
 tokens_at zero (b ∷ bs) = None
@@ -127,22 +127,22 @@ tokens_at (suc n) (b ∷ bs) = do
   others ← tokens_at n one.1
   Some (listed one.0 others)
 
--- ---- what functions return
+-- ---- the results of functions
 
--- it is this token, whatever the text is; where there is none, this says nothing
-abbrev pub Tells : Token → Option Tok → Type 0
-Tells t None = Unit {0}
-Tells t (Some x) = (source : List ℕ) → tok_of source t ≡ x
+-- the token means this, whatever the text is; None claims nothing
+abbrev pub Means : Token → Option Tok → Type 0
+Means t None = Unit {0}
+Means t (Some x) = (source : List ℕ) → tok_of source t ≡ x
 
 -- the second is the end of the first
 abbrev pub EndsWith : List ℕ → List ℕ → Type 0
 EndsWith source rest = (front : List ℕ) × (source ≡ front ++ rest)
 
--- the second is what is left of the first behind some of its bytes
+-- the second is the first without some bytes at its start
 pub record IsLeft (text rest : List ℕ) : Type 0 where
   pub within : length rest ≤ length text
   pub behind_some : rest ≡ drop (length text - length rest) text
 
--- what is read, as one blank or token of this text and what is left
+-- what a function read, as one blank or token of this text and the text after it
 abbrev pub read_of : List ℕ → Option Token × Bor (List ℕ) → Option Tok × List ℕ
 read_of source x = (option_map (tok_of source) x.0, x.1.now)

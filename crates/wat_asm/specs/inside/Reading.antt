@@ -1,5 +1,5 @@
--- Reading the tokens of a printed text from left to right: what stands at their front, and the tokens after it. Where
--- nothing is read nothing is claimed: what else the format allows is not seen here.
+-- Reading the tokens of a printed text from left to right: the item at their front, and the tokens after it. None claims
+-- nothing: the format allows more than these functions read.
 use Rattle.std.specs.Prelude.{ℕ, zero, suc, ◌^◌, Bool, true, false, nat_lt, List, [], ◌∷◌, ◌++◌, Option, Some, None, if◌then◌else◌}
 use Rattle.std.specs.Str.{is_utf8}
 use Rattle.wasm_ast.specs.declared.types.ValType.{ValType}
@@ -14,17 +14,17 @@ use Rattle.wat_asm.specs.declared.parser.types.Group.TheVariants as group
 use Rattle.wat_asm.specs.inside.Follows.{◌>>=◌}
 use Rattle.wat_asm.specs.inside.Tokens.{Tok, opens, closes, key, number, text, other}
 
--- the tokens that are left, and the types so far
+-- the tokens that remain, and the types so far
 abbrev pub State : Type 0
 State = List Tok × List FuncType
 
--- what reads something of a type
+-- a reader of items of a type
 abbrev pub Reads : Type 0 → Type 0
 Reads A = State → Option (A × State)
 
--- ---- one after another
+-- ---- repetition
 
--- Steps, at most so many, as long as another one begins. Where it cannot be told whether one does, nothing is read.
+-- Steps, at most this many, as long as another item starts. Where it is not known whether one does, nothing is read.
 unfoldable pub repeated : {A : Type 0} → (List Tok → Option Bool) → (A × State → Option (A × State)) → ℕ → A × State → Option (A × State)
 repeated goes step zero x = None
 repeated goes step (suc n) x = goes x.1.0 >>= λ on. if on then (step x >>= λ y. repeated goes step n y) else Some x
@@ -39,12 +39,12 @@ unfoldable pub closed_at : State → Option State
 closed_at (closes ∷ ts, types) = Some (ts, types)
 closed_at _ = None
 
--- the keyword behind the parenthesis in front
+-- the keyword after the first parenthesis
 abbrev pub opening : List Tok → Option Keyword
 opening (opens ∷ key k ∷ ts) = Some k
 opening _ = None
 
--- behind the parenthesis in front and its keyword
+-- what follows the first parenthesis and its keyword
 abbrev pub inside : State → State
 inside (t ∷ u ∷ ts, types) = (ts, types)
 inside s = s
@@ -57,7 +57,7 @@ abbrev pub is_type : Option Keyword → Bool
 is_type (Some keyword.FuncType) = true
 is_type _ = false
 
--- whether a type stands in front, or its use by its number
+-- whether a type or a type use comes first
 abbrev pub type_first : List Tok → Bool
 type_first ts = is_type (opening ts)
 
@@ -65,7 +65,7 @@ unfoldable pub funcref_at : State → Option State
 funcref_at (key keyword.Funcref ∷ ts, types) = Some (ts, types)
 funcref_at _ = None
 
--- no name stands in front
+-- no name comes first
 unfoldable pub unnamed_at : State → Option State
 unnamed_at (other ∷ ts, types) = None
 unnamed_at s = Some s
@@ -74,7 +74,7 @@ unfoldable pub number_at : Reads ℕ
 number_at (number n ∷ ts, types) = if nat_lt n (2 ^ 32) then Some (n, (ts, types)) else None
 number_at _ = None
 
--- whether a number stands in front
+-- whether a number comes first
 unfoldable pub number_first : List Tok → Option Bool
 number_first (number n ∷ ts) = Some true
 number_first (other ∷ ts) = None
@@ -121,7 +121,7 @@ is_mut _ = false
 abbrev pub mut_first : List Tok → Bool
 mut_first ts = is_mut (opening ts)
 
--- what stands in (mut ..)
+-- the inside of (mut ..)
 unfoldable pub mut_type_at : Reads GlobalType
 mut_type_at s =
     val_type_at (inside s) >>= λ t. closed_at t.1 >>= λ e. Some (record { mutability = mutability.Variable; value = t.0 }, e)
@@ -156,7 +156,7 @@ result_first ts = Some (is_result (opening ts))
 abbrev pub local_first : List Tok → Option Bool
 local_first ts = Some (is_local (opening ts))
 
--- whether a group of this kind stands in front
+-- whether a group of this kind comes first
 abbrev pub group_first : Group → List Tok → Option Bool
 group_first (group.Parameters names) = param_first
 group_first group.Results = result_first
@@ -165,11 +165,11 @@ unfoldable pub block_type_at : Reads (Option ValType)
 block_type_at s =
     result_first s.0 >>= λ given. if given then (val_type_at (inside s) >>= λ t. closed_at t.1 >>= λ e. Some (Some t.0, e)) else Some (None, s)
 
--- no name stands in front of a group's types
+-- no name comes before a group's types
 unfoldable pub nameless_at : List ValType × State → Option (List ValType × State)
 nameless_at x = unnamed_at x.1 >>= λ s. Some (x.0, s)
 
--- a group, from the parenthesis in front on
+-- a group, from its parenthesis on
 unfoldable pub group_step : ℕ → List ValType × State → Option (List ValType × State)
 group_step n x = nameless_at (x.0, inside x.1) >>= λ y. group_at n y
 
@@ -186,7 +186,7 @@ begins_signature (Some keyword.Param) = true
 begins_signature (Some keyword.Result) = true
 begins_signature _ = false
 
--- whether parameters or results stand in front
+-- whether parameters or results come first
 abbrev pub signature_first : List Tok → Bool
 signature_first ts = begins_signature (opening ts)
 
@@ -194,12 +194,12 @@ unfoldable pub func_at : State → Option State
 func_at (opens ∷ key keyword.Func ∷ ts, types) = Some (ts, types)
 func_at _ = None
 
--- a type that the module defines, behind its keyword and without the last parenthesis
+-- a type that the module defines, after its keyword and without the last parenthesis
 unfoldable pub defined_type_at : ℕ → Reads FuncType
 defined_type_at n s =
     unnamed_at s >>= λ a. func_at a >>= λ b. signature_at n b >>= λ t. closed_at t.1 >>= λ c. Some (t.0, c)
 
--- (type n) with no parameters or results beside it
+-- (type n) with no parameters or results after it
 unfoldable pub named_use_at : Reads ℕ
 named_use_at s =
     number_at (inside s) >>= λ n. closed_at n.1 >>= λ e. if signature_first e.0 then None else Some (n.0, e)

@@ -29,7 +29,7 @@ unfoldable pub offset_at : State → ℕ × State
 offset_at (offset_is n ∷ ts, types) = (n, (ts, types))
 offset_at s = (0, s)
 
--- the first exponent from e on, of so many, whose power of 2 this is
+-- the first of `count` exponents from e on with 2 to this power equal to n
 unfoldable pub exponent_from : (e count n : ℕ) → Option ℕ
 exponent_from e zero n = None
 exponent_from e (suc count) n = if 2 ^ e == n then Some e else exponent_from (e + 1) count n
@@ -45,7 +45,7 @@ unfoldable pub memory_argument_at : (width : ℕ) → Reads MemoryArgument
 memory_argument_at width s =
     alignment_at width (offset_at s).1 >>= λ e. Some (record { align = e.0; offset = (offset_at s).0 }, e.1)
 
--- a constant without a sign, or below 0
+-- a constant: a number without a sign, or one below 0
 abbrev pub constant_of : ValType → Tok → Option Value
 constant_of val_type.I32 (number n) = if nat_lt n (2 ^ 32) then Some (value.I32 n) else None
 constant_of val_type.I32 (signed (negsuc n)) = if nat_lt n (2 ^ 31) then Some (value.I32 (2 ^ 32 - suc n)) else None
@@ -57,7 +57,7 @@ unfoldable pub constant_at : ValType → Reads Value
 constant_at t (tok ∷ ts, types) = constant_of t tok >>= λ v. Some (v, (ts, types))
 constant_at t _ = None
 
--- ---- instructions that hold no others
+-- ---- instructions that contain no others
 
 abbrev pub simple : Plain → State → Option (Instr × State)
 simple p s = Some (instr.Plain p, s)
@@ -71,7 +71,7 @@ load_at op s = memory_argument_at (load_width op) s >>= λ a. Some (instr.Plain 
 unfoldable pub store_at : Store → Reads Instr
 store_at op s = memory_argument_at (store_width op) s >>= λ a. Some (instr.Plain (leaf.Memory (memory.Store op a.0)), a.1)
 
--- one more label behind the labels so far and the last one
+-- one more label, after the labels so far and the last one
 abbrev pub label_step : (List ℕ × ℕ) × State → Option ((List ℕ × ℕ) × State)
 label_step x = number_at x.1 >>= λ n. Some ((x.0.0 ++ x.0.1 ∷ [], n.0), n.1)
 
@@ -106,7 +106,7 @@ plain_at n keyword.BrIf s = with_number (λ l. instr.Branch (jump.BrIf l)) s
 plain_at n keyword.BrTable s = branch_table_at n s
 plain_at n k s = variable_at k s
 
--- ---- instructions that hold others
+-- ---- instructions that contain others
 
 -- the inside of a block
 abbrev pub Inner : Type 0
@@ -116,20 +116,20 @@ unfoldable pub end_at : State → Option State
 end_at (key keyword.End ∷ ts, types) = unnamed_at (ts, types)
 end_at _ = None
 
--- a block's type, behind its keyword
+-- a block's type, after its keyword
 unfoldable pub header_at : Reads (Option ValType)
 header_at s = unnamed_at s >>= λ a. block_type_at a
 
--- the body behind `else`, which is empty where there is none
+-- the body after `else`, which is empty where there is no `else`
 unfoldable pub else_with : Inner → Reads Code
 else_with inner (key keyword.Else ∷ ts, types) = unnamed_at (ts, types) >>= λ a. inner a
 else_with inner s = Some (end, s)
 
--- a block's body, and its end
+-- a block's body, and its `end`
 unfoldable pub ended_with : Inner → Reads Code
 ended_with inner s = inner s >>= λ body. end_at body.1 >>= λ e. Some (body.0, e)
 
--- the arm for 0, and the end
+-- the arm for 0, and the `end`
 unfoldable pub other_with : Inner → Reads Code
 other_with inner s = else_with inner s >>= λ o. end_at o.1 >>= λ e. Some (o.0, e)
 
@@ -143,7 +143,7 @@ unfoldable pub if_with : Inner → Reads Instr
 if_with inner s =
     header_at s >>= λ t. inner t.1 >>= λ body. other_with inner body.1 >>= λ o. Some (instr.If t.0 body.0 o.0, o.1)
 
--- behind a keyword
+-- an instruction, after its keyword
 unfoldable pub linear_with : ℕ → Inner → Keyword → Reads Instr
 linear_with n inner keyword.Block s = block_with inner s
 linear_with n inner keyword.Loop s = loop_with inner s
@@ -154,7 +154,7 @@ unfoldable pub instr_with : ℕ → Inner → Reads Instr
 instr_with n inner (key k ∷ ts, types) = linear_with n inner k (ts, types)
 instr_with n inner _ = None
 
--- instructions end here
+-- whether instructions end here
 abbrev pub stops : List Tok → Bool
 stops [] = true
 stops (closes ∷ ts) = true
@@ -169,20 +169,20 @@ goes_on ts = Some (if stops ts then false else true)
 abbrev pub instr_step : ℕ → Inner → List Instr × State → Option (List Instr × State)
 instr_step n inner x = instr_with n inner x.1 >>= λ i. Some (x.0 ++ i.0 ∷ [], i.1)
 
--- inside of a block, where so many levels may still be begun
+-- the inside of a block, where this many more levels may open
 unfoldable pub inner_at : (levels n : ℕ) → Reads Code
 inner_at zero n s = None
 inner_at (suc levels) n s =
     repeated goes_on (instr_step n (inner_at levels n)) n ([], s) >>= λ y. Some (code_of y.0, y.1)
 
--- instructions behind these, in blocks of at most so many levels inside each other
+-- instructions after these, with blocks of at most this many levels inside each other
 unfoldable pub instrs_at : (levels n : ℕ) → List Instr × State → Option (List Instr × State)
 instrs_at levels n x = repeated goes_on (instr_step n (inner_at levels n)) n x
 
 unfoldable pub code_at : (levels n : ℕ) → Reads Code
 code_at levels n s = instrs_at levels n ([], s) >>= λ y. Some (code_of y.0, y.1)
 
--- ---- where blocks hold blocks of at most so many levels
+-- ---- with blocks of at most this many levels inside each other
 
 abbrev pub instr_in : (levels n : ℕ) → Reads Instr
 instr_in levels n = instr_with n (inner_at levels n)

@@ -26,7 +26,7 @@ use Rattle.wat_asm.specs.inside.Tokens.{Tok, opens, key, text, other}
 use Rattle.wat_asm.specs.inside.Reading.{State, Reads, repeated, item_step, opening, inside, opened_at, type_first, closed_at, funcref_at, unnamed_at, number_at, number_first, text_at, name_at, limits_at, global_type_at, local_first, groups_at, defined_type_at, type_use_at}
 use Rattle.wat_asm.specs.inside.ReadingCode.{code_at}
 
--- ---- a module in the making, but for its types
+-- ---- the draft of a module, except its types
 
 abbrev pub drafted : Draft → Module
 drafted d = record {
@@ -42,7 +42,7 @@ drafted d = record {
   «data» = d.segments.items;
 }
 
--- a module in the making, and what is left to be read
+-- the draft of a module, and the tokens that remain
 abbrev pub Making : Type 0
 Making = Module × State
 
@@ -120,7 +120,7 @@ export_at s = name_at s >>= λ n. export_description_at n.1 >>= λ d. Some (reco
 
 -- ---- definitions
 
--- an export or an import inside of a field
+-- whether this is the keyword of an inline export or import
 abbrev pub is_inline : Option Keyword → Bool
 is_inline (Some keyword.Export) = true
 is_inline (Some keyword.Import) = true
@@ -132,7 +132,7 @@ inline_first ts = is_inline (opening ts)
 unfoldable pub inline_at : Making → Option Making
 inline_at x = if inline_first x.1.0 then None else Some x
 
--- behind the keyword of a definition no name and no inline export stands
+-- no name and no inline export follows the keyword of a definition
 unfoldable pub heading_at : Making → Option Making
 heading_at x = unnamed_at x.1 >>= λ s. inline_at (x.0, s)
 
@@ -150,7 +150,7 @@ global_at n s =
 
 -- ---- segments
 
--- the number of a table or memory, which is 0 where none stands
+-- the index of a table or memory, which is 0 where none is given
 unfoldable pub number_or_0_at : Reads ℕ
 number_or_0_at s = number_first s.0 >>= λ b. if b then number_at s else Some (0, s)
 
@@ -161,7 +161,7 @@ is_offset _ = false
 abbrev pub offset_first : List Tok → Bool
 offset_first ts = is_offset (opening ts)
 
--- what stands in (offset ..)
+-- the inside of (offset ..)
 unfoldable pub inner_offset_at : ℕ → Reads Code
 inner_offset_at n s = code_at max_nesting n (inside s) >>= λ b. closed_at b.1 >>= λ e. Some (b.0, e)
 
@@ -176,7 +176,7 @@ element_at n s =
     number_or_0_at s >>= λ t. offset_at n t.1 >>= λ o. numbers_at n o.1 >>= λ f.
     Some (record { table = t.0; offset = o.0; functions = f.0 }, f.1)
 
--- whether a string stands in front
+-- whether a string comes first
 unfoldable pub text_first : List Tok → Option Bool
 text_first (text bytes ∷ ts) = Some true
 text_first (other ∷ ts) = None
@@ -199,7 +199,7 @@ segment_at n s =
 abbrev pub added : {A : Type 0} → Reads A → (Module → A → Module) → Making → Option Making
 added item with_item x = item x.1 >>= λ i. Some (with_item x.0 i.0, i.1)
 
--- no import follows what is defined
+-- an import, which may not follow a definition
 abbrev pub import_field_at : Making → Option Making
 import_field_at x = if has_definition x.0 then None else added import_at with_import x
 
@@ -218,7 +218,7 @@ global_field_at n x = defined_at (global_at n) with_global x
 abbrev pub export_field_at : Making → Option Making
 export_field_at x = added export_at with_export x
 
--- a second start is none
+-- a start function; a second one is refused
 abbrev pub start_field_at : Making → Option Making
 start_field_at x = if is_some x.0.start then None else added number_at with_start x
 
@@ -228,7 +228,7 @@ element_field_at n x = added (element_at n) with_element x
 abbrev pub segment_field_at : ℕ → Making → Option Making
 segment_field_at n x = added (segment_at n) with_segment x
 
--- behind a field's keyword, up to its closing parenthesis
+-- what follows a field's keyword, up to its closing parenthesis
 unfoldable pub field_at : ℕ → Keyword → Making → Option Making
 field_at n keyword.Import x = import_field_at x
 field_at n keyword.Func x = function_field_at n x
@@ -241,7 +241,7 @@ field_at n keyword.Elem x = element_field_at n x
 field_at n keyword.Data x = segment_field_at n x
 field_at n _ x = None
 
--- the same, of one keyword
+-- the same, where the field has this keyword
 abbrev pub keyword_at : Keyword → ℕ → Making → Option Making
 keyword_at k n x = field_at n k x
 
@@ -258,11 +258,11 @@ fields_at n x = repeated field_first (field_step n) n x
 
 -- ---- the module
 
--- whether a type stands in front
+-- whether a type comes first
 abbrev pub goes_on_with_type : List Tok → Option Bool
 goes_on_with_type ts = Some (type_first ts)
 
--- a type that is added to those so far
+-- one more type
 unfoldable pub type_step : ℕ → Unit {0} × State → Option (Unit {0} × State)
 type_step n x =
     defined_type_at n (inside x.1) >>= λ t. closed_at (t.1.0, t.1.1 ++ t.0 ∷ []) >>= λ e. Some (x.0, e)
@@ -279,11 +279,11 @@ unfoldable pub whole_at : ℕ → Making → Option Making
 whole_at n x =
     module_open_at x.1 >>= λ a. types_at n (tt, a) >>= λ b. fields_at n (x.0, b.1) >>= λ y. closed_at y.1 >>= λ e. Some (y.0, e)
 
--- the same, and nothing behind it
+-- the same, where no token follows
 unfoldable pub only_at : ℕ → Making → Option Making
 only_at n x = whole_at n x >>= λ y. if is_empty y.1.0 then Some y else None
 
--- all of a text's tokens
+-- all tokens of a text
 unfoldable pub module_at : ℕ → List Tok → Option Module
 module_at n ts = only_at n (empty_module, (ts, [])) >>= λ x. Some (with_types x.0 x.1.1)
 

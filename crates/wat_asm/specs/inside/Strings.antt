@@ -3,7 +3,7 @@ use Rattle.std.specs.Prelude.{ℕ, ◌+◌, ◌*◌, ◌-◌, ◌&&◌, ◌==◌
 use Rattle.wat_asm.specs.declared.lexer.strings.Part.{Part}
 use Rattle.wat_asm.specs.declared.lexer.strings.Part.TheVariants as part
 use Rattle.wat_asm.specs.inside.Follows.{◌>>=◌}
-use Rattle.wat_asm.specs.Quoted.{stands_as_itself}
+use Rattle.wat_asm.specs.Quoted.{needs_no_escape}
 
 -- a decimal digit, or a small letter from a to f
 abbrev pub hex_digit : ℕ → Option ℕ
@@ -13,29 +13,29 @@ hex_digit b =
 
 pub data Within : Type 0 where
   plain : Within
-  -- behind a backslash
+  -- after a backslash
   escape : Within
-  -- behind a backslash and a digit
+  -- after a backslash and a digit
   digit : ℕ → Within
 
 abbrev pub onto : ℕ → Option (List ℕ × List ℕ) → Option (List ℕ × List ℕ)
 onto b read = read >>= λ x. Some (b ∷ x.0, x.1)
 
--- the bytes up to the quotation mark that ends the string, and what stands behind it
+-- the bytes up to the quotation mark that ends the string, and the text after it
 unfoldable pub quote_at : Within → List ℕ → Option (List ℕ × List ℕ)
 quote_at w [] = None
 quote_at plain (b ∷ bs) =
     if b == 34 then Some ([], bs)
     else (if b == 92 then quote_at escape bs
-    else (if stands_as_itself b then onto b (quote_at plain bs) else None))
+    else (if needs_no_escape b then onto b (quote_at plain bs) else None))
 quote_at escape (b ∷ bs) = hex_digit b >>= λ high. quote_at (digit high) bs
 quote_at (digit high) (b ∷ bs) = hex_digit b >>= λ low. onto (high * 16 + low) (quote_at plain bs)
 
--- the bytes alone
+-- only the bytes
 abbrev pub string_of : List ℕ → Option (List ℕ)
 string_of bytes = quote_at plain bytes >>= λ x. Some x.0
 
--- ---- one step through a string
+-- ---- one element of a string
 
 -- two digits
 abbrev pub escape_at : List ℕ → Option (Part × List ℕ)
@@ -47,4 +47,4 @@ step_at [] = None
 step_at (b ∷ bs) =
     if b == 34 then Some (part.End, bs)
     else (if b == 92 then escape_at bs
-    else (if stands_as_itself b then Some (part.Byte b, bs) else None))
+    else (if needs_no_escape b then Some (part.Byte b, bs) else None))

@@ -1,4 +1,4 @@
--- What the tokens of a text mean (Core 1.0, 6.3), as far as printed texts have them.
+-- The meaning of the tokens of a text (Core 1.0, 6.3), as far as printed texts have them.
 use Rattle.std.specs.Prelude.{◌≡◌, ℕ, ℤ, pos, negsuc, ◌<◌, ◌^◌, ⊤, List, [], ◌∷◌, ◌++◌, map, drop, Option, Some, None}
 use Rattle.std.specs.List.{AllByRecursion}
 use Rattle.wat_asm.specs.declared.keyword.Keyword.{Keyword}
@@ -20,14 +20,14 @@ pub data Tok : Type 0 where
   align_is : ℕ → Tok
   -- a string of these bytes
   text : List ℕ → Tok
-  -- what no printed text has
+  -- a token that no printed text has
   other : Tok
 
 abbrev pub text_or_other : Option (List ℕ) → Tok
 text_or_other (Some bytes) = text bytes
 text_or_other None = other
 
--- a token of this text; a string stands behind its place
+-- a token of this text; a string is at its position in the text
 abbrev pub tok_of : List ℕ → Token → Tok
 tok_of source token.Open = opens
 tok_of source token.Close = closes
@@ -66,13 +66,13 @@ abbrev pub sorted : List Piece → List Tok
 sorted [] = []
 sorted (p ∷ ps) = onto_sorted p (sorted ps)
 
--- ---- what a text can spell
+-- ---- pieces that a text can spell
 
 abbrev pub IsSignedHeld : ℤ → Type 0
 IsSignedHeld (pos n) = n < 2 ^ 63
 IsSignedHeld (negsuc n) = n < 2 ^ 63
 
--- each number fits its token, each byte is one, and no word stands without a blank before it
+-- each number fits its token, each byte is below 256, and each word has a blank before it
 abbrev pub IsPieceHeld : Piece → Type 0
 IsPieceHeld (piece.opens g k) = ⊤
 IsPieceHeld (piece.says gap.Nothing k) = ⊥
@@ -88,6 +88,6 @@ IsPieceHeld (piece.closes_line level) = ⊤
 abbrev pub ArePiecesHeld : List Piece → Type 0
 ArePiecesHeld ps = AllByRecursion IsPieceHeld ps
 
--- these pieces, and the last line's end
+-- the text is these pieces, and the end of the last line
 abbrev pub IsPrinted : List ℕ → List Piece → Type 0
 IsPrinted source ps = source ≡ piece.text ps ++ 10 ∷ []

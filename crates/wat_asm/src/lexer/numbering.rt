@@ -3,11 +3,11 @@
 ghost use Rattle.std.specs.Prelude.{◌≡◌, ℕ, List, IfOk, None, Some};
 ghost use Rattle.wat_asm.specs.Numbering.{AreApart, Grows, number_of_name};
 
-use crate::fault::{Failure, Wrong};
+use crate::fault::{Failure, FaultKind};
 use std::alloc::Global;
 use std::collections::BTreeMap;
 
-/// Names, each with a number, from 0 in the order in which they came.
+/// The names so far, each with a number, from 0 in the order of their first occurrence.
 #[derive(Drop)]
 pub struct Numbering<'t> {
     numbers: BTreeMap<&'t str, u32>,
@@ -15,7 +15,7 @@ pub struct Numbering<'t> {
 }
 
 impl<'t> Numbering<'t> {
-    /// No names; it takes no memory.
+    /// Creates an empty numbering. It allocates nothing.
     pub fn new(alloc: Global) -> Numbering<'t>
         ensures none { (name : List ℕ) → number_of_name result name ≡ None }
         ensures apart { AreApart result }
@@ -26,7 +26,7 @@ impl<'t> Numbering<'t> {
         }
     }
 
-    /// The name's number, which is a new one where the name is new. A failure's place is the text's end.
+    /// Returns the name's number, the next one where the name is new. A failure's place is the end of the text.
     pub fn number(&mut self, name: &'t str) -> Result<u32, Failure>
         ensures named { IfOk result (λ n. number_of_name self.new name.now ≡ Some n) }
         ensures grows { Grows self.old self.new }
@@ -36,7 +36,7 @@ impl<'t> Numbering<'t> {
         }
         let n = self.count;
         let Some(count) = n.checked_add(1) else {
-            return Err(Failure::Fault(Wrong::OverLimit, 0));
+            return Err(Failure::Fault(FaultKind::OverLimit, 0));
         };
         self.numbers.insert(name, n)?;
         self.count = count;

@@ -2,23 +2,23 @@
 
 ghost use Rattle.std.specs.Prelude.{◌≡◌, ℕ, Some, None, IfErr, negsuc, suc, ◌<◌, ◌^◌};
 ghost use Rattle.wat_asm.specs.declared.lexer.numeral.Numeral.TheVariants.{Value};
-ghost use Rattle.wat_asm.specs.inside.Lexing.{Tells, as_align, as_negative, as_number, as_offset, as_positive, begins_with_digit, numeral_of};
+ghost use Rattle.wat_asm.specs.inside.Lexing.{Means, as_align, as_negative, as_number, as_offset, as_positive, begins_with_digit, numeral_of};
 ghost use Rattle.wat_asm.specs.Numbering.{number_in};
 
 use super::token::Token;
 use std::str;
 
-/// What digits without a sign spell.
+/// The number that digits without a sign spell.
 #[derive(Clone, Copy)]
 enum Numeral {
     Value(u64),
     /// A number of 2^64 or more.
     TooLarge,
-    /// They spell no number.
+    /// The digits spell no number.
     Misspelled,
 }
 
-// A digit in any base up to 16.
+// Returns the value of a digit in any base up to 16.
 fn digit(b: u8) -> Option<u64> {
     match b {
         b'0'..=b'9' => Some(u64::from(b - b'0')),
@@ -28,7 +28,7 @@ fn digit(b: u8) -> Option<u64> {
     }
 }
 
-// Whether these are digits of this base, with single underscores between digits.
+// Reports whether these are digits of this base, with at most single underscores between them.
 fn is_spelled(base: u64, digits: &[u8]) -> bool {
     let mut after_digit = false;
     for b in digits {
@@ -46,7 +46,7 @@ fn is_spelled(base: u64, digits: &[u8]) -> bool {
     after_digit
 }
 
-// The number that digits spell, if it is below 2^64. Underscores are passed over.
+// Returns the number that digits spell, if it is below 2^64. Underscores are skipped.
 fn value(base: u64, digits: &[u8]) -> Option<u64> {
     let mut value = 0u64;
     for b in digits {
@@ -80,7 +80,7 @@ fn begins_with_digit(word: &[u8]) -> bool
     }
 }
 
-// Digits that std reads are read by it: most numbers are in decimal.
+// Reads decimal digits by the standard library. Most numbers are in decimal.
 fn plainly_spelled(word: &[u8]) -> Option<u64>
     ensures { (n : ℕ) → numeral_of word.now ≡ Some n → result ≡ Some n }
 {
@@ -102,9 +102,9 @@ fn read(word: &[u8]) -> Numeral
     }
 }
 
-/// A number without a sign.
+/// Returns the token of a number without a sign.
 pub fn unsigned(word: &[u8]) -> Token
-    ensures tells { Tells result (as_number (numeral_of word.now)) }
+    ensures tells { Means result (as_number (numeral_of word.now)) }
     ensures nameless { number_in result ≡ None }
 {
     match read(word) {
@@ -114,9 +114,9 @@ pub fn unsigned(word: &[u8]) -> Token
     }
 }
 
-/// A number behind a plus sign.
+/// Returns the token of a number with a plus sign, given its digits.
 pub fn positive(digits: &[u8]) -> Token
-    ensures tells { Tells result (as_positive (numeral_of digits.now)) }
+    ensures tells { Means result (as_positive (numeral_of digits.now)) }
     ensures nameless { number_in result ≡ None }
 {
     match read(digits) {
@@ -129,7 +129,7 @@ pub fn positive(digits: &[u8]) -> Token
     }
 }
 
-// -n, from -2^63 on.
+// Returns -n, if it is at least -2^63.
 fn negated(n: u64) -> Option<i64>
     ensures { (m : ℕ) → n ≡ suc m → m < 2 ^ 63 → result ≡ Some (negsuc m) }
 {
@@ -141,7 +141,7 @@ fn negated(n: u64) -> Option<i64>
 }
 
 fn behind_minus(n: u64) -> Token
-    ensures tells { Tells result (as_negative (Some n)) }
+    ensures tells { Means result (as_negative (Some n)) }
     ensures nameless { number_in result ≡ None }
 {
     match negated(n) {
@@ -150,9 +150,9 @@ fn behind_minus(n: u64) -> Token
     }
 }
 
-/// A number behind a minus sign.
+/// Returns the token of a number with a minus sign, given its digits.
 pub fn negative(digits: &[u8]) -> Token
-    ensures tells { Tells result (as_negative (numeral_of digits.now)) }
+    ensures tells { Means result (as_negative (numeral_of digits.now)) }
     ensures nameless { number_in result ≡ None }
 {
     match read(digits) {
@@ -176,9 +176,9 @@ fn small(word: &[u8]) -> Result<u32, Token>
     }
 }
 
-/// The number behind `offset=`.
+/// Returns the token of an offset, given the digits after `offset=`.
 pub fn offset(digits: &[u8]) -> Token
-    ensures tells { Tells result (as_offset (numeral_of digits.now)) }
+    ensures tells { Means result (as_offset (numeral_of digits.now)) }
     ensures nameless { number_in result ≡ None }
 {
     match small(digits) {
@@ -187,9 +187,9 @@ pub fn offset(digits: &[u8]) -> Token
     }
 }
 
-/// The number behind `align=`.
+/// Returns the token of an alignment, given the digits after `align=`.
 pub fn alignment(digits: &[u8]) -> Token
-    ensures tells { Tells result (as_align (numeral_of digits.now)) }
+    ensures tells { Means result (as_align (numeral_of digits.now)) }
     ensures nameless { number_in result ≡ None }
 {
     match small(digits) {

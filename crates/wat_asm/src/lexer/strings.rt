@@ -3,22 +3,22 @@
 ghost use Rattle.std.specs.Prelude.{◌≡◌, ◌<◌, ◌≤◌, ℕ, List, Some, None, drop, length, false, IfOk, IfSome, IsSomeAnd, IsTrue};
 ghost use Rattle.wat_asm.specs.inside.Follows.{FollowsSome};
 ghost use Rattle.wat_asm.specs.inside.Lexing.{IsLeft};
-ghost use Rattle.wat_asm.specs.Quoted.{stands_as_itself};
+ghost use Rattle.wat_asm.specs.Quoted.{needs_no_escape};
 ghost use Rattle.wat_asm.specs.inside.Strings.{hex_digit, plain, quote_at, escape_at, step_at, string_of};
 
 use std::alloc::{AllocError, Global};
 
-/// One step through a string.
+/// One element of a string.
 #[derive(Clone, Copy)]
 enum Part {
     Byte(u8),
-    /// A character by its number.
+    /// A character, given by its code point.
     Character(char),
     /// The quotation mark that ends the string.
     End,
 }
 
-// A hexadecimal digit.
+// Returns the value of a hexadecimal digit.
 fn digit(b: u8) -> Option<u8>
     ensures again { (n : ℕ) → hex_digit b ≡ Some n → result ≡ Some n }
     ensures within { IfSome result (λ n. n < 16) }
@@ -31,14 +31,13 @@ fn digit(b: u8) -> Option<u8>
     }
 }
 
-// A number with one more hexadecimal digit.
+// Appends a hexadecimal digit to a number.
 fn with_digit(number: u32, b: u8) -> Option<u32> {
     let value = digit(b)?;
     number.checked_mul(16)?.checked_add(u32::from(value))
 }
 
-// The number of a character, in hexadecimal up to the bracket, and what is behind that. Underscores may stand between
-// digits.
+// Reads a code point in hexadecimal up to the closing bracket. Underscores may be between digits.
 #[tactic(auto, using(crate::proofs::Left::left))]
 fn character(text: &[u8]) -> Option<(Part, &[u8])>
     ensures shrinks { IfSome result (λ x. length x.1.now < length text.now) }
@@ -65,7 +64,7 @@ fn character(text: &[u8]) -> Option<(Part, &[u8])>
     None
 }
 
-// The byte that a letter or a mark behind a backslash stands for.
+// Returns the byte that a letter or a mark after a backslash means.
 fn letter(b: u8) -> Option<u8>
     ensures { IfSome result (λ _. hex_digit b ≡ None) }
 {
@@ -80,7 +79,7 @@ fn letter(b: u8) -> Option<u8>
     }
 }
 
-// A byte in two hexadecimal digits.
+// Reads a byte in two hexadecimal digits.
 #[tactic(auto, using(crate::proofs::Left::left))]
 fn two_digits(text: &[u8]) -> Option<(Part, &[u8])>
     ensures again { FollowsSome (λ x. (x.0, x.1.now)) result (escape_at text.now) }
@@ -97,7 +96,7 @@ fn two_digits(text: &[u8]) -> Option<(Part, &[u8])>
     }
 }
 
-// What stands behind a backslash.
+// Reads an escape, after its backslash.
 #[tactic(auto, using(crate::proofs::Left::left))]
 fn escape(text: &[u8]) -> Option<(Part, &[u8])>
     ensures again { FollowsSome (λ x. (x.0, x.1.now)) result (escape_at text.now) }
@@ -115,12 +114,12 @@ fn escape(text: &[u8]) -> Option<(Part, &[u8])>
 }
 
 fn is_control(b: u8) -> bool
-    ensures { IsTrue result → stands_as_itself b ≡ false }
+    ensures { IsTrue result → needs_no_escape b ≡ false }
 {
     b < 32 || b == 127
 }
 
-// One step, and what is left behind it.
+// Reads one element, and returns it with the text after it.
 #[tactic(auto, using(crate::proofs::Left::left))]
 fn step(text: &[u8]) -> Option<(Part, &[u8])>
     ensures again { FollowsSome (λ x. (x.0, x.1.now)) result (step_at text.now) }
@@ -141,7 +140,7 @@ fn step(text: &[u8]) -> Option<(Part, &[u8])>
     }
 }
 
-/// What is left behind a string, of which this is the inside and what follows; none where it is no string.
+/// Returns the text after a string, given the text after its quotation mark. `None` means that it is not a string.
 #[tactic(auto, using(crate::proofs::Left::left))]
 pub fn behind(text: &[u8]) -> Option<&[u8]>
     ensures again { (bytes rest : List ℕ) → quote_at plain text.now ≡ Some (bytes, rest)
@@ -160,7 +159,7 @@ pub fn behind(text: &[u8]) -> Option<&[u8]>
     }
 }
 
-/// The bytes of the string that begins at this place of the text, as a token tells it.
+/// Returns the bytes of the string that starts at this position of the text, which a `Token::Text` has.
 pub fn string(alloc: Global, source: &[u8], place: usize) -> Result<Vec<u8>, AllocError>
     ensures { (bytes : List ℕ) → string_of (drop place source.now) ≡ Some bytes
         → IfOk result (λ v. v.items ≡ bytes) }

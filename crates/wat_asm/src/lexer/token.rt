@@ -1,4 +1,4 @@
-//! Tokens. What a word means is decided once, and no token borrows from the text.
+//! Tokens. The meaning of a word is decided once, and no token borrows from the text.
 
 use crate::keyword::Keyword;
 
@@ -12,19 +12,19 @@ pub enum Token {
     Number(u64),
     /// A number with a sign.
     Signed(i64),
-    /// A number that neither of those two can be, or an offset or an alignment of 2^32 or more.
+    /// A number that fits neither `Number` nor `Signed`, or an offset or an alignment of 2^32 or more.
     OutOfRange,
     /// `offset=N`.
     Offset(u32),
-    /// `align=N`, in bytes, whether it is a power of two or not.
+    /// `align=N`, in bytes. N need not be a power of 2.
     Align(u32),
-    /// A name that begins with `$`: equal names have equal numbers, and no two others.
+    /// A name, which starts with `$`. Two names have the same number exactly where they are equal.
     Name(u32),
-    /// A string, by the place of its first byte in the text, behind the quotation mark.
+    /// A string, given by the position in the text of its first byte, after the quotation mark.
     Text(usize),
-    /// A word that the format knows and this assembler does not take.
+    /// A word of the format that this assembler does not support: floats, or a version after 1.0.
     Unsupported,
-    /// A word that means nothing.
+    /// A word without a meaning.
     Other,
 }
 
@@ -32,6 +32,6 @@ pub enum Token {
 #[derive(Drop)]
 pub struct Tokens {
     pub tokens: Vec<Token>,
-    /// The place of each token's first byte in the text.
+    /// The position in the text of each token's first byte.
     pub places: Vec<usize>,
 }

@@ -1,10 +1,10 @@
-//! What words mean.
+//! The meaning of words.
 
 ghost use Rattle.std.specs.Prelude.{◌≡◌, List, None, ℕ, IfOk};
 ghost use Rattle.wat_asm.specs.inside.Follows.{Follows};
 ghost use Rattle.wat_asm.specs.Keywords.{lookup};
 ghost use Rattle.wat_asm.specs.declared.keyword.TheConstants.{KEYWORDS};
-ghost use Rattle.wat_asm.specs.inside.Lexing.{Tells, as_key, plain_of, word_of};
+ghost use Rattle.wat_asm.specs.inside.Lexing.{Means, as_key, plain_of, word_of};
 ghost use Rattle.wat_asm.specs.Numbering.{Grows, IsNumbered, number_in};
 ghost use Rattle.wat_asm.specs.inside.Tokens.{tok_of};
 
@@ -19,7 +19,7 @@ const OFFSET: &[u8] = b"offset=";
 
 const ALIGN: &[u8] = b"align=";
 
-// How words of the format begin that are not taken: of floating point, and of later versions.
+// The starts of the words that are not supported: those of floats and of later versions.
 const UNSUPPORTED: [&str; 35] = [
     "f32",
     "f64",
@@ -67,7 +67,7 @@ fn is_unsupported(word: &[u8]) -> bool {
     false
 }
 
-// A word that begins with `$`.
+// Returns the token of a word that starts with `$`.
 fn name<'t>(names: &mut Numbering<'t>, word: &'t [u8]) -> Result<Token, Failure>
     ensures named { IfOk result (IsNumbered names.new word.now) }
     ensures grows { Grows names.old names.new }
@@ -85,7 +85,7 @@ fn name<'t>(names: &mut Numbering<'t>, word: &'t [u8]) -> Result<Token, Failure>
 }
 
 fn keyword(word: &[u8]) -> Token
-    ensures tells { Tells result (as_key (lookup KEYWORDS word.now)) }
+    ensures tells { Means result (as_key (lookup KEYWORDS word.now)) }
     ensures nameless { number_in result ≡ None }
 {
     match Keyword::spelled(word) {
@@ -100,9 +100,9 @@ fn keyword(word: &[u8]) -> Token
     }
 }
 
-// A word that begins with a letter.
+// Returns the token of a word that starts with a letter.
 fn plain(word: &[u8]) -> Token
-    ensures tells { Tells result (plain_of word.now) }
+    ensures tells { Means result (plain_of word.now) }
     ensures nameless { number_in result ≡ None }
 {
     if let Some(digits) = word.strip_prefix(OFFSET) {
@@ -114,7 +114,7 @@ fn plain(word: &[u8]) -> Token
     }
 }
 
-/// The token that a word is.
+/// Returns the token of a word.
 #[tactic(auto, unfolding(crate::specs::inside::Lexing::word_of))]
 pub fn token_of<'t>(names: &mut Numbering<'t>, word: &'t [u8]) -> Result<Token, Failure>
     ensures again { (source : List ℕ) → Follows (tok_of source) result (word_of word.now) }

@@ -1,20 +1,20 @@
-//! Instructions one after another, linear and folded, and those that hold others (Core 1.0, 6.5).
+//! Readers of instruction sequences, plain and folded, and of the instructions that contain them (Core 1.0, 6.5).
 
 ghost use Rattle.std.specs.Prelude.{◌≡◌, ◌<◌};
 ghost use Rattle.wat_asm.specs.inside.Parsing.{Advances, AddsAny, GivesAny, Fewer, GoesOn, InRoom, NoMore, Passes, Shows};
 ghost use Rattle.wat_asm.specs.inside.Reading.{unnamed_at};
 ghost use Rattle.wat_asm.specs.inside.ReadingCode.{code_at, else_in, end_at, ended_in, header_at, if_in, inner_at, instr_in, instrs_at, linear_in, other_in, stops};
 
-use crate::fault::{Failure, Wrong};
+use crate::fault::{Failure, FaultKind};
 use crate::keyword::Keyword;
 use crate::lexer::Token;
 use crate::parser::tokens::Parser;
 use wasm_ast::{BlockType, Body, Instr};
 
-/// How much may still stand inside each other.
+/// The nesting that remains: how many more levels may open here.
 #[derive(Clone, Copy)]
 pub struct Room {
-    /// Blocks, loops and ifs.
+    /// The levels of blocks, loops and ifs.
     pub levels: u32,
     pub parentheses: u32,
 }
@@ -22,7 +22,7 @@ pub struct Room {
 impl Room {
     ghost use Rattle.std.specs.Prelude.{◌≡◌, ◌<◌, ◌-◌};
 
-    // Inside of one more parenthesis.
+    // Returns the nesting that remains inside one more parenthesis.
     fn in_parenthesis(self) -> Room
         requires { 0 < self.parentheses }
     {
@@ -32,7 +32,7 @@ impl Room {
         }
     }
 
-    // Inside of one more block.
+    // Returns the nesting that remains inside one more block.
     fn in_block(self) -> Room
         requires { 0 < self.levels }
         ensures levels { result.levels ≡ self.levels - 1 }
@@ -45,7 +45,7 @@ impl Room {
     }
 }
 
-// Whether a token stands next that ends a sequence.
+// Reports whether the next token ends a sequence.
 fn is_stop(parser: &Parser<'_>) -> bool
     ensures { result ≡ stops parser.now.0 }
 {
@@ -55,7 +55,7 @@ fn is_stop(parser: &Parser<'_>) -> bool
     )
 }
 
-/// Instructions up to what ends them.
+/// Reads instructions up to the token that ends them.
 #[tactic(auto, unfolding(crate::specs::inside::ReadingCode::code_at))]
 pub fn sequence(parser: &mut Parser<'_>, room: Room) -> Result<Body, Failure>
     ensures { GoesOn parser.old parser.new result (InRoom room (GivesAny (code_at room.levels))) }
@@ -65,7 +65,7 @@ pub fn sequence(parser: &mut Parser<'_>, room: Room) -> Result<Body, Failure>
     Ok(Body::from(instrs))
 }
 
-// Instructions up to what ends them are added to these.
+// Adds all instructions up to the token that ends them.
 #[cycle(parser)]
 #[tactic(auto, unfolding(crate::specs::inside::ReadingCode::instrs_at))]
 fn instructions(parser: &mut Parser<'_>, room: Room, instrs: &mut Vec<Instr>) -> Result<(), Failure>
@@ -83,7 +83,7 @@ fn instructions(parser: &mut Parser<'_>, room: Room, instrs: &mut Vec<Instr>) ->
     Ok(())
 }
 
-// One instruction that is not folded.
+// Reads one instruction that is not folded.
 #[cycle(parser)]
 #[tactic(auto, unfolding(crate::specs::inside::ReadingCode::instr_with))]
 fn instruction(parser: &mut Parser<'_>, room: Room) -> Result<Instr, Failure>
@@ -99,7 +99,7 @@ fn instruction(parser: &mut Parser<'_>, room: Room) -> Result<Instr, Failure>
     }
 }
 
-// An instruction that is not folded, behind its keyword.
+// Reads an instruction that is not folded, after its keyword.
 #[cycle(parser)]
 #[tactic(auto, unfolding(crate::specs::inside::ReadingCode::linear_with, crate::specs::inside::ReadingCode::block_with, crate::specs::inside::ReadingCode::loop_with))]
 fn linear(parser: &mut Parser<'_>, room: Room, keyword: Keyword) -> Result<Instr, Failure>
@@ -122,7 +122,7 @@ fn linear(parser: &mut Parser<'_>, room: Room, keyword: Keyword) -> Result<Instr
     }
 }
 
-// The name of a block and what it gives, behind its keyword.
+// Reads the name of a block and the type of its result, after its keyword.
 #[tactic(auto, unfolding(crate::specs::inside::ReadingCode::header_at))]
 fn header(parser: &mut Parser<'_>, room: Room) -> Result<(Option<u32>, BlockType), Failure>
     ensures { GoesOn parser.old parser.new result (InRoom room (Shows (λ x. x.1) header_at)) }
@@ -132,7 +132,7 @@ fn header(parser: &mut Parser<'_>, room: Room) -> Result<(Option<u32>, BlockType
     Ok((name, given))
 }
 
-// The instructions in a block of this name, and its `end`.
+// Reads the instructions in a block of this name, and its `end`.
 #[cycle(parser)]
 #[tactic(auto, unfolding(crate::specs::inside::ReadingCode::ended_with))]
 fn ended_body(parser: &mut Parser<'_>, room: Room, name: Option<u32>) -> Result<Body, Failure>
@@ -143,7 +143,7 @@ fn ended_body(parser: &mut Parser<'_>, room: Room, name: Option<u32>) -> Result<
     Ok(body)
 }
 
-// What follows `if`.
+// Reads what follows `if`.
 #[cycle(parser)]
 #[tactic(auto, unfolding(crate::specs::inside::ReadingCode::if_with))]
 fn choice(parser: &mut Parser<'_>, room: Room) -> Result<Instr, Failure>
@@ -155,7 +155,7 @@ fn choice(parser: &mut Parser<'_>, room: Room) -> Result<Instr, Failure>
     Ok(Instr::If(given, body, other))
 }
 
-// The arm for 0 of an `if`, and the `end`.
+// Reads the arm for 0 of an `if`, and the `end`.
 #[cycle(parser)]
 #[tactic(auto, unfolding(crate::specs::inside::ReadingCode::other_with))]
 fn other_arm(parser: &mut Parser<'_>, room: Room, name: Option<u32>) -> Result<Body, Failure>
@@ -166,7 +166,7 @@ fn other_arm(parser: &mut Parser<'_>, room: Room, name: Option<u32>) -> Result<B
     Ok(other)
 }
 
-// The arm behind `else`, which is empty where there is none.
+// Reads the arm after `else`, which is empty where there is no `else`.
 #[cycle(parser)]
 #[tactic(auto, unfolding(crate::specs::inside::ReadingCode::else_with))]
 fn else_arm(parser: &mut Parser<'_>, room: Room, name: Option<u32>) -> Result<Body, Failure>
@@ -182,7 +182,7 @@ fn else_arm(parser: &mut Parser<'_>, room: Room, name: Option<u32>) -> Result<Bo
     }
 }
 
-// The `end` of a block with this name.
+// Reads the `end` of a block with this name.
 #[tactic(auto, unfolding(crate::specs::inside::ReadingCode::end_at))]
 fn ended(parser: &mut Parser<'_>, name: Option<u32>) -> Result<(), Failure>
     ensures { Advances parser.old parser.new result (Passes end_at) }
@@ -196,7 +196,7 @@ fn ended(parser: &mut Parser<'_>, name: Option<u32>) -> Result<(), Failure>
     }
 }
 
-// Passes a label that repeats this one, where one stands.
+// Skips a label that repeats this one, where there is one.
 #[tactic(auto, unfolding(crate::specs::inside::Reading::unnamed_at))]
 fn same_label(parser: &mut Parser<'_>, name: Option<u32>) -> Result<(), Failure>
     ensures { GoesOn parser.old parser.new result (Passes unnamed_at) }
@@ -204,7 +204,7 @@ fn same_label(parser: &mut Parser<'_>, name: Option<u32>) -> Result<(), Failure>
     match parser.rest {
         [Token::Name(again), rest @ ..] => {
             if name != Some(*again) {
-                return Err(parser.fault(Wrong::UnknownName));
+                return Err(parser.fault(FaultKind::UnknownName));
             }
             parser.rest = rest;
             Ok(())
@@ -213,14 +213,14 @@ fn same_label(parser: &mut Parser<'_>, name: Option<u32>) -> Result<(), Failure>
     }
 }
 
-// The instructions in a block of this name.
+// Reads the instructions in a block of this name.
 #[cycle(parser)]
 #[tactic(auto, unfolding(crate::specs::inside::ReadingCode::inner_at, crate::specs::inside::ReadingCode::instrs_at))]
 fn inner(parser: &mut Parser<'_>, room: Room, name: Option<u32>) -> Result<Body, Failure>
     ensures { GoesOn parser.old parser.new result (InRoom room (GivesAny (inner_at room.levels))) }
 {
     if room.levels == 0 {
-        return Err(parser.fault(Wrong::OverLimit));
+        return Err(parser.fault(FaultKind::OverLimit));
     }
     parser.labels.push(name)?;
     let mut instrs = Vec::new(parser.alloc);
@@ -229,13 +229,13 @@ fn inner(parser: &mut Parser<'_>, room: Room, name: Option<u32>) -> Result<Body,
     Ok(Body::from(instrs))
 }
 
-/// A folded instruction, of which the operands stand first, is added to these.
+/// Reads a folded instruction, and adds its operands and then itself to `instrs`.
 #[cycle(parser)]
 pub fn folded(parser: &mut Parser<'_>, room: Room, instrs: &mut Vec<Instr>) -> Result<(), Failure>
     ensures shrinks { Fewer parser.old parser.new result }
 {
     if room.parentheses == 0 {
-        return Err(parser.fault(Wrong::OverLimit));
+        return Err(parser.fault(FaultKind::OverLimit));
     }
     let keyword = folded_keyword(parser)?;
     let instr = unfolded(parser, room.in_parenthesis(), keyword, instrs)?;
@@ -243,7 +243,7 @@ pub fn folded(parser: &mut Parser<'_>, room: Room, instrs: &mut Vec<Instr>) -> R
     parser.close()
 }
 
-// Passes the parenthesis and the keyword of a folded instruction.
+// Skips the parenthesis of a folded instruction, and returns its keyword.
 fn folded_keyword(parser: &mut Parser<'_>) -> Result<Keyword, Failure>
     ensures shrinks { Fewer parser.old parser.new result }
 {
@@ -260,7 +260,7 @@ fn folded_keyword(parser: &mut Parser<'_>) -> Result<Keyword, Failure>
     }
 }
 
-// A folded instruction, behind its keyword and without its closing parenthesis. Its operands are added to these.
+// Reads a folded instruction, after its keyword and without its closing parenthesis. Adds its operands to `instrs`.
 #[cycle(parser)]
 fn unfolded(
     parser: &mut Parser<'_>,
@@ -290,7 +290,7 @@ fn unfolded(
     }
 }
 
-// The operands of a folded instruction.
+// Reads the operands of a folded instruction.
 #[cycle(parser)]
 fn operands(parser: &mut Parser<'_>, room: Room, instrs: &mut Vec<Instr>) -> Result<(), Failure>
     ensures shrinks { NoMore parser.old parser.new result }
@@ -301,7 +301,7 @@ fn operands(parser: &mut Parser<'_>, room: Room, instrs: &mut Vec<Instr>) -> Res
     Ok(())
 }
 
-// Whether a parenthesis opens that is not that of `then`.
+// Reports whether a parenthesis opens that is not that of `then`.
 fn is_operand(parser: &Parser<'_>) -> bool {
     match parser.opening() {
         Some(Keyword::Then) => false,
@@ -309,7 +309,7 @@ fn is_operand(parser: &Parser<'_>) -> bool {
     }
 }
 
-// A folded `if`, behind its keyword. Its label is not in scope in its condition.
+// Reads a folded `if`, after its keyword. Its label is not in scope in its condition.
 #[cycle(parser)]
 fn folded_choice(
     parser: &mut Parser<'_>,
@@ -321,7 +321,7 @@ fn folded_choice(
     let (name, given) = header(parser, room)?;
     operands(parser, room, instrs)?;
     if room.parentheses == 0 {
-        return Err(parser.fault(Wrong::OverLimit));
+        return Err(parser.fault(FaultKind::OverLimit));
     }
     let room = room.in_parenthesis();
     let body = then_arm(parser, room, name)?;
@@ -329,7 +329,7 @@ fn folded_choice(
     Ok(Instr::If(given, body, other))
 }
 
-// The arm in `(then ..)`.
+// Reads the arm in `(then ..)`.
 #[cycle(parser)]
 fn then_arm(parser: &mut Parser<'_>, room: Room, name: Option<u32>) -> Result<Body, Failure>
     ensures shrinks { NoMore parser.old parser.new result }
@@ -340,7 +340,7 @@ fn then_arm(parser: &mut Parser<'_>, room: Room, name: Option<u32>) -> Result<Bo
     }
 }
 
-// The arm in `(else ..)`, which is empty where there is none.
+// Reads the arm in `(else ..)`, which is empty where there is none.
 #[cycle(parser)]
 fn folded_else(parser: &mut Parser<'_>, room: Room, name: Option<u32>) -> Result<Body, Failure>
     ensures shrinks { NoMore parser.old parser.new result }
@@ -351,7 +351,7 @@ fn folded_else(parser: &mut Parser<'_>, room: Room, name: Option<u32>) -> Result
     }
 }
 
-// The instructions in the parenthesis that stands next, of a folded `if` of this name.
+// Reads the instructions in the next parenthesis, of a folded `if` of this name.
 #[cycle(parser)]
 fn arm(parser: &mut Parser<'_>, room: Room, name: Option<u32>) -> Result<Body, Failure>
     ensures shrinks { NoMore parser.old parser.new result }

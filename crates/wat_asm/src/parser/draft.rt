@@ -1,4 +1,4 @@
-//! A module in the making.
+//! The draft of a module.
 
 use crate::parser::names::Kind;
 use std::alloc::Global as Heap;
@@ -7,7 +7,7 @@ use wasm_ast::{
     ImportDescription, Limits, Module, Sequence,
 };
 
-/// What the fields of a module hold that were read so far, but for types.
+/// The contents of the fields that were read so far, except types.
 #[derive(Drop)]
 pub struct Draft {
     pub imports: Vec<Import>,
@@ -19,11 +19,11 @@ pub struct Draft {
     pub start: Option<u32>,
     pub elements: Vec<Element>,
     pub segments: Vec<Data>,
-    /// How much of each kind the imports bring in.
+    /// The number of imports of each kind.
     pub imported: Imported,
 }
 
-/// How much of each kind is imported.
+/// The number of imports of each kind.
 #[derive(Clone, Copy)]
 pub struct Imported {
     pub functions: usize,
@@ -37,7 +37,7 @@ impl Draft {
     ghost use Rattle.wasm_ast.specs.Modules.{empty_module};
     ghost use Rattle.wat_asm.specs.inside.ReadingModule.{drafted, has_definition, with_types};
 
-    /// Nothing yet; it takes no memory.
+    /// Creates an empty draft. It allocates nothing.
     pub fn new(alloc: Heap) -> Draft
         ensures { drafted result ≡ empty_module }
     {
@@ -60,7 +60,7 @@ impl Draft {
         }
     }
 
-    /// Whether a function, table, memory or global is defined. No import may follow it.
+    /// Reports whether a function, table, memory or global is defined. No import may follow one.
     pub fn has_definition(&self) -> bool
         ensures { result ≡ has_definition (drafted self.now) }
     {
@@ -70,7 +70,7 @@ impl Draft {
             && self.globals.is_empty())
     }
 
-    /// One more import of this kind.
+    /// Counts an import of this kind.
     pub fn count_import(&mut self, description: ImportDescription)
         ensures { drafted self.new ≡ drafted self.old }
     {
@@ -83,7 +83,7 @@ impl Draft {
         }
     }
 
-    /// The export of what is defined next of this kind, if there is one.
+    /// Returns the export of the item of this kind that is defined next, where there is one.
     pub fn next_export(&self, kind: Kind) -> Option<ExportDescription> {
         let (imported, defined) = match kind {
             Kind::Function => (self.imported.functions, self.functions.len()),
@@ -102,7 +102,7 @@ impl Draft {
         }
     }
 
-    /// The module with these fields and types.
+    /// Makes a module of the draft and these types.
     pub fn into_module(self, types: Vec<FuncType>) -> Module
         ensures { result ≡ with_types (drafted self) types.items }
     {

@@ -1,34 +1,34 @@
-//! Which types are equal.
+//! A map from each type to the first type that is equal to it.
 
 use std::alloc::{AllocError, Global};
 use std::collections::HashMap;
 use wasm_ast::{FuncType, ValType};
 
-// What the text of a type has, one after another.
+// One element of a type's key: the types of its parameters, a mark, and the types of its results.
 #[derive(Clone, Copy, PartialEq, Eq, Hash)]
 enum Part {
     I32,
     I64,
-    // between the parameters and the results
+    // the mark between the parameters and the results
     Gives,
 }
 
-/// Types, each with the number of the first that is equal to it.
+/// The types so far, each with the index of the first that is equal to it.
 #[derive(Drop)]
 pub struct EqualTypes {
     firsts: HashMap<Vec<Part>, u32>,
 }
 
 impl EqualTypes {
-    /// No types; it takes no memory.
+    /// Creates an empty map. It allocates nothing.
     pub fn new(alloc: Global) -> EqualTypes {
         EqualTypes {
             firsts: HashMap::new(alloc),
         }
     }
 
-    /// The number of the first type that is equal to this one. Where none is, it is this one, which has this number from
-    /// now on.
+    /// Returns the index of the first type that is equal to this one. Where there is none, it adds this type with the
+    /// index `number`.
     pub fn first(&mut self, alloc: Global, t: &FuncType, number: u32) -> Result<u32, AllocError> {
         let mut parts = Vec::new(alloc);
         add_type(&mut parts, t)?;
@@ -39,7 +39,7 @@ impl EqualTypes {
         Ok(number)
     }
 
-    /// Types that are numbered from 0.
+    /// Adds types with indices from 0.
     pub fn add(&mut self, alloc: Global, types: &[FuncType]) -> Result<(), AllocError> {
         let mut number = 0u32;
         for t in types {

@@ -1,4 +1,4 @@
-//! The fields of a module (Core 1.0, 6.6).
+//! Readers of the fields of a module (Core 1.0, 6.6).
 
 ghost use Rattle.std.specs.Prelude.{◌≡◌, ℕ, List, Some};
 ghost use Rattle.wasm_ast.specs.declared.types.ValType.{ValType as AnyValType};
@@ -7,7 +7,7 @@ ghost use Rattle.wat_asm.specs.inside.Parsing.{DraftsAny, ShowsAny, GivesAny, Dr
 ghost use Rattle.wat_asm.specs.inside.Reading.{group_step, item_step, local_first, number_at, number_first};
 ghost use Rattle.wat_asm.specs.inside.ReadingModule.{bytes_at, drafted, element_at, element_field_at, export_at, export_description_at, export_field_at, exported_at, field_first, field_step, function_at, function_field_at, global_at, global_field_at, heading_at, import_at, import_description_at, import_field_at, imported_at, inline_at, inline_first, inner_offset_at, keyword_at, memory_field_at, number_or_0_at, numbers_at, offset_at, offset_first, segment_at, segment_field_at, start_field_at, table_at, table_field_at, text_first, text_step};
 
-use crate::fault::{Failure, Wrong};
+use crate::fault::{Failure, FaultKind};
 use crate::keyword::Keyword;
 use crate::lexer::Token;
 use crate::parser::code::{Room, folded, sequence};
@@ -21,22 +21,22 @@ use wasm_ast::{
     Limits, MAX_NESTING, Sequence, ValType,
 };
 
-/// Parentheses inside each other, the module's own among them.
+/// The deepest nesting of parentheses, the module's own included.
 pub const MAX_PARENTHESES: u32 = 512;
 
-// What may stand inside of a field, where two parentheses are open.
+// The nesting that remains inside a field, where two parentheses are open.
 const ROOM: Room = Room {
     levels: MAX_NESTING,
     parentheses: MAX_PARENTHESES - 2,
 };
 
-// What may stand inside of a parenthesis in a field.
+// The nesting that remains inside a parenthesis in a field.
 const INNER_ROOM: Room = Room {
     levels: MAX_NESTING,
     parentheses: MAX_PARENTHESES - 3,
 };
 
-/// A field.
+/// A field of a module.
 pub struct Field;
 
 impl Item for Field {
@@ -63,7 +63,7 @@ impl Item for Field {
     }
 }
 
-// What follows a field's keyword, up to its closing parenthesis.
+// Reads what follows a field's keyword, up to its closing parenthesis.
 #[tactic(auto, unfolding(crate::specs::inside::ReadingModule::field_at))]
 fn behind_keyword(
     parser: &mut Parser<'_>,
@@ -88,7 +88,7 @@ fn behind_keyword(
     }
 }
 
-// A type that stands behind another field. Where all types were wanted before, it is read already.
+// Reads a type that comes after another field. It is not added again where all types were read before.
 fn later_type(parser: &mut Parser<'_>) -> Result<(), Failure>
     ensures shrinks { NoMore parser.old parser.new result }
 {
@@ -105,7 +105,7 @@ fn import(parser: &mut Parser<'_>, draft: &mut Draft) -> Result<(), Failure>
     ensures { GoesOn parser.old parser.new result (Drafts draft.old draft.new import_field_at) }
 {
     if draft.has_definition() {
-        return Err(parser.fault(Wrong::Syntax));
+        return Err(parser.fault(FaultKind::Syntax));
     }
     let import = import_item(parser)?;
     draft.count_import(import.description);
@@ -138,7 +138,7 @@ fn import_description(parser: &mut Parser<'_>) -> Result<ImportDescription, Fail
     Ok(description)
 }
 
-// What is imported, behind its keyword and its name.
+// Reads the description of an import, after its keyword and its name.
 #[tactic(auto, unfolding(crate::specs::inside::ReadingModule::imported_at))]
 fn imported(parser: &mut Parser<'_>, keyword: Keyword) -> Result<ImportDescription, Failure>
     ensures { GoesOn parser.old parser.new result (Gives (imported_at keyword)) }
@@ -184,7 +184,7 @@ fn export_description(parser: &mut Parser<'_>) -> Result<ExportDescription, Fail
     Ok(description)
 }
 
-// What is exported, behind its keyword.
+// Reads the description of an export, after its keyword.
 #[tactic(auto, unfolding(crate::specs::inside::ReadingModule::exported_at))]
 fn exported(parser: &mut Parser<'_>, keyword: Keyword) -> Result<ExportDescription, Failure>
     ensures { GoesOn parser.old parser.new result (Gives (exported_at keyword)) }
@@ -200,14 +200,14 @@ fn exported(parser: &mut Parser<'_>, keyword: Keyword) -> Result<ExportDescripti
     }
 }
 
-// Whether an export or an import stands next, inside of a field.
+// Reports whether an inline export or import comes next.
 fn is_inline(parser: &Parser<'_>) -> bool
     ensures { result ≡ inline_first parser.now.0 }
 {
     matches!(parser.opening(), Some(Keyword::Export | Keyword::Import))
 }
 
-// The exports inside of a field, of what the field defines. An import there is not taken.
+// Reads the inline exports of the item that a field defines. An inline import is not supported.
 #[tactic(auto, unfolding(crate::specs::inside::ReadingModule::inline_at))]
 fn inline_exports(
     parser: &mut Parser<'_>,
@@ -223,7 +223,7 @@ fn inline_exports(
     }
 }
 
-// The same, of which one stands next.
+// Reads the inline exports, where one comes next.
 fn all_inline_exports(
     parser: &mut Parser<'_>,
     draft: &mut Draft,
@@ -246,12 +246,12 @@ fn inline_export(
 {
     match (parser.opening(), description) {
         (Some(Keyword::Export), Some(description)) => named_export(parser, draft, description),
-        (Some(Keyword::Export), None) => Err(parser.fault(Wrong::OverLimit)),
-        _ => Err(parser.fault(Wrong::Unsupported)),
+        (Some(Keyword::Export), None) => Err(parser.fault(FaultKind::OverLimit)),
+        _ => Err(parser.fault(FaultKind::Unsupported)),
     }
 }
 
-// The export in the parenthesis that stands next.
+// Reads the export in the parenthesis that comes next.
 fn named_export(
     parser: &mut Parser<'_>,
     draft: &mut Draft,
@@ -267,7 +267,7 @@ fn named_export(
 
 // ---- definitions
 
-// The name and the exports of a definition, behind its keyword.
+// Reads the name and the inline exports of a definition, after its keyword.
 #[tactic(auto, unfolding(crate::specs::inside::ReadingModule::heading_at))]
 fn heading(parser: &mut Parser<'_>, draft: &mut Draft, kind: Kind) -> Result<(), Failure>
     ensures { GoesOn parser.old parser.new result (Drafts draft.old draft.new heading_at) }
@@ -336,7 +336,7 @@ impl Item for LocalGroup {
     }
 }
 
-// A local with this name, behind the parameters of its function's type. `left` tokens are left where the name stands.
+// Declares a local with this name, after the parameters of its function's type. `left` tokens remain at the name.
 fn named_local(
     parser: &mut Parser<'_>,
     type_number: u32,
@@ -362,7 +362,7 @@ fn table(parser: &mut Parser<'_>, draft: &mut Draft) -> Result<(), Failure>
     Ok(())
 }
 
-// The limits of a table, whose elements are functions.
+// Reads the limits of a table, whose elements are functions.
 #[tactic(auto, unfolding(crate::specs::inside::ReadingModule::table_at))]
 fn table_limits(parser: &mut Parser<'_>) -> Result<Limits, Failure>
     ensures { GoesOn parser.old parser.new result (Gives table_at) }
@@ -408,7 +408,7 @@ fn start(parser: &mut Parser<'_>, draft: &mut Draft) -> Result<(), Failure>
     ensures { GoesOn parser.old parser.new result (Drafts draft.old draft.new start_field_at) }
 {
     if draft.start.is_some() {
-        return Err(parser.fault(Wrong::Syntax));
+        return Err(parser.fault(FaultKind::Syntax));
     }
     let n = parser.index(Kind::Function)?;
     draft.start = Some(n);
@@ -417,7 +417,7 @@ fn start(parser: &mut Parser<'_>, draft: &mut Draft) -> Result<(), Failure>
 
 // ---- segments
 
-// The offset of a segment: `(offset ..)`, or one folded instruction (Core 1.0, 6.6.11).
+// Reads the offset of a segment: `(offset ..)`, or one folded instruction (Core 1.0, 6.6.11).
 #[tactic(auto, unfolding(crate::specs::inside::ReadingModule::offset_at))]
 fn offset(parser: &mut Parser<'_>) -> Result<Body, Failure>
     ensures { GoesOn parser.old parser.new result (GivesAny offset_at) }
@@ -436,7 +436,7 @@ fn is_offset(parser: &Parser<'_>) -> bool
     matches!(parser.opening(), Some(Keyword::Offset))
 }
 
-// What stands in `(offset ..)`.
+// Reads the inside of `(offset ..)`.
 #[tactic(auto, unfolding(crate::specs::inside::ReadingModule::inner_offset_at))]
 fn parenthesized_offset(parser: &mut Parser<'_>) -> Result<Body, Failure>
     ensures { GoesOn parser.old parser.new result (GivesAny inner_offset_at) }
@@ -447,7 +447,7 @@ fn parenthesized_offset(parser: &mut Parser<'_>) -> Result<Body, Failure>
     Ok(body)
 }
 
-// The number of a thing of this kind, which is 0 where none stands.
+// Reads an index of this kind, which is 0 where none is given.
 #[tactic(auto, unfolding(crate::specs::inside::ReadingModule::number_or_0_at))]
 fn number_or_0(parser: &mut Parser<'_>, kind: Kind) -> Result<u32, Failure>
     ensures { GoesOn parser.old parser.new result (Gives number_or_0_at) }
@@ -482,7 +482,7 @@ fn element_item(parser: &mut Parser<'_>) -> Result<Element, Failure>
     })
 }
 
-// All functions that stand next by their numbers or names.
+// Reads all functions that come next, by their indices or names.
 #[tactic(auto, unfolding(crate::specs::inside::ReadingModule::numbers_at))]
 fn functions(parser: &mut Parser<'_>) -> Result<Vec<u32>, Failure>
     ensures { GoesOn parser.old parser.new result (ShowsAny (λ v. v.items) numbers_at) }
@@ -492,7 +492,7 @@ fn functions(parser: &mut Parser<'_>) -> Result<Vec<u32>, Failure>
     Ok(functions)
 }
 
-// A function by its number or name.
+// A function, given by its index or name.
 struct FunctionNumber;
 
 impl Item for FunctionNumber {
@@ -540,7 +540,7 @@ fn segment_item(parser: &mut Parser<'_>) -> Result<Data, Failure>
     })
 }
 
-// The bytes of all strings that stand next.
+// Reads the bytes of all strings that come next.
 #[tactic(auto, unfolding(crate::specs::inside::ReadingModule::bytes_at))]
 fn bytes(parser: &mut Parser<'_>) -> Result<Vec<u8>, Failure>
     ensures { GoesOn parser.old parser.new result (ShowsAny (λ v. v.items) bytes_at) }
@@ -550,7 +550,7 @@ fn bytes(parser: &mut Parser<'_>) -> Result<Vec<u8>, Failure>
     Ok(bytes)
 }
 
-// A string, whose bytes are added to those before it.
+// A string. Its bytes are added to those before it.
 struct Text;
 
 impl Item for Text {

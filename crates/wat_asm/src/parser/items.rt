@@ -1,4 +1,4 @@
-//! What stands any number of times, one after another.
+//! Items that are repeated any number of times.
 
 ghost use Rattle.std.specs.Prelude.{◌≡◌, ℕ, Bool, List, Option, Some};
 ghost use Rattle.wat_asm.specs.inside.Parsing.{Advances, GoesOn, MakesAny};
@@ -8,9 +8,9 @@ ghost use Rattle.wat_asm.specs.inside.Tokens.{Tok};
 use crate::fault::Failure;
 use crate::parser::tokens::Parser;
 
-/// What may stand any number of times.
+/// An item that may be repeated any number of times.
 pub trait Item {
-    /// What each is added to.
+    /// The collection to which each item is added.
     type Made;
 
     ghost Seen: { Type 0 };
@@ -21,17 +21,17 @@ pub trait Item {
 
     ghost step: { Self → ℕ → Seen × State → Option (Seen × State) };
 
-    /// Whether another one stands next.
+    /// Reports whether another item comes next.
     fn is_next(&self, parser: &Parser<'_>) -> bool
         ensures { (b : Bool) → first self.now parser.now.0 ≡ Some b → result ≡ b };
 
-    /// Reads the one that stands next.
+    /// Reads the item that comes next.
     fn add(&self, parser: &mut Parser<'_>, made: &mut Self::Made) -> Result<(), Failure>
         ensures { Advances parser.old parser.new result
             (MakesAny (seen made.old) (seen made.new) (step self.now)) };
 }
 
-/// Reads all that stand next.
+/// Reads all items that come next.
 pub fn repeated<I: Item>(
     item: &I,
     parser: &mut Parser<'_>,

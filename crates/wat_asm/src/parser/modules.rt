@@ -1,4 +1,4 @@
-//! A module from its tokens (Core 1.0, 6.6.13).
+//! The reader of modules (Core 1.0, 6.6.13).
 
 ghost use Rattle.std.specs.Prelude.{◌≡◌, ℕ, true, Some, IfOk};
 ghost use Rattle.wasm_ast.specs.declared.module.Module.{Module as AnyModule};
@@ -8,7 +8,7 @@ ghost use Rattle.wat_asm.specs.inside.Parsing.{DraftsAny, Passes};
 ghost use Rattle.wat_asm.specs.inside.ReadingModule.{goes_on_with_type, is_empty, module_at, module_open_at, nameless, only_at, type_step, whole_at};
 ghost use Rattle.wat_asm.specs.inside.Tokens.{toks_of};
 
-use crate::fault::{Failure, Wrong};
+use crate::fault::{Failure, FaultKind};
 use crate::keyword::Keyword;
 use crate::lexer::Token;
 use crate::parser::draft::Draft;
@@ -19,7 +19,7 @@ use crate::parser::tokens::Parser;
 use std::alloc::Global;
 use wasm_ast::{Module, within_limits};
 
-/// The module that the tokens of this text spell. A failure's place is told by the tokens that are left.
+/// Parses the module that the tokens of this text spell. A failure has the number of tokens that remain at its place.
 pub fn parse(alloc: Global, source: &[u8], tokens: &[Token]) -> Result<Module, Failure>
     ensures within { IfOk result (λ m. IsWithinLimits m) }
     ensures again { (n : ℕ) (m : AnyModule) → nameless tokens.now ≡ true
@@ -30,7 +30,7 @@ pub fn parse(alloc: Global, source: &[u8], tokens: &[Token]) -> Result<Module, F
     limited(alloc, source, &names, tokens)
 }
 
-// The module, whose names are known, if it is within the limits.
+// Reads the module, and checks that it is within the limits.
 fn limited(alloc: Global, source: &[u8], names: &Names, tokens: &[Token]) -> Result<Module, Failure>
     ensures within { IfOk result (λ m. IsWithinLimits m) }
     ensures again { (n : ℕ) (m : AnyModule) → module_at n (toks_of source.now tokens.now) ≡ Some m
@@ -40,11 +40,11 @@ fn limited(alloc: Global, source: &[u8], names: &Names, tokens: &[Token]) -> Res
     if within_limits(&module) {
         Ok(module)
     } else {
-        Err(Failure::Fault(Wrong::OverLimit, tokens.len()))
+        Err(Failure::Fault(FaultKind::OverLimit, tokens.len()))
     }
 }
 
-// The module, whose names are known, whether it is within the limits or not.
+// Reads the module, whether it is within the limits or not.
 fn module(alloc: Global, source: &[u8], names: &Names, tokens: &[Token]) -> Result<Module, Failure>
     ensures { (n : ℕ) → Follows (λ m. m) result (module_at n (toks_of source.now tokens.now)) }
 {
@@ -54,7 +54,7 @@ fn module(alloc: Global, source: &[u8], names: &Names, tokens: &[Token]) -> Resu
     Ok(draft.into_module(parser.types))
 }
 
-// A module's fields, between its parentheses, and nothing behind them.
+// Reads a module's fields between its parentheses. No token may follow.
 #[tactic(auto, unfolding(crate::specs::inside::ReadingModule::only_at))]
 fn only(parser: &mut Parser<'_>, draft: &mut Draft) -> Result<(), Failure>
     ensures again { DraftsAny draft.old draft.new only_at parser.old parser.new result }
@@ -67,7 +67,7 @@ fn only(parser: &mut Parser<'_>, draft: &mut Draft) -> Result<(), Failure>
     }
 }
 
-// A module's fields, between its parentheses.
+// Reads a module's fields between its parentheses.
 #[tactic(auto, unfolding(crate::specs::inside::ReadingModule::whole_at, crate::specs::inside::ReadingModule::types_at, crate::specs::inside::ReadingModule::fields_at))]
 fn whole(parser: &mut Parser<'_>, draft: &mut Draft) -> Result<(), Failure>
     ensures again { DraftsAny draft.old draft.new whole_at parser.old parser.new result }
@@ -98,7 +98,7 @@ fn open_module(parser: &mut Parser<'_>) -> Result<(), Failure>
     }
 }
 
-// A type that stands before all other fields.
+// A type that comes before all other fields.
 struct EarlyType;
 
 impl Item for EarlyType {

@@ -1,48 +1,48 @@
-//! Names and the numbers that they stand for (Core 1.0, 6.3.5 and 6.1.3). No contract says what a name stands for, only
-//! that a text without names is read.
+//! Names and their indices (Core 1.0, 6.3.5 and 6.1.3). No contract says which index a name has, only that a text without
+//! names is read.
 
 ghost use Rattle.std.specs.Prelude.{◌≡◌, true, IsOk, Ok, None};
 ghost use Rattle.wat_asm.specs.inside.ReadingModule.{nameless};
 
-use crate::fault::{Failure, Wrong};
+use crate::fault::{Failure, FaultKind};
 use crate::keyword::Keyword;
 use crate::lexer::Token;
 use std::alloc::Global;
 use std::collections::HashMap;
 
-/// The names of one kind of thing and their numbers.
+/// The names of one index space, and their indices.
 #[derive(Drop)]
 pub struct Space {
     numbers: HashMap<u32, u32>,
 }
 
 impl Space {
-    /// No names; it takes no memory.
+    /// Creates an empty space. It allocates nothing.
     pub fn new(alloc: Global) -> Space {
         Space {
             numbers: HashMap::new(alloc),
         }
     }
 
-    /// The number that a name stands for, if it stands for any.
+    /// Returns the index of a name, where it has one.
     pub fn find(&self, name: u32) -> Option<u32> {
         self.numbers.get(&name).copied()
     }
 
-    /// Gives a name a number, where it has none. `left` tokens are left to be read where the name stands.
+    /// Declares a name with this index. A name that has one already is `DuplicateName`. `left` tokens remain at the name.
     pub fn declare(&mut self, name: u32, number: usize, left: usize) -> Result<(), Failure> {
         if self.find(name).is_some() {
-            return Err(Failure::Fault(Wrong::DuplicateName, left));
+            return Err(Failure::Fault(FaultKind::DuplicateName, left));
         }
         let Ok(number) = u32::try_from(number) else {
-            return Err(Failure::Fault(Wrong::OverLimit, left));
+            return Err(Failure::Fault(FaultKind::OverLimit, left));
         };
         self.numbers.insert(name, number)?;
         Ok(())
     }
 }
 
-/// The names of one kind of thing, numbered in the order in which they are declared.
+/// The names of one index space, with indices in the order of declaration.
 #[derive(Drop)]
 struct Series {
     space: Space,
@@ -50,7 +50,7 @@ struct Series {
 }
 
 impl Series {
-    // Nothing is declared; it takes no memory.
+    // Creates an empty series. It allocates nothing.
     fn new(alloc: Global) -> Series {
         Series {
             space: Space::new(alloc),
@@ -58,7 +58,7 @@ impl Series {
         }
     }
 
-    // One more thing. A name may stand once.
+    // Declares the next item. A name that occurs twice is `DuplicateName`.
     fn declare(&mut self, name: Option<u32>, left: usize) -> Result<(), Failure>
         ensures { name ≡ None → result ≡ Ok tt }
     {
@@ -70,7 +70,7 @@ impl Series {
     }
 }
 
-/// What a name may stand for.
+/// The kind of item that a name may be for.
 #[derive(Clone, Copy)]
 pub enum Kind {
     Type,
@@ -80,11 +80,11 @@ pub enum Kind {
     Global,
     /// A parameter or a local.
     Local,
-    /// A block round an instruction.
+    /// A block around an instruction.
     Label,
 }
 
-/// What the fields of a module name, imports counted first (Core 1.0, 6.6.1).
+/// The names that the fields of a module declare, imports first (Core 1.0, 6.6.1).
 #[derive(Drop)]
 pub struct Names {
     types: Series,
@@ -95,7 +95,7 @@ pub struct Names {
 }
 
 impl Names {
-    // No names; it takes no memory.
+    // Creates an empty set of names. It allocates nothing.
     fn new(alloc: Global) -> Names {
         Names {
             types: Series::new(alloc),
@@ -106,7 +106,7 @@ impl Names {
         }
     }
 
-    /// The number of the field of this kind with this name, if there is one.
+    /// Returns the index of the item of this kind with this name, where there is one.
     pub fn find(&self, kind: Kind, name: u32) -> Option<u32> {
         match kind {
             Kind::Type => self.types.space.find(name),
@@ -118,7 +118,7 @@ impl Names {
         }
     }
 
-    // One more field of this kind.
+    // Declares the next item of this kind.
     fn declare(&mut self, kind: Keyword, name: Option<u32>, left: usize) -> Result<(), Failure>
         ensures { name ≡ None → result ≡ Ok tt }
     {
@@ -132,7 +132,8 @@ impl Names {
         }
     }
 
-    // What the first of these tokens begins, where so many parentheses are open. It returns how many are open behind it.
+    // Declares the field that starts with the first token, if one does. `depth` parentheses are open before that token.
+    // The result is how many are open after it.
     fn declare_next(&mut self, depth: usize, tokens: &[Token]) -> Result<usize, Failure>
         ensures { nameless tokens.now ≡ true → IsOk result }
     {
@@ -148,7 +149,7 @@ impl Names {
         }
     }
 
-    // What the field that begins here defines, or what an import brings in.
+    // Declares the item that this field defines or imports.
     fn declare_field(&mut self, tokens: &[Token]) -> Result<(), Failure>
         ensures { nameless tokens.now ≡ true → result ≡ Ok tt }
     {
@@ -164,7 +165,7 @@ impl Names {
         }
     }
 
-    // What begins here with a parenthesis and a keyword.
+    // Declares the item that starts here with a parenthesis and a keyword.
     fn declare_first(&mut self, tokens: &[Token]) -> Result<(), Failure>
         ensures { nameless tokens.now ≡ true → result ≡ Ok tt }
     {
@@ -181,8 +182,8 @@ impl Names {
     }
 }
 
-/// The names that a module's fields declare, wherever they stand. It refuses a name that stands twice, and reads no more
-/// of the fields than that.
+/// Collects the names that a module's fields declare. A name that occurs twice is `DuplicateName`. It reads no more of
+/// the fields than that.
 pub fn declared(alloc: Global, tokens: &[Token]) -> Result<Names, Failure>
     ensures { nameless tokens.now ≡ true → IsOk result }
 {

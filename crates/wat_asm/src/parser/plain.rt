@@ -1,4 +1,4 @@
-//! Instructions that hold no others, from their keywords on (Core 1.0, 6.5).
+//! Readers of instructions that contain no others, after their keywords (Core 1.0, 6.5).
 
 ghost use Rattle.std.specs.Prelude.{◌≡◌, ◌<◌, ◌≤◌, length};
 ghost use Rattle.wasm_ast.specs.declared.types.ValType.TheVariants.{I32, I64};
@@ -7,7 +7,7 @@ ghost use Rattle.wasm_ast.specs.declared.plain.Plain.TheVariants as leaf;
 ghost use Rattle.wat_asm.specs.inside.Parsing.{Advances, GivesAny, GoesOn, IsConstant, Shows, Gives, When};
 ghost use Rattle.wat_asm.specs.inside.ReadingCode.{alignment_at, branch_table_at, constant_at, exponent, load_at, memory_argument_at, offset_at, plain_at, store_at, variable_at};
 
-use crate::fault::{Failure, Wrong};
+use crate::fault::{Failure, FaultKind};
 use crate::keyword::Keyword;
 use crate::lexer::Token;
 use crate::parser::names::Kind;
@@ -18,7 +18,7 @@ use wasm_ast::{
 };
 
 impl<'a> Parser<'a> {
-    /// An instruction, behind its keyword, with room for so many more parentheses.
+    /// Reads an instruction, after its keyword. At most `parentheses` more may open.
     #[tactic(auto, unfolding(crate::specs::inside::ReadingCode::plain_at))]
     pub fn plain(&mut self, keyword: Keyword, parentheses: u32) -> Result<Instr, Failure>
         ensures { GoesOn self.old self.new result
@@ -53,7 +53,7 @@ impl<'a> Parser<'a> {
         }
     }
 
-    // An access to a local or a global.
+    // Reads the index of a local or a global.
     fn variable(&mut self, keyword: Keyword) -> Result<Instr, Failure>
         ensures { GoesOn self.old self.new result (Gives (variable_at keyword)) }
     {
@@ -72,7 +72,7 @@ impl<'a> Parser<'a> {
             Keyword::LocalTee => self.index(Kind::Local).map(Variable::LocalTee),
             Keyword::GlobalGet => self.index(Kind::Global).map(Variable::GlobalGet),
             Keyword::GlobalSet => self.index(Kind::Global).map(Variable::GlobalSet),
-            _ => Err(self.fault(Wrong::Syntax)),
+            _ => Err(self.fault(FaultKind::Syntax)),
         }
     }
 
@@ -94,7 +94,7 @@ impl<'a> Parser<'a> {
         ))))
     }
 
-    // The immediates of a load or a store of so many bytes (Core 1.0, 6.5.5).
+    // Reads the immediates of a load or a store of `width` bytes (Core 1.0, 6.5.5).
     #[tactic(auto, unfolding(crate::specs::inside::ReadingCode::memory_argument_at))]
     fn memory_argument(&mut self, width: u32) -> Result<MemoryArgument, Failure>
         ensures { GoesOn self.old self.new result (Gives (memory_argument_at width)) }
@@ -104,7 +104,7 @@ impl<'a> Parser<'a> {
         Ok(MemoryArgument { align, offset })
     }
 
-    // The offset, which is 0 where none stands.
+    // Reads the offset, which is 0 where none is given.
     #[tactic(auto, unfolding(crate::specs::inside::ReadingCode::offset_at))]
     fn offset(&mut self) -> u32
         ensures again { (result, self.new) ≡ offset_at self.old }
@@ -119,7 +119,7 @@ impl<'a> Parser<'a> {
         }
     }
 
-    // The exponent of the alignment, which is the width where none stands.
+    // Reads the alignment, which is the width where none is given, and returns its exponent.
     #[tactic(auto, unfolding(crate::specs::inside::ReadingCode::alignment_at))]
     fn alignment(&mut self, width: u32) -> Result<u32, Failure>
         ensures { GoesOn self.old self.new result (Gives (alignment_at width)) }
@@ -130,16 +130,16 @@ impl<'a> Parser<'a> {
                     self.rest = rest;
                     Ok(e)
                 }
-                None => Err(self.fault(Wrong::Syntax)),
+                None => Err(self.fault(FaultKind::Syntax)),
             },
             _ => match exponent(width) {
                 Some(e) => Ok(e),
-                None => Err(self.fault(Wrong::Syntax)),
+                None => Err(self.fault(FaultKind::Syntax)),
             },
         }
     }
 
-    // A constant of this type, which may be spelled with or without a sign (Core 1.0, 6.5.6).
+    // Reads a constant of this type, with or without a sign (Core 1.0, 6.5.6).
     #[tactic(auto, unfolding(crate::specs::inside::ReadingCode::constant_at))]
     fn constant(&mut self, t: ValType) -> Result<Value, Failure>
         ensures { Advances self.old self.new result (Gives (constant_at t)) }
@@ -156,16 +156,16 @@ impl<'a> Parser<'a> {
         }
     }
 
-    // Why no constant stands next.
+    // Returns the failure of a token that is not a constant.
     fn no_constant(&self) -> Failure {
         match self.rest {
-            [Token::Number(_), ..] => self.fault(Wrong::NumberRange),
-            [Token::Signed(_), ..] => self.fault(Wrong::NumberRange),
+            [Token::Number(_), ..] => self.fault(FaultKind::NumberRange),
+            [Token::Signed(_), ..] => self.fault(FaultKind::NumberRange),
             _ => self.unexpected(),
         }
     }
 
-    // The labels of a `br_table`, of which the last is the default (Core 1.0, 6.5.2).
+    // Reads the labels of a `br_table`, of which the last is the default (Core 1.0, 6.5.2).
     #[tactic(auto, unfolding(crate::specs::inside::ReadingCode::branch_table_at))]
     fn branch_table(&mut self) -> Result<Instr, Failure>
         ensures { GoesOn self.old self.new result (GivesAny branch_table_at) }
@@ -181,7 +181,7 @@ impl<'a> Parser<'a> {
     }
 }
 
-// The power to which 2 is taken, of a power of 2.
+// Returns the exponent of a power of 2.
 fn exponent(n: u32) -> Option<u32>
     ensures { result ≡ exponent n }
 {
@@ -193,7 +193,7 @@ fn exponent(n: u32) -> Option<u32>
     None
 }
 
-// A token as a constant of this type.
+// Returns the token's value as a constant of this type, where it has one.
 fn constant(t: ValType, token: Token) -> Option<Value>
     ensures { IsConstant t token result }
 {

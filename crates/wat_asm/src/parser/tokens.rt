@@ -1,11 +1,11 @@
-//! What is still to be read, and the readers of single tokens.
+//! The state of the parser, and the readers of single tokens.
 
 ghost use Rattle.std.specs.Prelude.{◌≡◌, ◌≤◌, [], Bool, Some, None, length};
 ghost use Rattle.wat_asm.specs.inside.Parsing.{Advances, Passes, Shows, Gives};
 ghost use Rattle.wat_asm.specs.inside.Reading.{State, closed_at, funcref_at, inside, name_at, number_at, number_first, open_first, opened_at, opening, text_at, type_first, unnamed_at};
 ghost use Rattle.wat_asm.specs.inside.Tokens.{toks_of};
 
-use crate::fault::{Failure, Wrong};
+use crate::fault::{Failure, FaultKind};
 use crate::keyword::Keyword;
 use crate::lexer::{Token, string};
 use crate::parser::equal_types::EqualTypes;
@@ -14,24 +14,24 @@ use std::alloc::Global;
 use std::marker::Model;
 use wasm_ast::{FuncType, Name};
 
-/// The tokens of a module that are not read yet, with what was read that later tokens may refer to. Contracts see the
-/// tokens and the types.
+/// The state of the parser: the tokens that are not read yet, and the names and types that they may refer to. Its model
+/// is the tokens and the types.
 #[derive(Drop)]
 pub struct Parser<'a> {
     pub alloc: Global,
     pub source: &'a [u8],
     pub rest: &'a [Token],
-    /// What the module's fields are called.
+    /// The names of the module's fields.
     pub names: &'a Names,
-    /// The module's types so far, those that uses made among them.
+    /// The module's types so far, with those that uses added.
     pub types: Vec<FuncType>,
-    /// Whether all types that the module defines are read, wherever they stand.
+    /// Whether all types that the module defines are read, wherever they are.
     pub are_types_read: bool,
-    /// Those types, and behind them those that uses made, once they are all read.
+    /// The index of each type, once all defined types are read. Those that uses added come last.
     pub equal_types: EqualTypes,
-    /// What the parameters and locals of the function are called.
+    /// The names of the function's parameters and locals.
     pub locals: Space,
-    /// What the blocks round the next instruction are called, the innermost last.
+    /// The names of the blocks around the next instruction, the innermost last.
     pub labels: Vec<Option<u32>>,
 }
 
@@ -61,21 +61,21 @@ impl<'a> Parser<'a> {
         }
     }
 
-    /// Something is wrong with the next token.
-    pub fn fault(&self, wrong: Wrong) -> Failure {
+    /// Returns the failure of this kind at the next token.
+    pub fn fault(&self, wrong: FaultKind) -> Failure {
         Failure::Fault(wrong, self.rest.len())
     }
 
-    /// The next token cannot stand here.
+    /// Returns the failure of a token that may not come here.
     pub fn unexpected(&self) -> Failure {
         match self.rest {
-            [Token::Unsupported, ..] => self.fault(Wrong::Unsupported),
-            [Token::OutOfRange, ..] => self.fault(Wrong::NumberRange),
-            _ => self.fault(Wrong::Syntax),
+            [Token::Unsupported, ..] => self.fault(FaultKind::Unsupported),
+            [Token::OutOfRange, ..] => self.fault(FaultKind::NumberRange),
+            _ => self.fault(FaultKind::Syntax),
         }
     }
 
-    /// Passes a closing parenthesis.
+    /// Reads a closing parenthesis.
     #[tactic(auto, unfolding(crate::specs::inside::Reading::closed_at))]
     pub fn close(&mut self) -> Result<(), Failure>
         ensures { Advances self.old self.new result (Passes closed_at) }
@@ -89,7 +89,7 @@ impl<'a> Parser<'a> {
         }
     }
 
-    /// Passes `funcref`.
+    /// Reads `funcref`.
     #[tactic(auto, unfolding(crate::specs::inside::Reading::funcref_at))]
     pub fn funcref(&mut self) -> Result<(), Failure>
         ensures { Advances self.old self.new result (Passes funcref_at) }
@@ -103,7 +103,7 @@ impl<'a> Parser<'a> {
         }
     }
 
-    /// The keyword behind the parenthesis that stands next, if one does.
+    /// Returns the keyword after the parenthesis that comes next, where both do. It reads nothing.
     pub fn opening(&self) -> Option<Keyword>
         ensures { result ≡ opening self.now.0 }
     {
@@ -113,7 +113,7 @@ impl<'a> Parser<'a> {
         }
     }
 
-    /// Passes the parenthesis and the keyword that stand next.
+    /// Skips the parenthesis and the keyword that come next.
     pub fn enter(&mut self)
         ensures again { self.new ≡ inside self.old }
         ensures shrinks { length self.new.0 ≤ length self.old.0 }
@@ -123,7 +123,7 @@ impl<'a> Parser<'a> {
         }
     }
 
-    /// Passes a parenthesis and a keyword, which it returns.
+    /// Reads a parenthesis and a keyword, and returns the keyword.
     #[tactic(auto, unfolding(crate::specs::inside::Reading::opened_at))]
     pub fn opened(&mut self) -> Result<Keyword, Failure>
         ensures { Advances self.old self.new result (Gives opened_at) }
@@ -137,28 +137,28 @@ impl<'a> Parser<'a> {
         }
     }
 
-    /// Whether a type, or its use by its number, stands next.
+    /// Reports whether a type or a type use comes next.
     pub fn is_type(&self) -> bool
         ensures { result ≡ type_first self.now.0 }
     {
         matches!(self.opening(), Some(Keyword::FuncType))
     }
 
-    /// No parameter and no local has a name from now on.
+    /// Forgets the names of parameters and locals.
     pub fn forget_locals(&mut self)
         ensures { self.new ≡ self.old }
     {
         self.locals = Space::new(self.alloc);
     }
 
-    /// Whether an opening parenthesis stands next.
+    /// Reports whether an opening parenthesis comes next.
     pub fn is_open(&self) -> bool
         ensures { result ≡ open_first self.now.0 }
     {
         matches!(self.rest, [Token::Open, ..])
     }
 
-    /// Whether a number or a name stands next.
+    /// Reports whether a number or a name comes next.
     #[tactic(auto, unfolding(crate::specs::inside::Reading::number_first))]
     pub fn is_index(&self) -> bool
         ensures { (b : Bool) → number_first self.now.0 ≡ Some b → result ≡ b }
@@ -169,7 +169,7 @@ impl<'a> Parser<'a> {
         )
     }
 
-    /// A name, where one stands next.
+    /// Reads a name, where one comes next.
     #[tactic(auto, unfolding(crate::specs::inside::Reading::unnamed_at))]
     pub fn name(&mut self) -> Option<u32>
         ensures again { (s : State) → unnamed_at self.old ≡ Some s
@@ -185,7 +185,7 @@ impl<'a> Parser<'a> {
         }
     }
 
-    /// A number of 32 bits without a sign (Core 1.0, 6.3.1).
+    /// Reads an unsigned number of 32 bits (Core 1.0, 6.3.1).
     #[tactic(auto, unfolding(crate::specs::inside::Reading::number_at))]
     pub fn number(&mut self) -> Result<u32, Failure>
         ensures { Advances self.old self.new result (Gives number_at) }
@@ -196,13 +196,13 @@ impl<'a> Parser<'a> {
                     self.rest = rest;
                     Ok(n)
                 }
-                Err(_) => Err(self.fault(Wrong::NumberRange)),
+                Err(_) => Err(self.fault(FaultKind::NumberRange)),
             },
             _ => Err(self.unexpected()),
         }
     }
 
-    // What a name of this kind stands for, if it stands for anything.
+    // Returns the index that a name of this kind has, where it has one.
     fn named(&self, kind: Kind, name: u32) -> Option<u32> {
         match kind {
             Kind::Local => self.locals.find(name),
@@ -211,7 +211,7 @@ impl<'a> Parser<'a> {
         }
     }
 
-    /// The number of a thing of this kind, which may stand by its name (Core 1.0, 6.5.1 and 6.6.1).
+    /// Reads an index of this kind, given as a number or a name (Core 1.0, 6.5.1 and 6.6.1).
     #[tactic(auto, unfolding(crate::specs::inside::Reading::number_at))]
     pub fn index(&mut self, kind: Kind) -> Result<u32, Failure>
         ensures { Advances self.old self.new result (Gives number_at) }
@@ -222,13 +222,13 @@ impl<'a> Parser<'a> {
                     self.rest = rest;
                     Ok(n)
                 }
-                None => Err(self.fault(Wrong::UnknownName)),
+                None => Err(self.fault(FaultKind::UnknownName)),
             },
             _ => self.number(),
         }
     }
 
-    /// The bytes of a string (Core 1.0, 6.3.3).
+    /// Reads the bytes of a string (Core 1.0, 6.3.3).
     #[tactic(auto, unfolding(crate::specs::inside::Reading::text_at))]
     pub fn bytes(&mut self) -> Result<Vec<u8>, Failure>
         ensures { Advances self.old self.new result (Shows (λ v. v.items) text_at) }
@@ -243,12 +243,12 @@ impl<'a> Parser<'a> {
         }
     }
 
-    /// A string in UTF-8 (Core 1.0, 6.3.4).
+    /// Reads a string in UTF-8 (Core 1.0, 6.3.4).
     #[tactic(auto, unfolding(crate::specs::inside::Reading::name_at))]
     pub fn text(&mut self) -> Result<Name, Failure>
         ensures { Advances self.old self.new result (Gives name_at) }
     {
-        let fault = self.fault(Wrong::Lex);
+        let fault = self.fault(FaultKind::Lex);
         let bytes = self.bytes()?;
         match String::from_utf8(bytes) {
             Ok(text) => Ok(Name::from(text)),
@@ -257,7 +257,7 @@ impl<'a> Parser<'a> {
     }
 }
 
-// How many labels stand inside of the innermost with this name.
+// Returns the index of the innermost label with this name.
 fn label(labels: &[Option<u32>], name: u32) -> Option<u32> {
     let mut inside = 0u32;
     for label in labels.iter().rev() {

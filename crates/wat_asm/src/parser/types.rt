@@ -1,11 +1,11 @@
-//! Types and their uses (Core 1.0, 6.4 and 6.6.3).
+//! Readers of types and their uses (Core 1.0, 6.4 and 6.6.3).
 
 ghost use Rattle.std.specs.Prelude.{◌≡◌, ◌<◌, List, Some};
 ghost use Rattle.wasm_ast.specs.declared.types.ValType.{ValType as AnyValType};
 ghost use Rattle.wat_asm.specs.inside.Parsing.{Advances, AddsAny, GivesAny, Fewer, GoesOn, NoMore, Passes, Gives, When};
 ghost use Rattle.wat_asm.specs.inside.Reading.{block_type_at, defined_type_at, func_at, global_type_at, group_at, group_first, group_step, item_step, limits_at, maximum_at, mut_first, mut_type_at, named_use_at, result_first, signature_at, signature_first, type_use_at, val_type_at, val_type_first};
 
-use crate::fault::{Failure, Wrong};
+use crate::fault::{Failure, FaultKind};
 use crate::keyword::Keyword;
 use crate::lexer::Token;
 use crate::parser::items::{Item, repeated};
@@ -13,16 +13,16 @@ use crate::parser::names::Kind;
 use crate::parser::tokens::Parser;
 use wasm_ast::{BlockType, FuncType, GlobalType, Limits, Mutability, Sequence, ValType};
 
-/// What the names of parameters are for.
+/// The use of parameter names.
 #[derive(Clone, Copy)]
 pub enum ParameterNames {
-    /// They may stand, and the function's instructions may refer to them.
+    /// Names may be given, and the function's instructions may use them.
     Bound,
-    /// None may stand.
+    /// No name may be given.
     Refused,
 }
 
-// Parameters or results, which may be several groups one after another.
+// The kind of a group: parameters or results, each of which may be in several groups.
 #[derive(Clone, Copy)]
 enum Group {
     Parameters(ParameterNames),
@@ -86,7 +86,7 @@ impl Item for TypeWord {
 }
 
 impl<'a> Parser<'a> {
-    /// A value type (Core 1.0, 6.4.1).
+    /// Reads a value type (Core 1.0, 6.4.1).
     #[tactic(auto, unfolding(crate::specs::inside::Reading::val_type_at))]
     pub fn val_type(&mut self) -> Result<ValType, Failure>
         ensures { Advances self.old self.new result (Gives val_type_at) }
@@ -100,14 +100,14 @@ impl<'a> Parser<'a> {
         }
     }
 
-    // Whether results stand next.
+    // Reports whether results come next.
     fn is_result(&self) -> bool
         ensures { result_first self.now.0 ≡ Some result }
     {
         matches!(self.opening(), Some(Keyword::Result))
     }
 
-    /// The result of a block, if it has one, with room for so many more parentheses (Core 1.0, 6.5.2).
+    /// Reads the result of a block, if it has one (Core 1.0, 6.5.2). At most `parentheses` more may open.
     #[tactic(auto, unfolding(crate::specs::inside::Reading::block_type_at))]
     pub fn block_type(&mut self, parentheses: u32) -> Result<BlockType, Failure>
         ensures { GoesOn self.old self.new result (When (0 < parentheses) (Gives block_type_at)) }
@@ -116,7 +116,7 @@ impl<'a> Parser<'a> {
             return Ok(None);
         }
         if parentheses == 0 {
-            return Err(self.fault(Wrong::OverLimit));
+            return Err(self.fault(FaultKind::OverLimit));
         }
         self.enter();
         let t = self.val_type()?;
@@ -124,7 +124,7 @@ impl<'a> Parser<'a> {
         Ok(Some(t))
     }
 
-    /// Limits (Core 1.0, 6.4.4).
+    /// Reads limits (Core 1.0, 6.4.4).
     #[tactic(auto, unfolding(crate::specs::inside::Reading::limits_at))]
     pub fn limits(&mut self) -> Result<Limits, Failure>
         ensures { GoesOn self.old self.new result (Gives limits_at) }
@@ -140,7 +140,7 @@ impl<'a> Parser<'a> {
     {
         match self.rest {
             [Token::Number(_), ..] => self.number().map(Some),
-            [Token::OutOfRange, ..] => Err(self.fault(Wrong::NumberRange)),
+            [Token::OutOfRange, ..] => Err(self.fault(FaultKind::NumberRange)),
             _ => Ok(None),
         }
     }
@@ -151,7 +151,7 @@ impl<'a> Parser<'a> {
         matches!(self.opening(), Some(Keyword::Mut))
     }
 
-    // What stands in `(mut ..)`.
+    // Reads the inside of `(mut ..)`.
     #[tactic(auto, unfolding(crate::specs::inside::Reading::mut_type_at))]
     fn mut_type(&mut self) -> Result<GlobalType, Failure>
         ensures { GoesOn self.old self.new result (Gives mut_type_at) }
@@ -165,7 +165,7 @@ impl<'a> Parser<'a> {
         })
     }
 
-    /// The type of a global (Core 1.0, 6.4.7).
+    /// Reads the type of a global (Core 1.0, 6.4.7).
     #[tactic(auto, unfolding(crate::specs::inside::Reading::global_type_at))]
     pub fn global_type(&mut self) -> Result<GlobalType, Failure>
         ensures { GoesOn self.old self.new result (Gives global_type_at) }
@@ -179,14 +179,14 @@ impl<'a> Parser<'a> {
         })
     }
 
-    /// Whether parameters or results stand next.
+    /// Reports whether parameters or results come next.
     pub fn is_signature(&self) -> bool
         ensures { result ≡ signature_first self.now.0 }
     {
         matches!(self.opening(), Some(Keyword::Param | Keyword::Result))
     }
 
-    /// Parameters and results (Core 1.0, 6.4.3). It takes what follows the keyword of a type.
+    /// Reads parameters and results, after the keyword of a type (Core 1.0, 6.4.3).
     #[tactic(auto, unfolding(crate::specs::inside::Reading::signature_at, crate::specs::inside::Reading::groups_at))]
     pub fn signature(&mut self, names: ParameterNames) -> Result<FuncType, Failure>
         ensures { GoesOn self.old self.new result (GivesAny signature_at) }
@@ -201,7 +201,7 @@ impl<'a> Parser<'a> {
         })
     }
 
-    // A parameter with this name, if one may stand in such a group. `left` tokens are left where the name stands.
+    // Declares a parameter with this name, where such a group may have one. `left` tokens remain at the name.
     fn bind(
         &mut self,
         group: Group,
@@ -212,13 +212,13 @@ impl<'a> Parser<'a> {
         ensures { Fewer self.old self.new result }
     {
         let Group::Parameters(ParameterNames::Bound) = group else {
-            return Err(Failure::Fault(Wrong::Syntax, left));
+            return Err(Failure::Fault(FaultKind::Syntax, left));
         };
         self.locals.declare(name, types.len(), left)?;
         self.one_type(types)
     }
 
-    /// The one type of a group with a name, which is added to these, and the parenthesis that closes the group.
+    /// Reads the one type of a group with a name and the parenthesis that closes the group. Adds the type to `types`.
     pub fn one_type(&mut self, types: &mut Vec<ValType>) -> Result<(), Failure>
         ensures { Fewer self.old self.new result }
     {
@@ -227,7 +227,7 @@ impl<'a> Parser<'a> {
         self.close()
     }
 
-    /// Value types, which are added to these, and the parenthesis that closes their group.
+    /// Reads value types and the parenthesis that closes their group. Adds the types to `types`.
     #[tactic(auto, unfolding(crate::specs::inside::Reading::group_at, crate::specs::inside::Reading::val_types_at))]
     pub fn group(&mut self, types: &mut Vec<ValType>) -> Result<(), Failure>
         ensures { Advances self.old self.new result (AddsAny types.old types.new group_at) }
@@ -236,14 +236,16 @@ impl<'a> Parser<'a> {
         self.close()
     }
 
-    /// The use of a type, with room for so many more parentheses: its number (Core 1.0, 6.6.3). Where only parameters and
-    /// results stand, it is the first type that is equal to them, and where there is none, a new one behind all others.
+    /// Reads the use of a type, and returns the type's index (Core 1.0, 6.6.3). At most `parentheses` more may open.
+    ///
+    /// Parameters and results without an index use the first equal type. Where there is none, a new type is added
+    /// after all others.
     #[tactic(auto, unfolding(crate::specs::inside::Reading::type_use_at))]
     pub fn type_use(&mut self, names: ParameterNames, parentheses: u32) -> Result<u32, Failure>
         ensures { GoesOn self.old self.new result (When (0 < parentheses) (Gives type_use_at)) }
     {
         if parentheses == 0 && self.is_open() {
-            return Err(self.fault(Wrong::OverLimit));
+            return Err(self.fault(FaultKind::OverLimit));
         }
         if self.is_type() {
             return self.named_use(names);
@@ -252,7 +254,7 @@ impl<'a> Parser<'a> {
         self.number_of_type(t)
     }
 
-    // The use of a type by its number or name.
+    // Reads the use of a type by its index or name.
     #[tactic(auto, unfolding(crate::specs::inside::Reading::named_use_at))]
     fn named_use(&mut self, names: ParameterNames) -> Result<u32, Failure>
         ensures { GoesOn self.old self.new result (Gives named_use_at) }
@@ -266,11 +268,11 @@ impl<'a> Parser<'a> {
         Ok(number)
     }
 
-    // Reads the parameters and results beside the number of a type, which have to be the type's.
+    // Reads the parameters and results after the index of a type. Those of another type are a `TypeUse` fault.
     fn agree(&mut self, names: ParameterNames, number: u32) -> Result<(), Failure>
         ensures shrinks { NoMore self.old self.new result }
     {
-        let fault = self.fault(Wrong::TypeUse);
+        let fault = self.fault(FaultKind::TypeUse);
         let t = self.signature(names)?;
         if self.is_numbered(number, &t)? {
             Ok(())
@@ -279,7 +281,7 @@ impl<'a> Parser<'a> {
         }
     }
 
-    // Whether the type with this number is this one.
+    // Reports whether the type with this index equals this type.
     fn is_numbered(&mut self, number: u32, t: &FuncType) -> Result<bool, Failure>
         ensures { self.new.0 ≡ self.old.0 }
     {
@@ -290,7 +292,7 @@ impl<'a> Parser<'a> {
         }
     }
 
-    // The number of the first type that is equal to this one, which is added where there is none.
+    // Returns the index of the first type that is equal to this one. Adds it where there is none.
     fn number_of_type(&mut self, t: FuncType) -> Result<u32, Failure>
         ensures shrinks { self.new.0 ≡ self.old.0 }
     {
@@ -301,19 +303,19 @@ impl<'a> Parser<'a> {
         Ok(number)
     }
 
-    // The number of the first type that is equal to this one, and the next number where there is none.
+    // Returns the index of the first type that is equal to this one, or the next free index where there is none.
     fn number_of_equal(&mut self, t: &FuncType) -> Result<u32, Failure>
         ensures { self.new.0 ≡ self.old.0 }
     {
         self.read_all_types()?;
         let Ok(next) = u32::try_from(self.types.len()) else {
-            return Err(self.fault(Wrong::OverLimit));
+            return Err(self.fault(FaultKind::OverLimit));
         };
         let number = self.equal_types.first(self.alloc, t, next)?;
         Ok(number)
     }
 
-    /// How many parameters the type with this number has, and none where it names no type.
+    /// Returns how many parameters the type with this index has: 0 where the index names no type.
     pub fn parameter_count(&mut self, number: u32) -> Result<usize, Failure>
         ensures { self.new.0 ≡ self.old.0 }
     {
@@ -337,7 +339,7 @@ impl<'a> Parser<'a> {
         }
     }
 
-    /// A type that the module defines, behind its keyword and without the last parenthesis (Core 1.0, 6.6.2).
+    /// Reads a type that the module defines, after its keyword and without the last parenthesis (Core 1.0, 6.6.2).
     #[tactic(auto, unfolding(crate::specs::inside::Reading::defined_type_at))]
     pub fn defined_type(&mut self) -> Result<FuncType, Failure>
         ensures { Advances self.old self.new result (GivesAny defined_type_at) }
@@ -350,8 +352,8 @@ impl<'a> Parser<'a> {
         Ok(t)
     }
 
-    // Reads the types that the module defines behind here, unless that was done before. Types that uses make are numbered
-    // behind all of them.
+    // Reads all types that the module defines after this point, unless that was done before. Types that uses add get
+    // indices after all of them.
     fn read_all_types(&mut self) -> Result<(), Failure>
         ensures { self.new.0 ≡ self.old.0 }
     {
@@ -365,7 +367,7 @@ impl<'a> Parser<'a> {
         Ok(())
     }
 
-    // The types that are defined from here on are added to these.
+    // Adds all types that are defined from here on.
     fn later_types(&mut self, types: &mut Vec<FuncType>) -> Result<(), Failure> {
         'each: while let [_, rest @ ..] = self.rest {
             if self.is_defined_type() {
@@ -377,7 +379,7 @@ impl<'a> Parser<'a> {
         Ok(())
     }
 
-    // The definition of a type is added to these.
+    // Adds the type that is defined here.
     fn later_type(&mut self, types: &mut Vec<FuncType>) -> Result<(), Failure>
         ensures { Fewer self.old self.new result }
     {
@@ -387,7 +389,7 @@ impl<'a> Parser<'a> {
         self.close()
     }
 
-    // Whether the definition of a type begins here, and not a use of one.
+    // Reports whether a type's definition starts here, and not a use of a type.
     fn is_defined_type(&self) -> bool {
         match self.rest {
             [

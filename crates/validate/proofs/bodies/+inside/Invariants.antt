@@ -14,8 +14,8 @@ decreases-check_instr l = goal.size-check_instr l
 
 abbrev pub invariant-check_inside-loop-instr : goal.invariant-check_inside-loop-instr
 invariant-check_inside-loop-instr l =
-    let inner = with_label l.fn.label (context_of l.frame l.fn.nesting) in
+    let inner = with_label l.fn.label (context_of l.context l.fn.scope) in
     record {
-      kept : l.nesting.labels.items ≡ l.fn.nesting.labels.items ++ l.fn.label ∷ [];
+      kept : l.scope.labels.items ≡ l.fn.scope.labels.items ++ l.fn.label ∷ [];
       runs : run (code_of l.instr-items) inner bottom ≡ run (code_of (drop l.instr-index l.instr-items)) inner (stack_of l.operands);
     }

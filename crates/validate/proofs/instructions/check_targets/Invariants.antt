@@ -4,4 +4,4 @@ use Rattle.validate.proofs.instructions.check_targets.Given as goal
 
 abbrev pub invariant-loop-target : goal.invariant-loop-target
 invariant-loop-target l =
-    all_take (reverse l.nesting.labels.items) l.taken l.targets ≡ all_take (reverse l.nesting.labels.items) l.taken (drop l.target-index l.targets)
+    all_take (reverse l.scope.labels.items) l.taken l.targets ≡ all_take (reverse l.scope.labels.items) l.taken (drop l.target-index l.targets)

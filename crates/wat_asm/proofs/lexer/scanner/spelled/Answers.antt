@@ -2,9 +2,9 @@ use Rattle.std.proofs.Common.{◌≡◌, length, arith}
 use Rattle.std.proofs.lemmas.Grind.{common_steps}
 use Rattle.std.proofs.lemmas.Result.{err_from_is_err_and}
 use Rattle.wat_asm.specs.declared.fault.Failure.TheVariants as failure
-use Rattle.wat_asm.specs.declared.fault.Wrong.TheVariants as wrong
-use Rattle.wat_asm.proofs.Cutting.{word_none, word_read, word_fails}
-use Rattle.wat_asm.proofs.lexer.cutting.spelled.Goals as goal
+use Rattle.wat_asm.specs.declared.fault.FaultKind.TheVariants as wrong
+use Rattle.wat_asm.proofs.Scanner.{word_none, word_read, word_fails}
+use Rattle.wat_asm.proofs.lexer.scanner.spelled.Goals as goal
 
 pub returns-then-is_empty-clause-again : goal.returns-then-is_empty-clause-again
 returns-then-is_empty-clause-again c = λ source.

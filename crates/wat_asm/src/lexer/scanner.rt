@@ -1,4 +1,4 @@
-//! Where tokens begin and end.
+//! The scanner: where tokens start and end.
 
 ghost use Rattle.std.specs.Prelude.{◌≡◌, ◌+◌, ◌<◌, ◌≤◌, List, ℕ, Some, None, length, take, drop, IfOk, IfSome};
 ghost use Rattle.std.specs.List.{prefix_len};
@@ -11,9 +11,9 @@ use super::numbering::Numbering;
 use super::strings::behind;
 use super::token::Token;
 use super::words::token_of;
-use crate::fault::{Failure, Wrong};
+use crate::fault::{Failure, FaultKind};
 
-// A byte of a name, a keyword or a number (Core 1.0, 6.3.5).
+// Reports whether the byte may be in a name, a keyword or a number (Core 1.0, 6.3.5).
 #[tactic(auto, unfolding(crate::specs::Words::is_word))]
 fn is_word_byte(b: u8) -> bool
     ensures { result ≡ is_word b }
@@ -31,14 +31,14 @@ fn is_word_byte(b: u8) -> bool
         && b != b'}'
 }
 
-// A space, a tab or the end of a line.
+// Reports whether the byte is a space, a tab or the end of a line.
 fn is_blank(b: u8) -> bool
     ensures { result ≡ is_blank b }
 {
     b == b' ' || b == b'\n' || b == b'\t' || b == b'\r'
 }
 
-// How many bytes the word has with which the text begins.
+// Returns the length of the word at the start of the text.
 fn word_length(text: &[u8]) -> usize
     ensures value { result ≡ prefix_len is_word text.now }
     ensures within { result ≤ length text.now }
@@ -50,7 +50,7 @@ fn word_length(text: &[u8]) -> usize
     count
 }
 
-// A word, and what is left behind it.
+// Splits the text into the word at its start and the text after it.
 #[tactic(auto, using(crate::proofs::Left::left))]
 fn word(text: &[u8]) -> (&[u8], &[u8])
     ensures first { result.0.now ≡ take (prefix_len is_word text.now) text.now }
@@ -62,7 +62,7 @@ fn word(text: &[u8]) -> (&[u8], &[u8])
     (&text[..count], &text[count..])
 }
 
-// What is left behind a comment, of which this is the inside and what follows; none where it does not end.
+// Returns the text after a block comment, given the text after its `(;`. `None` means that the comment does not end.
 #[tactic(auto, using(crate::proofs::Left::left))]
 fn comment(text: &[u8]) -> Option<&[u8]>
     ensures { IfSome result (λ rest. IsLeft text.now rest.now) }
@@ -88,7 +88,7 @@ fn comment(text: &[u8]) -> Option<&[u8]>
     }
 }
 
-// From the line's end on.
+// Returns the text from the end of this line on.
 #[tactic(auto, using(crate::proofs::Left::left))]
 fn line_end(text: &[u8]) -> &[u8]
     ensures { IsLeft text.now result.now }
@@ -103,7 +103,7 @@ fn line_end(text: &[u8]) -> &[u8]
     rest
 }
 
-// A parenthesis, or a comment, of which this is what follows the parenthesis. With it so much is left.
+// Reads a parenthesis or a block comment, given the text after `(`. `left` bytes remain at the parenthesis.
 #[tactic(auto, using(crate::proofs::Left::left))]
 fn opening(left: usize, text: &[u8]) -> Result<(Option<Token>, &[u8]), Failure>
     ensures again { (source : List ℕ) → Follows (read_of source) result (opening_at text.now) }
@@ -113,13 +113,13 @@ fn opening(left: usize, text: &[u8]) -> Result<(Option<Token>, &[u8]), Failure>
     match text {
         [b';', inside @ ..] => match comment(inside) {
             Some(rest) => Ok((None, rest)),
-            None => Err(Failure::Fault(Wrong::Lex, left)),
+            None => Err(Failure::Fault(FaultKind::Lex, left)),
         },
         _ => Ok((Some(Token::Open), text)),
     }
 }
 
-// A comment to the line's end, of which this is what follows the first semicolon. With it so much is left.
+// Reads a line comment, given the text after its first `;`. `left` bytes remain at that semicolon.
 #[tactic(auto, using(crate::proofs::Left::left))]
 fn line_comment(left: usize, text: &[u8]) -> Result<(Option<Token>, &[u8]), Failure>
     ensures nameless { IfOk result (λ x. IfSome x.0 (λ t. number_in t ≡ None)) }
@@ -127,11 +127,12 @@ fn line_comment(left: usize, text: &[u8]) -> Result<(Option<Token>, &[u8]), Fail
 {
     match text {
         [b';', inside @ ..] => Ok((None, line_end(inside))),
-        _ => Err(Failure::Fault(Wrong::Lex, left)),
+        _ => Err(Failure::Fault(FaultKind::Lex, left)),
     }
 }
 
-// A string, of which this is what follows the quotation mark, of a text of so many bytes. With the mark so much is left.
+// Reads a string, given the text after its quotation mark. `size` is the length of the whole text; `left` bytes remain at
+// the mark.
 #[tactic(auto, using(crate::proofs::Left::left))]
 fn quoted(size: usize, left: usize, text: &[u8]) -> Result<(Option<Token>, &[u8]), Failure>
     requires { length text.now ≤ size }
@@ -142,11 +143,11 @@ fn quoted(size: usize, left: usize, text: &[u8]) -> Result<(Option<Token>, &[u8]
 {
     match behind(text) {
         Some(rest) => Ok((Some(Token::Text(size - text.len())), rest)),
-        None => Err(Failure::Fault(Wrong::Lex, left)),
+        None => Err(Failure::Fault(FaultKind::Lex, left)),
     }
 }
 
-// A word.
+// Reads a word.
 #[tactic(auto, using(crate::proofs::Left::left))]
 fn spelled<'t>(
     names: &mut Numbering<'t>,
@@ -160,14 +161,15 @@ fn spelled<'t>(
 {
     let (first, rest) = word(text);
     if first.is_empty() {
-        return Err(Failure::Fault(Wrong::Lex, text.len()));
+        return Err(Failure::Fault(FaultKind::Lex, text.len()));
     }
     let token = token_of(names, first)?;
     Ok((Some(token), rest))
 }
 
-/// One token, or none where there is a blank or a comment, and what is left behind it, of a text of so many bytes.
-#[tactic(auto, unfolding(crate::specs::inside::Lexing::one_at), using(crate::proofs::Cutting::ends_behind, crate::proofs::Left::left))]
+/// Reads one token, and returns it with the text after it. It is `None` for a blank or a comment. `size` is the length of
+/// the whole text.
+#[tactic(auto, unfolding(crate::specs::inside::Lexing::one_at), using(crate::proofs::Scanner::ends_behind, crate::proofs::Left::left))]
 pub fn one<'t>(
     names: &mut Numbering<'t>,
     size: usize,
@@ -182,7 +184,7 @@ pub fn one<'t>(
     ensures ends { IfOk result (λ x. IsLeft text.now x.1.now) }
 {
     match text {
-        [] => Err(Failure::Fault(Wrong::Lex, 0)),
+        [] => Err(Failure::Fault(FaultKind::Lex, 0)),
         [first, rest @ ..] => {
             if is_blank(*first) {
                 return Ok((None, rest));

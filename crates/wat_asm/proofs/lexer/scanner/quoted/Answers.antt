@@ -1,7 +1,7 @@
 use Rattle.wat_asm.specs.declared.fault.Failure.TheVariants as failure
-use Rattle.wat_asm.specs.declared.fault.Wrong.TheVariants as wrong
-use Rattle.wat_asm.proofs.Cutting.{quoted_some, quoted_none}
-use Rattle.wat_asm.proofs.lexer.cutting.quoted.Goals as goal
+use Rattle.wat_asm.specs.declared.fault.FaultKind.TheVariants as wrong
+use Rattle.wat_asm.proofs.Scanner.{quoted_some, quoted_none}
+use Rattle.wat_asm.proofs.lexer.scanner.quoted.Goals as goal
 
 pub returns-in-Some-clause-again : goal.returns-in-Some-clause-again
 returns-in-Some-clause-again c = λ source all ends.

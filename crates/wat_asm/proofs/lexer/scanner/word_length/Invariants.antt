@@ -1,7 +1,7 @@
 use Rattle.std.proofs.Common.{◌≡◌, ◌+◌, ◌≤◌, ◌-◌, length, drop}
 use Rattle.std.specs.List.{prefix_len}
 use Rattle.wat_asm.specs.Words.{is_word}
-use Rattle.wat_asm.proofs.lexer.cutting.word_length.Given as goal
+use Rattle.wat_asm.proofs.lexer.scanner.word_length.Given as goal
 
 abbrev pub invariant-each : goal.invariant-each
 invariant-each l = (l.count ≤ length l.text) × (prefix_len is_word l.text ≡ l.count + prefix_len is_word (drop l.count l.text))

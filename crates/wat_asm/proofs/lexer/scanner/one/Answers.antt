@@ -1,6 +1,6 @@
 use Rattle.std.proofs.Common.{get_or, sym, ◌∙◌, arith}
-use Rattle.wat_asm.proofs.Cutting.{one_opening, one_quoted, one_word, IsOther}
-use Rattle.wat_asm.proofs.lexer.cutting.one.Goals as goal
+use Rattle.wat_asm.proofs.Scanner.{one_opening, one_quoted, one_word, IsOther}
+use Rattle.wat_asm.proofs.lexer.scanner.one.Goals as goal
 
 pub returns-in-40-clause-again : goal.returns-in-40-clause-again
 returns-in-40-clause-again c = λ source all ends.

@@ -1,6 +1,6 @@
 use Rattle.std.proofs.Common.{length}
 use Rattle.wat_asm.specs.inside.Lexing.{IsLeft}
-use Rattle.wat_asm.proofs.lexer.cutting.comment.Given as goal
+use Rattle.wat_asm.proofs.lexer.scanner.comment.Given as goal
 
 abbrev pub invariant-each : goal.invariant-each
 invariant-each l = IsLeft l.text l.rest

@@ -5,25 +5,26 @@ ghost use Rattle.std.specs.Prelude.{◌≡◌, ◌++◌, ◌∷◌, [], OnOk, re
 use std::alloc::{AllocError, Global};
 use wasm_ast::BlockType;
 
-/// How deep an instruction lies, and how many come before it.
+/// The labels in scope at an instruction, and how many instructions of the body come before it.
 #[derive(Drop)]
-pub struct Nesting {
-    // what a branch to each label takes, the innermost last
+pub struct Labels {
+    // the type of the operand that a branch to each label takes, the innermost last
     pub labels: Vec<BlockType>,
     next: u32,
 }
 
-impl Nesting {
-    pub fn new(alloc: Global) -> Nesting
+impl Labels {
+    /// Creates an empty list of labels. It allocates nothing.
+    pub fn new(alloc: Global) -> Labels
         ensures { result.labels.items ≡ [] }
     {
-        Nesting {
+        Labels {
             labels: Vec::new(alloc),
             next: 0,
         }
     }
 
-    /// One more label, the innermost.
+    /// Adds a label, the innermost. It fails only where an allocation fails.
     pub fn enter(&mut self, label: BlockType) -> Result<(), AllocError>
         ensures { OnOk result (self.new.labels.items ≡ self.old.labels.items ++ label ∷ []) }
     {
@@ -31,7 +32,7 @@ impl Nesting {
         Ok(())
     }
 
-    /// Without the innermost label.
+    /// Removes the innermost label.
     pub fn leave(&mut self)
         ensures { self.new.labels.items
             ≡ take (length self.old.labels.items - 1) self.old.labels.items }
@@ -39,7 +40,7 @@ impl Nesting {
         let _label = self.labels.pop();
     }
 
-    /// The number of this instruction, after which the next one has the next number.
+    /// Returns the number of this instruction, and counts it. The first number is 0; the count stops at 4,294,967,295.
     pub fn count(&mut self) -> u32
         ensures { self.new.labels ≡ self.old.labels }
     {
@@ -48,7 +49,7 @@ impl Nesting {
         number
     }
 
-    /// What a branch to the label takes, counted from the innermost.
+    /// Returns the type that a branch to the label takes, where there is such a label. Label 0 is the innermost.
     pub fn label_at(&self, depth: u32) -> Option<BlockType>
         ensures { result ≡ slice_get (reverse self.now.labels.items) depth }
     {

@@ -1,5 +1,5 @@
 use Rattle.cost.proofs.Cycles.{turned_least}
-use Rattle.cost.proofs.cycle.turn.Goals as goal
+use Rattle.cost.proofs.cycle.rotate_to_least.Goals as goal
 
 pub returns-clause-least : goal.returns-clause-least
 returns-clause-least c =

@@ -1,4 +1,4 @@
--- What is told of a function's cells, and that counts do not stop at a function that runs.
+-- The cells of a function, and that counts do not saturate in a function that runs.
 use Rattle.std.proofs.Common.{◌≡◌, ℕ, zero, suc, ◌+◌, ◌-◌, ◌<◌, ◌≤◌, min, List, [], ◌∷◌, length, get_or, slice_get, if◌then◌else◌, Option, Some, None, refl, sym, ap, ◌∙◌, subst, arith, le-ltb}
 use Rattle.std.specs.Option.{option_map}
 use Rattle.std.specs.List.{AllByRecursion}
@@ -24,7 +24,7 @@ use Rattle.bounded_profile.specs.Facts.{AreFacts}
 use Rattle.bounded_profile.specs.Heights.{peak_in}
 use Rattle.bounded_profile.specs.Hosts.{AreHostCalls}
 use Rattle.bounded_profile.specs.Profile.{IsBounded}
-use Rattle.bounded_profile.proofs.Climbing.{own_small}
+use Rattle.bounded_profile.proofs.StackHeights.{own_small}
 use Rattle.bounded_profile.proofs.Leveling.{calls_small, narrow_calls}
 
 -- ---- functions by number
@@ -39,7 +39,7 @@ imports_counted m calls e =
 body_at : (m : Module) (f : ℕ) → imported_functions m.imports ≤ f → body_of m f ≡ option_map (λ (g : Function). g.body) (slice_get m.functions (f - imported_functions m.imports))
 body_at m f past = ap (λ b. if b then None else option_map (λ (g : Function). g.body) (slice_get m.functions (f - imported_functions m.imports))) (le-ltb f (imported_functions m.imports) past)
 
--- what the table has of a function is told of it
+-- the table has the cells of a function
 pub table_tells : (m : Module) (f : ℕ) (cells : Cells) → imported_functions m.imports ≤ f → slice_get (cells_table m) (f - imported_functions m.imports) ≡ Some cells → (cells.locals ≡ locals_at m f) × (cells.operands ≡ min (own_height m f) most_told)
 table_tells m f cells past e =
     let told = by_function (slice_get m.functions (f - imported_functions m.imports)) (sym e ∙ slice_get-map (cells_of m) m.functions (f - imported_functions m.imports)) in

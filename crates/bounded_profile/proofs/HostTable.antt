@@ -1,4 +1,4 @@
--- The table of the host's functions tells what the imports bring in.
+-- The table of the host's functions is that of the imports.
 use Rattle.std.proofs.Common.{◌≡◌, ◌↔◌, inl, inr, ℕ, List, [], ◌∷◌, slice_get, Option, Some, None, refl, sym, ap, ◌∙◌, subst}
 use Rattle.std.specs.Prelude.{filter}
 use Rattle.std.specs.Option.{option_and_then, option_flatten, option_map}
@@ -11,7 +11,7 @@ use Rattle.wasm_ast.specs.Limits.{is_function}
 use Rattle.wasm_ast.specs.Code.{Code}
 use Rattle.wasm_ast.specs.Code as code
 use Rattle.host_calls.specs.declared.imports.HostCall.{HostCall}
-use Rattle.bounded_profile.specs.declared.shapes.Shape.TheVariants.{Taking}
+use Rattle.bounded_profile.specs.declared.shapes.Shape.TheVariants as shape
 use Rattle.host_calls.specs.Imports.{call_of}
 use Rattle.bounded_profile.specs.Hosts.{host_call_at, host_table, call_at}
 use Rattle.bounded_profile.specs.Profile.{EachBody, LoopsTakeItems}
@@ -71,7 +71,7 @@ each_same P Q g [] h = tt
 each_same P Q g (f ∷ fs) h = (everywhere_same P Q g f.body h.0, each_same P Q g fs h.1)
 
 -- by the table or by the imports
-pub by_table : (m : Module) (table : List (Option HostCall)) → table ≡ host_table m → EachBody (Keeps (call_at table) Taking) m ↔ LoopsTakeItems m
+pub by_table : (m : Module) (table : List (Option HostCall)) → table ≡ host_table m → EachBody (Keeps (call_at table) shape.LoopsTakeItems) m ↔ LoopsTakeItems m
 by_table m table e =
     let same : (f : ℕ) → call_at table f ≡ host_call_at m f = λ f. ap (λ t. call_at t f) e ∙ at_same m f in
     (each_same (LoopTakes (call_at table)) (LoopTakes (host_call_at m)) (loop_same (call_at table) (host_call_at m) same) m.functions, each_same (LoopTakes (host_call_at m)) (LoopTakes (call_at table)) (loop_same (host_call_at m) (call_at table) (λ f. sym (same f))) m.functions)

@@ -1,4 +1,4 @@
--- Code that is typed with known constants passes, where nothing stands after a branch that is always taken.
+-- Code that is typed with known constants passes, where nothing comes after a branch that is always taken.
 use Rattle.std.proofs.Common.{◌≡◌, ℕ, Bool, true, false, cond, List, [], ◌∷◌, ◌++◌, map, reverse, refl, sym, subst, ap, ◌∙◌}
 use Rattle.std.specs.Prelude.{Option, Some, None, ◌&&◌}
 use Rattle.std.specs.Option.{option_and_then}
@@ -21,16 +21,16 @@ use Rattle.wasm_ast.specs.Code as code
 use Rattle.wasm_ast.specs.Numeric.{conversion_from, conversion_to}
 use Rattle.wasm_ast.specs.Widths.{load_type, load_width, store_type, store_width}
 use Rattle.validate.specs.Spaces.{first_type}
-use Rattle.bounded_profile.specs.declared.wants.Premise.TheVariants.{Reaches, IsSlot}
-use Rattle.bounded_profile.specs.declared.wants.Want.{Want}
-use Rattle.bounded_profile.specs.declared.wants.Want.TheVariants as want
+use Rattle.bounded_profile.specs.declared.requirements.Premise.TheVariants.{Reaches, IsSlot}
+use Rattle.bounded_profile.specs.declared.requirements.Requirement.{Requirement}
+use Rattle.bounded_profile.specs.declared.requirements.Requirement.TheVariants as requirement
 use Rattle.bounded_profile.specs.declared.constants.demands.Demand.{Demand}
 use Rattle.bounded_profile.specs.declared.constants.demands.Demand.TheVariants as demand
 use Rattle.bounded_profile.specs.declared.constants.operands.Operand.{Operand}
 use Rattle.bounded_profile.specs.declared.constants.operands.Operand.TheVariants as operand
 use Rattle.bounded_profile.specs.Hosts.{host_call_at}
-use Rattle.bounded_profile.specs.Kinds.{Kind, Any, Is, Forgets, AllForget, Met, Meets, AllMeet, wants, kinds}
-use Rattle.bounded_profile.specs.Known.{Context, known, Changes, division_premise, PlainKnown, VariableKnown, MemoryKnown, takes_slot, parameter_wants, CallKnown, CallIndirectKnown, Forgetting, Known}
+use Rattle.bounded_profile.specs.Kinds.{Kind, Any, Is, Forgets, AllForget, Met, Meets, AllMeet, requirements, kinds}
+use Rattle.bounded_profile.specs.Known.{Context, known, Changes, division_premise, PlainKnown, VariableKnown, MemoryKnown, takes_slot, parameter_requirements, CallKnown, CallIndirectKnown, Forgetting, Known}
 use Rattle.bounded_profile.specs.Memory.{memory_bytes}
 use Rattle.bounded_profile.specs.Shapes.{Everywhere, NotUnreachable, LastIfBranch}
 use Rattle.bounded_profile.specs.inside.Tracking.{asks_of, asked, setting_of, host_called, fits, below, take_one, take_each, change, forget_each, forget_result, unknowns, plain_step, branch_step, take_parameters, call_step, call_indirect_step, holds_then, check}
@@ -75,14 +75,14 @@ covers_more (g ∷ gs) s ks h = (tells_kind g, covers_more gs s ks h)
 
 -- ---- what is taken
 
-meets_fits : (bytes : ℕ) (w : Want) (o : Operand) (k : Kind) → Tells o k → Meets bytes w k → fits bytes (demand_of w) o ≡ true
-meets_fits bytes (want.Value t) o k h g = refl
-meets_fits bytes (want.Constant t p) o (Any u) h g = absurd g
-meets_fits bytes (want.Constant t p) operand.Unknown (Is u n) h g = absurd h
-meets_fits bytes (want.Constant t p) (operand.Known m) (Is u n) h g =
+meets_fits : (bytes : ℕ) (w : Requirement) (o : Operand) (k : Kind) → Tells o k → Meets bytes w k → fits bytes (demand_of w) o ≡ true
+meets_fits bytes (requirement.Value t) o k h g = refl
+meets_fits bytes (requirement.Constant t p) o (Any u) h g = absurd g
+meets_fits bytes (requirement.Constant t p) operand.Unknown (Is u n) h g = absurd h
+meets_fits bytes (requirement.Constant t p) (operand.Known m) (Is u n) h g =
     met_from bytes t p m (subst (λ x. Met bytes t p x) (sym h) g.1)
 
-taken_covered : (bytes : ℕ) (ws : List Want) (s : List Operand) (from below : List Kind) → Covers s from → AllMeet bytes ws from below → (r : List Operand) × (take_each bytes (map demand_of ws) s ≡ Some r) × Covers r below
+taken_covered : (bytes : ℕ) (ws : List Requirement) (s : List Operand) (from below : List Kind) → Covers s from → AllMeet bytes ws from below → (r : List Operand) × (take_each bytes (map demand_of ws) s ≡ Some r) × Covers r below
 taken_covered bytes [] s from below h g = (s, refl, subst (Covers s) g h)
 taken_covered bytes (w ∷ ws) s [] below h g = absurd g
 taken_covered bytes (w ∷ ws) [] (k ∷ from) below h g = absurd h
@@ -94,7 +94,7 @@ taken_covered bytes (w ∷ ws) (o ∷ s) (k ∷ from) below h g =
 abbrev Found : Option (List Operand) → List Kind → Type 0
 Found o mid = (r : List Operand) × (o ≡ Some r) × Covers r mid
 
-changes_found : (c : Context) (ws : List Want) (gs : List Kind) (ds : List Demand) (s : List Operand) (from mid : List Kind) → map demand_of ws ≡ ds → Covers s from → Forgetting (Changes c ws gs) from mid → Found (change (memory_bytes c.«module») ds (map operand_of gs) s) mid
+changes_found : (c : Context) (ws : List Requirement) (gs : List Kind) (ds : List Demand) (s : List Operand) (from mid : List Kind) → map demand_of ws ≡ ds → Covers s from → Forgetting (Changes c ws gs) from mid → Found (change (memory_bytes c.«module») ds (map operand_of gs) s) mid
 changes_found c ws gs ds s from mid d h x =
     let bytes = memory_bytes c.«module» in
     let y = x.1 in
@@ -107,32 +107,32 @@ changes_found c ws gs ds s from mid d h x =
 
 numeric_found : (w : Where) (labels : List (Option ValType)) (op : Numeric) (s : List Operand) (from mid : List Kind) → Covers s from → Forgetting (PlainKnown (context_of w labels) (plain.Numeric op)) from mid → Found (plain_step (setting_of w.asks w.«module») (plain.Numeric op) s) mid
 numeric_found w labels (numeric.Eqz t) s from mid h x =
-    changes_found (context_of w labels) (want.Value t ∷ []) (Any I32 ∷ []) (demand.Any ∷ []) s from mid refl h x
+    changes_found (context_of w labels) (requirement.Value t ∷ []) (Any I32 ∷ []) (demand.Any ∷ []) s from mid refl h x
 numeric_found w labels (numeric.Comparison t op) s from mid h x =
-    changes_found (context_of w labels) (want.Value t ∷ want.Value t ∷ []) (Any I32 ∷ []) (demand.Any ∷ demand.Any ∷ []) s from mid refl h x
+    changes_found (context_of w labels) (requirement.Value t ∷ requirement.Value t ∷ []) (Any I32 ∷ []) (demand.Any ∷ demand.Any ∷ []) s from mid refl h x
 numeric_found w labels (numeric.Unary t op) s from mid h x =
-    changes_found (context_of w labels) (want.Value t ∷ []) (Any t ∷ []) (demand.Any ∷ []) s from mid refl h x
+    changes_found (context_of w labels) (requirement.Value t ∷ []) (Any t ∷ []) (demand.Any ∷ []) s from mid refl h x
 numeric_found w labels (numeric.Binary t op) s from mid h x =
-    changes_found (context_of w labels) (want.Value t ∷ want.Value t ∷ []) (Any t ∷ []) (demand.Any ∷ demand.Any ∷ []) s from mid refl h x
+    changes_found (context_of w labels) (requirement.Value t ∷ requirement.Value t ∷ []) (Any t ∷ []) (demand.Any ∷ demand.Any ∷ []) s from mid refl h x
 numeric_found w labels (numeric.Division t op) s from mid h x =
     let p = division_premise op in
-    changes_found (context_of w labels) (known (context_of w labels) t p ∷ want.Value t ∷ []) (Any t ∷ []) (asked w.asks t p ∷ demand.Any ∷ []) s from mid (ap (λ d. d ∷ demand.Any ∷ []) (if_demand (asks_of w.asks p) t p)) h x
+    changes_found (context_of w labels) (known (context_of w labels) t p ∷ requirement.Value t ∷ []) (Any t ∷ []) (asked w.asks t p ∷ demand.Any ∷ []) s from mid (ap (λ d. d ∷ demand.Any ∷ []) (if_demand (asks_of w.asks p) t p)) h x
 numeric_found w labels (numeric.Conversion op) s from mid h x =
-    changes_found (context_of w labels) (want.Value (conversion_from op) ∷ []) (Any (conversion_to op) ∷ []) (demand.Any ∷ []) s from mid refl h x
+    changes_found (context_of w labels) (requirement.Value (conversion_from op) ∷ []) (Any (conversion_to op) ∷ []) (demand.Any ∷ []) s from mid refl h x
 
 variable_found : (w : Where) (labels : List (Option ValType)) (op : Variable) (s : List Operand) (from mid : List Kind) → Covers s from → Forgetting (VariableKnown (context_of w labels) op) from mid → Found (plain_step (setting_of w.asks w.«module») (plain.Variable op) s) mid
 variable_found w labels (variable.LocalGet y) s from mid h x =
     changes_found (context_of w labels) [] (Any x.1.0 ∷ []) [] s from mid refl h (x.0, x.1.2, x.2)
 variable_found w labels (variable.LocalSet y) s from mid h x =
-    changes_found (context_of w labels) (want.Value x.1.0 ∷ []) [] (demand.Any ∷ []) s from mid refl h (x.0, x.1.2, x.2)
+    changes_found (context_of w labels) (requirement.Value x.1.0 ∷ []) [] (demand.Any ∷ []) s from mid refl h (x.0, x.1.2, x.2)
 variable_found w labels (variable.LocalTee y) s from mid h x =
-    changes_found (context_of w labels) (want.Value x.1.0 ∷ []) (Any x.1.0 ∷ []) (demand.Any ∷ []) s from mid refl h (x.0, x.1.2, x.2)
+    changes_found (context_of w labels) (requirement.Value x.1.0 ∷ []) (Any x.1.0 ∷ []) (demand.Any ∷ []) s from mid refl h (x.0, x.1.2, x.2)
 variable_found w labels (variable.GlobalGet y) s from mid h x =
     let g = x.1.0 in
     changes_found (context_of w labels) [] (Any g.value ∷ []) [] s from mid refl h (x.0, x.1.2, x.2)
 variable_found w labels (variable.GlobalSet y) s from mid h x =
     let g = x.1.0 in
-    changes_found (context_of w labels) (want.Value g.value ∷ []) [] (demand.Any ∷ []) s from mid refl h (x.0, x.1.2.1, x.2)
+    changes_found (context_of w labels) (requirement.Value g.value ∷ []) [] (demand.Any ∷ []) s from mid refl h (x.0, x.1.2.1, x.2)
 
 memory_found : (w : Where) (labels : List (Option ValType)) (op : Memory) (s : List Operand) (from mid : List Kind) → Covers s from → Forgetting (MemoryKnown (context_of w labels) op) from mid → Found (plain_step (setting_of w.asks w.«module») (plain.Memory op) s) mid
 memory_found w labels (memory.Load op argument) s from mid h x =
@@ -140,20 +140,20 @@ memory_found w labels (memory.Load op argument) s from mid h x =
     changes_found (context_of w labels) (known (context_of w labels) I32 p ∷ []) (Any (load_type op) ∷ []) (asked w.asks I32 p ∷ []) s from mid (ap (λ d. d ∷ []) (if_demand (asks_of w.asks p) I32 p)) h (x.0, x.1.1.1, x.2)
 memory_found w labels (memory.Store op argument) s from mid h x =
     let p = Reaches argument.offset (store_width op) in
-    changes_found (context_of w labels) (want.Value (store_type op) ∷ known (context_of w labels) I32 p ∷ []) [] (demand.Any ∷ asked w.asks I32 p ∷ []) s from mid (ap (λ d. demand.Any ∷ d ∷ []) (if_demand (asks_of w.asks p) I32 p)) h (x.0, x.1.1.1, x.2)
+    changes_found (context_of w labels) (requirement.Value (store_type op) ∷ known (context_of w labels) I32 p ∷ []) [] (demand.Any ∷ asked w.asks I32 p ∷ []) s from mid (ap (λ d. demand.Any ∷ d ∷ []) (if_demand (asks_of w.asks p) I32 p)) h (x.0, x.1.1.1, x.2)
 memory_found w labels memory.Size s from mid h x =
     changes_found (context_of w labels) [] (Any I32 ∷ []) [] s from mid refl h (x.0, x.1.1, x.2)
 memory_found w labels memory.Grow s from mid h x =
-    changes_found (context_of w labels) (want.Value I32 ∷ []) (Any I32 ∷ []) (demand.Any ∷ []) s from mid refl h (x.0, x.1.1, x.2)
+    changes_found (context_of w labels) (requirement.Value I32 ∷ []) (Any I32 ∷ []) (demand.Any ∷ []) s from mid refl h (x.0, x.1.1, x.2)
 
 plain_found : (w : Where) (labels : List (Option ValType)) (p : Plain) (s : List Operand) (from mid : List Kind) → Covers s from → Forgetting (PlainKnown (context_of w labels) p) from mid → Found (plain_step (setting_of w.asks w.«module») p s) mid
 plain_found w labels plain.Nop s from mid h x =
     changes_found (context_of w labels) [] [] [] s from mid refl h x
 plain_found w labels plain.Drop s from mid h x =
-    changes_found (context_of w labels) (want.Value x.1.0 ∷ []) [] (demand.Any ∷ []) s from mid refl h (x.0, x.1.1, x.2)
+    changes_found (context_of w labels) (requirement.Value x.1.0 ∷ []) [] (demand.Any ∷ []) s from mid refl h (x.0, x.1.1, x.2)
 plain_found w labels plain.Select s from mid h x =
     let t = x.1.0 in
-    changes_found (context_of w labels) (want.Value I32 ∷ want.Value t ∷ want.Value t ∷ []) (Any t ∷ []) (demand.Any ∷ demand.Any ∷ demand.Any ∷ []) s from mid refl h (x.0, x.1.1, x.2)
+    changes_found (context_of w labels) (requirement.Value I32 ∷ requirement.Value t ∷ requirement.Value t ∷ []) (Any t ∷ []) (demand.Any ∷ demand.Any ∷ demand.Any ∷ []) s from mid refl h (x.0, x.1.1, x.2)
 plain_found w labels (plain.Const (value.I32 n)) s from mid h x =
     changes_found (context_of w labels) [] (Is I32 n ∷ []) [] s from mid refl h x
 plain_found w labels (plain.Const (value.I64 n)) s from mid h x =
@@ -164,38 +164,38 @@ plain_found w labels (plain.Memory op) s from mid h x = memory_found w labels op
 
 -- ---- branches and calls
 
-branch_if_found : (w : Where) (labels : List (Option ValType)) (t : Option ValType) (s : List Operand) (from mid : List Kind) → Covers s from → Forgetting (Changes (context_of w labels) (want.Value I32 ∷ wants t) (kinds t)) from mid → Found (Some (unknowns t ++ forget_result t (below s))) mid
+branch_if_found : (w : Where) (labels : List (Option ValType)) (t : Option ValType) (s : List Operand) (from mid : List Kind) → Covers s from → Forgetting (Changes (context_of w labels) (requirement.Value I32 ∷ requirements t) (kinds t)) from mid → Found (Some (unknowns t ++ forget_result t (below s))) mid
 branch_if_found w labels None s from mid h x =
-    changes_found (context_of w labels) (want.Value I32 ∷ []) [] (demand.Any ∷ []) s from mid refl h x
+    changes_found (context_of w labels) (requirement.Value I32 ∷ []) [] (demand.Any ∷ []) s from mid refl h x
 branch_if_found w labels (Some t) s from mid h x =
-    changes_found (context_of w labels) (want.Value I32 ∷ want.Value t ∷ []) (Any t ∷ []) (demand.Any ∷ demand.Any ∷ []) s from mid refl h x
+    changes_found (context_of w labels) (requirement.Value I32 ∷ requirement.Value t ∷ []) (Any t ∷ []) (demand.Any ∷ demand.Any ∷ []) s from mid refl h x
 
 at_some : (o : Option (List Operand)) (q : Option (List Operand)) (mid : List Kind) → o ≡ q → Found q mid → Found o mid
 at_some o q mid e h = (h.0, e ∙ h.1, h.2)
 
 -- values of these types are taken, the topmost first, and a result is given
-values_found : (c : Context) (ts : List ValType) (u : Option ValType) (s : List Operand) (from mid : List Kind) → Covers s from → Forgetting (Changes c (map want.Value ts) (kinds u)) from mid → Found (Some (unknowns u ++ forget_each ts s)) mid
+values_found : (c : Context) (ts : List ValType) (u : Option ValType) (s : List Operand) (from mid : List Kind) → Covers s from → Forgetting (Changes c (map requirement.Value ts) (kinds u)) from mid → Found (Some (unknowns u ++ forget_each ts s)) mid
 values_found c ts u s from mid h x =
     let bytes = memory_bytes c.«module» in
-    let found = changes_found c (map want.Value ts) (kinds u) (map demand_of (map want.Value ts)) s from mid refl h x in
-    let same : change bytes (map demand_of (map want.Value ts)) (map operand_of (kinds u)) s ≡ Some (unknowns u ++ forget_each ts s) = ap (λ o. option_and_then (λ (r : List Operand). Some (map operand_of (kinds u) ++ r)) o) (values_taken bytes ts s) ∙ ap (λ os. Some (os ++ forget_each ts s)) (kinds_unknown u) in
-    at_some (Some (unknowns u ++ forget_each ts s)) (change bytes (map demand_of (map want.Value ts)) (map operand_of (kinds u)) s) mid (sym same) found
+    let found = changes_found c (map requirement.Value ts) (kinds u) (map demand_of (map requirement.Value ts)) s from mid refl h x in
+    let same : change bytes (map demand_of (map requirement.Value ts)) (map operand_of (kinds u)) s ≡ Some (unknowns u ++ forget_each ts s) = ap (λ o. option_and_then (λ (r : List Operand). Some (map operand_of (kinds u) ++ r)) o) (values_taken bytes ts s) ∙ ap (λ os. Some (os ++ forget_each ts s)) (kinds_unknown u) in
+    at_some (Some (unknowns u ++ forget_each ts s)) (change bytes (map demand_of (map requirement.Value ts)) (map operand_of (kinds u)) s) mid (sym same) found
 
 -- with the parameters, a result is given
 abbrev with_result : Option ValType → Option (List Operand) → Option (List Operand)
 with_result u o = option_and_then (λ r. Some (unknowns u ++ r)) o
 
-slot_found : (w : Where) (labels : List (Option ValType)) (slot : ValType) (others : List ValType) (u : Option ValType) (s : List Operand) (from mid : List Kind) → Covers s from → Forgetting (Changes (context_of w labels) (parameter_wants (context_of w labels) true (slot ∷ others)) (kinds u)) from mid → Found (with_result u (take_parameters (setting_of w.asks w.«module») true (slot ∷ others) s)) mid
+slot_found : (w : Where) (labels : List (Option ValType)) (slot : ValType) (others : List ValType) (u : Option ValType) (s : List Operand) (from mid : List Kind) → Covers s from → Forgetting (Changes (context_of w labels) (parameter_requirements (context_of w labels) true (slot ∷ others)) (kinds u)) from mid → Found (with_result u (take_parameters (setting_of w.asks w.«module») true (slot ∷ others) s)) mid
 slot_found w labels slot others u s from mid h x =
     let bytes = memory_bytes w.«module» in
-    let ws = parameter_wants (context_of w labels) true (slot ∷ others) in
+    let ws = parameter_requirements (context_of w labels) true (slot ∷ others) in
     let taken = take_one bytes (asked w.asks slot IsSlot) (forget_each others s) in
     let found = changes_found (context_of w labels) ws (kinds u) (map demand_of ws) s from mid refl h x in
     let front : change bytes (map demand_of ws) (map operand_of (kinds u)) s ≡ option_and_then (λ (r : List Operand). Some (map operand_of (kinds u) ++ r)) taken = ap (λ o. option_and_then (λ (r : List Operand). Some (map operand_of (kinds u) ++ r)) o) (slot_taken w labels slot others s) in
     let back : option_and_then (λ (r : List Operand). Some (map operand_of (kinds u) ++ r)) taken ≡ with_result u taken = ap (λ os. option_and_then (λ (r : List Operand). Some (os ++ r)) taken) (kinds_unknown u) in
     at_some (with_result u taken) (change bytes (map demand_of ws) (map operand_of (kinds u)) s) mid (sym (front ∙ back)) found
 
-parameters_found : (w : Where) (labels : List (Option ValType)) (b : Bool) (ps : List ValType) (u : Option ValType) (s : List Operand) (from mid : List Kind) → Covers s from → Forgetting (Changes (context_of w labels) (parameter_wants (context_of w labels) b ps) (kinds u)) from mid → Found (with_result u (take_parameters (setting_of w.asks w.«module») b ps s)) mid
+parameters_found : (w : Where) (labels : List (Option ValType)) (b : Bool) (ps : List ValType) (u : Option ValType) (s : List Operand) (from mid : List Kind) → Covers s from → Forgetting (Changes (context_of w labels) (parameter_requirements (context_of w labels) b ps) (kinds u)) from mid → Found (with_result u (take_parameters (setting_of w.asks w.«module») b ps s)) mid
 parameters_found w labels false ps u s from mid h x =
     at_some (Some (unknowns u ++ forget_each ps s)) (Some (unknowns u ++ forget_each (reverse ps) s)) mid (ap (λ q. Some (unknowns u ++ q)) (sym (either_way ps s))) (values_found (context_of w labels) (reverse ps) u s from mid h x)
 parameters_found w labels true [] u s from mid h x = values_found (context_of w labels) [] u s from mid h x
@@ -220,12 +220,12 @@ call_indirect_found w labels n s from mid h x =
 holds_at : (o : Option (List Operand)) (r : List Operand) (p : List Operand → Bool) → o ≡ Some r → p r ≡ true → holds_then o p ≡ true
 holds_at o r p e h = subst (λ x. holds_then x p ≡ true) (sym e) h
 
--- nothing stands after the branch
+-- nothing comes after the branch
 nothing_left : (rest : Code) (w : Where) (labels : List (Option ValType)) (s : List Operand) → rest ≡ code.end → check rest (setting_of w.asks w.«module») labels s ≡ true
 nothing_left rest w labels s e =
     subst (λ c. check c (setting_of w.asks w.«module») labels s ≡ true) (sym e) refl
 
-given_found : (c : Context) (ts : List ValType) (u : Option ValType) (s : List Operand) (from mid : List Kind) → Covers s from → Forgetting (Changes c (map want.Value ts) (kinds u)) from mid → Covers (unknowns u ++ forget_each ts s) mid
+given_found : (c : Context) (ts : List ValType) (u : Option ValType) (s : List Operand) (from mid : List Kind) → Covers s from → Forgetting (Changes c (map requirement.Value ts) (kinds u)) from mid → Covers (unknowns u ++ forget_each ts s) mid
 given_found c ts u s from mid h x =
     let y = values_found c ts u s from mid h x in
     let same : y.0 ≡ unknowns u ++ forget_each ts s = sym (some_same y.1) in

@@ -18,8 +18,8 @@ use Rattle.wasm_ast.specs.Code.{Code}
 use Rattle.wasm_ast.specs.Code as code
 use Rattle.wasm_ast.specs.Widths.{load_width, store_width}
 use Rattle.validate.specs.Spaces.{first_type}
-use Rattle.bounded_profile.specs.declared.wants.Premise.{Premise}
-use Rattle.bounded_profile.specs.declared.wants.Premise.TheVariants.{Reaches, IsSlot}
+use Rattle.bounded_profile.specs.declared.requirements.Premise.{Premise}
+use Rattle.bounded_profile.specs.declared.requirements.Premise.TheVariants.{Reaches, IsSlot}
 use Rattle.bounded_profile.specs.declared.constants.asks.Asks.{Asks}
 use Rattle.bounded_profile.specs.declared.constants.asks.Asks.TheVariants.{All}
 use Rattle.bounded_profile.specs.declared.constants.demands.Demand.{Demand}

@@ -4,36 +4,36 @@ use Rattle.std.specs.Prelude.{Option, Some, None, ◌&&◌, if◌then◌else◌}
 use Rattle.std.proofs.lemmas.Bool.Decides.{nat_tests}
 use Rattle.std.proofs.lemmas.List.{length-reverse}
 use Rattle.wasm_ast.specs.declared.types.ValType.{ValType}
-use Rattle.bounded_profile.specs.declared.wants.Premise.{Premise}
-use Rattle.bounded_profile.specs.declared.wants.Premise.TheVariants.{Reaches, Divides, DividesSigned, IsSlot}
-use Rattle.bounded_profile.specs.declared.wants.Want.{Want}
-use Rattle.bounded_profile.specs.declared.wants.Want.TheVariants as want
+use Rattle.bounded_profile.specs.declared.requirements.Premise.{Premise}
+use Rattle.bounded_profile.specs.declared.requirements.Premise.TheVariants.{Reaches, Divides, DividesSigned, IsSlot}
+use Rattle.bounded_profile.specs.declared.requirements.Requirement.{Requirement}
+use Rattle.bounded_profile.specs.declared.requirements.Requirement.TheVariants as requirement
 use Rattle.bounded_profile.specs.declared.constants.demands.Demand.{Demand}
 use Rattle.bounded_profile.specs.declared.constants.demands.Demand.TheVariants as demand
 use Rattle.bounded_profile.specs.declared.constants.operands.Operand.{Operand}
 use Rattle.bounded_profile.specs.declared.constants.operands.Operand.TheVariants as operand
-use Rattle.bounded_profile.specs.Kinds.{Kind, Any, Is, Forgets, AllForget, Met, wants, kinds}
+use Rattle.bounded_profile.specs.Kinds.{Kind, Any, Is, Forgets, AllForget, Met, requirements, kinds}
 use Rattle.bounded_profile.specs.inside.Tracking.{is_met, top, below, take_each, forget_each, unknowns}
 
--- ---- wants without types
+-- ---- requirements without types
 
-abbrev pub want_type : Want → ValType
-want_type (want.Value t) = t
-want_type (want.Constant t p) = t
+abbrev pub requirement_type : Requirement → ValType
+requirement_type (requirement.Value t) = t
+requirement_type (requirement.Constant t p) = t
 
-abbrev pub demand_of : Want → Demand
-demand_of (want.Value t) = demand.Any
-demand_of (want.Constant t p) = demand.Constant t p
+abbrev pub demand_of : Requirement → Demand
+demand_of (requirement.Value t) = demand.Any
+demand_of (requirement.Constant t p) = demand.Constant t p
 
-pub if_type : (b : Bool) (t : ValType) (p : Premise) → want_type (if b then want.Constant t p else want.Value t) ≡ t
+pub if_type : (b : Bool) (t : ValType) (p : Premise) → requirement_type (if b then requirement.Constant t p else requirement.Value t) ≡ t
 if_type true t p = refl
 if_type false t p = refl
 
-pub if_demand : (b : Bool) (t : ValType) (p : Premise) → demand_of (if b then want.Constant t p else want.Value t) ≡ (if b then demand.Constant t p else demand.Any)
+pub if_demand : (b : Bool) (t : ValType) (p : Premise) → demand_of (if b then requirement.Constant t p else requirement.Value t) ≡ (if b then demand.Constant t p else demand.Any)
 if_demand true t p = refl
 if_demand false t p = refl
 
-pub value_types : (ts : List ValType) → map want_type (map want.Value ts) ≡ ts
+pub value_types : (ts : List ValType) → map requirement_type (map requirement.Value ts) ≡ ts
 value_types [] = refl
 value_types (t ∷ ts) = ap (λ us. t ∷ us) (value_types ts)
 
@@ -64,7 +64,7 @@ pub given_kinds : (gs : List Kind) (ts : List ValType) (r : List Operand) → as
 given_kinds [] ts r = refl
 given_kinds (g ∷ gs) ts r = let a = same_kind g in let b = given_kinds gs ts r in cc
 
-pub kinds_types : (u : Option ValType) → map kind_type (kinds u) ≡ map want_type (wants u)
+pub kinds_types : (u : Option ValType) → map kind_type (kinds u) ≡ map requirement_type (requirements u)
 kinds_types None = refl
 kinds_types (Some t) = refl
 
@@ -118,11 +118,11 @@ met_from bytes t IsSlot n h = grind (arith, nat_tests)
 
 -- ---- operands of which nothing is asked
 
-pub values_then : (bytes : ℕ) (ts : List ValType) (ws : List Want) (s : List Operand) → take_each bytes (map demand_of (map want.Value ts ++ ws)) s ≡ take_each bytes (map demand_of ws) (forget_each ts s)
+pub values_then : (bytes : ℕ) (ts : List ValType) (ws : List Requirement) (s : List Operand) → take_each bytes (map demand_of (map requirement.Value ts ++ ws)) s ≡ take_each bytes (map demand_of ws) (forget_each ts s)
 values_then bytes [] ws s = refl
 values_then bytes (t ∷ ts) ws s = values_then bytes ts ws (below s)
 
-pub values_taken : (bytes : ℕ) (ts : List ValType) (s : List Operand) → take_each bytes (map demand_of (map want.Value ts)) s ≡ Some (forget_each ts s)
+pub values_taken : (bytes : ℕ) (ts : List ValType) (s : List Operand) → take_each bytes (map demand_of (map requirement.Value ts)) s ≡ Some (forget_each ts s)
 values_taken bytes [] s = refl
 values_taken bytes (t ∷ ts) s = values_taken bytes ts (below s)
 

@@ -32,23 +32,23 @@ use Rattle.validate.specs.Spaces.{spaces_of, first_type, function_import}
 use Rattle.validate.specs.Instructions as valid
 use Rattle.host_calls.specs.declared.imports.HostCall.{HostCall}
 use Rattle.host_calls.specs.Imports.{call_named}
-use Rattle.bounded_profile.specs.declared.wants.Premise.{Premise}
-use Rattle.bounded_profile.specs.declared.wants.Premise.TheVariants.{Reaches, IsSlot}
-use Rattle.bounded_profile.specs.declared.wants.Want.{Want}
-use Rattle.bounded_profile.specs.declared.wants.Want.TheVariants as want
+use Rattle.bounded_profile.specs.declared.requirements.Premise.{Premise}
+use Rattle.bounded_profile.specs.declared.requirements.Premise.TheVariants.{Reaches, IsSlot}
+use Rattle.bounded_profile.specs.declared.requirements.Requirement.{Requirement}
+use Rattle.bounded_profile.specs.declared.requirements.Requirement.TheVariants as requirement
 use Rattle.bounded_profile.specs.declared.constants.asks.Asks.{Asks}
 use Rattle.bounded_profile.specs.declared.constants.demands.Demand.{Demand}
 use Rattle.bounded_profile.specs.declared.constants.demands.Demand.TheVariants as demand
 use Rattle.bounded_profile.specs.declared.constants.operands.Operand.{Operand}
 use Rattle.bounded_profile.specs.declared.constants.operands.Operand.TheVariants as operand
 use Rattle.bounded_profile.specs.Hosts.{host_call_at}
-use Rattle.bounded_profile.specs.Kinds.{Kind, Any, Is, AllForget, Meets, AllMeet, wants, kinds}
-use Rattle.bounded_profile.specs.Known.{Context, known, Changes, Leaves, division_premise, PlainKnown, VariableKnown, MemoryKnown, LabelTakes, BranchKnown, takes_slot, parameter_wants, CallKnown, CallIndirectKnown, Forgetting, Known}
+use Rattle.bounded_profile.specs.Kinds.{Kind, Any, Is, AllForget, Meets, AllMeet, requirements, kinds}
+use Rattle.bounded_profile.specs.Known.{Context, known, Changes, Leaves, division_premise, PlainKnown, VariableKnown, MemoryKnown, LabelTakes, BranchKnown, takes_slot, parameter_requirements, CallKnown, CallIndirectKnown, Forgetting, Known}
 use Rattle.bounded_profile.specs.Memory.{memory_bytes}
 use Rattle.bounded_profile.specs.inside.Tracking.{asks_of, asked, setting_of, imported_call, host_called, is_met, fits, top, below, take_one, take_each, change, forget_each, forget_result, unknowns, plain_step, branch_step, take_parameters, call_step, call_indirect_step, holds_then, check}
-use Rattle.bounded_profile.proofs.KnownKinds.{want_type, demand_of, if_type, if_demand, value_types, kind_type, operand_of, kind_of, as_kinds, given_kinds, kinds_unknown, forget_none, forget_any, forget_one, forget_all, nothing_forgets, both_to, met_to, values_then, values_taken, either_way}
+use Rattle.bounded_profile.proofs.KnownKinds.{requirement_type, demand_of, if_type, if_demand, value_types, kind_type, operand_of, kind_of, as_kinds, given_kinds, kinds_unknown, forget_none, forget_any, forget_one, forget_all, nothing_forgets, both_to, met_to, values_then, values_taken, either_way}
 
--- where code stands
+-- the context of code
 pub record Where : Type 0 where
   pub asks : Asks
   pub «module» : Module
@@ -63,8 +63,8 @@ typing_of w labels = record { spaces = spaces_of w.«module»; locals = w.locals
 
 -- ---- what is taken
 
--- an operand that passes is what is wanted
-constant_taken : (bytes : ℕ) (t : ValType) (p : Premise) (o : Operand) (q : List Operand) (f : List Operand → Option (List Operand)) (r : List Operand) → option_and_then f (cond (fits bytes (demand.Constant t p) o) (Some q) None) ≡ Some r → Meets bytes (want.Constant t p) (kind_of t o) × (f q ≡ Some r)
+-- an operand that passes meets its requirement
+constant_taken : (bytes : ℕ) (t : ValType) (p : Premise) (o : Operand) (q : List Operand) (f : List Operand → Option (List Operand)) (r : List Operand) → option_and_then f (cond (fits bytes (demand.Constant t p) o) (Some q) None) ≡ Some r → Meets bytes (requirement.Constant t p) (kind_of t o) × (f q ≡ Some r)
 constant_taken bytes t p operand.Unknown q f r e = absurd cc
 constant_taken bytes t p (operand.Known n) q f r e =
     let x = met (is_met bytes t p n) e in ((refl, met_to bytes t p n x.0), x.1)
@@ -73,14 +73,14 @@ constant_taken bytes t p (operand.Known n) q f r e =
     met true e = (refl, e)
     met false e = absurd cc
 
-taken_known : (bytes : ℕ) (ws : List Want) (ts : List ValType) (s r : List Operand) → take_each bytes (map demand_of ws) s ≡ Some r → (ks : List Kind) × AllForget (as_kinds (map want_type ws ++ ts) s) ks × AllMeet bytes ws ks (as_kinds ts r)
+taken_known : (bytes : ℕ) (ws : List Requirement) (ts : List ValType) (s r : List Operand) → take_each bytes (map demand_of ws) s ≡ Some r → (ks : List Kind) × AllForget (as_kinds (map requirement_type ws ++ ts) s) ks × AllMeet bytes ws ks (as_kinds ts r)
 taken_known bytes [] ts s r e =
     let same : s ≡ r = cc in
     (as_kinds ts r, subst (λ x. AllForget (as_kinds ts x) (as_kinds ts r)) (sym same) (forget_none (as_kinds ts r)), refl)
-taken_known bytes (want.Value t ∷ ws) ts s r e =
+taken_known bytes (requirement.Value t ∷ ws) ts s r e =
     let x = taken_known bytes ws ts (below s) r e in
     (Any t ∷ x.0, (forget_any t (top s), x.1), (refl, x.2))
-taken_known bytes (want.Constant t p ∷ ws) ts s r e =
+taken_known bytes (requirement.Constant t p ∷ ws) ts s r e =
     let y = constant_taken bytes t p (top s) (below s) (λ q. take_each bytes (map demand_of ws) q) r e in
     let x = taken_known bytes ws ts (below s) r y.1 in
     (kind_of t (top s) ∷ x.0, (forget_one (kind_of t (top s)), x.1), (y.0, x.2))
@@ -89,18 +89,18 @@ taken_known bytes (want.Constant t p ∷ ws) ts s r e =
 abbrev Before : List ValType → List Operand → (List Kind → List Kind → Type 0) → List Kind → Type 0
 Before from s rule later = (ks : List Kind) × AllForget (as_kinds from s) ks × Forgetting rule ks later
 
-changes_known : (c : Context) (ws : List Want) (gs : List Kind) (taken given from mid : List ValType) (s r : List Operand) (later : List Kind) → map want_type ws ≡ taken → map kind_type gs ≡ given → valid.Changes taken given from mid → take_each (memory_bytes c.«module») (map demand_of ws) s ≡ Some r → AllForget (as_kinds mid (map operand_of gs ++ r)) later → Before from s (Changes c ws gs) later
+changes_known : (c : Context) (ws : List Requirement) (gs : List Kind) (taken given from mid : List ValType) (s r : List Operand) (later : List Kind) → map requirement_type ws ≡ taken → map kind_type gs ≡ given → valid.Changes taken given from mid → take_each (memory_bytes c.«module») (map demand_of ws) s ≡ Some r → AllForget (as_kinds mid (map operand_of gs ++ r)) later → Before from s (Changes c ws gs) later
 changes_known c ws gs taken given from mid s r later w g h e l =
     let x = taken_known (memory_bytes c.«module») ws h.0 s r e in
-    let before : from ≡ map want_type ws ++ h.0 = h.1 ∙ ap (λ ts. ts ++ h.0) (sym w) in
+    let before : from ≡ map requirement_type ws ++ h.0 = h.1 ∙ ap (λ ts. ts ++ h.0) (sym w) in
     let after : mid ≡ map kind_type gs ++ h.0 = h.2 ∙ ap (λ ts. ts ++ h.0) (sym g) in
     let all : as_kinds mid (map operand_of gs ++ r) ≡ gs ++ as_kinds h.0 r = ap (λ ts. as_kinds ts (map operand_of gs ++ r)) after ∙ given_kinds gs h.0 r in
     (x.0, subst (λ ts. AllForget (as_kinds ts s) x.0) (sym before) x.1, (gs ++ as_kinds h.0 r, (as_kinds h.0 r, x.2, refl), subst (λ ks. AllForget ks later) all l))
 
-leaves_known : (c : Context) (ts below : List ValType) (from : List ValType) (s : List Operand) → from ≡ ts ++ below → (ks : List Kind) × AllForget (as_kinds from s) ks × Leaves c (map want.Value ts) ks
+leaves_known : (c : Context) (ts below : List ValType) (from : List ValType) (s : List Operand) → from ≡ ts ++ below → (ks : List Kind) × AllForget (as_kinds from s) ks × Leaves c (map requirement.Value ts) ks
 leaves_known c ts below from s e =
-    let x = taken_known (memory_bytes c.«module») (map want.Value ts) below s (forget_each ts s) (values_taken (memory_bytes c.«module») ts s) in
-    let before : from ≡ map want_type (map want.Value ts) ++ below = e ∙ ap (λ us. us ++ below) (sym (value_types ts)) in
+    let x = taken_known (memory_bytes c.«module») (map requirement.Value ts) below s (forget_each ts s) (values_taken (memory_bytes c.«module») ts s) in
+    let before : from ≡ map requirement_type (map requirement.Value ts) ++ below = e ∙ ap (λ us. us ++ below) (sym (value_types ts)) in
     (x.0, subst (λ us. AllForget (as_kinds us s) x.0) (sym before) x.1, (as_kinds below (forget_each ts s), x.2))
 
 -- ---- what is found
@@ -121,7 +121,7 @@ holds_some None p e = absurd cc
 holds_some (Some a) p e = (a, refl, e)
 
 -- a change that is found
-found_known : (c : Context) (ws : List Want) (gs : List Kind) (ds : List Demand) (taken given from mid : List ValType) (s : List Operand) (later : List Kind) → map want_type ws ≡ taken → map kind_type gs ≡ given → map demand_of ws ≡ ds → valid.Changes taken given from mid → After (change (memory_bytes c.«module») ds (map operand_of gs) s) (λ r. AllForget (as_kinds mid r) later) → Before from s (Changes c ws gs) later
+found_known : (c : Context) (ws : List Requirement) (gs : List Kind) (ds : List Demand) (taken given from mid : List ValType) (s : List Operand) (later : List Kind) → map requirement_type ws ≡ taken → map kind_type gs ≡ given → map demand_of ws ≡ ds → valid.Changes taken given from mid → After (change (memory_bytes c.«module») ds (map operand_of gs) s) (λ r. AllForget (as_kinds mid r) later) → Before from s (Changes c ws gs) later
 found_known c ws gs ds taken given from mid s later w g d h a =
     let x = given_after (take_each (memory_bytes c.«module») ds s) (map operand_of gs) (λ r. AllForget (as_kinds mid r) later) a in
     changes_known c ws gs taken given from mid s x.0 later w g h (ap (λ us. take_each (memory_bytes c.«module») us s) d ∙ x.1) x.2
@@ -133,34 +133,34 @@ Later mid later r = AllForget (as_kinds mid r) later
 
 numeric_sound : (w : Where) (labels : List (Option ValType)) (op : Numeric) (from mid : List ValType) (s : List Operand) (later : List Kind) → valid.PlainTyped (typing_of w labels) (plain.Numeric op) from mid → After (plain_step (setting_of w.asks w.«module») (plain.Numeric op) s) (Later mid later) → Before from s (PlainKnown (context_of w labels) (plain.Numeric op)) later
 numeric_sound w labels (numeric.Eqz t) from mid s later h a =
-    found_known (context_of w labels) (want.Value t ∷ []) (Any I32 ∷ []) (demand.Any ∷ []) (t ∷ []) (I32 ∷ []) from mid s later refl refl refl h a
+    found_known (context_of w labels) (requirement.Value t ∷ []) (Any I32 ∷ []) (demand.Any ∷ []) (t ∷ []) (I32 ∷ []) from mid s later refl refl refl h a
 numeric_sound w labels (numeric.Comparison t op) from mid s later h a =
-    found_known (context_of w labels) (want.Value t ∷ want.Value t ∷ []) (Any I32 ∷ []) (demand.Any ∷ demand.Any ∷ []) (t ∷ t ∷ []) (I32 ∷ []) from mid s later refl refl refl h a
+    found_known (context_of w labels) (requirement.Value t ∷ requirement.Value t ∷ []) (Any I32 ∷ []) (demand.Any ∷ demand.Any ∷ []) (t ∷ t ∷ []) (I32 ∷ []) from mid s later refl refl refl h a
 numeric_sound w labels (numeric.Unary t op) from mid s later h a =
-    found_known (context_of w labels) (want.Value t ∷ []) (Any t ∷ []) (demand.Any ∷ []) (t ∷ []) (t ∷ []) from mid s later refl refl refl h a
+    found_known (context_of w labels) (requirement.Value t ∷ []) (Any t ∷ []) (demand.Any ∷ []) (t ∷ []) (t ∷ []) from mid s later refl refl refl h a
 numeric_sound w labels (numeric.Binary t op) from mid s later h a =
-    found_known (context_of w labels) (want.Value t ∷ want.Value t ∷ []) (Any t ∷ []) (demand.Any ∷ demand.Any ∷ []) (t ∷ t ∷ []) (t ∷ []) from mid s later refl refl refl h a
+    found_known (context_of w labels) (requirement.Value t ∷ requirement.Value t ∷ []) (Any t ∷ []) (demand.Any ∷ demand.Any ∷ []) (t ∷ t ∷ []) (t ∷ []) from mid s later refl refl refl h a
 numeric_sound w labels (numeric.Division t op) from mid s later h a =
     let b = asks_of w.asks (division_premise op) in
-    found_known (context_of w labels) (known (context_of w labels) t (division_premise op) ∷ want.Value t ∷ []) (Any t ∷ []) (asked w.asks t (division_premise op) ∷ demand.Any ∷ []) (t ∷ t ∷ []) (t ∷ []) from mid s later (ap (λ u. u ∷ t ∷ []) (if_type b t (division_premise op))) refl (ap (λ d. d ∷ demand.Any ∷ []) (if_demand b t (division_premise op))) h a
+    found_known (context_of w labels) (known (context_of w labels) t (division_premise op) ∷ requirement.Value t ∷ []) (Any t ∷ []) (asked w.asks t (division_premise op) ∷ demand.Any ∷ []) (t ∷ t ∷ []) (t ∷ []) from mid s later (ap (λ u. u ∷ t ∷ []) (if_type b t (division_premise op))) refl (ap (λ d. d ∷ demand.Any ∷ []) (if_demand b t (division_premise op))) h a
 numeric_sound w labels (numeric.Conversion op) from mid s later h a =
-    found_known (context_of w labels) (want.Value (conversion_from op) ∷ []) (Any (conversion_to op) ∷ []) (demand.Any ∷ []) (conversion_from op ∷ []) (conversion_to op ∷ []) from mid s later refl refl refl h a
+    found_known (context_of w labels) (requirement.Value (conversion_from op) ∷ []) (Any (conversion_to op) ∷ []) (demand.Any ∷ []) (conversion_from op ∷ []) (conversion_to op ∷ []) from mid s later refl refl refl h a
 
 variable_sound : (w : Where) (labels : List (Option ValType)) (op : Variable) (from mid : List ValType) (s : List Operand) (later : List Kind) → valid.VariableTyped (typing_of w labels) op from mid → After (plain_step (setting_of w.asks w.«module») (plain.Variable op) s) (Later mid later) → Before from s (VariableKnown (context_of w labels) op) later
 variable_sound w labels (variable.LocalGet x) from mid s later h a =
     let y = found_known (context_of w labels) [] (Any h.0 ∷ []) [] [] (h.0 ∷ []) from mid s later refl refl refl h.2 a in
     (y.0, y.1, (y.2.0, (h.0, h.1, y.2.1), y.2.2))
 variable_sound w labels (variable.LocalSet x) from mid s later h a =
-    let y = found_known (context_of w labels) (want.Value h.0 ∷ []) [] (demand.Any ∷ []) (h.0 ∷ []) [] from mid s later refl refl refl h.2 a in
+    let y = found_known (context_of w labels) (requirement.Value h.0 ∷ []) [] (demand.Any ∷ []) (h.0 ∷ []) [] from mid s later refl refl refl h.2 a in
     (y.0, y.1, (y.2.0, (h.0, h.1, y.2.1), y.2.2))
 variable_sound w labels (variable.LocalTee x) from mid s later h a =
-    let y = found_known (context_of w labels) (want.Value h.0 ∷ []) (Any h.0 ∷ []) (demand.Any ∷ []) (h.0 ∷ []) (h.0 ∷ []) from mid s later refl refl refl h.2 a in
+    let y = found_known (context_of w labels) (requirement.Value h.0 ∷ []) (Any h.0 ∷ []) (demand.Any ∷ []) (h.0 ∷ []) (h.0 ∷ []) from mid s later refl refl refl h.2 a in
     (y.0, y.1, (y.2.0, (h.0, h.1, y.2.1), y.2.2))
 variable_sound w labels (variable.GlobalGet x) from mid s later h a =
     let y = found_known (context_of w labels) [] (Any h.0.value ∷ []) [] [] (h.0.value ∷ []) from mid s later refl refl refl h.2 a in
     (y.0, y.1, (y.2.0, (h.0, h.1, y.2.1), y.2.2))
 variable_sound w labels (variable.GlobalSet x) from mid s later h a =
-    let y = found_known (context_of w labels) (want.Value h.0.value ∷ []) [] (demand.Any ∷ []) (h.0.value ∷ []) [] from mid s later refl refl refl h.2.1 a in
+    let y = found_known (context_of w labels) (requirement.Value h.0.value ∷ []) [] (demand.Any ∷ []) (h.0.value ∷ []) [] from mid s later refl refl refl h.2.1 a in
     (y.0, y.1, (y.2.0, (h.0, h.1, (h.2.0, y.2.1)), y.2.2))
 
 memory_sound : (w : Where) (labels : List (Option ValType)) (op : Memory) (from mid : List ValType) (s : List Operand) (later : List Kind) → valid.MemoryTyped (typing_of w labels) op from mid → After (plain_step (setting_of w.asks w.«module») (plain.Memory op) s) (Later mid later) → Before from s (MemoryKnown (context_of w labels) op) later
@@ -172,24 +172,24 @@ memory_sound w labels (memory.Load op argument) from mid s later h a =
 memory_sound w labels (memory.Store op argument) from mid s later h a =
     let p = Reaches argument.offset (store_width op) in
     let b = asks_of w.asks p in
-    let y = found_known (context_of w labels) (want.Value (store_type op) ∷ known (context_of w labels) I32 p ∷ []) [] (demand.Any ∷ asked w.asks I32 p ∷ []) (store_type op ∷ I32 ∷ []) [] from mid s later (ap (λ u. store_type op ∷ u ∷ []) (if_type b I32 p)) refl (ap (λ d. demand.Any ∷ d ∷ []) (if_demand b I32 p)) h.1.1 a in
+    let y = found_known (context_of w labels) (requirement.Value (store_type op) ∷ known (context_of w labels) I32 p ∷ []) [] (demand.Any ∷ asked w.asks I32 p ∷ []) (store_type op ∷ I32 ∷ []) [] from mid s later (ap (λ u. store_type op ∷ u ∷ []) (if_type b I32 p)) refl (ap (λ d. demand.Any ∷ d ∷ []) (if_demand b I32 p)) h.1.1 a in
     (y.0, y.1, (y.2.0, (h.0, (h.1.0, y.2.1)), y.2.2))
 memory_sound w labels memory.Size from mid s later h a =
     let y = found_known (context_of w labels) [] (Any I32 ∷ []) [] [] (I32 ∷ []) from mid s later refl refl refl h.1 a in
     (y.0, y.1, (y.2.0, (h.0, y.2.1), y.2.2))
 memory_sound w labels memory.Grow from mid s later h a =
-    let y = found_known (context_of w labels) (want.Value I32 ∷ []) (Any I32 ∷ []) (demand.Any ∷ []) (I32 ∷ []) (I32 ∷ []) from mid s later refl refl refl h.1 a in
+    let y = found_known (context_of w labels) (requirement.Value I32 ∷ []) (Any I32 ∷ []) (demand.Any ∷ []) (I32 ∷ []) (I32 ∷ []) from mid s later refl refl refl h.1 a in
     (y.0, y.1, (y.2.0, (h.0, y.2.1), y.2.2))
 
 plain_sound : (w : Where) (labels : List (Option ValType)) (p : Plain) (from mid : List ValType) (s : List Operand) (later : List Kind) → valid.PlainTyped (typing_of w labels) p from mid → After (plain_step (setting_of w.asks w.«module») p s) (Later mid later) → Before from s (PlainKnown (context_of w labels) p) later
 plain_sound w labels plain.Nop from mid s later h a =
     found_known (context_of w labels) [] [] [] [] [] from mid s later refl refl refl h a
 plain_sound w labels plain.Drop from mid s later h a =
-    let y = found_known (context_of w labels) (want.Value h.0 ∷ []) [] (demand.Any ∷ []) (h.0 ∷ []) [] from mid s later refl refl refl h.1 a in
+    let y = found_known (context_of w labels) (requirement.Value h.0 ∷ []) [] (demand.Any ∷ []) (h.0 ∷ []) [] from mid s later refl refl refl h.1 a in
     (y.0, y.1, (y.2.0, (h.0, y.2.1), y.2.2))
 plain_sound w labels plain.Select from mid s later h a =
     let t = h.0 in
-    let y = found_known (context_of w labels) (want.Value I32 ∷ want.Value t ∷ want.Value t ∷ []) (Any t ∷ []) (demand.Any ∷ demand.Any ∷ demand.Any ∷ []) (I32 ∷ t ∷ t ∷ []) (t ∷ []) from mid s later refl refl refl h.1 a in
+    let y = found_known (context_of w labels) (requirement.Value I32 ∷ requirement.Value t ∷ requirement.Value t ∷ []) (Any t ∷ []) (demand.Any ∷ demand.Any ∷ demand.Any ∷ []) (I32 ∷ t ∷ t ∷ []) (t ∷ []) from mid s later refl refl refl h.1 a in
     (y.0, y.1, (y.2.0, (t, y.2.1), y.2.2))
 plain_sound w labels (plain.Const (value.I32 n)) from mid s later h a =
     found_known (context_of w labels) [] (Is I32 n ∷ []) [] [] (I32 ∷ []) from mid s later refl refl refl h a
@@ -205,19 +205,19 @@ labels_take : (w : Where) (labels : List (Option ValType)) (t : Option ValType) 
 labels_take w labels t [] h = tt
 labels_take w labels t (l ∷ ls) h = (h.0, labels_take w labels t ls h.1)
 
-leaves_result : (c : Context) (before : List ValType) (t : Option ValType) (from : List ValType) (s : List Operand) → valid.Leaves (before ++ valid.operands_of t) from → (ks : List Kind) × AllForget (as_kinds from s) ks × Leaves c (map want.Value before ++ wants t) ks
+leaves_result : (c : Context) (before : List ValType) (t : Option ValType) (from : List ValType) (s : List Operand) → valid.Leaves (before ++ valid.operands_of t) from → (ks : List Kind) × AllForget (as_kinds from s) ks × Leaves c (map requirement.Value before ++ requirements t) ks
 leaves_result c before None from s h =
     let x = leaves_known c (before ++ []) h.0 from s h.1 in
-    (x.0, x.1, subst (λ ws. Leaves c ws x.0) (map-append want.Value before []) x.2)
+    (x.0, x.1, subst (λ ws. Leaves c ws x.0) (map-append requirement.Value before []) x.2)
 leaves_result c before (Some t) from s h =
     let x = leaves_known c (before ++ t ∷ []) h.0 from s h.1 in
-    (x.0, x.1, subst (λ ws. Leaves c ws x.0) (map-append want.Value before (t ∷ [])) x.2)
+    (x.0, x.1, subst (λ ws. Leaves c ws x.0) (map-append requirement.Value before (t ∷ [])) x.2)
 
-branch_if_sound : (w : Where) (labels : List (Option ValType)) (t : Option ValType) (from mid : List ValType) (s : List Operand) (later : List Kind) → valid.Changes (I32 ∷ valid.operands_of t) (valid.operands_of t) from mid → Later mid later (unknowns t ++ forget_result t (below s)) → Before from s (Changes (context_of w labels) (want.Value I32 ∷ wants t) (kinds t)) later
+branch_if_sound : (w : Where) (labels : List (Option ValType)) (t : Option ValType) (from mid : List ValType) (s : List Operand) (later : List Kind) → valid.Changes (I32 ∷ valid.operands_of t) (valid.operands_of t) from mid → Later mid later (unknowns t ++ forget_result t (below s)) → Before from s (Changes (context_of w labels) (requirement.Value I32 ∷ requirements t) (kinds t)) later
 branch_if_sound w labels None from mid s later h a =
-    found_known (context_of w labels) (want.Value I32 ∷ []) [] (demand.Any ∷ []) (I32 ∷ []) [] from mid s later refl refl refl h a
+    found_known (context_of w labels) (requirement.Value I32 ∷ []) [] (demand.Any ∷ []) (I32 ∷ []) [] from mid s later refl refl refl h a
 branch_if_sound w labels (Some t) from mid s later h a =
-    found_known (context_of w labels) (want.Value I32 ∷ want.Value t ∷ []) (Any t ∷ []) (demand.Any ∷ demand.Any ∷ []) (I32 ∷ t ∷ []) (t ∷ []) from mid s later refl refl refl h a
+    found_known (context_of w labels) (requirement.Value I32 ∷ requirement.Value t ∷ []) (Any t ∷ []) (demand.Any ∷ demand.Any ∷ []) (I32 ∷ t ∷ []) (t ∷ []) from mid s later refl refl refl h a
 
 branch_sound : (w : Where) (labels : List (Option ValType)) (b : Branch) (from mid : List ValType) (s : List Operand) (later : List Kind) → valid.BranchTyped (typing_of w labels) b from mid → After (branch_step labels b s) (Later mid later) → Before from s (BranchKnown (context_of w labels) b) later
 branch_sound w labels (branch.Br l) from mid s later h a =
@@ -267,16 +267,16 @@ result_types None = refl
 result_types (Some t) = refl
 
 -- values of these types are taken, the topmost first, and a result is given
-values_known : (c : Context) (ts : List ValType) (u : Option ValType) (from mid : List ValType) (s : List Operand) (later : List Kind) → valid.Changes ts (valid.operands_of u) from mid → Later mid later (unknowns u ++ forget_each ts s) → Before from s (Changes c (map want.Value ts) (kinds u)) later
+values_known : (c : Context) (ts : List ValType) (u : Option ValType) (from mid : List ValType) (s : List Operand) (later : List Kind) → valid.Changes ts (valid.operands_of u) from mid → Later mid later (unknowns u ++ forget_each ts s) → Before from s (Changes c (map requirement.Value ts) (kinds u)) later
 values_known c ts u from mid s later h l =
-    changes_known c (map want.Value ts) (kinds u) ts (valid.operands_of u) from mid s (forget_each ts s) later (value_types ts) (result_types u) h (values_taken (memory_bytes c.«module») ts s) (subst (λ (os : List Operand). Later mid later (os ++ forget_each ts s)) (sym (kinds_unknown u)) l)
+    changes_known c (map requirement.Value ts) (kinds u) ts (valid.operands_of u) from mid s (forget_each ts s) later (value_types ts) (result_types u) h (values_taken (memory_bytes c.«module») ts s) (subst (λ (os : List Operand). Later mid later (os ++ forget_each ts s)) (sym (kinds_unknown u)) l)
 
-slot_types : (w : Where) (labels : List (Option ValType)) (slot : ValType) (others : List ValType) → map want_type (parameter_wants (context_of w labels) true (slot ∷ others)) ≡ reverse (slot ∷ others)
+slot_types : (w : Where) (labels : List (Option ValType)) (slot : ValType) (others : List ValType) → map requirement_type (parameter_requirements (context_of w labels) true (slot ∷ others)) ≡ reverse (slot ∷ others)
 slot_types w labels slot others =
     let last = known (context_of w labels) slot IsSlot in
-    let apart : map want_type (map want.Value (reverse others) ++ last ∷ []) ≡ map want_type (map want.Value (reverse others)) ++ want_type last ∷ [] = map-append want_type (map want.Value (reverse others)) (last ∷ []) in
-    let first : map want_type (map want.Value (reverse others)) ++ want_type last ∷ [] ≡ reverse others ++ want_type last ∷ [] = ap (λ us. us ++ want_type last ∷ []) (value_types (reverse others)) in
-    let second : reverse others ++ want_type last ∷ [] ≡ reverse others ++ slot ∷ [] = ap (λ u. reverse others ++ u ∷ []) (if_type (asks_of w.asks IsSlot) slot IsSlot) in
+    let apart : map requirement_type (map requirement.Value (reverse others) ++ last ∷ []) ≡ map requirement_type (map requirement.Value (reverse others)) ++ requirement_type last ∷ [] = map-append requirement_type (map requirement.Value (reverse others)) (last ∷ []) in
+    let first : map requirement_type (map requirement.Value (reverse others)) ++ requirement_type last ∷ [] ≡ reverse others ++ requirement_type last ∷ [] = ap (λ us. us ++ requirement_type last ∷ []) (value_types (reverse others)) in
+    let second : reverse others ++ requirement_type last ∷ [] ≡ reverse others ++ slot ∷ [] = ap (λ u. reverse others ++ u ∷ []) (if_type (asks_of w.asks IsSlot) slot IsSlot) in
     let turned : reverse (slot ∷ others) ≡ reverse others ++ slot ∷ [] = reverse-append (slot ∷ []) others in
     apart ∙ (first ∙ (second ∙ sym turned))
 
@@ -284,24 +284,24 @@ last_alone : (o : Option (List Operand)) → option_and_then (λ q. Some q) o �
 last_alone None = refl
 last_alone (Some q) = refl
 
-pub slot_taken : (w : Where) (labels : List (Option ValType)) (slot : ValType) (others : List ValType) (s : List Operand) → take_each (memory_bytes w.«module») (map demand_of (parameter_wants (context_of w labels) true (slot ∷ others))) s ≡ take_one (memory_bytes w.«module») (asked w.asks slot IsSlot) (forget_each others s)
+pub slot_taken : (w : Where) (labels : List (Option ValType)) (slot : ValType) (others : List ValType) (s : List Operand) → take_each (memory_bytes w.«module») (map demand_of (parameter_requirements (context_of w labels) true (slot ∷ others))) s ≡ take_one (memory_bytes w.«module») (asked w.asks slot IsSlot) (forget_each others s)
 slot_taken w labels slot others s =
     let bytes = memory_bytes w.«module» in
     let last = known (context_of w labels) slot IsSlot in
     let one = asked w.asks slot IsSlot in
-    let front : take_each bytes (map demand_of (map want.Value (reverse others) ++ last ∷ [])) s ≡ take_each bytes (demand_of last ∷ []) (forget_each (reverse others) s) = values_then bytes (reverse others) (last ∷ []) s in
+    let front : take_each bytes (map demand_of (map requirement.Value (reverse others) ++ last ∷ [])) s ≡ take_each bytes (demand_of last ∷ []) (forget_each (reverse others) s) = values_then bytes (reverse others) (last ∷ []) s in
     let same : take_each bytes (demand_of last ∷ []) (forget_each (reverse others) s) ≡ take_each bytes (one ∷ []) (forget_each (reverse others) s) = ap (λ d. take_each bytes (d ∷ []) (forget_each (reverse others) s)) (if_demand (asks_of w.asks IsSlot) slot IsSlot) in
     let turned : take_each bytes (one ∷ []) (forget_each (reverse others) s) ≡ take_each bytes (one ∷ []) (forget_each others s) = ap (λ q. take_each bytes (one ∷ []) q) (either_way others s) in
     front ∙ (same ∙ (turned ∙ last_alone (take_one bytes one (forget_each others s))))
 
-slot_known : (w : Where) (labels : List (Option ValType)) (slot : ValType) (others : List ValType) (u : Option ValType) (from mid : List ValType) (s r : List Operand) (later : List Kind) → valid.Changes (reverse (slot ∷ others)) (valid.operands_of u) from mid → take_one (memory_bytes w.«module») (asked w.asks slot IsSlot) (forget_each others s) ≡ Some r → Later mid later (unknowns u ++ r) → Before from s (Changes (context_of w labels) (parameter_wants (context_of w labels) true (slot ∷ others)) (kinds u)) later
+slot_known : (w : Where) (labels : List (Option ValType)) (slot : ValType) (others : List ValType) (u : Option ValType) (from mid : List ValType) (s r : List Operand) (later : List Kind) → valid.Changes (reverse (slot ∷ others)) (valid.operands_of u) from mid → take_one (memory_bytes w.«module») (asked w.asks slot IsSlot) (forget_each others s) ≡ Some r → Later mid later (unknowns u ++ r) → Before from s (Changes (context_of w labels) (parameter_requirements (context_of w labels) true (slot ∷ others)) (kinds u)) later
 slot_known w labels slot others u from mid s r later h e l =
-    changes_known (context_of w labels) (parameter_wants (context_of w labels) true (slot ∷ others)) (kinds u) (reverse (slot ∷ others)) (valid.operands_of u) from mid s r later (slot_types w labels slot others) (result_types u) h (slot_taken w labels slot others s ∙ e) (subst (λ (os : List Operand). Later mid later (os ++ r)) (sym (kinds_unknown u)) l)
+    changes_known (context_of w labels) (parameter_requirements (context_of w labels) true (slot ∷ others)) (kinds u) (reverse (slot ∷ others)) (valid.operands_of u) from mid s r later (slot_types w labels slot others) (result_types u) h (slot_taken w labels slot others s ∙ e) (subst (λ (os : List Operand). Later mid later (os ++ r)) (sym (kinds_unknown u)) l)
 
 some_same : {A : Type 0} {a b : A} → Some a ≡ Some b → a ≡ b
 some_same e = cc
 
-parameters_sound : (w : Where) (labels : List (Option ValType)) (b : Bool) (ps : List ValType) (u : Option ValType) (from mid : List ValType) (s r : List Operand) (later : List Kind) → valid.Changes (reverse ps) (valid.operands_of u) from mid → take_parameters (setting_of w.asks w.«module») b ps s ≡ Some r → Later mid later (unknowns u ++ r) → Before from s (Changes (context_of w labels) (parameter_wants (context_of w labels) b ps) (kinds u)) later
+parameters_sound : (w : Where) (labels : List (Option ValType)) (b : Bool) (ps : List ValType) (u : Option ValType) (from mid : List ValType) (s r : List Operand) (later : List Kind) → valid.Changes (reverse ps) (valid.operands_of u) from mid → take_parameters (setting_of w.asks w.«module») b ps s ≡ Some r → Later mid later (unknowns u ++ r) → Before from s (Changes (context_of w labels) (parameter_requirements (context_of w labels) b ps) (kinds u)) later
 parameters_sound w labels false ps u from mid s r later h e l =
     let same : forget_each (reverse ps) s ≡ r = either_way ps s ∙ some_same e in
     values_known (context_of w labels) (reverse ps) u from mid s later h (subst (λ (q : List Operand). Later mid later (unknowns u ++ q)) (sym same) l)

@@ -13,7 +13,7 @@ use Rattle.bounded_profile.specs.declared.constants.asks.Asks.{Asks}
 use Rattle.bounded_profile.specs.declared.constants.asks.Asks.TheVariants.{Addresses, Divisors, Slots, All}
 use Rattle.bounded_profile.specs.declared.constants.fault.ConstantsFault.{ConstantsFault}
 use Rattle.bounded_profile.specs.declared.constants.fault.ConstantsFault.TheVariants as fault
-use Rattle.bounded_profile.specs.inside.ConstantsFaults.{Says, Settles}
+use Rattle.bounded_profile.specs.inside.ConstantsFaults.{Says, SettlesConstants}
 use Rattle.bounded_profile.specs.Kinds.{kinds}
 use Rattle.bounded_profile.specs.Known.{FunctionKnown, ConstantsKnown}
 use Rattle.bounded_profile.specs.Profile.{NoUnreachable, NothingAfterBranches, asks_addresses, asks_divisors, asks_slots, asks_all}
@@ -24,7 +24,7 @@ use Rattle.bounded_profile.proofs.KnownComplete.{complete}
 use Rattle.bounded_profile.proofs.KnownFewer.{all_pass_too}
 use Rattle.bounded_profile.proofs.KnownTogether.{IsOne, all_pass_together}
 
--- where the body of a function of this type stands
+-- the context of the body of a function of this type
 abbrev where_of : Asks → Module → Function → FuncType → Where
 where_of a m f t = record { asks = a; «module» = m; locals = t.parameters ++ f.locals; outcome = first_type t.results }
 
@@ -51,12 +51,12 @@ all_pass a m (f ∷ fs) v l h = (function_passes a m f v.0 l.0 h.0, all_pass a m
 
 -- ---- answers
 
-pub accepted : (a : Asks) (m n : Module) (r : Result (Unit {0}) ConstantsFault) → n ≡ m → AllByRecursion (FunctionTyped (spaces_of m)) m.functions → Settles (AllByRecursion (Passes (setting_of a n)) n.functions) r → OnOk r (ConstantsKnown (asks_of a) m)
+pub accepted : (a : Asks) (m n : Module) (r : Result (Unit {0}) ConstantsFault) → n ≡ m → AllByRecursion (FunctionTyped (spaces_of m)) m.functions → SettlesConstants (AllByRecursion (Passes (setting_of a n)) n.functions) r → OnOk r (ConstantsKnown (asks_of a) m)
 accepted a m n (Ok u) e t h =
     all_known a m m.functions t (subst (λ (x : Module). AllByRecursion (Passes (setting_of a x)) x.functions) e h)
 accepted a m n (Err f) e t h = tt
 
-pub refused : (a : Asks) (m n : Module) (r : Result (Unit {0}) ConstantsFault) → n ≡ m → NoUnreachable m → NothingAfterBranches m → Settles (AllByRecursion (Passes (setting_of a n)) n.functions) r → ConstantsKnown (asks_of a) m → IsOkUnless r fault.OutOfMemory
+pub refused : (a : Asks) (m n : Module) (r : Result (Unit {0}) ConstantsFault) → n ≡ m → NoUnreachable m → NothingAfterBranches m → SettlesConstants (AllByRecursion (Passes (setting_of a n)) n.functions) r → ConstantsKnown (asks_of a) m → IsOkUnless r fault.OutOfMemory
 refused a m n (Ok u) e v l h k = tt
 refused a m n (Err fault.OutOfMemory) e v l h k = refl
 refused a m n (Err (fault.Breaks place)) e v l h k =
@@ -77,14 +77,14 @@ together m t v l addresses divisors slots = all_known All m m.functions t (all_p
     each All o = absurd o
 
 -- a function of this type, by the answer for its body
-pub settled : (t : Setting) (f : Function) (u : FuncType) (outcome : Option ValType) (labels : List (Option ValType)) (r : Result (Unit {0}) ConstantsFault) → slice_get t.types f.type_number ≡ Some u → outcome ≡ first_type u.results → labels ≡ [] → Says (check f.body t (outcome ∷ reverse labels) []) r → Settles (Passes t f) r
+pub settled : (t : Setting) (f : Function) (u : FuncType) (outcome : Option ValType) (labels : List (Option ValType)) (r : Result (Unit {0}) ConstantsFault) → slice_get t.types f.type_number ≡ Some u → outcome ≡ first_type u.results → labels ≡ [] → Says (check f.body t (outcome ∷ reverse labels) []) r → SettlesConstants (Passes t f) r
 settled t f u outcome labels r e o l h =
     by_answer r (subst (λ (g : Option ValType). Says (check f.body t (g ∷ []) []) r) o (subst (λ (ls : List (Option ValType)). Says (check f.body t (outcome ∷ reverse ls) []) r) l h))
   where
     passes : Passes t f → check f.body t (first_type u.results ∷ []) [] ≡ true
     passes p = subst (λ (o : Option FuncType). holds_then o (λ (v : FuncType). check f.body t (first_type v.results ∷ []) []) ≡ true) e p
 
-    by_answer : (r : Result (Unit {0}) ConstantsFault) → Says (check f.body t (first_type u.results ∷ []) []) r → Settles (Passes t f) r
+    by_answer : (r : Result (Unit {0}) ConstantsFault) → Says (check f.body t (first_type u.results ∷ []) []) r → SettlesConstants (Passes t f) r
     by_answer (Ok x) h = subst (λ (o : Option FuncType). holds_then o (λ (v : FuncType). check f.body t (first_type v.results ∷ []) []) ≡ true) (sym e) h
     by_answer (Err fault.OutOfMemory) h = tt
     by_answer (Err (fault.Breaks place)) h = λ p. let g = passes p in absurd (cc (g, h))

@@ -29,8 +29,8 @@ use Rattle.bounded_profile.specs.Facts.{IsHeightAt}
 use Rattle.bounded_profile.specs.Profile.{SizeWithin}
 use Rattle.bounded_profile.specs.Heights.{after, peak, peak_in, AreHeights}
 use Rattle.bounded_profile.specs.inside.Levels.{AreTold, AreToldBelow}
-use Rattle.bounded_profile.specs.inside.Climbs.{ground_level, height_at, with_code}
-use Rattle.bounded_profile.proofs.Climbing.{parts, weaker, bounded, IsKnown, climbs}
+use Rattle.bounded_profile.specs.inside.StackHeights.{ground_level, height_at, with_code}
+use Rattle.bounded_profile.proofs.StackHeights.{parts, weaker, bounded, IsKnown, exact_height}
 
 -- ---- lists of functions
 
@@ -134,11 +134,11 @@ module _ (m : Module) (rank : ℕ → ℕ) (falls : (f g : ℕ) → Calls (calle
         let i = bounded_in (body_of m f) (weaker (λ g. rank g < rank f) (λ g. heights g ≤ sizes g) (λ g b. small_below n g (omega (arith, b, h))) (callees m f) (below f)) in
         omega (arith, d, e, i)
 
-    -- a function's operands stand no higher than its size
+    -- the stack of a function is no higher than its size
     pub small : (f : ℕ) → heights f ≤ sizes f
     small f = small_below (suc (rank f)) f (omega arith)
 
-    -- the height along the body of a function, where those of lower rank are told
+    -- the height along the body of a function, where those of lower ranks are in the table
     pub told_at : (told : List ℕ) (f : ℕ) (c : Code) → body_of m f ≡ Some c → sizes f ≤ max_size → ((g : ℕ) → rank g < rank f → sizes g ≤ max_size → height_at told g ≡ heights g) → (with_code (arity_table m) told ground_level c).most ≡ heights f
     told_at told f c is h t =
         let d : heights f ≡ peak m heights c 0 = high f ∙ ap (peak_in m heights) is in
@@ -146,7 +146,7 @@ module _ (m : Module) (rank : ℕ → ℕ) (falls : (f g : ℕ) → Calls (calle
         let lower = subst (λ b. AllByRecursion (λ g. rank g < rank f) (calls_in b)) is (below f) in
         let less = calls_small m sizes max_size c (omega (arith, e, h)) in
         let known = weaker (λ g. (rank g < rank f) × (sizes g ≤ max_size)) (IsKnown m heights sizes narrow told) (λ g b. (t g b.0 b.1, small g)) (calls_of c) (both (λ g. rank g < rank f) (λ g. sizes g ≤ max_size) (calls_of c) lower less) in
-        let i = climbs m heights sizes narrow told c known (omega (arith, e, h)) in
+        let i = exact_height m heights sizes narrow told c known (omega (arith, e, h)) in
         omega (arith, d, i)
 
 -- ---- functions by number

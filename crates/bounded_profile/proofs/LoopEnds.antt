@@ -106,7 +106,7 @@ followed_code : (is next : List Instr) → code_of (is ++ next) ≡ followed (co
 followed_code [] next = refl
 followed_code (i ∷ is) next = ap (then_code i) (followed_code is next) ∙ then_followed i (code_of is) (code_of next)
 
--- the last two, and those before them, are the same however they are told apart
+-- the last two, and those before them, are the same however they are matched
 same_two : (xs ys : List Instr) (a b c d : Instr) → xs ++ a ∷ b ∷ [] ≡ ys ++ c ∷ d ∷ [] → (xs ≡ ys) × (a ≡ c) × (b ≡ d)
 same_two [] [] a b c d e = (refl, cc, cc)
 same_two [] (y ∷ []) a b c d e = absurd cc

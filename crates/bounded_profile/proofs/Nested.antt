@@ -1,4 +1,4 @@
--- Code within the limits on nesting, in which labels are counted in 32 bits.
+-- Code within the limit on blocks inside each other, in which labels are counted in 32 bits.
 use Rattle.std.proofs.Common.{◌≡◌, ◌↔◌, ◌⊎◌, inl, inr, ℕ, zero, suc, ◌+◌, ◌-◌, ◌^◌, ◌<◌, ◌≤◌, List, [], ◌∷◌, length, get_or, take, drop, Option, subst, arith}
 use Rattle.wasm_ast.specs.declared.types.ValType.{ValType}
 use Rattle.wasm_ast.specs.declared.body.Instr.{Instr}

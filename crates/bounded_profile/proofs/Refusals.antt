@@ -1,4 +1,4 @@
--- What follows from a refusal, and from the lack of one.
+-- What follows from an error, and from the lack of one.
 use Rattle.std.proofs.Common.{◌≡◌, ℕ, refl, sym, subst}
 use Rattle.wasm_ast.specs.declared.module.Module.{Module}
 use Rattle.validate.specs.Modules.{IsTyped}
@@ -17,7 +17,7 @@ use Rattle.bounded_profile.specs.inside.Stages.{PartsHold, ShapesHold, CallsHold
 use Rattle.bounded_profile.proofs.Computing.{one_number}
 use Rattle.bounded_profile.proofs.KnownVerdict.{fewer}
 
--- where what a rule asks is denied, the module is refused
+-- where the error denies a rule, it is right
 pub refused_rule : (m : Module) (rule : ProfileRule) (e : ProfileFault) (p : Type 0) → (KeepsRule rule m → p) → Denies rule e p → Refuses m e
 refused_rule m rule (fault.Breaks told place) p f d = λ k. d.1 (f (subst (λ r. KeepsRule r m) d.0 k))
 refused_rule m rule (fault.Cycle functions) p f d = absurd d
@@ -45,7 +45,7 @@ keeps m rule.P12 t b = b.acyclic
 keeps m rule.P13 t b = fewer Slots m t.bodies b.reached b.ordered b.constants
 keeps m rule.P14 t b = λ compute. subst (SizeWithin m) (one_number m t.names b.compute compute) b.size
 
--- and so is refused for want of memory alone
+-- so its only error is that an allocation failed
 pub only_memory : (m : Module) (e : ProfileFault) → IsTyped m → Refuses m e → IsBounded m → e ≡ fault.OutOfMemory
 only_memory m (fault.Breaks told place) t r b = absurd (r (keeps m told t b))
 only_memory m (fault.Cycle functions) t r b = absurd (b.acyclic functions.items r.0)

@@ -3,18 +3,18 @@ use Rattle.std.proofs.Common.{◌≡◌, List, ◌∙◌, sym, subst}
 use Rattle.wasm_ast.specs.declared.module.Module.{Module}
 use Rattle.host_calls.specs.declared.imports.HostCall.{HostCall}
 use Rattle.bounded_profile.specs.declared.facts.Facts.{Facts}
-use Rattle.bounded_profile.specs.declared.spans.Span.{Span}
+use Rattle.bounded_profile.specs.declared.extents.Extent.{Extent}
 use Rattle.bounded_profile.specs.declared.tables.Tables.{Tables}
 use Rattle.bounded_profile.specs.Facts.{AreFacts}
 use Rattle.bounded_profile.specs.Hosts.{AreHostCalls}
-use Rattle.bounded_profile.specs.inside.Marks.{TellReached}
+use Rattle.bounded_profile.specs.inside.Footprint.{TellReached}
 use Rattle.bounded_profile.specs.inside.Tables.{AreTables}
 
 -- tables with the same contents are of the same module
-pub same_tables : (m : Module) (t u : Tables) → u.facts ≡ t.facts → u.calls.items ≡ t.calls.items → u.cells.items ≡ t.cells.items → u.spans.items ≡ t.spans.items → AreTables m t → AreTables m u
-same_tables m t u facts calls cells spans tables = record {
+pub same_tables : (m : Module) (t u : Tables) → u.facts ≡ t.facts → u.calls.items ≡ t.calls.items → u.cells.items ≡ t.cells.items → u.extents.items ≡ t.extents.items → AreTables m t → AreTables m u
+same_tables m t u facts calls cells extents tables = record {
   facts = subst (λ (told : Facts). AreFacts m told) (sym facts) tables.facts;
   calls = subst (λ (told : List HostCall). AreHostCalls m told) (sym calls) tables.calls;
   cells = cells ∙ tables.cells;
-  spans = subst (λ (told : List Span). TellReached m told) (sym spans) tables.spans;
+  extents = subst (λ (told : List Extent). TellReached m told) (sym extents) tables.extents;
 }

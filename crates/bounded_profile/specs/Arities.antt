@@ -44,23 +44,23 @@ plain_arity (plain.Numeric op) = numeric_arity op
 plain_arity (plain.Variable op) = variable_arity op
 plain_arity (plain.Memory op) = memory_arity op
 
--- a branch that is always taken leaves the operands as they stand: nothing comes after it
+-- nothing comes after a branch that is always taken, so it counts as taking and giving nothing
 abbrev pub branch_arity : Branch → Arity
 branch_arity (branch.Br l) = arity 0 0
 branch_arity (branch.BrIf l) = arity 1 0
 branch_arity (branch.BrTable ls l) = arity 0 0
 branch_arity branch.Return = arity 0 0
 
--- how many operands a block of the type gives
+-- the number of results of a block of the type
 abbrev pub result_count : Option ValType → ℕ
 result_count None = 0
 result_count (Some t) = 1
 
--- a block, loop or `if` of the type, when it is left
+-- a whole block, loop or `if` of the type
 abbrev pub block_arity : Option ValType → Arity
 block_arity t = arity 0 (result_count t)
 
--- the test of an `if`
+-- the condition of an `if`
 abbrev pub test_arity : Arity
 test_arity = arity 1 0
 
@@ -68,7 +68,7 @@ abbrev pub type_arity : Option FuncType → Arity
 type_arity None = arity 0 0
 type_arity (Some t) = arity (length t.parameters) (length t.results)
 
--- what a call of each function takes and gives
+-- the arity of a call of each function, imports first
 abbrev pub arity_table : Module → List Arity
 arity_table m = map (λ n. type_arity (slice_get m.types n)) (spaces_of m).functions
 
@@ -79,6 +79,6 @@ known_arity (Some a) = a
 abbrev pub arity_at : List Arity → ℕ → Arity
 arity_at table f = known_arity (slice_get table f)
 
--- what a call of the function with this number takes and gives
+-- the arity of a call of the function with this number
 abbrev pub call_arity : Module → ℕ → Arity
 call_arity m f = arity_at (arity_table m) f

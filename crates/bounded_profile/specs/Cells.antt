@@ -1,5 +1,5 @@
--- What the frame of a function holds (Core 1.0, 4.2.12): its locals, the parameters among them (4.4.7), and its own
--- operands. Numbers of functions count the imports first (2.5.1).
+-- The contents of a function's frame (Core 1.0, 4.2.12): its locals, with the parameters among them (4.4.7), and its
+-- own operands. Function numbers count the imports first (2.5.1).
 use Rattle.std.specs.Prelude.{ℕ, ◌+◌, ◌-◌, ◌<◌, ◌≤◌, List, length, map, min, slice_get, Option, Some, None}
 use Rattle.wasm_ast.specs.declared.module.Function.{Function}
 use Rattle.wasm_ast.specs.declared.module.Module.{Module}
@@ -23,31 +23,31 @@ locals_in m (Some f) = parameters_of m.types f.type_number + length f.locals
 abbrev pub locals_at : Module → ℕ → ℕ
 locals_at m f = locals_in m (slice_get m.functions (f - imported_functions m.imports))
 
--- a function that is called adds no operands to those of its caller but the ones that it gives
+-- a callee adds only its results to the operands of its caller
 abbrev pub no_heights : ℕ → ℕ
 no_heights f = 0
 
--- how high the function's own operands stand at most, those under each block counted
+-- the greatest height of the function's own operand stack, with the operands under each block
 abbrev pub own_height : Module → ℕ → ℕ
 own_height m f = peak_in m no_heights (body_of m f)
 
--- the greatest number of cells that is told
+-- the greatest count that is returned
 abbrev pub most_told : ℕ
 most_told = 4294967295
 
--- a call of `compute` may run the function: it is `compute`, or `compute` calls it, at once or by way of others
+-- a call of `compute` may run the function: it is `compute`, or `compute` calls it, directly or through others
 pub record MayRun (m : Module) (f : ℕ) : Type 0 where
   pub compute : HasCompute m
   pub path : List ℕ
   pub leads : Leads (callees m) compute.number path f
 
--- what is told of a function
+-- the cells of a function
 abbrev pub cells_of : Module → Function → Cells
 cells_of m f = record {
   locals = locals_in m (Some f);
   operands = min (peak m no_heights f.body 0) most_told;
 }
 
--- what is told of each function that the module defines
+-- the cells of each function that the module defines
 abbrev pub cells_table : Module → List Cells
 cells_table m = map (cells_of m) m.functions

@@ -1,4 +1,4 @@
--- What is told of a module in the bounded profile beside the module.
+-- What is known of a module in the bounded profile besides the module.
 use Rattle.std.specs.Prelude.{◌≡◌, ℕ}
 use Rattle.wasm_ast.specs.declared.module.Module.{Module}
 use Rattle.cost.specs.Calls.{body_of}
@@ -8,23 +8,23 @@ use Rattle.bounded_profile.specs.Heights.{AreHeights}
 use Rattle.bounded_profile.specs.Profile.{HasCompute}
 use Rattle.bounded_profile.specs.declared.facts.Facts.{Facts}
 
--- the size of the function, its calls unfolded
+-- the size of the function with calls inlined, in units
 abbrev pub IsSizeAt : Module → ℕ → ℕ → Type 0
 IsSizeAt m function size = (sizes : ℕ → ℕ) × AreSizes m sizes × (sizes function ≡ size)
 
--- the size of `compute`, its calls unfolded
+-- the size of `compute` with calls inlined, in units
 abbrev pub IsSizeOfCompute : Module → ℕ → Type 0
 IsSizeOfCompute m size = (compute : HasCompute m) → IsSizeAt m compute.number size
 
--- one more than the deepest of those that each function calls; 0 for an imported function
+-- one more than the deepest function that each function calls; 0 for an imported function
 abbrev pub AreDepths : Module → (ℕ → ℕ) → Type 0
 AreDepths m depths = (f : ℕ) → depths f ≡ height depths (body_of m f)
 
--- how many functions the longest chain of calls has that begins with the function
+-- the length of the longest chain of calls that begins with the function
 abbrev pub IsDepthAt : Module → ℕ → ℕ → Type 0
 IsDepthAt m function depth = (depths : ℕ → ℕ) × AreDepths m depths × (depths function ≡ depth)
 
--- the greatest height of the operands in a call of the function
+-- the greatest height of the operand stack in a call of the function
 abbrev pub IsHeightAt : Module → ℕ → ℕ → Type 0
 IsHeightAt m function most = (heights : ℕ → ℕ) × AreHeights m heights × (heights function ≡ most)
 

@@ -1,4 +1,4 @@
--- How a module that is not in the bounded profile is told: the rule's word and the place, or the cycle.
+-- The printed form of an error: the word of the rule and the place, or the cycle.
 use Rattle.std.specs.Prelude.{ℕ, List, ◌++◌, codes}
 use Rattle.std.specs.List.{flat_map}
 use Rattle.std.specs.Fmt.{decimal}
@@ -27,11 +27,11 @@ rule_word rule.P14 = codes "P14"
 abbrev pub after_blank : ℕ → List ℕ
 after_blank number = codes " " ++ decimal number
 
--- the numbers of functions that call each other
+-- the numbers of functions that call each other in a cycle
 abbrev pub cycle_text : List ℕ → List ℕ
 cycle_text functions = codes "P12" ++ flat_map after_blank functions
 
--- the rule that is broken and the place that breaks it, or the cycle, or want of memory
+-- the broken rule and its place, or the cycle, or that an allocation failed
 abbrev pub fault_text : ProfileFault → List ℕ
 fault_text (fault.Breaks broken place) = rule_word broken ++ codes " " ++ place_text place
 fault_text (fault.Cycle functions) = cycle_text functions.items

@@ -1,4 +1,4 @@
--- What a refusal says.
+-- What an error says.
 use Rattle.std.specs.Prelude.{◌≡◌, ℕ, List, Result, MatchResult}
 use Rattle.wasm_ast.specs.declared.module.Module.{Module}
 use Rattle.cost.specs.declared.fault.CostFault.{CostFault}
@@ -29,33 +29,34 @@ KeepsRule rule.P12 m = NoCycles m
 KeepsRule rule.P13 m = ConstantsKnown asks_slots m
 KeepsRule rule.P14 m = (compute : HasCompute m) → SizeWithin m compute.number
 
--- this rule, other than P12, is refused: but for want of memory that means that p is false
+-- an error about this rule, other than P12: p is false, unless an allocation failed
 abbrev pub Denies : ProfileRule → ProfileFault → Type 0 → Type 0
 Denies rule (fault.Breaks told place) p = (told ≡ rule) × (p → ⊥)
 Denies rule (fault.Cycle functions) p = ⊥
 Denies rule fault.OutOfMemory p = Unit {0}
 
--- whether p holds, where this rule asks it
+-- decides p, which is what this rule requires
 abbrev pub Settles : ProfileRule → Type 0 → Result (Unit {0}) ProfileFault → Type 0
 Settles rule p r = MatchResult r (λ _. p) (λ e. Denies rule e p)
 
--- the functions call each other in a cycle, which begins with its least number; `calls` gives what each function calls
+-- the functions call each other in a cycle, which begins with its least number; `calls` lists what each function
+-- calls
 abbrev pub IsToldCycle : (ℕ → List ℕ) → List ℕ → Type 0
 IsToldCycle calls xs = IsCycle calls xs × LeastFirst xs
 
--- P12 is refused
+-- an error about P12: it names a cycle, unless an allocation failed
 abbrev pub ShowsCycle : (ℕ → List ℕ) → ProfileFault → Type 0
 ShowsCycle calls (fault.Breaks rule place) = ⊥
 ShowsCycle calls (fault.Cycle functions) = IsToldCycle calls functions.items
 ShowsCycle calls fault.OutOfMemory = Unit {0}
 
--- the module is refused, rightly: it does not keep the rule that is told
+-- the error is right: the module does not keep the rule that it names
 abbrev pub Refuses : Module → ProfileFault → Type 0
 Refuses m (fault.Breaks rule place) = KeepsRule rule m → ⊥
 Refuses m (fault.Cycle functions) = IsToldCycle (callees m) functions.items
 Refuses m fault.OutOfMemory = Unit {0}
 
--- why functions have no ranks
+-- the error where functions have no ranks
 abbrev pub cost_fault : CostFault → ProfileFault
 cost_fault (cost.Cycle functions) = fault.Cycle functions
 cost_fault cost.OutOfMemory = fault.OutOfMemory

@@ -1,5 +1,5 @@
--- How many operands stand in a call of a function, its calls unfolded (Core 1.0, 4.2.12): those of each function that
--- runs, and those under each block.
+-- The height of the operand stack in a call of a function (Core 1.0, 4.2.12). It counts the operands of all active
+-- functions, and those under each block.
 use Rattle.std.specs.Prelude.{◌≡◌, ℕ, ◌+◌, ◌-◌, max, Option, Some, None}
 use Rattle.wasm_ast.specs.declared.module.Module.{Module}
 use Rattle.wasm_ast.specs.Code.{Code}
@@ -8,13 +8,13 @@ use Rattle.cost.specs.Calls.{body_of}
 use Rattle.bounded_profile.specs.declared.arity.Arity.{Arity}
 use Rattle.bounded_profile.specs.Arities.{plain_arity, branch_arity, call_arity, block_arity, test_arity}
 
--- how many stand after an instruction
+-- the height after an instruction
 abbrev pub after : Arity → ℕ → ℕ
 after a here = here - a.takes + a.gives
 
--- The greatest height in code that begins with so many operands; `heights` tells that of a call of each function, which
--- stands on the operands that are left without the arguments. Those under a block stand while it runs.
--- There are no calls through a table.
+-- The greatest height in code that begins with this many operands. `heights` is the greatest height in a call of each
+-- function, which begins on the operands below its arguments. The operands under a block stay while it runs. There
+-- are no calls through a table.
 abbrev pub peak : Module → (ℕ → ℕ) → Code → ℕ → ℕ
 peak m heights code.end here = here
 peak m heights (code.plain p rest) here = max here (peak m heights rest (after (plain_arity p) here))

@@ -9,7 +9,7 @@ use Rattle.wasm_ast.specs.Limits.{is_function}
 use Rattle.host_calls.specs.declared.imports.HostCall.{HostCall}
 use Rattle.host_calls.specs.Imports.{BringsIn, call_of}
 
--- the import is a function of module `pregel` by its name and its type
+-- the import is a function of module `pregel`, by its name and type
 pub record IsHostImport (m : Module) (i : Import) : Type 0 where
   pub host_call : HostCall
   pub type_number : ℕ
@@ -18,7 +18,7 @@ pub record IsHostImport (m : Module) (i : Import) : Type 0 where
   pub typed : slice_get m.types type_number ≡ Some function_type
   pub brings_in : BringsIn i.«module» i.name function_type host_call
 
--- the host's function with this number, by the import's names
+-- the host's function with this number, by the names of the import
 abbrev pub host_call_at : Module → ℕ → Option HostCall
 host_call_at m f = option_and_then call_of (slice_get (filter is_function m.imports) f)
 
@@ -26,7 +26,7 @@ host_call_at m f = option_and_then call_of (slice_get (filter is_function m.impo
 abbrev pub host_table : Module → List (Option HostCall)
 host_table m = map call_of (filter is_function m.imports)
 
--- these are the host's functions that the module imports, in order: each imported function is one of them
+-- these are the host's functions that the module imports, in order; each imported function is one of them
 abbrev pub AreHostCalls : Module → List HostCall → Type 0
 AreHostCalls m calls = host_table m ≡ map Some calls
 

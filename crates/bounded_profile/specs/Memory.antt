@@ -19,7 +19,7 @@ use Rattle.wasm_ast.specs.Code as code
 abbrev pub page : ℕ
 page = 65536
 
--- the pages that a memory may begin with
+-- the greatest minimum of a memory, in pages
 abbrev pub max_minimum : ℕ
 max_minimum = 16
 
@@ -27,7 +27,7 @@ abbrev pub bytes_of : List Limits → ℕ
 bytes_of [] = 0
 bytes_of (l ∷ ls) = page * l.minimum
 
--- how many bytes there are: a memory stays at its minimum where nothing grows it
+-- the bytes of the memory; it stays at its minimum, since nothing grows it
 abbrev pub memory_bytes : Module → ℕ
 memory_bytes m = bytes_of m.memories
 
@@ -38,7 +38,7 @@ abbrev pub number_of : Value → ℕ
 number_of (value.I32 n) = n
 number_of (value.I64 n) = n
 
--- the number that an initialiser gives, where it is a constant
+-- the value of an initializer, where it is a constant
 abbrev pub plain_number : Plain → Option ℕ
 plain_number (plain.Const v) = Some (number_of v)
 plain_number _ = None
@@ -47,7 +47,7 @@ abbrev pub initial_number : Code → Option ℕ
 initial_number (code.plain p rest) = plain_number p
 initial_number _ = None
 
--- the number that an offset gives: a constant, or what a global begins with
+-- the value of an offset: a constant, or the initial value of a global
 abbrev pub variable_number : Module → Variable → Option ℕ
 variable_number m (variable.GlobalGet x) =
     option_and_then (λ (g : Global). initial_number g.initial) (slice_get m.globals x)
@@ -62,7 +62,7 @@ abbrev pub offset_number : Module → Code → Option ℕ
 offset_number m (code.plain p rest) = plain_offset m p
 offset_number m _ = None
 
--- the bytes lie in the memory
+-- the segment is within the initial memory
 abbrev pub DataWithin : Module → Data → Type 0
 DataWithin m d = (n : ℕ) × (offset_number m d.offset ≡ Some n) × (n + length d.bytes ≤ memory_bytes m)
 

@@ -1,4 +1,4 @@
--- Modules of which each call ends within a bound that can be told beforehand.
+-- The bounded profile: modules whose every call ends within a bound that is known before the call.
 use Rattle.std.specs.Prelude.{◌≡◌, ℕ, ◌-◌, ◌≤◌, Bool, true, false, [], slice_get, Contains, Some, None, codes}
 use Rattle.std.specs.List.{AllByRecursion}
 use Rattle.wasm_ast.specs.declared.types.FuncType.{FuncType}
@@ -11,14 +11,14 @@ use Rattle.wasm_ast.specs.Limits.{imported_functions}
 use Rattle.cost.specs.Calls.{callees}
 use Rattle.cost.specs.Cycles.{Acyclic}
 use Rattle.cost.specs.Sizes.{AreSizes, max_size}
-use Rattle.bounded_profile.specs.declared.wants.Premise.{Premise}
-use Rattle.bounded_profile.specs.declared.wants.Premise.TheVariants.{Reaches, Divides, DividesSigned, IsSlot}
+use Rattle.bounded_profile.specs.declared.requirements.Premise.{Premise}
+use Rattle.bounded_profile.specs.declared.requirements.Premise.TheVariants.{Reaches, Divides, DividesSigned, IsSlot}
 use Rattle.bounded_profile.specs.Hosts.{IsHostImport, host_call_at}
 use Rattle.bounded_profile.specs.Known.{ConstantsKnown}
 use Rattle.bounded_profile.specs.Memory.{MinimumsWithin, SegmentsWithin}
 use Rattle.bounded_profile.specs.Shapes.{Everywhere, NotIndirect, NotUnreachable, NotGrow, LastIfBranch, LoopTakes}
 
--- P1: each import is a function of the host
+-- P1: each import is a function of the host, with its type
 abbrev pub ImportsHostCalls : Module → Type 0
 ImportsHostCalls m = AllByRecursion (IsHostImport m) m.imports
 
@@ -29,11 +29,11 @@ compute_export f = record { name = codes "compute"; description = export.Functio
 abbrev pub plain_type : FuncType
 plain_type = record { parameters = []; results = [] }
 
--- the function is of no parameters and no results
+-- the function has no parameters and no results
 abbrev pub HasPlainType : Module → Function → Type 0
 HasPlainType m function = slice_get m.types function.type_number ≡ Some plain_type
 
--- P2: `compute` is a function that the module defines, of no parameters and no results
+-- P2: `compute` is a function that the module defines, without parameters and results
 pub record HasCompute (m : Module) : Type 0 where
   pub number : ℕ
   pub function : Function
@@ -42,43 +42,43 @@ pub record HasCompute (m : Module) : Type 0 where
   pub defined : slice_get m.functions (number - imported_functions m.imports) ≡ Some function
   pub typed : HasPlainType m function
 
--- P3
+-- P3: there is no start function
 abbrev pub NoStart : Module → Type 0
 NoStart m = m.start ≡ None
 
--- P4
+-- P4: there are no elements
 abbrev pub NoElements : Module → Type 0
 NoElements m = m.elements ≡ []
 
 abbrev pub EachBody : (Code → Type 0) → Module → Type 0
 EachBody P m = AllByRecursion (λ (f : Function). Everywhere P f.body) m.functions
 
--- P5
+-- P5: there is no `call_indirect`
 abbrev pub NoIndirectCalls : Module → Type 0
 NoIndirectCalls m = EachBody NotIndirect m
 
--- P6
+-- P6: there is no `unreachable`
 abbrev pub NoUnreachable : Module → Type 0
 NoUnreachable m = EachBody NotUnreachable m
 
--- P7
+-- P7: there is no `memory.grow`
 abbrev pub NoGrowth : Module → Type 0
 NoGrowth m = EachBody NotGrow m
 
--- P8
+-- P8: nothing comes after `br`, `br_table` or `return` in a sequence
 abbrev pub NothingAfterBranches : Module → Type 0
 NothingAfterBranches m = EachBody LastIfBranch m
 
--- P9
+-- P9: each loop takes an item each time round, at its beginning or at its end
 abbrev pub LoopsTakeItems : Module → Type 0
 LoopsTakeItems m = EachBody (LoopTakes (host_call_at m)) m
 
--- P10 beside loads and stores: the memory is small, and the data segments lie in it
+-- P10, except for loads and stores: the memory is small, and the data segments are in it
 pub record AddressesWithin (m : Module) : Type 0 where
   pub minimums : MinimumsWithin m
   pub segments : SegmentsWithin m
 
--- the premises of each rule alone
+-- the premises of each rule
 abbrev pub asks_addresses : Premise → Bool
 asks_addresses (Reaches offset width) = true
 asks_addresses _ = false
@@ -95,19 +95,20 @@ asks_slots _ = false
 abbrev pub asks_all : Premise → Bool
 asks_all p = true
 
--- P10's loads and stores, P11 and P13, in one typing: addresses, divisors and slots are known constants
+-- P11, P13 and the loads and stores of P10 in one typing: addresses, divisors and numbers of aggregators are known
+-- constants
 abbrev pub AllKnown : Module → Type 0
 AllKnown m = ConstantsKnown asks_all m
 
--- P12
+-- P12: no function calls itself, directly or through others
 abbrev pub NoCycles : Module → Type 0
 NoCycles m = Acyclic (callees m)
 
--- P14: there are sizes, one for each function, where no function calls itself
+-- P14: the size with calls inlined is at most `max_size`. Where no function calls itself, each function has one size.
 abbrev pub SizeWithin : Module → ℕ → Type 0
 SizeWithin m f = (sizes : ℕ → ℕ) → AreSizes m sizes → sizes f ≤ max_size
 
--- all of them
+-- all rules
 pub record IsBounded (m : Module) : Type 0 where
   pub imports : ImportsHostCalls m
   pub compute : HasCompute m

@@ -1,4 +1,4 @@
--- Which instructions code has, and in which order.
+-- Rules on the instructions of code and their order.
 use Rattle.std.specs.Prelude.{◌≡◌, ◌≢◌, ℕ, ◌+◌, ◌≤◌, ◌⊎◌, ⊤, Option, Some}
 use Rattle.std.specs.List.{AllByRecursion}
 use Rattle.wasm_ast.specs.declared.types.ValType.TheVariants.{I32}
@@ -12,9 +12,9 @@ use Rattle.wasm_ast.specs.Code as code
 use Rattle.host_calls.specs.declared.imports.HostCall.{HostCall}
 use Rattle.host_calls.specs.declared.imports.HostCall.TheVariants.{NextMessage, NextEdge}
 use Rattle.bounded_profile.specs.declared.shapes.Shape.{Shape}
-use Rattle.bounded_profile.specs.declared.shapes.Shape.TheVariants.{Direct, Reached, Steady, Ordered, Taking}
+use Rattle.bounded_profile.specs.declared.shapes.Shape.TheVariants as shape
 
--- P holds of the code from each instruction on, to the end of its sequence
+-- P holds of the code that begins at each instruction, to the end of its sequence
 abbrev pub Everywhere : (Code → Type 0) → Code → Type 0
 Everywhere P code.end = ⊤
 Everywhere P (code.plain p rest) = P (code.plain p rest) × Everywhere P rest
@@ -39,7 +39,7 @@ abbrev pub NotGrow : Code → Type 0
 NotGrow (code.plain (plain.Memory memory.Grow) rest) = ⊥
 NotGrow _ = ⊤
 
--- nothing stands after a branch that is always taken
+-- nothing comes after a branch that is always taken
 abbrev pub LastIfBranch : Code → Type 0
 LastIfBranch (code.branch (branch.Br l) rest) = rest ≡ code.end
 LastIfBranch (code.branch (branch.BrTable ls l) rest) = rest ≡ code.end
@@ -52,7 +52,7 @@ TakesItem (Some NextMessage) = ⊤
 TakesItem (Some NextEdge) = ⊤
 TakesItem _ = ⊥
 
--- the code takes an item, and where there is none it leaves the loop; `calls` gives the host's functions
+-- the code takes an item and, where there is none, leaves the loop
 pub record OpensWithItem (calls : ℕ → Option HostCall) (body : Code) : Type 0 where
   pub function : ℕ
   pub label : ℕ
@@ -68,7 +68,7 @@ BranchNamesNot n (branch.BrIf l) = l ≢ n
 BranchNamesNot n (branch.BrTable ls l) = AllByRecursion (λ k. k ≢ n) ls × (l ≢ n)
 BranchNamesNot n branch.Return = ⊤
 
--- no branch in the code, at any depth, names the label with this number, counted from where the code stands
+-- no branch in the code, at any depth, names the label with this number, counted from the code
 abbrev pub NamesNot : ℕ → Code → Type 0
 NamesNot n code.end = ⊤
 NamesNot n (code.plain p rest) = NamesNot n rest
@@ -80,7 +80,7 @@ NamesNot n (code.block t body rest) = NamesNot (n + 1) body × NamesNot n rest
 NamesNot n (code.loop t body rest) = NamesNot (n + 1) body × NamesNot n rest
 NamesNot n (code.choice t body other rest) = NamesNot (n + 1) body × NamesNot (n + 1) other × NamesNot n rest
 
--- a sequence, and then another
+-- one sequence after another
 abbrev pub followed : Code → Code → Code
 followed code.end next = next
 followed (code.plain p rest) next = code.plain p (followed rest next)
@@ -100,7 +100,7 @@ pub record ClosesWithItem (calls : ℕ → Option HostCall) (body : Code) : Type
   pub takes : TakesItem (calls function)
   pub alone : NamesNot 0 front
 
--- the body of a loop takes an item each time round: first, or last
+-- the body of a loop takes an item each time round, at its beginning or at its end
 abbrev pub TakesItems : (ℕ → Option HostCall) → Code → Type 0
 TakesItems calls body = OpensWithItem calls body ⊎ ClosesWithItem calls body
 
@@ -108,10 +108,10 @@ abbrev pub LoopTakes : (ℕ → Option HostCall) → Code → Type 0
 LoopTakes calls (code.loop t body rest) = TakesItems calls body
 LoopTakes calls _ = ⊤
 
--- the rule holds of the code from its first instruction on
+-- the rule holds at the first instruction of the code
 abbrev pub Keeps : (ℕ → Option HostCall) → Shape → Code → Type 0
-Keeps calls Direct = NotIndirect
-Keeps calls Reached = NotUnreachable
-Keeps calls Steady = NotGrow
-Keeps calls Ordered = LastIfBranch
-Keeps calls Taking = LoopTakes calls
+Keeps calls shape.NoIndirectCalls = NotIndirect
+Keeps calls shape.NoUnreachable = NotUnreachable
+Keeps calls shape.NoGrowth = NotGrow
+Keeps calls shape.NothingAfterBranches = LastIfBranch
+Keeps calls shape.LoopsTakeItems = LoopTakes calls

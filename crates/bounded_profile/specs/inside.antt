@@ -1,10 +1,11 @@
--- What mirrors the code, for its proofs alone: the pass for known constants and what it says, the last two instructions of
--- a loop, heights that stop at the greatest number, how far they are told, marks and spans of reached bytes, what is known between the rules, and the tables of a module.
+-- Definitions that mirror the code, only for its proofs. First the pass for known constants and its errors, and the
+-- last two instructions of a loop. Then heights that saturate and how far they are set, and marks and extents of
+-- reached bytes. Last what holds between the rules, and the tables of a module.
 pub mod ConstantsFaults
 pub mod Tracking
 pub mod Closing
-pub mod Climbs
+pub mod StackHeights
 pub mod Levels
-pub mod Marks
+pub mod Footprint
 pub mod Stages
 pub mod Tables

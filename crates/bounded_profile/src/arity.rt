@@ -1,4 +1,4 @@
-//! How many operands instructions take and give.
+//! How many operands an instruction takes and gives (Core 1.0, 3.3).
 
 ghost use Rattle.std.specs.Prelude.{◌≡◌, IfOk, slice_get};
 ghost use Rattle.bounded_profile.specs.Arities.{plain_arity, variable_arity, memory_arity, numeric_arity, branch_arity, result_count, type_arity, arity_table, arity_at};
@@ -8,17 +8,17 @@ use wasm_ast::{
     BlockType, Branch, FuncType, ImportDescription, Memory, Module, Numeric, Plain, Variable,
 };
 
-/// How many operands an instruction takes, and then gives.
+/// The number of operands that an instruction takes, and of those that it then gives.
 #[derive(Clone, Copy)]
 pub struct Arity {
     pub takes: usize,
     pub gives: usize,
 }
 
-/// What takes nothing and gives nothing.
+/// No operands taken, and none given.
 pub const NOTHING: Arity = Arity { takes: 0, gives: 0 };
 
-/// The test of an `if` or a `br_if`.
+/// The condition of an `if` or a `br_if`.
 pub const TEST: Arity = Arity { takes: 1, gives: 0 };
 
 pub fn plain_arity(plain: Plain) -> Arity
@@ -68,7 +68,8 @@ fn memory_arity(memory: Memory) -> Arity
     Arity { takes, gives }
 }
 
-/// A branch that is always taken leaves the operands as they stand: nothing comes after it.
+/// Returns the arity of a branch. Nothing comes after a branch that is always taken, so it counts as taking and
+/// giving nothing.
 pub fn branch_arity(branch: &Branch) -> Arity
     ensures { result ≡ branch_arity branch.now }
 {
@@ -78,7 +79,7 @@ pub fn branch_arity(branch: &Branch) -> Arity
     }
 }
 
-/// How many operands a block of the type gives.
+/// Counts the results of a block of this type.
 pub fn result_count(gives: BlockType) -> usize
     ensures { result ≡ result_count gives }
 {
@@ -88,7 +89,7 @@ pub fn result_count(gives: BlockType) -> usize
     }
 }
 
-/// What a call of each function takes and gives, imports first.
+/// Finds the arity of a call of each function, imports first.
 pub fn arity_table(alloc: Global, module: &Module) -> Result<Vec<Arity>, AllocError>
     ensures { IfOk result (λ table. table.items ≡ arity_table «module».now) }
 {
@@ -105,7 +106,7 @@ pub fn arity_table(alloc: Global, module: &Module) -> Result<Vec<Arity>, AllocEr
     Ok(table)
 }
 
-// What a function of the type with this number takes and gives. The type has at most one result.
+// Returns the arity of a function of the type with this number. A type has at most one result.
 fn arity_of_type(types: &[FuncType], type_number: u32) -> Arity
     ensures { result ≡ type_arity (slice_get types.now type_number) }
 {
@@ -118,7 +119,7 @@ fn arity_of_type(types: &[FuncType], type_number: u32) -> Arity
     }
 }
 
-/// What a call of the function with this number takes and gives.
+/// Returns the arity of a call of the function with this number.
 pub fn arity_at(table: &[Arity], function: u32) -> Arity
     ensures { result ≡ arity_at table.now function }
 {

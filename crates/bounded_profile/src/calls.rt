@@ -1,4 +1,4 @@
-//! Rules on calls: no function calls itself by way of others (P12), and `compute` with its calls unfolded is small (P14).
+//! Rules on calls: there is no recursion (P12), and `compute` with calls inlined is small (P14).
 
 ghost use Rattle.std.specs.Prelude.{IfOk, MatchResult};
 ghost use Rattle.cost.specs.Calls.{callees};
@@ -10,11 +10,11 @@ ghost use Rattle.bounded_profile.specs.inside.Stages.{SizeHolds};
 
 use crate::fault::{ProfileFault, ProfileRule};
 use crate::module_rules::NOWHERE;
-use cost::{Ranks, has_one_sizing, ranks, unfolded};
+use cost::{Ranks, has_one_sizing, inlined_size, ranks};
 use std::alloc::Global;
 use validate::Valid;
 
-/// P12: the ranks of the functions, where none calls itself.
+/// P12: ranks the functions, where none calls itself. An error names a cycle, or says that an allocation failed.
 pub fn check_cycles(alloc: Global, valid: &Valid) -> Result<Ranks, ProfileFault>
     ensures ranked { IfOk result (IsRanking valid.now) }
     ensures decided { MatchResult result (λ _. NoCycles valid.now)
@@ -23,14 +23,14 @@ pub fn check_cycles(alloc: Global, valid: &Valid) -> Result<Ranks, ProfileFault>
     Ok(ranks(alloc, valid)?)
 }
 
-/// P14: the size of the function, its calls unfolded, where it is at most `cost::MAX_SIZE`.
+/// P14: returns the size of the function with calls inlined, where it is at most `cost::MAX_SIZE`.
 pub fn check_size(valid: &Valid, ranks: &Ranks, function: u32) -> Result<u32, ProfileFault>
     requires { IsRanking valid.now ranks.now }
     ensures { MatchResult result (SizeHolds valid.now function)
         (λ e. Denies P14 e (SizeWithin valid.now function)) }
 {
     has_one_sizing(valid, ranks);
-    match unfolded(valid, ranks, function) {
+    match inlined_size(valid, ranks, function) {
         Some(size) => Ok(size),
         None => Err(ProfileFault::Breaks(ProfileRule::P14, NOWHERE)),
     }

@@ -1,4 +1,4 @@
-//! How many cells a frame of each function needs.
+//! How many cells the frame of each function needs.
 
 ghost use Rattle.std.specs.Prelude.{◌≡◌, ◌+◌, ◌≤◌, [], length, IfOk};
 ghost use Rattle.wasm_ast.specs.Limits.{IsWithinLimits, max_locals, parameters_of};
@@ -6,27 +6,27 @@ ghost use Rattle.bounded_profile.specs.Arities.{arity_table};
 ghost use Rattle.bounded_profile.specs.Cells.{cells_of, cells_table};
 
 use crate::arity::{Arity, arity_table};
-use crate::climb::{Callees, Climb};
 use crate::height_table::HeightTable;
+use crate::stack_height::{Callees, StackHeight};
 use std::alloc::{AllocError, Global};
 use wasm_ast::{FuncType, Function, Module};
 
-/// How many cells a frame of a function needs.
+/// The cells that the frame of a function needs.
 #[derive(Clone, Copy)]
 pub struct Cells {
-    /// One for each parameter and each local.
+    /// The parameters and the locals.
     pub locals: u32,
-    /// As many as the function's own operands stand high at most.
+    /// The greatest height of the function's own operand stack.
     pub operands: u32,
 }
 
-/// What is told of each function that the module defines.
+/// Counts the cells of each function that the module defines. The only error is that an allocation fails.
 pub fn cells_table(alloc: Global, module: &Module) -> Result<Vec<Cells>, AllocError>
     requires { IsWithinLimits «module».now }
     ensures { IfOk result (λ table. table.items ≡ cells_table «module».now) }
 {
     let arities = arity_table(alloc, module)?;
-    // No function has a height here: what it adds to its caller's operands is its result.
+    // All heights are 0 here: a callee adds only its result to the operands of its caller.
     let heights = HeightTable::new(alloc, 0)?;
     let mut table = Vec::new(alloc);
     for function in module.functions.as_slice() {
@@ -43,14 +43,14 @@ fn cells_of(module: &Module, arities: &[Arity], heights: &HeightTable, function:
     ensures { result ≡ cells_of «module».now function.now }
 {
     let parameters = parameter_count(module.types.as_slice(), function.type_number);
-    let operands = Climb::most_along(Callees { arities, heights }, &function.body);
+    let operands = StackHeight::most_along(Callees { arities, heights }, &function.body);
     Cells {
         locals: (parameters + function.locals.as_slice().len()) as u32,
         operands: operands.min(u32::MAX as usize) as u32,
     }
 }
 
-// How many parameters the type with this number has.
+// Counts the parameters of the type with this number; 0 where there is no such type.
 fn parameter_count(types: &[FuncType], type_number: u32) -> usize
     ensures { result ≡ parameters_of types.now type_number }
 {

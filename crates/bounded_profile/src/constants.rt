@@ -1,4 +1,4 @@
-//! Whether the constants that instructions want are known: addresses, divisors and slots.
+//! Whether the constants that instructions require are known: addresses, divisors and numbers of aggregators.
 
 mod asks;
 mod bodies;
@@ -12,7 +12,7 @@ ghost use Rattle.std.specs.Prelude.{OnOk, IsOkUnless};
 ghost use Rattle.bounded_profile.specs.Known.{ConstantsKnown};
 ghost use Rattle.bounded_profile.specs.Profile.{NoUnreachable, NothingAfterBranches};
 ghost use Rattle.bounded_profile.specs.inside.Tracking.{asks_of, AllPass};
-ghost use Rattle.bounded_profile.specs.inside.ConstantsFaults.{Settles};
+ghost use Rattle.bounded_profile.specs.inside.ConstantsFaults.{SettlesConstants};
 
 use self::bodies::check_bodies;
 use self::setting::ModuleSetting;
@@ -23,12 +23,13 @@ use std::alloc::Global;
 use validate::Valid;
 use wasm_ast::Module;
 
-/// Whether each constant that is asked is known, in code with no `unreachable` and nothing after a branch that is
-/// always taken. The first instruction in preorder that lacks one is told.
+/// Checks that each constant that `asks` selects is known. The code has no `unreachable`, and nothing comes after a
+/// branch that is always taken. The error has the place of the first instruction in preorder that lacks one, or says
+/// that an allocation failed.
 ///
-/// A constant is known from its `const` instruction until it is taken. What locals, globals, blocks, calls, `select`,
-/// arithmetic and `br_if` give is not. It takes time by the length of the module, and memory by the number of functions and
-/// by the operands and labels at a place of a body.
+/// A constant is known from its `const` instruction until it is taken. The results of locals, globals, blocks, calls,
+/// `select`, arithmetic and `br_if` are not known. It takes time by the length of the module. It takes memory by the
+/// number of functions, and by the operands and labels at a place of a body.
 pub fn check_constants(alloc: Global, valid: &Valid, asks: Asks) -> Result<(), ConstantsFault>
     requires reached { NoUnreachable valid.now }
     requires ordered { NothingAfterBranches valid.now }
@@ -40,7 +41,7 @@ pub fn check_constants(alloc: Global, valid: &Valid, asks: Asks) -> Result<(), C
 }
 
 fn check_module(alloc: Global, module: &Module, asks: Asks) -> Result<(), ConstantsFault>
-    ensures { Settles (AllPass asks «module».now) result }
+    ensures { SettlesConstants (AllPass asks «module».now) result }
 {
     let setting = ModuleSetting::new(alloc, module, asks)?;
     check_bodies(alloc, module.functions.as_slice(), &setting)

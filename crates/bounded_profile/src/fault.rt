@@ -29,24 +29,24 @@ pub enum ProfileRule {
     P6,
     /// There is no `memory.grow`.
     P7,
-    /// Nothing stands after `br`, `br_table` or `return` in a sequence.
+    /// Nothing comes after `br`, `br_table` or `return` in a sequence.
     P8,
-    /// Each loop takes an item each time round, first or last, and is left where there is none.
+    /// Each loop takes an item each time round, at its beginning or at its end, and is left where there is none.
     P9,
-    /// The memory begins with at most 16 pages, and each address is known and lies in it.
+    /// The memory begins with at most 16 pages. Each address is a known constant in it.
     P10,
-    /// Each divisor is known, and traps at no operand.
+    /// Each divisor is a known constant with which no operand traps.
     P11,
-    /// No function calls itself, at once or by way of others; told by its cycle.
+    /// No function calls itself, directly or through others. The fault is the cycle.
     P12,
-    /// Each slot is known.
+    /// Each number of an aggregator is a known constant.
     P13,
-    /// The size of `compute`, its calls unfolded, is at most `cost::MAX_SIZE`.
+    /// The size of `compute` with calls inlined is at most `cost::MAX_SIZE`.
     P14,
 }
 
 impl ProfileRule {
-    // The rule's name.
+    // Returns the name of the rule.
     fn word(self) -> &'static str
         ensures { result.now ≡ rule_word self }
     {
@@ -69,14 +69,16 @@ impl ProfileRule {
     }
 }
 
-/// Why a module is not in the bounded profile. It is shown as the rule and the place; a cycle as `P12` and its numbers.
+/// Why a module is not in the bounded profile. It is printed as the rule and the place, and a cycle as `P12` and its
+/// numbers.
 #[derive(Drop)]
 pub enum ProfileFault {
     /// The module breaks the rule at this place.
     Breaks(ProfileRule, Place),
-    /// The module breaks P12: each function calls the next, and the last the first, which has the least number.
+    /// The module breaks P12: each function calls the next one, and the last calls the first. The first has the least
+    /// number.
     Cycle(Vec<u32>),
-    /// Memory ran out.
+    /// An allocation failed.
     OutOfMemory,
 }
 
@@ -95,7 +97,7 @@ impl fmt::Display for ProfileFault {
     }
 }
 
-// The rule and the numbers of the functions.
+// Writes the rule and the numbers of the functions.
 fn write_cycle<W: fmt::Write>(functions: &[u32], f: &mut fmt::Formatter<W>) -> fmt::Result
     ensures { DisplaysOnOk W.write_str_gives f.old result (Some (cycle_text functions.now)) f.new }
 {

@@ -1,12 +1,12 @@
 //! The heights of functions by number.
 
 ghost use Rattle.std.specs.Prelude.{◌≡◌, ◌<◌, length, set, replicate, IfOk};
-ghost use Rattle.bounded_profile.specs.inside.Climbs.{height_at};
+ghost use Rattle.bounded_profile.specs.inside.StackHeights.{height_at};
 
 use std::alloc::{AllocError, Global};
 use std::marker::Model;
 
-/// How high the operands stand in a call of each function, as far as that is known; imports first.
+/// The greatest height of the operand stack in a call of each function, as far as it is known. Imports come first.
 #[derive(Drop)]
 pub struct HeightTable {
     heights: Vec<usize>,
@@ -21,7 +21,7 @@ impl Model for HeightTable {
 }
 
 impl HeightTable {
-    /// 0 for each of so many functions.
+    /// Makes a table of zeros for this many functions.
     pub fn new(alloc: Global, count: usize) -> Result<HeightTable, AllocError>
         ensures { IfOk result (λ table. table ≡ replicate count 0) }
     {
@@ -30,7 +30,7 @@ impl HeightTable {
         })
     }
 
-    /// The height of the function with this number, 0 where there is none.
+    /// Returns the height of the function with this number, 0 where there is none.
     pub fn get(&self, function: u32) -> usize
         ensures { result ≡ height_at self.now function }
     {

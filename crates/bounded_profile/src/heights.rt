@@ -1,23 +1,24 @@
-//! How many operands stand in a call of a function, its calls unfolded.
+//! The height of the operand stack in a call of a function, the functions that it calls included.
 
 ghost use Rattle.std.specs.Prelude.{◌≡◌, ◌-◌, ◌≤◌, IfOk, length};
 ghost use Rattle.cost.specs.Ranks.{IsRanking};
 ghost use Rattle.bounded_profile.specs.Arities.{arity_table};
-ghost use Rattle.bounded_profile.specs.inside.Climbs.{most_along};
+ghost use Rattle.bounded_profile.specs.inside.StackHeights.{most_along};
 ghost use Rattle.bounded_profile.specs.Facts.{IsHeightAt};
 ghost use Rattle.bounded_profile.specs.inside.Levels.{AreTold};
 ghost use Rattle.bounded_profile.specs.Profile.{SizeWithin};
 
 use crate::arity::{Arity, arity_table};
-use crate::climb::{Callees, Climb};
 use crate::height_table::HeightTable;
 use crate::module_rules::imported_count;
+use crate::stack_height::{Callees, StackHeight};
 use cost::{Ranks, has_one_sizing};
 use std::alloc::{AllocError, Global};
 use validate::Valid;
 use wasm_ast::Body;
 
-/// The greatest height of the operands in a call of the function.
+/// Finds the greatest height of the operand stack in a call of the function. The only error is that an allocation
+/// fails.
 pub fn operand_height(
     alloc: Global,
     valid: &Valid,
@@ -38,7 +39,7 @@ pub fn operand_height(
     Ok(heights.get(function) as u32)
 }
 
-// The heights of the functions of this rank, where those of the functions of a lower one are told.
+// Sets the heights of the functions of this rank, where those of all lower ranks are set.
 fn add_heights(
     valid: &Valid,
     arities: &[Arity],
@@ -65,9 +66,9 @@ fn add_heights(
     }
 }
 
-// The greatest height in code that begins with no operands.
+// Finds the greatest height in code that begins with no operands.
 fn height_along(arities: &[Arity], heights: &HeightTable, body: &Body) -> usize
     ensures { result ≡ most_along arities.now heights.now body.now }
 {
-    Climb::most_along(Callees { arities, heights }, body)
+    StackHeight::most_along(Callees { arities, heights }, body)
 }

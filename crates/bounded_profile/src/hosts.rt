@@ -10,7 +10,8 @@ use host_calls::{HostCall, each_import_is_one_call};
 use std::alloc::{AllocError, Global};
 use wasm_ast::{Import, ImportDescription, Module};
 
-/// The host's function for each function that the module imports, by the names of the import.
+/// Finds the host's function of each imported function, by the names of the import. It is `None` where the host has
+/// no such function.
 pub fn host_table(alloc: Global, module: &Module) -> Result<Vec<Option<HostCall>>, AllocError>
     ensures { IfOk result (λ table. table.items ≡ host_table «module».now) }
 {
@@ -23,7 +24,7 @@ pub fn host_table(alloc: Global, module: &Module) -> Result<Vec<Option<HostCall>
     Ok(table)
 }
 
-/// The same where each import is a function of the host.
+/// Finds the same where each import is a function of the host.
 pub fn host_calls(alloc: Global, module: &Module) -> Result<Vec<HostCall>, AllocError>
     requires { ImportsHostCalls «module».now }
     ensures { IfOk result (λ calls. AreHostCalls «module».now calls.items) }
@@ -45,7 +46,7 @@ fn is_function(import: &Import) -> bool
     matches!(import.description, ImportDescription::Function(_))
 }
 
-/// The host's function with this number.
+/// Returns the host's function with this number, if it is one.
 pub fn call_at(table: &[Option<HostCall>], function: u32) -> Option<HostCall>
     ensures { result ≡ call_at table.now function }
 {

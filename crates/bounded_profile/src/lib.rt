@@ -1,28 +1,28 @@
-//! The bounded profile: which valid modules have only calls that end within a bound that can be told beforehand.
+//! The bounded profile: the valid modules whose every call ends within a bound that is known before the call.
 #![tactic(auto)]
 
 mod arity;
 mod calls;
 mod cells;
-mod climb;
 mod constants;
+mod extents;
 mod facts;
 mod fault;
+mod footprint;
 mod height_table;
 mod heights;
 mod hosts;
 mod loops;
-mod marks;
 mod memory_rules;
 mod module_rules;
+mod requirements;
 mod rules;
 mod shapes;
-mod spans;
+mod stack_height;
 mod tables;
 mod verified;
-mod wants;
 
 pub use cells::Cells;
 pub use fault::{ProfileFault, ProfileRule};
+pub use requirements::{Premise, Requirement};
 pub use verified::{Verified, verify};
-pub use wants::{Premise, Want};

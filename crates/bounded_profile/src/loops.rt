@@ -1,4 +1,4 @@
-//! Loops that take an item each time round: first, or last.
+//! Loops that take an item each time round, at their beginning or at their end (P9).
 
 ghost use Rattle.std.specs.Prelude.{◌≢◌, ◌↔◌, IsTrue};
 ghost use Rattle.std.specs.List.{AllByRecursion};
@@ -12,7 +12,7 @@ use crate::hosts::call_at;
 use host_calls::HostCall;
 use wasm_ast::{Body, Branch, Instr, Numeric, Plain, ValType};
 
-/// Whether the body of a loop takes an item each time round, first or last (P9).
+/// Decides whether the body of a loop takes an item each time round, at its beginning or at its end (P9).
 ///
 /// It takes time by the length of the body.
 pub fn takes_items(hosts: &[Option<HostCall>], body: &Body) -> bool
@@ -23,7 +23,7 @@ pub fn takes_items(hosts: &[Option<HostCall>], body: &Body) -> bool
     opens_with_item(hosts, instrs) || closes_with_item(hosts, instrs)
 }
 
-// Whether a loop begins by taking an item, and leaves where there is none.
+// Decides whether a loop begins by taking an item, and leaves where there is none.
 fn opens_with_item(hosts: &[Option<HostCall>], instrs: &[Instr]) -> bool
     ensures { IsTrue result ↔ OpensWithItem (call_at hosts.now) (code_of instrs.now) }
 {
@@ -38,7 +38,7 @@ fn opens_with_item(hosts: &[Option<HostCall>], instrs: &[Instr]) -> bool
     }
 }
 
-// Whether a loop ends by taking an item, goes back where there is one, and does not go back elsewhere.
+// Decides whether a loop ends by taking an item and goes back where there was one. No other branch may go back.
 fn closes_with_item(hosts: &[Option<HostCall>], instrs: &[Instr]) -> bool
     requires { LabelFits 0 (code_of instrs.now) }
     ensures { IsTrue result ↔ ClosesWithItem (call_at hosts.now) (code_of instrs.now) }
@@ -49,7 +49,7 @@ fn closes_with_item(hosts: &[Option<HostCall>], instrs: &[Instr]) -> bool
     }
 }
 
-// Whether the first of the two takes an item, and the other goes back to the loop where there was one.
+// Decides whether the first instruction takes an item, and the second goes back to the loop where there was one.
 fn goes_back_with_item(hosts: &[Option<HostCall>], call: &Instr, back: &Instr) -> bool
     ensures { IsTrue result ↔ GoesBackWithItem (call_at hosts.now) call.now back.now }
 {
@@ -67,7 +67,7 @@ fn takes_item(call: Option<HostCall>) -> bool
     matches!(call, Some(HostCall::NextMessage | HostCall::NextEdge))
 }
 
-// Whether no branch names the label.
+// Decides whether no branch names the label.
 #[cycle(code)]
 fn names_not(instrs: &[Instr], label: u32) -> bool
     requires { LabelFits label (code_of instrs.now) }

@@ -1,4 +1,4 @@
-//! How large the memory begins, and what is laid in it (P10).
+//! P10, except for the addresses of loads and stores: the initial memory, and the data segments in it.
 
 ghost use Rattle.std.specs.Prelude.{◌≡◌, ◌↔◌, ◌*◌, IsTrue};
 ghost use Rattle.bounded_profile.specs.Faults.{Settles};
@@ -12,13 +12,13 @@ use crate::fault::{ProfileFault, ProfileRule};
 use crate::module_rules::NOWHERE;
 use wasm_ast::{Body, Data, Instr, Limits, Module, Plain, Value, Variable};
 
-/// Bytes of a page (Core 1.0, 4.2.8).
+/// The size of a page in bytes (Core 1.0, 4.2.8).
 const PAGE: u64 = 65_536;
 
-/// The pages that a memory may begin with.
+/// The greatest minimum of a memory, in pages.
 const MAX_MINIMUM: u32 = 16;
 
-/// The memory begins with at most 16 pages.
+/// Checks that the memory begins with at most 16 pages.
 pub fn check_minimums(module: &Module) -> Result<(), ProfileFault>
     ensures { Settles P10 (MinimumsWithin «module».now) result }
 {
@@ -34,7 +34,7 @@ pub fn check_minimums(module: &Module) -> Result<(), ProfileFault>
     }
 }
 
-/// Each data segment lies within the memory as it begins.
+/// Checks that each data segment is within the initial memory.
 pub fn check_segments(module: &Module) -> Result<(), ProfileFault>
     ensures { Settles P10 (SegmentsWithin «module».now) result }
 {
@@ -57,7 +57,7 @@ fn is_segment_within(module: &Module, segment: &Data) -> bool
     }
 }
 
-/// How many bytes the memory has as it begins.
+/// Counts the bytes of the initial memory.
 pub fn memory_bytes(module: &Module) -> u64
     ensures { result ≡ memory_bytes «module».now }
 {
@@ -73,7 +73,7 @@ fn bytes_of(pages: u32) -> u64
     PAGE * u64::from(pages)
 }
 
-// The number that an offset gives: a constant, or what a global begins with.
+// Returns the value of an offset: a constant, or the initial value of a global.
 fn offset_number(module: &Module, offset: &Body) -> Option<u64>
     ensures { result ≡ offset_number «module».now offset.now }
 {
@@ -83,7 +83,7 @@ fn offset_number(module: &Module, offset: &Body) -> Option<u64>
     }
 }
 
-// The number that an offset gives which begins so.
+// Returns the value of an offset that begins with this instruction.
 fn number_at(module: &Module, first: &Instr) -> Option<u64>
     ensures { (rest : Code) → result ≡ offset_number «module».now (then_code first.now rest) }
 {
@@ -103,7 +103,7 @@ fn plain_offset(module: &Module, plain: Plain) -> Option<u64>
     }
 }
 
-// What the global begins with.
+// Returns the initial value of a global.
 fn global_number(module: &Module, number: u32) -> Option<u64>
     ensures { result ≡ variable_number «module».now (GlobalGet number) }
 {
@@ -113,7 +113,7 @@ fn global_number(module: &Module, number: u32) -> Option<u64>
     }
 }
 
-// The number that an initialiser gives, where it is a constant.
+// Returns the value of an initializer, where it is a constant.
 fn initial_number(initial: &Body) -> Option<u64>
     ensures { result ≡ initial_number initial.now }
 {
@@ -123,7 +123,7 @@ fn initial_number(initial: &Body) -> Option<u64>
     }
 }
 
-// The number that an initialiser gives which begins so.
+// Returns the value of an initializer that begins with this instruction.
 fn constant_at(first: &Instr) -> Option<u64>
     ensures { (rest : Code) → result ≡ initial_number (then_code first.now rest) }
 {
@@ -133,7 +133,7 @@ fn constant_at(first: &Instr) -> Option<u64>
     }
 }
 
-/// The number that stands for the constant, read unsigned.
+/// Returns the constant, read unsigned.
 pub fn number_of(value: Value) -> u64
     ensures { result ≡ number_of value }
 {

@@ -20,8 +20,8 @@ pub const NOWHERE: Place = Place {
     instruction: None,
 };
 
-/// P1: each import is a function of the host, with its type. The place is the function's number, where the import is a
-/// function: those before it are all functions.
+/// P1: checks that each import is a function of the host, with its type. The place is the number of the imported
+/// function; an import that is no function has none.
 pub fn check_imports(module: &Module) -> Result<(), ProfileFault>
     ensures { Settles P1 (ImportsHostCalls «module».now) result }
 {
@@ -47,7 +47,7 @@ fn number_of_import(import: &Import, index: usize) -> Option<u32> {
     }
 }
 
-// The function of the host that the import brings in, under its name and type.
+// Finds the function of the host that the import brings in, by its name and type.
 fn host_import(module: &Module, import: &Import) -> Option<HostCall>
     ensures found { IfSome result (λ call. IsHostImport «module».now import.now) }
     ensures none { IfNone result (IsHostImport «module».now import.now → ⊥) }
@@ -59,7 +59,8 @@ fn host_import(module: &Module, import: &Import) -> Option<HostCall>
     HostCall::of_import(import.module.as_str(), import.name.as_str(), func_type)
 }
 
-/// P2: the number of the exported function `compute`, which the module defines, and which takes and gives nothing.
+/// P2: finds the number of the exported function `compute`. The module has to define it, without parameters and
+/// results.
 pub fn find_compute(module: &Module) -> Result<u32, ProfileFault>
     requires { IsTyped «module».now }
     ensures { MatchResult result (IsComputeNumber «module».now)
@@ -77,7 +78,7 @@ pub fn find_compute(module: &Module) -> Result<u32, ProfileFault>
     }
 }
 
-// The number of the function that is exported as `compute`.
+// Finds the number of the function that is exported as `compute`.
 fn exported_compute(exports: &[Export]) -> Option<u32>
     ensures { result ≡ exported_compute exports.now }
 {
@@ -92,7 +93,7 @@ fn exported_compute(exports: &[Export]) -> Option<u32>
     None
 }
 
-// Whether the module defines the function, which takes nothing and gives nothing.
+// Decides whether the module defines the function, without parameters and results.
 fn is_defined_plain(module: &Module, number: u32) -> bool
     ensures { IsTrue result ↔ IsDefinedPlain «module».now number }
 {
@@ -107,7 +108,7 @@ fn is_defined_plain(module: &Module, number: u32) -> bool
     }
 }
 
-/// How many of the imports are functions.
+/// Counts the imports that are functions.
 pub fn imported_count(imports: &[Import]) -> usize
     ensures { result ≡ imported_functions imports.now }
 {
@@ -132,7 +133,7 @@ fn is_plain(func_type: &FuncType) -> bool
     func_type.parameters.as_slice().is_empty() && func_type.results.as_slice().is_empty()
 }
 
-/// P3: there is no start function. The place is its number.
+/// P3: checks that there is no start function. The place is its number.
 pub fn check_start(module: &Module) -> Result<(), ProfileFault>
     ensures { Settles P3 (NoStart «module».now) result }
 {
@@ -148,7 +149,7 @@ pub fn check_start(module: &Module) -> Result<(), ProfileFault>
     }
 }
 
-/// P4: there are no elements.
+/// P4: checks that there are no elements.
 pub fn check_elements(module: &Module) -> Result<(), ProfileFault>
     ensures { Settles P4 (NoElements «module».now) result }
 {

@@ -24,7 +24,8 @@ use std::alloc::Global;
 use validate::Valid;
 use wasm_ast::Module;
 
-/// What is told of the module, where it keeps all rules.
+/// Checks all rules and returns the bounds on a call of `compute`. An error names the first rule that is broken, in
+/// the order of the calls below, or says that an allocation failed.
 pub fn check_rules(alloc: Global, valid: &Valid) -> Result<Facts, ProfileFault>
     ensures decided { MatchResult result (λ facts. IsBounded valid.now × AreFacts valid.now facts)
         (Refuses valid.now) }
@@ -36,12 +37,12 @@ pub fn check_rules(alloc: Global, valid: &Valid) -> Result<Facts, ProfileFault>
     check_memory(alloc, valid)?;
     check_known(alloc, valid, Asks::Divisors, ProfileRule::P11)?;
     let facts = check_calls(alloc, valid, compute)?;
-    // Where each of the three passes alone, all do together.
+    // If the passes for P10, P11 and P13 succeed, this one does.
     check_known(alloc, valid, Asks::All, ProfileRule::P10)?;
     Ok(facts)
 }
 
-// P1 to P4, and the number of `compute`.
+// Checks P1 to P4 and returns the number of `compute`.
 fn check_parts(module: &Module) -> Result<u32, ProfileFault>
     requires { IsTyped «module».now }
     ensures { MatchResult result (PartsHoldAt «module».now) (Refuses «module».now) }
@@ -53,21 +54,21 @@ fn check_parts(module: &Module) -> Result<u32, ProfileFault>
     Ok(compute)
 }
 
-// P5 to P9.
+// Checks P5 to P9.
 fn check_shapes(alloc: Global, module: &Module) -> Result<(), ProfileFault>
     requires { IsWithinLimits «module».now }
     ensures { MatchResult result (λ _. ShapesHold «module».now) (Refuses «module».now) }
 {
     let hosts = host_table(alloc, module)?;
-    check_shape(Shape::Direct, &hosts, module)?;
-    check_shape(Shape::Reached, &hosts, module)?;
-    check_shape(Shape::Steady, &hosts, module)?;
-    check_shape(Shape::Ordered, &hosts, module)?;
-    check_shape(Shape::Taking, &hosts, module)?;
+    check_shape(Shape::NoIndirectCalls, &hosts, module)?;
+    check_shape(Shape::NoUnreachable, &hosts, module)?;
+    check_shape(Shape::NoGrowth, &hosts, module)?;
+    check_shape(Shape::NothingAfterBranches, &hosts, module)?;
+    check_shape(Shape::LoopsTakeItems, &hosts, module)?;
     Ok(())
 }
 
-// P10.
+// Checks P10.
 fn check_memory(alloc: Global, valid: &Valid) -> Result<(), ProfileFault>
     requires reached { NoUnreachable valid.now }
     requires ordered { NothingAfterBranches valid.now }
@@ -82,7 +83,7 @@ fn check_memory(alloc: Global, valid: &Valid) -> Result<(), ProfileFault>
     Ok(())
 }
 
-// P12, P13 and P14, and how large a call of `compute` can get.
+// Checks P12, P13 and P14, and returns the bounds on a call of `compute`.
 fn check_calls(alloc: Global, valid: &Valid, compute: u32) -> Result<Facts, ProfileFault>
     requires number { IsComputeNumber valid.now compute }
     requires reached { NoUnreachable valid.now }
@@ -104,7 +105,7 @@ fn check_calls(alloc: Global, valid: &Valid, compute: u32) -> Result<Facts, Prof
     })
 }
 
-// The constants of a rule are known.
+// Checks that the constants of a rule are known.
 fn check_known(
     alloc: Global,
     valid: &Valid,

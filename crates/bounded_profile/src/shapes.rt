@@ -1,5 +1,5 @@
-//! Rules on the instructions of code and their order: each instruction keeps them or not by what it is, what it holds
-//! and whether something comes after it.
+//! Rules P5 to P9, on the instructions of code and their order. An instruction keeps a rule or breaks it by its kind,
+//! by the code inside it, and by whether something comes after it.
 
 ghost use Rattle.std.specs.Prelude.{◌≡◌, ◌↔◌, IsTrue, IsFalse};
 ghost use Rattle.wasm_ast.specs.Code.{Code, end};
@@ -17,19 +17,19 @@ use host_calls::HostCall;
 use validate::Place;
 use wasm_ast::{Body, Branch, Instr, Memory, Module, Plain};
 
-/// A rule on instructions.
+/// A rule on the instructions of code.
 #[derive(Clone, Copy)]
 pub enum Shape {
     /// P5: there is no `call_indirect`.
-    Direct,
+    NoIndirectCalls,
     /// P6: there is no `unreachable`.
-    Reached,
+    NoUnreachable,
     /// P7: there is no `memory.grow`.
-    Steady,
-    /// P8: nothing stands after `br`, `br_table` or `return` in a sequence.
-    Ordered,
-    /// P9: each loop takes an item each time round, first or last.
-    Taking,
+    NoGrowth,
+    /// P8: nothing comes after `br`, `br_table` or `return` in a sequence.
+    NothingAfterBranches,
+    /// P9: each loop takes an item each time round, at its beginning or at its end.
+    LoopsTakeItems,
 }
 
 impl Shape {
@@ -37,18 +37,19 @@ impl Shape {
         ensures { result ≡ rule_of self }
     {
         match self {
-            Shape::Direct => ProfileRule::P5,
-            Shape::Reached => ProfileRule::P6,
-            Shape::Steady => ProfileRule::P7,
-            Shape::Ordered => ProfileRule::P8,
-            Shape::Taking => ProfileRule::P9,
+            Shape::NoIndirectCalls => ProfileRule::P5,
+            Shape::NoUnreachable => ProfileRule::P6,
+            Shape::NoGrowth => ProfileRule::P7,
+            Shape::NothingAfterBranches => ProfileRule::P8,
+            Shape::LoopsTakeItems => ProfileRule::P9,
         }
     }
 
-    // Where the rule is broken: P8 by what stands after the branch with this number.
+    // Returns the place of a breach. For P8 that is the instruction after the branch, for the other rules the
+    // instruction itself.
     fn place(self, function: usize, instruction: u32) -> Place {
         let instruction = match self {
-            Shape::Ordered => instruction.saturating_add(1),
+            Shape::NothingAfterBranches => instruction.saturating_add(1),
             _ => instruction,
         };
         Place {
@@ -57,18 +58,18 @@ impl Shape {
         }
     }
 
-    /// Whether the instruction keeps the rule, which may be the last of its sequence.
+    /// Decides whether the instruction keeps the rule. `is_last` says that nothing comes after it in its sequence.
     fn is_kept(self, hosts: &[Option<HostCall>], instr: &Instr, is_last: bool) -> bool
         requires { IsBodyWithin (then_code instr.now end) }
         ensures { (rest : Code) → (IsTrue is_last ↔ (rest ≡ end))
             → (IsTrue result ↔ Keeps (call_at hosts.now) self (then_code instr.now rest)) }
     {
         match self {
-            Shape::Direct => !matches!(instr, Instr::CallIndirect(_)),
-            Shape::Reached => !matches!(instr, Instr::Unreachable),
-            Shape::Steady => !matches!(instr, Instr::Plain(Plain::Memory(Memory::Grow))),
-            Shape::Ordered => is_last || !always_branches(instr),
-            Shape::Taking => match instr {
+            Shape::NoIndirectCalls => !matches!(instr, Instr::CallIndirect(_)),
+            Shape::NoUnreachable => !matches!(instr, Instr::Unreachable),
+            Shape::NoGrowth => !matches!(instr, Instr::Plain(Plain::Memory(Memory::Grow))),
+            Shape::NothingAfterBranches => is_last || !always_branches(instr),
+            Shape::LoopsTakeItems => match instr {
                 Instr::Loop(_, body) => takes_items(hosts, body),
                 _ => true,
             },
@@ -89,8 +90,8 @@ fn always_branches(instr: &Instr) -> bool
     }
 }
 
-// Whether the code keeps the rule. `next` is the number of its first instruction, and then of the instruction after it;
-// where the rule is broken, of the first that breaks it.
+// Decides whether the code keeps the rule. `next` is the number of the first instruction of the code. It becomes the
+// number of the instruction after the code or, where the rule is broken, of the first instruction that breaks it.
 #[cycle(code)]
 fn is_kept_in(shape: Shape, hosts: &[Option<HostCall>], body: &Body, next: &mut u32) -> bool
     requires { IsBodyWithin body.now }
@@ -136,17 +137,19 @@ fn is_kept_at(
     }
 }
 
-/// Whether each function of the module keeps the rule, called or not. `hosts` are the host's functions that it imports.
-/// The place is that of the first instruction that breaks it; for P8 of the first that stands after a branch.
+/// Checks that each function of the module keeps the rule, called or not. `hosts` are the host's functions that it
+/// imports. The place in the error is the first instruction that breaks the rule, in preorder. For P8 it is the first
+/// instruction after a branch.
 ///
-/// It takes time by the length of the code, and by how deep loops that take an item last stand in one another.
+/// It takes time by the length of the code, times the scope of loops that take their item at the end.
 pub fn check_shape(
     shape: Shape,
     hosts: &[Option<HostCall>],
     module: &Module,
 ) -> Result<(), ProfileFault>
     requires { IsWithinLimits «module».now }
-    ensures { Settles (rule_of shape) (EachBody (Keeps (call_at hosts.now) shape) «module».now) result }
+    ensures { Settles (rule_of shape)
+        (EachBody (Keeps (call_at hosts.now) shape) «module».now) result }
 {
     for (index, function) in module.functions.as_slice().iter().enumerate() {
         let mut next = 0;

@@ -1,4 +1,4 @@
-//! What is found in a module in the bounded profile, beside the module.
+//! The tables of a module in the bounded profile.
 
 ghost use Rattle.std.specs.Prelude.{◌≡◌, IfOk, IsOkUnless, MatchResult};
 ghost use Rattle.bounded_profile.specs.Faults.{Refuses};
@@ -6,29 +6,29 @@ ghost use Rattle.bounded_profile.specs.Profile.{IsBounded};
 ghost use Rattle.bounded_profile.specs.inside.Tables.{AreTables};
 
 use crate::cells::{Cells, cells_table};
+use crate::extents::{Extent, footprint_extents};
 use crate::facts::Facts;
 use crate::fault::ProfileFault;
 use crate::hosts::host_calls;
 use crate::rules::check_rules;
-use crate::spans::{Span, reached_spans};
 use host_calls::HostCall;
 use std::alloc::{AllocError, Global};
 use validate::Valid;
 
-/// What is found in a module that keeps all rules.
+/// The tables of a module that keeps all rules, found once by `verify`.
 #[derive(Drop)]
 pub struct Tables {
     pub facts: Facts,
     /// The host's function of each imported function, in order.
     pub calls: Vec<HostCall>,
-    /// How many cells a frame of each function needs, which the module defines.
+    /// The cells that a frame needs, of each function that the module defines.
     pub cells: Vec<Cells>,
-    /// The bytes that loads and stores reach.
-    pub spans: Vec<Span>,
+    /// The extents of the bytes that loads and stores reach.
+    pub extents: Vec<Extent>,
 }
 
 impl Tables {
-    /// Tries the rules in order, and finds the tables where the module keeps all.
+    /// Checks the rules in order, and finds the tables of a module that keeps all of them.
     pub fn of(alloc: Global, valid: &Valid) -> Result<Tables, ProfileFault>
         ensures decided { MatchResult result
             (λ tables. IsBounded valid.now × AreTables valid.now tables) (Refuses valid.now) }
@@ -38,33 +38,33 @@ impl Tables {
         let module = valid.module();
         let calls = host_calls(alloc, module)?;
         let cells = cells_table(alloc, module)?;
-        let spans = reached_spans(alloc, module)?;
+        let extents = footprint_extents(alloc, module)?;
         Ok(Tables {
             facts,
             calls,
             cells,
-            spans,
+            extents,
         })
     }
 
-    /// The same tables once more.
+    /// Copies the tables. The only error is that an allocation fails.
     pub fn copy(&self, alloc: Global) -> Result<Tables, AllocError>
         ensures facts { IfOk result (λ copy. copy.facts ≡ self.now.facts) }
         ensures calls { IfOk result (λ copy. copy.calls.items ≡ self.now.calls.items) }
         ensures cells { IfOk result (λ copy. copy.cells.items ≡ self.now.cells.items) }
-        ensures spans { IfOk result (λ copy. copy.spans.items ≡ self.now.spans.items) }
+        ensures extents { IfOk result (λ copy. copy.extents.items ≡ self.now.extents.items) }
     {
         let mut calls = Vec::new(alloc);
         calls.extend_from_slice(self.calls.as_slice())?;
         let mut cells = Vec::new(alloc);
         cells.extend_from_slice(self.cells.as_slice())?;
-        let mut spans = Vec::new(alloc);
-        spans.extend_from_slice(self.spans.as_slice())?;
+        let mut extents = Vec::new(alloc);
+        extents.extend_from_slice(self.extents.as_slice())?;
         Ok(Tables {
             facts: self.facts,
             calls,
             cells,
-            spans,
+            extents,
         })
     }
 }

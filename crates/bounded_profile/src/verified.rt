@@ -13,9 +13,9 @@ ghost use Rattle.bounded_profile.specs.Reached.{reached_below, reached_bytes};
 ghost use Rattle.bounded_profile.specs.inside.Tables.{AreTables};
 
 use crate::cells::Cells;
+use crate::extents::bytes_below;
 use crate::fault::ProfileFault;
 use crate::memory_rules::memory_bytes;
-use crate::spans::bytes_below;
 use crate::tables::Tables;
 use host_calls::HostCall;
 use std::alloc::{AllocError, Global};
@@ -26,7 +26,7 @@ use wasm_ast::Module;
 /// A valid module in the bounded profile. Only `verify` makes one, and `copy`.
 #[derive(Drop)]
 pub struct Verified {
-    // In a box, so that an owner drops it by one call.
+    // In a box, so that dropping the owner is one call.
     judged: Box<Judged>,
 }
 
@@ -56,7 +56,7 @@ impl Model for Verified {
 }
 
 impl Verified {
-    /// The module; it takes no memory.
+    /// Returns the module. It allocates nothing.
     pub fn module(&self) -> &Module
         ensures value { result.now ≡ self.now }
         ensures typed { IsTyped self.now }
@@ -66,7 +66,7 @@ impl Verified {
         self.judged.valid.module()
     }
 
-    // What was found in the module.
+    // Returns the tables of the module.
     fn tables(&self) -> &Tables
         ensures tables { AreTables self.now result.now }
         ensures typed { IsTyped self.now }
@@ -75,45 +75,46 @@ impl Verified {
         &self.judged.tables
     }
 
-    /// The number of `compute`; it takes no memory.
+    /// Returns the number of `compute`. It allocates nothing.
     pub fn compute(&self) -> u32
         ensures { IsComputeNumber self.now result }
     {
         self.tables().facts.compute
     }
 
-    /// The host's function of each imported function, in order; it takes no memory.
+    /// Returns the host's function of each imported function, in order. It allocates nothing.
     pub fn host_calls(&self) -> &[HostCall]
         ensures { AreHostCalls self.now result.now }
     {
         self.tables().calls.as_slice()
     }
 
-    /// The size of `compute`, its calls unfolded (`cost::unfolded`).
+    /// Returns the size of `compute` with calls inlined, in units (`cost::inlined_size`).
     pub fn size(&self) -> u32
         ensures { IsSizeOfCompute self.now result }
     {
         self.tables().facts.size
     }
 
-    /// The greatest height of the operands in a call of `compute`: those of all functions that run, and those under each
-    /// block.
+    /// Returns the greatest height of the operand stack in a call of `compute`. It counts the operands of all active
+    /// functions, and those under each block.
     pub fn max_operands(&self) -> u32
         ensures { (compute : HasCompute self.now) → IsHeightAt self.now compute.number result }
     {
         self.tables().facts.max_operands
     }
 
-    /// How many functions the longest chain of calls has that begins with `compute`, which alone makes 1.
+    /// Returns the length of the longest chain of calls that begins with `compute`. It is 1 where `compute` calls
+    /// only the host.
     pub fn max_frames(&self) -> u32
         ensures { (compute : HasCompute self.now) → IsDepthAt self.now compute.number result }
     {
         self.tables().facts.max_frames
     }
 
-    /// How many cells a frame of the function needs, which the module defines. Its own operands are those of its body, without
-    /// what stands in the functions that it calls. A count of more than 32 bits is told as the greatest of those; no
-    /// function that runs has one. It takes no memory.
+    /// Returns the cells that the frame of a function needs, which the module defines. The operands are those of its
+    /// own body, without those of its callees. A count of more than 32 bits is capped at the greatest `u32`; no
+    /// function that `compute` may reach has one. It allocates nothing.
     pub fn cells(&self, function: u32) -> Cells
         requires { IsDefined self.now function }
         ensures locals { result.locals ≡ locals_at self.now function }
@@ -124,25 +125,25 @@ impl Verified {
         tables.cells[function as usize - tables.calls.len()]
     }
 
-    /// How many bytes of the memory the loads and the stores of all functions reach, called or not; each counts once. It
-    /// takes no memory.
+    /// Counts the bytes of the memory that loads and stores reach. All functions count, called or not; each byte
+    /// counts once. It allocates nothing.
     pub fn reach(&self) -> u32
         ensures { result ≡ reached_bytes self.now }
     {
         bytes_below(
-            self.tables().spans.as_slice(),
+            self.tables().extents.as_slice(),
             memory_bytes(self.module()) as u32,
         )
     }
 
-    /// How many of these bytes lie below this one; it takes no memory.
+    /// Counts the reached bytes that are below this byte. It allocates nothing.
     pub fn place(&self, byte: u32) -> u32
         ensures { result ≡ reached_below self.now byte }
     {
-        bytes_below(self.tables().spans.as_slice(), byte)
+        bytes_below(self.tables().extents.as_slice(), byte)
     }
 
-    /// The same module once more. The only refusal is that there is no memory for it.
+    /// Copies the module. The only error is that an allocation fails.
     pub fn copy(&self, alloc: Global) -> Result<Verified, AllocError>
         ensures { IfOk result (λ copy. copy ≡ self.now) }
     {
@@ -153,23 +154,25 @@ impl Verified {
     }
 }
 
-// The same valid module once more.
+// Copies a valid module.
 fn copy_valid(alloc: Global, module: &Module) -> Result<Valid, AllocError>
     ensures { IfOk result (λ copy. copy ≡ «module».now) }
 {
     let module = module.copy(alloc)?;
     match validate(alloc, module) {
         Ok(valid) => Ok(valid),
-        // The module is valid: there was no memory to see that.
+        // The module is valid, so the only error here is that an allocation failed.
         Err(_) => Err(AllocError),
     }
 }
 
-/// The module as it is, exactly where it is in the bounded profile; any other is refused, with a rule that it breaks.
-/// The rules are tried in order, and the place is the first in preorder that breaks one.
+/// Returns the module exactly where it is in the bounded profile. Any other module is refused with a rule that it
+/// breaks. The rules are tried in order, and the place is the first in preorder that breaks one. The only other error
+/// is that an allocation fails.
 ///
-/// It takes time by the length of the module and of its memory, and memory by the number of its functions and calls, by
-/// the operands at a place of a body, and a mark for each byte of the module's memory, which goes with the call.
+/// It takes time by the length of the module and of its memory. It takes memory by the number of functions and calls,
+/// by the height of the operand stack, and one mark for each byte of the module's memory. The marks are freed when it
+/// returns.
 pub fn verify(alloc: Global, valid: Valid) -> Result<Verified, ProfileFault>
     ensures kept { IfOk result (λ verified. verified ≡ valid) }
     ensures accepted { OnOk result (IsBounded valid) }

@@ -23,7 +23,7 @@ use Rattle.bounded_profile.specs.Memory.{number_of}
 use Rattle.wasm_ast.specs.Numeric.{conversion_from, division_traps}
 use Rattle.wasm_ast.specs.NumericTypes.{numeric_takes}
 use Rattle.wasm_ast.specs.Widths.{load_width, store_type, store_width}
-use Rattle.host_calls.specs.declared.call.TheConstants.{SLOTS}
+use Rattle.host_calls.specs.declared.call.TheConstants.{AGGREGATORS}
 use Rattle.host_calls.specs.declared.imports.HostCall.{HostCall}
 use Rattle.host_calls.specs.declared.imports.HostCall.TheVariants as call
 use Rattle.host_calls.specs.Effects.{HostEffect, host_effect}
@@ -32,15 +32,15 @@ use Rattle.host_calls.specs.Operands.{pop}
 use Rattle.interp.specs.Configuration.{State, Effect, Gives, Traps, Misses}
 use Rattle.interp.specs.Memory.{write, bytes_of_number}
 use Rattle.interp.specs.Effects.{popped, numeric_effect, select, pushed, variable_effect, load_effect, store_effect, effect, lifted}
-use Rattle.interp.specs.Machine.{Machine, Stuck, Layer, Label, Frame, after_effect, jump, enter, taking}
+use Rattle.interp.specs.Machine.{Machine, Stuck, ControlEntry, Label, Frame, after_effect, jump, enter, taking}
 use Rattle.interp.specs.inside.Cells.{call_takes, cell_call, cell_effect, cell_memory, cell_numeric, kept_effect, narrowed, seen, topped}
 use Rattle.interp.specs.inside.Kept.{is_kept, kept_read, kept_write}
 use Rattle.interp.specs.inside.Going.{is_going, has_labels, has_tops, of_top, of_next, divides, numeric_asks, variable_asks, reaches, memory_asks, plain_asks, call_asks}
 use Rattle.interp.proofs.Plains.{bytes_length}
 
--- ---- layers
+-- ---- entries
 
-pub jump_asks : (l : ℕ) (top : Option Value) (ls : List Layer) (st : State) → is_going (jump l top ls st) ≡ true → has_labels l ls ≡ true
+pub jump_asks : (l : ℕ) (top : Option Value) (ls : List ControlEntry) (st : State) → is_going (jump l top ls st) ≡ true → has_labels l ls ≡ true
 jump_asks zero top ls st g = refl
 jump_asks (suc l) top [] st g = g
 jump_asks (suc l) top (Label keeps vs t a ∷ ls) st g = jump_asks l top ls st g
@@ -50,7 +50,7 @@ framed : (b : Bool) (x : Machine) (count : ℕ) → is_going (if b then x else S
 framed true x count g = refl
 framed false x count g = g
 
-pub enter_asks : (f : Function) (t : FuncType) (vs : List Value) (is : Code) (ls : List Layer) (st : State) → is_going (enter f (Some t) vs is ls st) ≡ true → length t.parameters ≤ length vs
+pub enter_asks : (f : Function) (t : FuncType) (vs : List Value) (is : Code) (ls : List ControlEntry) (st : State) → is_going (enter f (Some t) vs is ls st) ≡ true → length t.parameters ≤ length vs
 enter_asks f t vs is ls st g = leb-true (length t.parameters) (length vs) (framed (nat_le (length t.parameters) (length vs)) _ st.count g)
 
 -- ---- operands
@@ -73,7 +73,7 @@ IsGiven (Gives vs st) = Unit {0}
 IsGiven Traps = ⊥
 IsGiven Misses = ⊥
 
-pub effect_given : (e : Effect) (is : Code) (ls : List Layer) (count : ℕ) → is_going (after_effect e is ls count) ≡ true → IsGiven e
+pub effect_given : (e : Effect) (is : Code) (ls : List ControlEntry) (count : ℕ) → is_going (after_effect e is ls count) ≡ true → IsGiven e
 effect_given (Gives vs st) is ls count g = tt
 effect_given Traps is ls count g = absurd (false≢true g)
 effect_given Misses is ls count g = absurd (false≢true g)
@@ -211,7 +211,7 @@ plain_given may (plain.Numeric op) vs st h = numeric_asked may op vs st h
 plain_given may (plain.Variable op) vs st h = variable_asked op vs st h
 plain_given may (plain.Memory op) vs st h = memory_asked may op vs st h
 
-pub plain_asked : (may : Value → Bool) (p : Plain) (vs : List Value) (is : Code) (ls : List Layer) (st : State) → is_going (after_effect (cell_effect may p vs st) is ls st.count) ≡ true → plain_asks p vs st.locals st.globals st.memory ≡ true
+pub plain_asked : (may : Value → Bool) (p : Plain) (vs : List Value) (is : Code) (ls : List ControlEntry) (st : State) → is_going (after_effect (cell_effect may p vs st) is ls st.count) ≡ true → plain_asks p vs st.locals st.globals st.memory ≡ true
 plain_asked may p vs is ls st g = plain_given may p vs st (effect_given (cell_effect may p vs st) is ls st.count g)
 
 -- ---- calls of the host
@@ -240,14 +240,14 @@ call_given may call.Send vs st h =
     argument_tops val_type.I64 (val_type.I64 ∷ []) 1 vs _ (lifted_given (host_effect call.Send (seen (call_takes call.Send) vs) st.host) st h) (λ n us i. argument_tops val_type.I64 [] 0 us _ i (λ k ws j. refl))
 call_given may call.Aggregate vs st h =
     let g = lifted_given (host_effect call.Aggregate (seen (call_takes call.Aggregate) vs) st.host) st h in
-    both (has_tops 2 vs) (of_next val_type.I32 (λ k. nat_lt k SLOTS) vs)
+    both (has_tops 2 vs) (of_next val_type.I32 (λ k. nat_lt k AGGREGATORS) vs)
     (argument_tops val_type.I64 (val_type.I32 ∷ []) 1 vs _ g (λ n us i. argument_tops val_type.I32 [] 0 us _ i (λ k ws j. refl)))
-    (next IsAnswered host.Misses (λ x. x) val_type.I64 val_type.I32 (val_type.I32 ∷ []) (λ k. nat_lt k SLOTS) vs _ g (λ n us i. top IsAnswered host.Misses (λ x. x) val_type.I32 [] (λ k. nat_lt k SLOTS) us _ i (λ k ws j. slot_asked (nat_lt k SLOTS) _ j)))
+    (next IsAnswered host.Misses (λ x. x) val_type.I64 val_type.I32 (val_type.I32 ∷ []) (λ k. nat_lt k AGGREGATORS) vs _ g (λ n us i. top IsAnswered host.Misses (λ x. x) val_type.I32 [] (λ k. nat_lt k AGGREGATORS) us _ i (λ k ws j. slot_asked (nat_lt k AGGREGATORS) _ j)))
 call_given may call.Aggregated vs st h =
     let g = lifted_given (host_effect call.Aggregated (seen (call_takes call.Aggregated) vs) st.host) st h in
-    both (has_tops 1 vs) (of_top val_type.I32 (λ k. nat_lt k SLOTS) vs)
+    both (has_tops 1 vs) (of_top val_type.I32 (λ k. nat_lt k AGGREGATORS) vs)
     (argument_tops val_type.I32 [] 0 vs _ g (λ k us i. refl))
-    (top IsAnswered host.Misses (λ x. x) val_type.I32 [] (λ k. nat_lt k SLOTS) vs _ g (λ k us i. slot_asked (nat_lt k SLOTS) _ i))
+    (top IsAnswered host.Misses (λ x. x) val_type.I32 [] (λ k. nat_lt k AGGREGATORS) vs _ g (λ k us i. slot_asked (nat_lt k AGGREGATORS) _ i))
 call_given may call.VertexId vs st h = refl
 call_given may call.Superstep vs st h = refl
 call_given may call.NumVertices vs st h = refl
@@ -259,5 +259,5 @@ call_given may call.EdgeTarget vs st h = refl
 call_given may call.EdgeValue vs st h = refl
 call_given may call.VoteToHalt vs st h = refl
 
-pub call_asked : (may : Value → Bool) (c : HostCall) (vs : List Value) (is : Code) (ls : List Layer) (st : State) → is_going (after_effect (cell_call may c vs st) is ls st.count) ≡ true → call_asks c vs ≡ true
+pub call_asked : (may : Value → Bool) (c : HostCall) (vs : List Value) (is : Code) (ls : List ControlEntry) (st : State) → is_going (after_effect (cell_call may c vs st) is ls st.count) ≡ true → call_asks c vs ≡ true
 call_asked may c vs is ls st g = call_given may c vs st (effect_given (cell_call may c vs st) is ls st.count g)

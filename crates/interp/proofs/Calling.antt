@@ -8,7 +8,7 @@ use Rattle.wasm_ast.specs.Code as code
 use Rattle.bounded_profile.specs.Kinds.{Kind, kinds}
 use Rattle.bounded_profile.specs.Known.{Context}
 use Rattle.interp.specs.Configuration.{State, with_locals, tick}
-use Rattle.interp.specs.Machine.{Layer, Frame, Machine, Running, landed, carry, has_result, advance}
+use Rattle.interp.specs.Machine.{ControlEntry, Frame, Machine, Running, landed, carry, has_result, advance}
 use Rattle.interp.specs.Heights.{beneath, callers}
 use Rattle.interp.proofs.Values.{HasKinds, IsTop, kinds_length, kinds-append, carried, none_some, some_is}
 use Rattle.interp.proofs.Sound.{Sound}
@@ -24,7 +24,7 @@ pub returned : (m : Module) (inner outer : List ValType) (st after : State) → 
 returned m inner outer st after s k = record { locals_typed = s.locals_typed; globals_typed = k.globals_typed; bytes_there = k.bytes_there }
 
 module _ (m : Module) (H F : ℕ) (R : ℕ → ℕ → Type 0) where
-  module _ (c : Context) (locals : List ValType) (outcome : Option ValType) (keeps : Bool) (keeps_is : keeps ≡ has_result outcome) (s : ℕ) (x : Machine) (vs : List Value) (is : Code) (ls : List Layer) (st : State) (zs : List Value) (from : List Kind) (h : HasKinds vs from) (sound : Sound m c.locals st) (low : IsLow H F R x) (u : ℕ) (one : 1 ≤ u) (room : length (kinds outcome) + (length vs + beneath ls) ≤ H) (shallow : 2 + callers ls ≤ F) where
+  module _ (c : Context) (locals : List ValType) (outcome : Option ValType) (keeps : Bool) (keeps_is : keeps ≡ has_result outcome) (s : ℕ) (x : Machine) (vs : List Value) (is : Code) (ls : List ControlEntry) (st : State) (zs : List Value) (from : List Kind) (h : HasKinds vs from) (sound : Sound m c.locals st) (low : IsLow H F R x) (u : ℕ) (one : 1 ≤ u) (room : length (kinds outcome) + (length vs + beneath ls) ≤ H) (shallow : 2 + callers ls ≤ F) where
     -- where a branch or a return comes out
     lands : (top : Option Value) → IsTop outcome top → (after : State) → (us : List Value) × (landed (carry keeps top vs) is ls after ≡ Running us is ls after) × HasKinds us (kinds outcome ++ from)
     lands top t after =

@@ -31,22 +31,22 @@ use Rattle.wasm_ast.specs.Code as code
 use Rattle.wasm_ast.specs.Numeric.{bits_of, conversion_from, division_traps, division_value}
 use Rattle.wasm_ast.specs.Values.{zero_of}
 use Rattle.wasm_ast.specs.Widths.{load_width, store_type, store_width}
-use Rattle.host_calls.specs.declared.call.TheConstants.{SLOTS}
+use Rattle.host_calls.specs.declared.call.TheConstants.{AGGREGATORS}
 use Rattle.host_calls.specs.declared.imports.HostCall.{HostCall}
 use Rattle.host_calls.specs.declared.imports.HostCall.TheVariants as call
 use Rattle.host_calls.specs.Effects.{HostEffect, host_effect}
 use Rattle.host_calls.specs.Effects as host
-use Rattle.host_calls.specs.Host.{Host, slot_value}
+use Rattle.host_calls.specs.Host.{Host, aggregator_value}
 use Rattle.host_calls.specs.Operands.{pop}
 use Rattle.bounded_profile.specs.Memory.{page}
 use Rattle.interp.specs.Configuration.{State, Effect, Gives, Traps, Misses, with_locals, with_globals, tick}
 use Rattle.interp.specs.Memory.{read, write}
 use Rattle.interp.specs.Effects.{value, popped, numeric_effect, select, pushed, local_set, global_set, variable_effect, load_effect, store_effect, memory_effect, effect, lifted, call_effect}
 use Rattle.interp.specs.Machine as machine
-use Rattle.interp.specs.Machine.{Machine, Running, Done, Trapped, Stuck, Layer, Label, Frame, Callee, defined, functions_of, first, carry, landed, arrive, jump, back, leave, label_of, branch_unless_zero, take_branch, taking, arm, has_result, gives_one, after_effect, enter, take_call, next_units, take_next, advance}
+use Rattle.interp.specs.Machine.{Machine, Running, Done, Trapped, Stuck, ControlEntry, Label, Frame, Callee, defined, functions_of, first, carry, landed, arrive, jump, back, leave, label_of, branch_unless_zero, take_branch, taking, arm, has_result, gives_one, after_effect, enter, take_call, next_units, take_next, advance}
 use Rattle.interp.specs.inside.Going.{is_going}
-use Rattle.interp.specs.inside.Cells.{cell_of, cells_place, cells_state, cells_layer, cells, in_width, narrowed, of_any_width, seen, topped, zero_cells, cell_numeric, cell_memory, cell_effect, cell_call, cell_branch, celled, cell_take_call, cell_next, cell_advance}
-use Rattle.interp.specs.inside.Fits.{AreFit, LayersFit, MachineFits, StateFits}
+use Rattle.interp.specs.inside.Cells.{cell_of, cells_place, cells_state, cells_entry, cells, in_width, narrowed, of_any_width, seen, topped, zero_cells, cell_numeric, cell_memory, cell_effect, cell_call, cell_branch, celled, cell_take_call, cell_next, cell_advance}
+use Rattle.interp.specs.inside.Fits.{AreFit, EntriesFit, MachineFits, StateFits}
 use Rattle.interp.specs.inside.Kept.{AreMarked, MemoryTouches, PlainTouches, Touches, kept_read, kept_write, masked}
 use Rattle.interp.specs.inside.Place.{Place, running}
 use Rattle.interp.proofs.Fits.{EffectFits, RestFits, after_fits, aggregate_fits, aggregated_fits, branch_fits, discard_fits, enter_fits, leave_fits, loads_rest, numeric_rest, selected_fits, send_fits, set_value_fits, stores_fit, taking_fits, variable_fits}
@@ -56,8 +56,8 @@ use Rattle.interp.proofs.Kept.{length-masked, read_masked, write_masked}
 abbrev cells_of : List Value → List Value
 cells_of vs = map cell_of vs
 
-abbrev cells_layers : List Layer → List Layer
-cells_layers ls = map cells_layer ls
+abbrev cells_entries : List ControlEntry → List ControlEntry
+cells_entries ls = map cells_entry ls
 
 -- ---- operands that are taken off
 
@@ -82,37 +82,37 @@ zeros_follow (val_type.I64 ∷ ts) = ap (λ (l : List Value). I64 0 ∷ l) (zero
 
 -- of the memory these bytes are kept
 module _ (ms : List Bool) where
-  -- ---- layers: no value is looked at
+  -- ---- entries: no value is looked at
 
   first_follows : (vs : List Value) → first (cells_of vs) ≡ option_map cell_of (first vs)
   first_follows [] = refl
   first_follows (v ∷ vs) = refl
 
-  landed_follows : (keeps : Bool) (top : Option Value) (vs : List Value) (is : Code) (ls : List Layer) (st : State) → landed (carry keeps (option_map cell_of top) (cells_of vs)) is (cells_layers ls) (cells_state ms st) ≡ cells ms (landed (carry keeps top vs) is ls st)
+  landed_follows : (keeps : Bool) (top : Option Value) (vs : List Value) (is : Code) (ls : List ControlEntry) (st : State) → landed (carry keeps (option_map cell_of top) (cells_of vs)) is (cells_entries ls) (cells_state ms st) ≡ cells ms (landed (carry keeps top vs) is ls st)
   landed_follows false top vs is ls st = refl
   landed_follows true None vs is ls st = refl
   landed_follows true (Some v) vs is ls st = refl
 
-  pub arrive_follows : (top : Option Value) (ls : List Layer) (st : State) → arrive (option_map cell_of top) (cells_layers ls) (cells_state ms st) ≡ cells ms (arrive top ls st)
+  pub arrive_follows : (top : Option Value) (ls : List ControlEntry) (st : State) → arrive (option_map cell_of top) (cells_entries ls) (cells_state ms st) ≡ cells ms (arrive top ls st)
   arrive_follows top [] st = refl
   arrive_follows top (Label keeps vs t a ∷ ls) st = landed_follows keeps top vs t ls st
   arrive_follows top (Frame keeps xs vs a ∷ ls) st = landed_follows keeps top vs a ls (with_locals st xs)
 
-  pub jump_follows : (l : ℕ) (top : Option Value) (ls : List Layer) (st : State) → jump l (option_map cell_of top) (cells_layers ls) (cells_state ms st) ≡ cells ms (jump l top ls st)
+  pub jump_follows : (l : ℕ) (top : Option Value) (ls : List ControlEntry) (st : State) → jump l (option_map cell_of top) (cells_entries ls) (cells_state ms st) ≡ cells ms (jump l top ls st)
   jump_follows zero top ls st = arrive_follows top ls st
   jump_follows (suc l) top [] st = refl
   jump_follows (suc l) top (Label keeps vs t a ∷ ls) st = jump_follows l top ls st
   jump_follows (suc l) top (Frame keeps xs vs a ∷ ls) st = refl
 
-  pub back_follows : (top : Option Value) (ls : List Layer) (st : State) → back (option_map cell_of top) (cells_layers ls) (cells_state ms st) ≡ cells ms (back top ls st)
+  pub back_follows : (top : Option Value) (ls : List ControlEntry) (st : State) → back (option_map cell_of top) (cells_entries ls) (cells_state ms st) ≡ cells ms (back top ls st)
   back_follows top [] st = refl
   back_follows top (Label keeps vs t a ∷ ls) st = back_follows top ls st
   back_follows top (Frame keeps xs vs a ∷ ls) st = arrive_follows top (Frame keeps xs vs a ∷ ls) st
 
-  pub leave_follows : (vs : List Value) (ls : List Layer) (st : State) → leave (cells_of vs) (cells_layers ls) (cells_state ms st) ≡ cells ms (leave vs ls st)
+  pub leave_follows : (vs : List Value) (ls : List ControlEntry) (st : State) → leave (cells_of vs) (cells_entries ls) (cells_state ms st) ≡ cells ms (leave vs ls st)
   leave_follows vs [] st = refl
-  leave_follows vs (Label keeps us t a ∷ ls) st = ap (λ (l : List Value). Running l a (cells_layers ls) (cells_state ms st)) (sym (map-append cell_of vs us))
-  leave_follows vs (Frame keeps xs us a ∷ ls) st = ap (λ (l : List Value). Running l a (cells_layers ls) (cells_state ms (with_locals st xs))) (sym (map-append cell_of vs us))
+  leave_follows vs (Label keeps us t a ∷ ls) st = ap (λ (l : List Value). Running l a (cells_entries ls) (cells_state ms st)) (sym (map-append cell_of vs us))
+  leave_follows vs (Frame keeps xs us a ∷ ls) st = ap (λ (l : List Value). Running l a (cells_entries ls) (cells_state ms (with_locals st xs))) (sym (map-append cell_of vs us))
 
   -- ---- effects
 
@@ -263,10 +263,10 @@ module _ (ms : List Bool) where
     send_follows vs f h = argument_follows val_type.I64 (val_type.I64 ∷ []) vs _ _ f h (λ n us i g. argument_follows val_type.I64 [] us _ _ i g (λ k ws j l. refl))
 
     aggregate_follows : (vs : List Value) → AreFit vs → IsGiven (call_effect call.Aggregate vs st) → call_effect call.Aggregate (seen (val_type.I64 ∷ val_type.I32 ∷ []) (cells_of vs)) (cells_state ms st) ≡ cells_effect (call_effect call.Aggregate vs st)
-    aggregate_follows vs f h = argument_follows val_type.I64 (val_type.I32 ∷ []) vs _ _ f h (λ n us i g. argument_follows val_type.I32 [] us _ _ i g (λ k ws j l. slot_follows (nat_lt k SLOTS) ws _))
+    aggregate_follows vs f h = argument_follows val_type.I64 (val_type.I32 ∷ []) vs _ _ f h (λ n us i g. argument_follows val_type.I32 [] us _ _ i g (λ k ws j l. slot_follows (nat_lt k AGGREGATORS) ws _))
 
     aggregated_follows : (vs : List Value) → AreFit vs → IsGiven (call_effect call.Aggregated vs st) → call_effect call.Aggregated (seen (val_type.I32 ∷ []) (cells_of vs)) (cells_state ms st) ≡ cells_effect (call_effect call.Aggregated vs st)
-    aggregated_follows vs f h = argument_follows val_type.I32 [] vs _ _ f h (λ k us i g. slot_follows (nat_lt k SLOTS) (host.signed (slot_value st.host k) ∷ us) st.host)
+    aggregated_follows vs f h = argument_follows val_type.I32 [] vs _ _ f h (λ k us i g. slot_follows (nat_lt k AGGREGATORS) (host.signed (aggregator_value st.host k) ∷ us) st.host)
 
   -- ---- results
 
@@ -363,30 +363,30 @@ module _ (ms : List Bool) where
 
   -- ---- steps
 
-  after_follows : (e : Effect) (is : Code) (ls : List Layer) (count : ℕ) → after_effect (cells_effect e) is (cells_layers ls) count ≡ cells ms (after_effect e is ls count)
+  after_follows : (e : Effect) (is : Code) (ls : List ControlEntry) (count : ℕ) → after_effect (cells_effect e) is (cells_entries ls) count ≡ cells ms (after_effect e is ls count)
   after_follows (Gives vs st) is ls count = refl
   after_follows Traps is ls count = refl
   after_follows Misses is ls count = refl
 
-  done_follows : (d e : Effect) (is : Code) (ls : List Layer) (count : ℕ) → is_going (after_effect e is ls count) ≡ true → (IsGiven e → d ≡ cells_effect e) → after_effect d is (cells_layers ls) count ≡ cells ms (after_effect e is ls count)
+  done_follows : (d e : Effect) (is : Code) (ls : List ControlEntry) (count : ℕ) → is_going (after_effect e is ls count) ≡ true → (IsGiven e → d ≡ cells_effect e) → after_effect d is (cells_entries ls) count ≡ cells ms (after_effect e is ls count)
   done_follows d e is ls count g f =
-      ap (λ (x : Effect). after_effect x is (cells_layers ls) count) (f (effect_given e is ls count g)) ∙ after_follows e is ls count
+      ap (λ (x : Effect). after_effect x is (cells_entries ls) count) (f (effect_given e is ls count g)) ∙ after_follows e is ls count
 
   taking_follows : (vs : List Value) (count : ℕ) (go cell_go : ℕ → List Value → Machine) → AreFit vs → is_going (taking vs count go) ≡ true → ((n : ℕ) (us : List Value) → is_going (go n us) ≡ true → cell_go n (cells_of us) ≡ cells ms (go n us)) → taking (seen (val_type.I32 ∷ []) (cells_of vs)) count cell_go ≡ cells ms (taking vs count go)
   taking_follows vs count go cell_go i g f = pop_follows (λ x. is_going x ≡ true) (Stuck count) false≢true (λ x. x) (cells ms) val_type.I32 [] vs go cell_go i g (λ n us j. f n us)
 
-  jumped_follows : (l : ℕ) (vs : List Value) (ls : List Layer) (st : State) → jump l (first (cells_of vs)) (cells_layers ls) (cells_state ms st) ≡ cells ms (jump l (first vs) ls st)
-  jumped_follows l vs ls st = ap (λ (o : Option Value). jump l o (cells_layers ls) (cells_state ms st)) (first_follows vs) ∙ jump_follows l (first vs) ls st
+  jumped_follows : (l : ℕ) (vs : List Value) (ls : List ControlEntry) (st : State) → jump l (first (cells_of vs)) (cells_entries ls) (cells_state ms st) ≡ cells ms (jump l (first vs) ls st)
+  jumped_follows l vs ls st = ap (λ (o : Option Value). jump l o (cells_entries ls) (cells_state ms st)) (first_follows vs) ∙ jump_follows l (first vs) ls st
 
-  unless_follows : (n l : ℕ) (vs : List Value) (is : Code) (ls : List Layer) (st : State) → branch_unless_zero n l (cells_of vs) is (cells_layers ls) (cells_state ms st) ≡ cells ms (branch_unless_zero n l vs is ls st)
+  unless_follows : (n l : ℕ) (vs : List Value) (is : Code) (ls : List ControlEntry) (st : State) → branch_unless_zero n l (cells_of vs) is (cells_entries ls) (cells_state ms st) ≡ cells ms (branch_unless_zero n l vs is ls st)
   unless_follows zero l vs is ls st = refl
   unless_follows (suc n) l vs is ls st = jumped_follows l vs ls st
 
-  branch_follows : (b : Branch) (vs : List Value) (is : Code) (ls : List Layer) (st : State) → AreFit vs → is_going (take_branch b vs is ls st) ≡ true → cell_branch b (cells_of vs) is (cells_layers ls) (cells_state ms st) ≡ cells ms (take_branch b vs is ls st)
+  branch_follows : (b : Branch) (vs : List Value) (is : Code) (ls : List ControlEntry) (st : State) → AreFit vs → is_going (take_branch b vs is ls st) ≡ true → cell_branch b (cells_of vs) is (cells_entries ls) (cells_state ms st) ≡ cells ms (take_branch b vs is ls st)
   branch_follows (branch.Br l) vs is ls st f g = jumped_follows l vs ls st
   branch_follows (branch.BrIf l) vs is ls st f g = taking_follows vs st.count _ _ f g (λ n us h. unless_follows n l us is ls st)
   branch_follows (branch.BrTable labels other) vs is ls st f g = taking_follows vs st.count _ _ f g (λ n us h. jumped_follows (label_of labels n other) us ls st)
-  branch_follows branch.Return vs is ls st f g = ap (λ (o : Option Value). back o (cells_layers ls) (cells_state ms st)) (first_follows vs) ∙ back_follows (first vs) ls st
+  branch_follows branch.Return vs is ls st f g = ap (λ (o : Option Value). back o (cells_entries ls) (cells_state ms st)) (first_follows vs) ∙ back_follows (first vs) ls st
 
   turned_follows : (vs : List Value) → reverse (cells_of vs) ≡ cells_of (reverse vs)
   turned_follows [] = refl
@@ -405,11 +405,11 @@ module _ (ms : List Bool) where
   entered_follows true x count = refl
   entered_follows false x count = refl
 
-  enter_follows : (f : Function) (o : Option FuncType) (vs : List Value) (is : Code) (ls : List Layer) (st : State) → enter (celled f) o (cells_of vs) is (cells_layers ls) (cells_state ms st) ≡ cells ms (enter f o vs is ls st)
+  enter_follows : (f : Function) (o : Option FuncType) (vs : List Value) (is : Code) (ls : List ControlEntry) (st : State) → enter (celled f) o (cells_of vs) is (cells_entries ls) (cells_state ms st) ≡ cells ms (enter f o vs is ls st)
   enter_follows f None vs is ls st = refl
   enter_follows f (Some t) vs is ls st =
       let k = length t.parameters in
-      let into : (n : ℕ) (below locals : List Value) → Machine = λ (n : ℕ) (below locals : List Value). if nat_le k n then Running [] f.body (Frame (gives_one t.results) (cells_of st.locals) below is ∷ cells_layers ls) (with_locals (cells_state ms st) locals) else Stuck st.count in
+      let into : (n : ℕ) (below locals : List Value) → Machine = λ (n : ℕ) (below locals : List Value). if nat_le k n then Running [] f.body (Frame (gives_one t.results) (cells_of st.locals) below is ∷ cells_entries ls) (with_locals (cells_state ms st) locals) else Stuck st.count in
       let locals = reverse (take k (cells_of vs)) ++ zero_cells f.locals in
       ap (λ (n : ℕ). into n (drop k (cells_of vs)) locals) (length-map vs cell_of)
       ∙ ap (λ (l : List Value). into (length vs) l locals) (drop-map cell_of k vs)
@@ -417,17 +417,17 @@ module _ (ms : List Bool) where
       ∙ entered_follows (nat_le k (length vs)) (Running [] f.body (Frame (gives_one t.results) st.locals (drop k vs) is ∷ ls) (with_locals st (reverse (take k vs) ++ map zero_of f.locals))) st.count
 
   -- one of the host's functions, if it is there
-  host_follows : (m : Module) (c : Option HostCall) (vs : List Value) (is : Code) (ls : List Layer) (st : State) → AreFit vs → is_going (take_call m (Some (machine.host c)) vs is ls st) ≡ true → cell_take_call of_any_width m (Some (machine.host c)) (cells_of vs) is (cells_layers ls) (cells_state ms st) ≡ cells ms (take_call m (Some (machine.host c)) vs is ls st)
+  host_follows : (m : Module) (c : Option HostCall) (vs : List Value) (is : Code) (ls : List ControlEntry) (st : State) → AreFit vs → is_going (take_call m (Some (machine.host c)) vs is ls st) ≡ true → cell_take_call of_any_width m (Some (machine.host c)) (cells_of vs) is (cells_entries ls) (cells_state ms st) ≡ cells ms (take_call m (Some (machine.host c)) vs is ls st)
   host_follows m None vs is ls st f g = refl
   host_follows m (Some c) vs is ls st f g =
       done_follows (cell_call of_any_width c (cells_of vs) (cells_state ms st)) (call_effect c vs st) is ls st.count g (call_follows c vs st f)
 
-  called_follows : (m : Module) (o : Option Callee) (vs : List Value) (is : Code) (ls : List Layer) (st : State) → AreFit vs → is_going (take_call m o vs is ls st) ≡ true → cell_take_call of_any_width m o (cells_of vs) is (cells_layers ls) (cells_state ms st) ≡ cells ms (take_call m o vs is ls st)
+  called_follows : (m : Module) (o : Option Callee) (vs : List Value) (is : Code) (ls : List ControlEntry) (st : State) → AreFit vs → is_going (take_call m o vs is ls st) ≡ true → cell_take_call of_any_width m o (cells_of vs) is (cells_entries ls) (cells_state ms st) ≡ cells ms (take_call m o vs is ls st)
   called_follows m None vs is ls st f g = refl
   called_follows m (Some (machine.host c)) vs is ls st f g = host_follows m c vs is ls st f g
   called_follows m (Some (defined d)) vs is ls st f g = enter_follows d (slice_get m.types d.type_number) vs is ls st
 
-  next_follows : (m : Module) (vs : List Value) (next : Code) (ls : List Layer) (st : State) → AreFit vs → Touches (AreMarked ms) (Running vs next ls st) → is_going (take_next m vs next ls st) ≡ true → cell_next of_any_width m (cells_of vs) next (cells_layers ls) (cells_state ms st) ≡ cells ms (take_next m vs next ls st)
+  next_follows : (m : Module) (vs : List Value) (next : Code) (ls : List ControlEntry) (st : State) → AreFit vs → Touches (AreMarked ms) (Running vs next ls st) → is_going (take_next m vs next ls st) ≡ true → cell_next of_any_width m (cells_of vs) next (cells_entries ls) (cells_state ms st) ≡ cells ms (take_next m vs next ls st)
   next_follows m vs code.end ls st f w g = leave_follows vs ls st
   next_follows m vs (code.plain p is) ls st f w g = done_follows (cell_effect of_any_width p (cells_of vs) (cells_state ms st)) (effect p vs st) is ls st.count g (effect_follows p vs st f w)
   next_follows m vs (code.branch b is) ls st f w g = branch_follows b vs is ls st f g
@@ -438,7 +438,7 @@ module _ (ms : List Bool) where
   next_follows m vs (code.loop t body is) ls st f w g = refl
   next_follows m vs (code.choice t body other is) ls st f w g = taking_follows vs st.count _ _ f g (λ n us h. refl)
 
-  step_at : (m : Module) (vs : List Value) (next : Code) (ls : List Layer) (st : State) → MachineFits (Running vs next ls st) → Touches (AreMarked ms) (Running vs next ls st) → is_going (advance m (Running vs next ls st)) ≡ true → cell_advance of_any_width m (cells ms (Running vs next ls st)) ≡ cells ms (advance m (Running vs next ls st))
+  step_at : (m : Module) (vs : List Value) (next : Code) (ls : List ControlEntry) (st : State) → MachineFits (Running vs next ls st) → Touches (AreMarked ms) (Running vs next ls st) → is_going (advance m (Running vs next ls st)) ≡ true → cell_advance of_any_width m (cells ms (Running vs next ls st)) ≡ cells ms (advance m (Running vs next ls st))
   step_at m vs code.end ls st f w g = leave_follows vs ls st
   step_at m vs (code.plain p is) ls st f w g = next_follows m vs (code.plain p is) ls (tick (next_units m (code.plain p is)) st) f.0 w g
   step_at m vs (code.branch b is) ls st f w g = next_follows m vs (code.branch b is) ls (tick (next_units m (code.branch b is)) st) f.0 w g
@@ -451,29 +451,29 @@ module _ (ms : List Bool) where
 
   -- a step that is there
   pub step_follows : (m : Module) (p : Place) → MachineFits (running p) → Touches (AreMarked ms) (running p) → is_going (advance m (running p)) ≡ true → cell_advance of_any_width m (running (cells_place ms p)) ≡ cells ms (advance m (running p))
-  step_follows m p f t g = step_at m p.values p.code p.layers p.state f t g
+  step_follows m p f t g = step_at m p.values p.code p.entries p.state f t g
 
   -- ---- a step over cells that is there, with results in their width
 
   abbrev Kept : Machine → Machine → Type 0
   Kept y x = (y ≡ cells ms x) × MachineFits x
 
-  after_kept : (d e : Effect) (is : Code) (ls : List Layer) (count : ℕ) → LayersFit ls → is_going (after_effect e is ls count) ≡ true → is_going (after_effect d is (cells_layers ls) count) ≡ true → (IsGiven e → IsGiven d → Follows d e) → Kept (after_effect d is (cells_layers ls) count) (after_effect e is ls count)
+  after_kept : (d e : Effect) (is : Code) (ls : List ControlEntry) (count : ℕ) → EntriesFit ls → is_going (after_effect e is ls count) ≡ true → is_going (after_effect d is (cells_entries ls) count) ≡ true → (IsGiven e → IsGiven d → Follows d e) → Kept (after_effect d is (cells_entries ls) count) (after_effect e is ls count)
   after_kept d e is ls count l g h f =
-      let k = f (effect_given e is ls count g) (effect_given d is (cells_layers ls) count h) in
-      (ap (λ (x : Effect). after_effect x is (cells_layers ls) count) k.0 ∙ after_follows e is ls count, after_fits e is ls count k.1 l)
+      let k = f (effect_given e is ls count g) (effect_given d is (cells_entries ls) count h) in
+      (ap (λ (x : Effect). after_effect x is (cells_entries ls) count) k.0 ∙ after_follows e is ls count, after_fits e is ls count k.1 l)
 
-  host_kept : (m : Module) (c : Option HostCall) (vs : List Value) (is : Code) (ls : List Layer) (st : State) → AreFit vs → LayersFit ls → StateFits st → is_going (take_call m (Some (machine.host c)) vs is ls st) ≡ true → is_going (cell_take_call in_width m (Some (machine.host c)) (cells_of vs) is (cells_layers ls) (cells_state ms st)) ≡ true → Kept (cell_take_call in_width m (Some (machine.host c)) (cells_of vs) is (cells_layers ls) (cells_state ms st)) (take_call m (Some (machine.host c)) vs is ls st)
+  host_kept : (m : Module) (c : Option HostCall) (vs : List Value) (is : Code) (ls : List ControlEntry) (st : State) → AreFit vs → EntriesFit ls → StateFits st → is_going (take_call m (Some (machine.host c)) vs is ls st) ≡ true → is_going (cell_take_call in_width m (Some (machine.host c)) (cells_of vs) is (cells_entries ls) (cells_state ms st)) ≡ true → Kept (cell_take_call in_width m (Some (machine.host c)) (cells_of vs) is (cells_entries ls) (cells_state ms st)) (take_call m (Some (machine.host c)) vs is ls st)
   host_kept m None vs is ls st f l s g h = (refl, tt)
   host_kept m (Some c) vs is ls st f l s g h =
       after_kept (cell_call in_width c (cells_of vs) (cells_state ms st)) (call_effect c vs st) is ls st.count l g h (call_kept c vs st f s)
 
-  called_kept : (m : Module) (o : Option Callee) (vs : List Value) (is : Code) (ls : List Layer) (st : State) → AreFit vs → LayersFit ls → StateFits st → is_going (take_call m o vs is ls st) ≡ true → is_going (cell_take_call in_width m o (cells_of vs) is (cells_layers ls) (cells_state ms st)) ≡ true → Kept (cell_take_call in_width m o (cells_of vs) is (cells_layers ls) (cells_state ms st)) (take_call m o vs is ls st)
+  called_kept : (m : Module) (o : Option Callee) (vs : List Value) (is : Code) (ls : List ControlEntry) (st : State) → AreFit vs → EntriesFit ls → StateFits st → is_going (take_call m o vs is ls st) ≡ true → is_going (cell_take_call in_width m o (cells_of vs) is (cells_entries ls) (cells_state ms st)) ≡ true → Kept (cell_take_call in_width m o (cells_of vs) is (cells_entries ls) (cells_state ms st)) (take_call m o vs is ls st)
   called_kept m None vs is ls st f l s g h = (refl, tt)
   called_kept m (Some (machine.host c)) vs is ls st f l s g h = host_kept m c vs is ls st f l s g h
   called_kept m (Some (defined d)) vs is ls st f l s g h = (enter_follows d (slice_get m.types d.type_number) vs is ls st, enter_fits d (slice_get m.types d.type_number) vs is ls st f l s)
 
-  next_kept : (m : Module) (vs : List Value) (next : Code) (ls : List Layer) (st : State) → AreFit vs → LayersFit ls → StateFits st → Touches (AreMarked ms) (Running vs next ls st) → is_going (take_next m vs next ls st) ≡ true → is_going (cell_next in_width m (cells_of vs) next (cells_layers ls) (cells_state ms st)) ≡ true → Kept (cell_next in_width m (cells_of vs) next (cells_layers ls) (cells_state ms st)) (take_next m vs next ls st)
+  next_kept : (m : Module) (vs : List Value) (next : Code) (ls : List ControlEntry) (st : State) → AreFit vs → EntriesFit ls → StateFits st → Touches (AreMarked ms) (Running vs next ls st) → is_going (take_next m vs next ls st) ≡ true → is_going (cell_next in_width m (cells_of vs) next (cells_entries ls) (cells_state ms st)) ≡ true → Kept (cell_next in_width m (cells_of vs) next (cells_entries ls) (cells_state ms st)) (take_next m vs next ls st)
   next_kept m vs code.end ls st f l s w g h = (leave_follows vs ls st, leave_fits vs ls st f l s)
   next_kept m vs (code.plain p is) ls st f l s w g h = after_kept (cell_effect in_width p (cells_of vs) (cells_state ms st)) (effect p vs st) is ls st.count l g h (effect_kept p vs st f s w)
   next_kept m vs (code.branch b is) ls st f l s w g h = (branch_follows b vs is ls st f g, branch_fits b vs is ls st f l s)
@@ -484,7 +484,7 @@ module _ (ms : List Bool) where
   next_kept m vs (code.loop t body is) ls st f l s w g h = (refl, (tt, ((f, l), s)))
   next_kept m vs (code.choice t body other is) ls st f l s w g h = (taking_follows vs st.count _ _ f g (λ n us k. refl), taking_fits vs st.count _ f (λ n us i. (tt, ((i, l), s))))
 
-  kept_at : (m : Module) (vs : List Value) (next : Code) (ls : List Layer) (st : State) → MachineFits (Running vs next ls st) → Touches (AreMarked ms) (Running vs next ls st) → is_going (advance m (Running vs next ls st)) ≡ true → is_going (cell_advance in_width m (cells ms (Running vs next ls st))) ≡ true → Kept (cell_advance in_width m (cells ms (Running vs next ls st))) (advance m (Running vs next ls st))
+  kept_at : (m : Module) (vs : List Value) (next : Code) (ls : List ControlEntry) (st : State) → MachineFits (Running vs next ls st) → Touches (AreMarked ms) (Running vs next ls st) → is_going (advance m (Running vs next ls st)) ≡ true → is_going (cell_advance in_width m (cells ms (Running vs next ls st))) ≡ true → Kept (cell_advance in_width m (cells ms (Running vs next ls st))) (advance m (Running vs next ls st))
   kept_at m vs code.end ls st f w g h = (leave_follows vs ls st, leave_fits vs ls st f.0 f.1.0 f.1.1)
   kept_at m vs (code.plain p is) ls st f w g h = next_kept m vs (code.plain p is) ls (tick (next_units m (code.plain p is)) st) f.0 f.1.0 f.1.1 w g h
   kept_at m vs (code.branch b is) ls st f w g h = next_kept m vs (code.branch b is) ls (tick (next_units m (code.branch b is)) st) f.0 f.1.0 f.1.1 w g h
@@ -496,4 +496,4 @@ module _ (ms : List Bool) where
   kept_at m vs (code.choice t body other is) ls st f w g h = next_kept m vs (code.choice t body other is) ls (tick (next_units m (code.choice t body other is)) st) f.0 f.1.0 f.1.1 w g h
 
   pub step_kept : (m : Module) (p : Place) → MachineFits (running p) → Touches (AreMarked ms) (running p) → is_going (advance m (running p)) ≡ true → is_going (cell_advance in_width m (running (cells_place ms p))) ≡ true → Kept (cell_advance in_width m (running (cells_place ms p))) (advance m (running p))
-  step_kept m p f t g h = kept_at m p.values p.code p.layers p.state f t g h
+  step_kept m p f t g h = kept_at m p.values p.code p.entries p.state f t g h

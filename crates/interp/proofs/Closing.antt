@@ -1,4 +1,4 @@
--- Code that takes an item at its end: what stands before that does not go back to the loop.
+-- Code that takes an item at its end: the code before that does not go back to the loop.
 use Rattle.std.proofs.Common.{◌≡◌, ℕ, zero, suc, ◌+◌, ◌*◌, ◌≤◌, inl, inr, List, ◌∷◌, length, slice_get, Option, Some, refl, sym, ap, ◌∙◌, subst, arith}
 use Rattle.wasm_ast.specs.declared.types.ValType.{ValType}
 use Rattle.wasm_ast.specs.declared.types.Value.{Value}
@@ -14,11 +14,11 @@ use Rattle.cost.specs.Weights.{branch_units, call_units}
 use Rattle.cost.specs.LeastUnits.{branch_least, call_least}
 use Rattle.validate.specs.Spaces.{first_type}
 use Rattle.bounded_profile.specs.Kinds.{Kind, kinds}
-use Rattle.bounded_profile.specs.Known.{Context, Changes, call_wants}
+use Rattle.bounded_profile.specs.Known.{Context, Changes, call_requirements}
 use Rattle.bounded_profile.specs.Shapes.{TakesItem}
 use Rattle.interp.specs.Configuration.{State, tick, Effect, Gives}
 use Rattle.interp.specs.Effects.{call_effect}
-use Rattle.interp.specs.Machine.{Callee, host, functions_of, Layer, Machine, Running, first, jump, advance, take_call, after_effect}
+use Rattle.interp.specs.Machine.{Callee, host, functions_of, ControlEntry, Machine, Running, first, jump, advance, take_call, after_effect}
 use Rattle.interp.specs.Heights.{beneath, callers}
 use Rattle.interp.proofs.Values.{HasKinds, IsTop}
 use Rattle.interp.proofs.Plains.{context}
@@ -27,10 +27,10 @@ use Rattle.interp.proofs.Reach.{Comes, Exit, Falls, Branches, Returns, Names, Na
 use Rattle.interp.proofs.Loops.{GoesOn, Turned}
 use Rattle.interp.proofs.Opening.{Took, item_or_none}
 
--- Code of these operands, this size s and this height h comes to the end of a turn, whatever lies round it.
+-- Code of these operands, this size s and this height h reaches the end of a turn, whatever is round it.
 abbrev pub GoodClosing : Module → ℕ → ℕ → (ℕ → ℕ → Type 0) → Context → ℕ → ℕ → ℕ → Code → List Kind → List Kind → Type 0
 GoodClosing m H F R c s h r is from to =
-    (vs : List Value) (ls : List Layer) (st : State) → HasKinds vs from → Sound m c.locals st → beneath ls + h ≤ H → callers ls + r ≤ F → Turned m H F R c (Named is) s (Running vs is ls st) ls st to
+    (vs : List Value) (ls : List ControlEntry) (st : State) → HasKinds vs from → Sound m c.locals st → beneath ls + h ≤ H → callers ls + r ≤ F → Turned m H F R c (Named is) s (Running vs is ls st) ls st to
 
 -- where no branch goes to the innermost label, no turn begins
 no_turn : (s a b t : ℕ) (N : ℕ → Type 0) → (N zero → ⊥) → (e : Exit) → Names N e → GoesOn s a b t e
@@ -42,7 +42,7 @@ no_turn s a b t N none (Returns top) n = tt
 cost_both : (s1 s2 a b c t1 t2 : ℕ) → b ≤ a + s1 * (1 + t1) → c ≤ b + s2 * (1 + t2) → c ≤ a + (s1 + s2) * (1 + (t1 + t2))
 cost_both s1 s2 a b c t1 t2 h k = omega arith
 
--- what stands before the last item costs as if it came with one item fewer
+-- the code before the last item costs as if there were one item fewer
 cost_before : (s1 s2 a b c t1 t2 : ℕ) → 1 ≤ t2 → b ≤ a + s1 * (1 + t1) → c ≤ b + s2 * t2 → c ≤ a + (s1 + s2) * (t1 + t2)
 cost_before s1 s2 a b c t1 t2 one h k = let g = times s1 t2 one in omega (arith, g)
 
@@ -54,13 +54,13 @@ goes_too s1 s2 a b c t1 t2 (Returns top) h g = tt
 
 module _ (m : Module) (H F : ℕ) (R : ℕ → ℕ → Type 0) where
   -- an instruction that goes elsewhere, and not to the loop
-  pub elsewhere : (c : Context) (N M : ℕ → Type 0) → (N zero → ⊥) → ((l : ℕ) → N l → M l) → (u s : ℕ) (x : Machine) (ls : List Layer) (st : State) (to : List Kind) → Reaches m H F R c N u x code.end ls st to → Turned m H F R c M (u + s) x ls st to
+  pub elsewhere : (c : Context) (N M : ℕ → Type 0) → (N zero → ⊥) → ((l : ℕ) → N l → M l) → (u s : ℕ) (x : Machine) (ls : List ControlEntry) (st : State) (to : List Kind) → Reaches m H F R c N u x code.end ls st to → Turned m H F R c M (u + s) x ls st to
   elsewhere c N M none up u s x ls st to p =
       let q = p.1 in
       (p.0, record { final = q.final; steps = q.steps; by = q.by; fits = q.fits; named = renamed m H F R N M up p.0 q.named; sound = q.sound; taken = q.taken; items = q.items; cost = cost_more u (u + s) st.count q.final.count q.taken (omega arith) q.cost; short = q.short }, no_turn (u + s) st.count q.final.count q.taken N none p.0 q.named)
 
   module _ (c : Context) (N : ℕ → Type 0) (none : N zero → ⊥) (u s h h2 r : ℕ) (whole rest : Code) (from mid to : List Kind) (up1 : (l : ℕ) → N l → Named whole l) (up2 : (l : ℕ) → Named rest l → Named whole l) (less : h2 ≤ h) (good : GoodClosing m H F R c s h2 r rest mid to) where
-    after_first : (x : Machine) (ls : List Layer) (st : State) → beneath ls + h ≤ H → callers ls + r ≤ F → (e : Exit) → Reach m H F R c N u x rest ls st mid e → Turned m H F R c (Named whole) (u + s) x ls st to
+    after_first : (x : Machine) (ls : List ControlEntry) (st : State) → beneath ls + h ≤ H → callers ls + r ≤ F → (e : Exit) → Reach m H F R c N u x rest ls st mid e → Turned m H F R c (Named whole) (u + s) x ls st to
     after_first x ls st low shallow (Falls vs) p =
         let y = good vs ls p.final p.fits p.sound (omega (arith, low, less)) shallow in
         let q = y.1 in
@@ -78,7 +78,7 @@ module _ (m : Module) (H F : ℕ) (R : ℕ → ℕ → Type 0) where
 -- ---- the end
 
 -- the call leaves the operands that stood there, and puts an i32 on top
-pub item_pushed : (m : Module) (lo : List ValType) (o : Option ValType) (labels : List (Option ValType)) (call : HostCall) → TakesItem (Some call) → (from given : List Kind) → Changes (context m lo o labels) (call_wants (context m lo o labels) (Some call) (type_of_call call).parameters) (kinds (first_type (type_of_call call).results)) from given → (b : ℕ) (vs : List Value) → HasKinds vs from → HasKinds (I32 b ∷ vs) given
+pub item_pushed : (m : Module) (lo : List ValType) (o : Option ValType) (labels : List (Option ValType)) (call : HostCall) → TakesItem (Some call) → (from given : List Kind) → Changes (context m lo o labels) (call_requirements (context m lo o labels) (Some call) (type_of_call call).parameters) (kinds (first_type (type_of_call call).results)) from given → (b : ℕ) (vs : List Value) → HasKinds vs from → HasKinds (I32 b ∷ vs) given
 item_pushed m lo o labels NextMessage i from given c b vs h =
     subst (HasKinds (I32 b ∷ vs)) (sym c.2) (refl, subst (HasKinds vs) c.1 h)
 item_pushed m lo o labels NextEdge i from given c b vs h =
@@ -98,7 +98,7 @@ cost_one : (u a S t : ℕ) → u ≤ S → a + u ≤ a + S * (1 + t)
 cost_one u a S t h = omega arith
 
 module _ (m : Module) (H F : ℕ) (R : ℕ → ℕ → Type 0) (c : Context) (f : ℕ) (call : HostCall) (takes_item : TakesItem (Some call)) (called : slice_get (functions_of m) f ≡ Some (host (Some call))) (t : Option ValType) (label : slice_get c.labels 0 ≡ Some t) (from to : List Kind) (S h r : ℕ) (stays : (vs : List Value) → HasKinds vs from → (1 + length vs ≤ h) × IsTop t (first vs) × HasKinds vs to) (sized : closing_units m f ≤ S) (frame : 1 ≤ r) where
-  module _ (vs : List Value) (ls : List Layer) (st : State) (k : HasKinds vs from) (sound : Sound m c.locals st) (low : beneath ls + h ≤ H) (shallow : callers ls + r ≤ F) where
+  module _ (vs : List Value) (ls : List ControlEntry) (st : State) (k : HasKinds vs from) (sound : Sound m c.locals st) (low : beneath ls + h ≤ H) (shallow : callers ls + r ≤ F) where
     called_gives : (b : ℕ) (after : State) → call_effect call vs (tick (call_units m f) st) ≡ Gives (I32 b ∷ vs) after → advance m (Running vs (closing f) ls st) ≡ Running (I32 b ∷ vs) (code.branch (branch.BrIf 0) code.end) ls after
     called_gives b after e =
         ap (λ (o : Option Callee). take_call m o vs (code.branch (branch.BrIf 0) code.end) ls (tick (call_units m f) st)) called

@@ -32,7 +32,7 @@ use Rattle.host_calls.specs.Operands.{number, with_number}
 use Rattle.interp.specs.Configuration.{State, with_locals, with_globals, tick, Effect, Gives, Traps, Misses}
 use Rattle.interp.specs.Effects.{value, popped, numeric_effect, discard, select, pushed, variable_effect, load_effect, store_effect, memory_effect, effect, lifted}
 use Rattle.interp.specs.Machine as machine
-use Rattle.interp.specs.Machine.{Machine, Running, Done, Trapped, Stuck, Layer, Label, Frame, Callee, defined, functions_of, landed, arrive, jump, back, leave, label_of, taking, branch_unless_zero, take_branch, gives_one, after_effect, take_call, next_units, take_next, first, carry, advance, run}
+use Rattle.interp.specs.Machine.{Machine, Running, Done, Trapped, Stuck, ControlEntry, Label, Frame, Callee, defined, functions_of, landed, arrive, jump, back, leave, label_of, taking, branch_unless_zero, take_branch, gives_one, after_effect, take_call, next_units, take_next, first, carry, advance, run}
 use Rattle.interp.specs.inside.Place.{Place, running}
 use Rattle.interp.specs.inside.Walk.{left_of}
 
@@ -129,7 +129,7 @@ module _ (st : State) where
 
 -- ---- one step
 
--- so many units were counted, and so many layers stand at most
+-- this many units were counted, and there are at most this many entries
 abbrev pub Within : ℕ → ℕ → Machine → Type 0
 Within k n (Running vs is ls st) = (st.count ≡ k) × (length ls ≤ n)
 Within k n (Done st) = st.count ≡ k
@@ -137,32 +137,32 @@ Within k n (Trapped c) = c ≡ k
 Within k n (Stuck c) = c ≡ k
 
 module _ (k n : ℕ) where
-  within_landed : (o : Option (List Value)) (is : Code) (ls : List Layer) (st : State) → st.count ≡ k → length ls ≤ n → Within k n (landed o is ls st)
+  within_landed : (o : Option (List Value)) (is : Code) (ls : List ControlEntry) (st : State) → st.count ≡ k → length ls ≤ n → Within k n (landed o is ls st)
   within_landed None is ls st e h = e
   within_landed (Some vs) is ls st e h = (e, h)
 
-  within_arrive : (top : Option Value) (ls : List Layer) (st : State) → st.count ≡ k → length ls ≤ n → Within k n (arrive top ls st)
+  within_arrive : (top : Option Value) (ls : List ControlEntry) (st : State) → st.count ≡ k → length ls ≤ n → Within k n (arrive top ls st)
   within_arrive top [] st e h = e
   within_arrive top (Label keeps vs t a ∷ ls) st e h = within_landed (carry keeps top vs) t ls st e (omega (arith, h))
   within_arrive top (Frame keeps xs vs a ∷ ls) st e h = within_landed (carry keeps top vs) a ls (with_locals st xs) e (omega (arith, h))
 
-  within_jump : (l : ℕ) (top : Option Value) (ls : List Layer) (st : State) → st.count ≡ k → length ls ≤ n → Within k n (jump l top ls st)
+  within_jump : (l : ℕ) (top : Option Value) (ls : List ControlEntry) (st : State) → st.count ≡ k → length ls ≤ n → Within k n (jump l top ls st)
   within_jump zero top ls st e h = within_arrive top ls st e h
   within_jump (suc l) top [] st e h = e
   within_jump (suc l) top (Label keeps vs t a ∷ ls) st e h = within_jump l top ls st e (omega (arith, h))
   within_jump (suc l) top (Frame keeps xs vs a ∷ ls) st e h = e
 
-  within_back : (top : Option Value) (ls : List Layer) (st : State) → st.count ≡ k → length ls ≤ n → Within k n (back top ls st)
+  within_back : (top : Option Value) (ls : List ControlEntry) (st : State) → st.count ≡ k → length ls ≤ n → Within k n (back top ls st)
   within_back top [] st e h = e
   within_back top (Label keeps vs t a ∷ ls) st e h = within_back top ls st e (omega (arith, h))
   within_back top (Frame keeps xs vs a ∷ ls) st e h = within_arrive top (Frame keeps xs vs a ∷ ls) st e h
 
-  within_leave : (vs : List Value) (ls : List Layer) (st : State) → st.count ≡ k → length ls ≤ n → Within k n (leave vs ls st)
+  within_leave : (vs : List Value) (ls : List ControlEntry) (st : State) → st.count ≡ k → length ls ≤ n → Within k n (leave vs ls st)
   within_leave vs [] st e h = e
   within_leave vs (Label keeps us t a ∷ ls) st e h = (e, omega (arith, h))
   within_leave vs (Frame keeps xs us a ∷ ls) st e h = (e, omega (arith, h))
 
-  within_effect : (f : Effect) (is : Code) (ls : List Layer) (c : ℕ) → Keeps c f → c ≡ k → length ls ≤ n → Within k n (after_effect f is ls c)
+  within_effect : (f : Effect) (is : Code) (ls : List ControlEntry) (c : ℕ) → Keeps c f → c ≡ k → length ls ≤ n → Within k n (after_effect f is ls c)
   within_effect (Gives vs st) is ls c g e h = (g ∙ e, h)
   within_effect Traps is ls c g e h = e
   within_effect Misses is ls c g e h = e
@@ -175,32 +175,32 @@ module _ (k n : ℕ) where
   within_taking [] c go e h = e
   within_taking (v ∷ vs) c go e h = within_with c (number val_type.I32 v) (λ m. go m vs) e (λ m. h m vs)
 
-  within_unless : (m l : ℕ) (vs : List Value) (is : Code) (ls : List Layer) (st : State) → st.count ≡ k → length ls ≤ n → Within k n (branch_unless_zero m l vs is ls st)
+  within_unless : (m l : ℕ) (vs : List Value) (is : Code) (ls : List ControlEntry) (st : State) → st.count ≡ k → length ls ≤ n → Within k n (branch_unless_zero m l vs is ls st)
   within_unless zero l vs is ls st e h = (e, h)
   within_unless (suc m) l vs is ls st e h = within_jump l (first vs) ls st e h
 
-  within_branch : (b : Branch) (vs : List Value) (is : Code) (ls : List Layer) (st : State) → st.count ≡ k → length ls ≤ n → Within k n (take_branch b vs is ls st)
+  within_branch : (b : Branch) (vs : List Value) (is : Code) (ls : List ControlEntry) (st : State) → st.count ≡ k → length ls ≤ n → Within k n (take_branch b vs is ls st)
   within_branch (branch.Br l) vs is ls st e h = within_jump l (first vs) ls st e h
   within_branch (branch.BrIf l) vs is ls st e h = within_taking vs st.count _ e (λ m us. within_unless m l us is ls st e h)
   within_branch (branch.BrTable labels other) vs is ls st e h =
       within_taking vs st.count _ e (λ m us. within_jump (label_of labels m other) (first us) ls st e h)
   within_branch branch.Return vs is ls st e h = within_back (first vs) ls st e h
 
-  within_framed : (b : Bool) (is after : Code) (keeps : Bool) (xs us : List Value) (ls : List Layer) (st : State) (c : ℕ) → st.count ≡ k → c ≡ k → suc (length ls) ≤ n → Within k n (if b then Running [] is (Frame keeps xs us after ∷ ls) st else Stuck c)
+  within_framed : (b : Bool) (is after : Code) (keeps : Bool) (xs us : List Value) (ls : List ControlEntry) (st : State) (c : ℕ) → st.count ≡ k → c ≡ k → suc (length ls) ≤ n → Within k n (if b then Running [] is (Frame keeps xs us after ∷ ls) st else Stuck c)
   within_framed true is after keeps xs us ls st c e g h = (e, h)
   within_framed false is after keeps xs us ls st c e g h = g
 
-  within_enter : (f : Function) (o : Option FuncType) (vs : List Value) (is : Code) (ls : List Layer) (st : State) → st.count ≡ k → suc (length ls) ≤ n → Within k n (machine.enter f o vs is ls st)
+  within_enter : (f : Function) (o : Option FuncType) (vs : List Value) (is : Code) (ls : List ControlEntry) (st : State) → st.count ≡ k → suc (length ls) ≤ n → Within k n (machine.enter f o vs is ls st)
   within_enter f None vs is ls st e h = e
   within_enter f (Some t) vs is ls st e h =
       within_framed (nat_le (length t.parameters) (length vs)) f.body is (gives_one t.results) st.locals (drop (length t.parameters) vs) ls (with_locals st (reverse (take (length t.parameters) vs) ++ map zero_of f.locals)) st.count e e h
 
-  within_call : (m : Module) (o : Option Callee) (vs : List Value) (is : Code) (ls : List Layer) (st : State) → st.count ≡ k → suc (length ls) ≤ n → Within k n (take_call m o vs is ls st)
+  within_call : (m : Module) (o : Option Callee) (vs : List Value) (is : Code) (ls : List ControlEntry) (st : State) → st.count ≡ k → suc (length ls) ≤ n → Within k n (take_call m o vs is ls st)
   within_call m None vs is ls st e h = e
   within_call m (Some (machine.host c)) vs is ls st e h = within_effect _ is ls st.count (keeps_call st c vs) e (omega (arith, h))
   within_call m (Some (defined f)) vs is ls st e h = within_enter f (slice_get m.types f.type_number) vs is ls st e h
 
-  within_next : (m : Module) (vs : List Value) (is : Code) (ls : List Layer) (st : State) → st.count ≡ k → suc (length ls) ≤ n → Within k n (take_next m vs is ls st)
+  within_next : (m : Module) (vs : List Value) (is : Code) (ls : List ControlEntry) (st : State) → st.count ≡ k → suc (length ls) ≤ n → Within k n (take_next m vs is ls st)
   within_next m vs code.end ls st e h = within_leave vs ls st e (omega (arith, h))
   within_next m vs (code.plain p is) ls st e h = within_effect _ is ls st.count (keeps_plain st p vs) e (omega (arith, h))
   within_next m vs (code.branch b is) ls st e h = within_branch b vs is ls st e (omega (arith, h))
@@ -211,10 +211,10 @@ module _ (k n : ℕ) where
   within_next m vs (code.loop t body is) ls st e h = (e, h)
   within_next m vs (code.choice t body other is) ls st e h = within_taking vs st.count _ e (λ i us. (e, h))
 
-ticked : (m : Module) (vs : List Value) (next : Code) (ls : List Layer) (st : State) → Within (st.count + next_units m next) (suc (length ls)) (take_next m vs next ls (tick (next_units m next) st))
+ticked : (m : Module) (vs : List Value) (next : Code) (ls : List ControlEntry) (st : State) → Within (st.count + next_units m next) (suc (length ls)) (take_next m vs next ls (tick (next_units m next) st))
 ticked m vs next ls st = within_next (st.count + next_units m next) (suc (length ls)) m vs next ls (tick (next_units m next) st) refl (omega arith)
 
-pub within : (m : Module) (vs : List Value) (next : Code) (ls : List Layer) (st : State) → Within (st.count + next_units m next) (suc (length ls)) (advance m (Running vs next ls st))
+pub within : (m : Module) (vs : List Value) (next : Code) (ls : List ControlEntry) (st : State) → Within (st.count + next_units m next) (suc (length ls)) (advance m (Running vs next ls st))
 within m vs code.end ls st = within_leave (st.count + 0) (suc (length ls)) vs ls st (omega arith) (omega arith)
 within m vs (code.plain p is) ls st = ticked m vs (code.plain p is) ls st
 within m vs (code.branch b is) ls st = ticked m vs (code.branch b is) ls st
@@ -227,7 +227,7 @@ within m vs (code.choice t body other is) ls st = ticked m vs (code.choice t bod
 
 -- ---- a run
 
--- at least so many units were counted
+-- at least this many units were counted
 abbrev pub Counted : ℕ → Machine → Type 0
 Counted k (Running vs is ls st) = k ≤ st.count
 Counted k (Done st) = k ≤ st.count
@@ -258,7 +258,7 @@ counted_run m zero k x c = c
 counted_run m (suc n) k x c = counted_run m n k (advance m x) (counted_step m k x c)
 
 -- after an instruction its units are counted
-pub counted_after : (m : Module) (n : ℕ) (vs : List Value) (next : Code) (ls : List Layer) (st : State) → Counted (st.count + next_units m next) (run m (suc n) (Running vs next ls st))
+pub counted_after : (m : Module) (n : ℕ) (vs : List Value) (next : Code) (ls : List ControlEntry) (st : State) → Counted (st.count + next_units m next) (run m (suc n) (Running vs next ls st))
 counted_after m n vs next ls st =
     counted_run m n (st.count + next_units m next) (advance m (Running vs next ls st)) (counted_within (st.count + next_units m next) (suc (length ls)) _ (within m vs next ls st))
 
@@ -276,16 +276,16 @@ nearer_within b c u n (Done st) l h w = tt
 nearer_within b c u n (Trapped k) l h w = tt
 nearer_within b c u n (Stuck k) l h w = tt
 
-nearer_leave : (b : ℕ) (vs : List Value) (ls : List Layer) (st : State) → Nearer b (2 * (b - st.count) + length ls) (leave vs ls st)
+nearer_leave : (b : ℕ) (vs : List Value) (ls : List ControlEntry) (st : State) → Nearer b (2 * (b - st.count) + length ls) (leave vs ls st)
 nearer_leave b vs [] st = tt
 nearer_leave b vs (Label keeps us t a ∷ ls) st = omega arith
 nearer_leave b vs (Frame keeps xs us a ∷ ls) st = omega arith
 
-nearer_counted : (m : Module) (b : ℕ) (vs : List Value) (next : Code) (ls : List Layer) (st : State) → 1 ≤ next_units m next → st.count + next_units m next ≤ b → Nearer b (2 * (b - st.count) + length ls) (advance m (Running vs next ls st))
+nearer_counted : (m : Module) (b : ℕ) (vs : List Value) (next : Code) (ls : List ControlEntry) (st : State) → 1 ≤ next_units m next → st.count + next_units m next ≤ b → Nearer b (2 * (b - st.count) + length ls) (advance m (Running vs next ls st))
 nearer_counted m b vs next ls st l h =
     nearer_within b st.count (next_units m next) (length ls) (advance m (Running vs next ls st)) l h (within m vs next ls st)
 
-nearer : (m : Module) (b : ℕ) (vs : List Value) (next : Code) (ls : List Layer) (st : State) → st.count + next_units m next ≤ b → Nearer b (2 * (b - st.count) + length ls) (advance m (Running vs next ls st))
+nearer : (m : Module) (b : ℕ) (vs : List Value) (next : Code) (ls : List ControlEntry) (st : State) → st.count + next_units m next ≤ b → Nearer b (2 * (b - st.count) + length ls) (advance m (Running vs next ls st))
 nearer m b vs code.end ls st h = nearer_leave b vs ls st
 nearer m b vs (code.plain p is) ls st h = nearer_counted m b vs (code.plain p is) ls st (units_least m (instr.Plain p)) h
 nearer m b vs (code.branch c is) ls st h = nearer_counted m b vs (code.branch c is) ls st (units_least m (instr.Branch c)) h
@@ -297,11 +297,11 @@ nearer m b vs (code.loop t body is) ls st h = nearer_counted m b vs (code.loop t
 nearer m b vs (code.choice t body other is) ls st h = nearer_counted m b vs (code.choice t body other is) ls st (units_least m (instr.If t body other)) h
 
 pub falls : (m : Module) (b : ℕ) (p q : Place) → advance m (running p) ≡ running q → p.state.count + next_units m p.code ≤ b → left_of b q < left_of b p
-falls m b p q e h = subst (λ (x : Machine). Nearer b (left_of b p) x) e (nearer m b p.values p.code p.layers p.state h)
+falls m b p q e h = subst (λ (x : Machine). Nearer b (left_of b p) x) e (nearer m b p.values p.code p.entries p.state h)
 
 -- the count where the step came
 pub counted_running : (m : Module) (p q : Place) → advance m (running p) ≡ running q → q.state.count ≡ p.state.count + next_units m p.code
-counted_running m p q e = (subst (λ (x : Machine). Within (p.state.count + next_units m p.code) (suc (length p.layers)) x) e (within m p.values p.code p.layers p.state)).0
+counted_running m p q e = (subst (λ (x : Machine). Within (p.state.count + next_units m p.code) (suc (length p.entries)) x) e (within m p.values p.code p.entries p.state)).0
 
-pub counted_over : (m : Module) (p : Place) (x : Machine) → advance m (running p) ≡ x → Within (p.state.count + next_units m p.code) (suc (length p.layers)) x
-counted_over m p x e = subst (λ (x : Machine). Within (p.state.count + next_units m p.code) (suc (length p.layers)) x) e (within m p.values p.code p.layers p.state)
+pub counted_over : (m : Module) (p : Place) (x : Machine) → advance m (running p) ≡ x → Within (p.state.count + next_units m p.code) (suc (length p.entries)) x
+counted_over m p x e = subst (λ (x : Machine). Within (p.state.count + next_units m p.code) (suc (length p.entries)) x) e (within m p.values p.code p.entries p.state)

@@ -1,4 +1,4 @@
--- What code loads and stores is reached: what is known of the operands along it tells the addresses.
+-- Code loads and stores only reached bytes: what is known of the operands along it gives the addresses.
 use Rattle.std.proofs.Common.{◌≡◌, ℕ, zero, suc, ◌+◌, ◌<◌, ◌≤◌, Bool, true, false, ◌&&◌, List, [], ◌∷◌, ◌++◌, length, drop, map, replicate, get_or, slice_get, ltb, Option, Some, None, refl, sym, ap, ◌∙◌, subst, arith, lt-ltb}
 use Rattle.std.specs.Prelude.{reverse, ◌||◌}
 use Rattle.std.specs.List.{AllByRecursion}
@@ -26,18 +26,18 @@ use Rattle.validate.specs.Modules.{TypeHolds}
 use Rattle.bounded_profile.specs.declared.arity.Arity.{Arity}
 use Rattle.bounded_profile.specs.declared.constants.operands.Operand.{Operand}
 use Rattle.bounded_profile.specs.declared.constants.operands.Operand.TheVariants.{Unknown, Known as KnownOperand}
-use Rattle.bounded_profile.specs.declared.wants.Premise.TheVariants as premise
-use Rattle.bounded_profile.specs.declared.wants.Want.{Want}
-use Rattle.bounded_profile.specs.declared.wants.Want.TheVariants as want
+use Rattle.bounded_profile.specs.declared.requirements.Premise.TheVariants as premise
+use Rattle.bounded_profile.specs.declared.requirements.Requirement.{Requirement}
+use Rattle.bounded_profile.specs.declared.requirements.Requirement.TheVariants as requirement
 use Rattle.bounded_profile.specs.Arities.{arity_table, arity_at, block_arity, plain_arity, result_count, test_arity}
 use Rattle.bounded_profile.specs.Hosts.{host_call_at}
-use Rattle.bounded_profile.specs.Kinds.{Kind, Any, Is, Forgets, AllForget, Meets, AllMeet, kinds, wants}
-use Rattle.bounded_profile.specs.Known.{Context, Changes, Known, PlainKnown, call_wants, constant_kind, known, numeric_wants, parameter_wants, takes_slot, with_label}
+use Rattle.bounded_profile.specs.Kinds.{Kind, Any, Is, Forgets, AllForget, Meets, AllMeet, kinds, requirements}
+use Rattle.bounded_profile.specs.Known.{Context, Changes, Known, PlainKnown, call_requirements, constant_kind, known, numeric_requirements, parameter_requirements, takes_slot, with_label}
 use Rattle.bounded_profile.specs.Memory.{memory_bytes, number_of}
 use Rattle.bounded_profile.specs.Reached.{Access, access_at, accesses, accesses_along, accesses_in, covers, is_covered, is_reached, known_after, known_behind, plain_accesses}
 use Rattle.interp.specs.Configuration.{State}
 use Rattle.interp.specs.Effects.{value}
-use Rattle.interp.specs.Machine.{Layer, Machine, Running, Done, Trapped, Stuck}
+use Rattle.interp.specs.Machine.{ControlEntry, Machine, Running, Done, Trapped, Stuck}
 use Rattle.interp.specs.inside.Kept.{AreMarked, MemoryTouches, PlainTouches, Touches, marks, marks_from}
 use Rattle.interp.proofs.Lengths.{call_counts, call_results, numeric_length}
 use Rattle.interp.proofs.Plains.{context}
@@ -93,7 +93,7 @@ forgets_all (k ∷ ks) (j ∷ js) [] f a = absurd a
 forgets_all (k ∷ ks) (j ∷ js) (o ∷ os) f a = (forgets_one k j o f.0 a.0, forgets_all ks js os f.1 a.1)
 
 -- those below what is taken
-below : (bytes : ℕ) (ws : List Want) (from under : List Kind) (os : List Operand) → AllMeet bytes ws from under → Agree from os → Agree under (drop (length ws) os)
+below : (bytes : ℕ) (ws : List Requirement) (from under : List Kind) (os : List Operand) → AllMeet bytes ws from under → Agree from os → Agree under (drop (length ws) os)
 below bytes [] from under os w a = subst (λ (ks : List Kind). Agree ks os) w a
 below bytes (w ∷ ws) [] under os h a = absurd h
 below bytes (w ∷ ws) (k ∷ ks) under [] h a = absurd a
@@ -109,11 +109,11 @@ module _ (m : Module) (lo : List ValType) (o : Option ValType) (labels : List (O
   Here = context m lo o labels
 
   -- an instruction that gives one operand or none
-  changed : (t : Option ValType) (ws : List Want) (from to : List Kind) (os : List Operand) → Changes Here ws (kinds t) from to → Agree from os → Agree to (replicate (result_count t) Unknown ++ drop (length ws) os)
+  changed : (t : Option ValType) (ws : List Requirement) (from to : List Kind) (os : List Operand) → Changes Here ws (kinds t) from to → Agree from os → Agree to (replicate (result_count t) Unknown ++ drop (length ws) os)
   changed t ws from to os c a =
       subst (λ (ks : List Kind). Agree ks (replicate (result_count t) Unknown ++ drop (length ws) os)) (sym c.2) (given_kinds t c.0 (drop (length ws) os) (below (memory_bytes m) ws from c.0 os c.1 a))
 
-  changed_at : (t : Option ValType) (ws : List Want) (a : Arity) (from to : List Kind) (os : List Operand) → length ws ≡ a.takes → result_count t ≡ a.gives → Changes Here ws (kinds t) from to → Agree from os → Agree to (known_after a os)
+  changed_at : (t : Option ValType) (ws : List Requirement) (a : Arity) (from to : List Kind) (os : List Operand) → length ws ≡ a.takes → result_count t ≡ a.gives → Changes Here ws (kinds t) from to → Agree from os → Agree to (known_after a os)
   changed_at t ws a from to os takes gives c g =
       subst (λ (n : ℕ). Agree to (replicate a.gives Unknown ++ drop n os)) takes (subst (λ (n : ℕ). Agree to (replicate n Unknown ++ drop (length ws) os)) gives (changed t ws from to os c g))
 
@@ -125,22 +125,22 @@ module _ (m : Module) (lo : List ValType) (o : Option ValType) (labels : List (O
 
   plain_known : (p : Plain) (from to : List Kind) (os : List Operand) → PlainKnown Here p from to → Agree from os → Agree to (known_behind p os)
   plain_known plain.Nop from to os t a = changed None [] from to os t a
-  plain_known plain.Drop from to os t a = changed None (want.Value t.0 ∷ []) from to os t.1 a
-  plain_known plain.Select from to os t a = changed (Some t.0) (want.Value val_type.I32 ∷ want.Value t.0 ∷ want.Value t.0 ∷ []) from to os t.1 a
+  plain_known plain.Drop from to os t a = changed None (requirement.Value t.0 ∷ []) from to os t.1 a
+  plain_known plain.Select from to os t a = changed (Some t.0) (requirement.Value val_type.I32 ∷ requirement.Value t.0 ∷ requirement.Value t.0 ∷ []) from to os t.1 a
   plain_known (plain.Const v) from to os t a = constant_known v from to os t a
-  plain_known (plain.Numeric op) from to os t a = changed_at (Some (numeric_gives op)) (numeric_wants Here op) (plain_arity (plain.Numeric op)) from to os (numeric_length m lo o labels op) refl t a
+  plain_known (plain.Numeric op) from to os t a = changed_at (Some (numeric_gives op)) (numeric_requirements Here op) (plain_arity (plain.Numeric op)) from to os (numeric_length m lo o labels op) refl t a
   plain_known (plain.Variable (variable.LocalGet x)) from to os t a = changed (Some t.0) [] from to os t.2 a
-  plain_known (plain.Variable (variable.LocalSet x)) from to os t a = changed None (want.Value t.0 ∷ []) from to os t.2 a
-  plain_known (plain.Variable (variable.LocalTee x)) from to os t a = changed (Some t.0) (want.Value t.0 ∷ []) from to os t.2 a
+  plain_known (plain.Variable (variable.LocalSet x)) from to os t a = changed None (requirement.Value t.0 ∷ []) from to os t.2 a
+  plain_known (plain.Variable (variable.LocalTee x)) from to os t a = changed (Some t.0) (requirement.Value t.0 ∷ []) from to os t.2 a
   plain_known (plain.Variable (variable.GlobalGet x)) from to os t a = changed (Some t.0.value) [] from to os t.2 a
-  plain_known (plain.Variable (variable.GlobalSet x)) from to os t a = changed None (want.Value t.0.value ∷ []) from to os t.2.1 a
-  plain_known (plain.Memory (memory.Load op b)) from to os t a = changed (Some (load_type op)) (want.Constant val_type.I32 (premise.Reaches b.offset (load_width op)) ∷ []) from to os t.1.1 a
-  plain_known (plain.Memory (memory.Store op b)) from to os t a = changed None (want.Value (store_type op) ∷ want.Constant val_type.I32 (premise.Reaches b.offset (store_width op)) ∷ []) from to os t.1.1 a
+  plain_known (plain.Variable (variable.GlobalSet x)) from to os t a = changed None (requirement.Value t.0.value ∷ []) from to os t.2.1 a
+  plain_known (plain.Memory (memory.Load op b)) from to os t a = changed (Some (load_type op)) (requirement.Constant val_type.I32 (premise.Reaches b.offset (load_width op)) ∷ []) from to os t.1.1 a
+  plain_known (plain.Memory (memory.Store op b)) from to os t a = changed None (requirement.Value (store_type op) ∷ requirement.Constant val_type.I32 (premise.Reaches b.offset (store_width op)) ∷ []) from to os t.1.1 a
   plain_known (plain.Memory memory.Size) from to os t a = changed (Some val_type.I32) [] from to os t.1 a
-  plain_known (plain.Memory memory.Grow) from to os t a = changed (Some val_type.I32) (want.Value val_type.I32 ∷ []) from to os t.1 a
+  plain_known (plain.Memory memory.Grow) from to os t a = changed (Some val_type.I32) (requirement.Value val_type.I32 ∷ []) from to os t.1 a
 
   -- a branch that is not taken leaves what it would keep
-  test_known : (t : Option ValType) (from to : List Kind) (os : List Operand) → Changes Here (want.Value val_type.I32 ∷ wants t) (kinds t) from to → Agree from os → Agree to (drop 1 os)
+  test_known : (t : Option ValType) (from to : List Kind) (os : List Operand) → Changes Here (requirement.Value val_type.I32 ∷ requirements t) (kinds t) from to → Agree from os → Agree to (drop 1 os)
   test_known t [] to os c a = absurd c.1
   test_known t (k ∷ from) to [] c a = absurd a
   test_known None (k ∷ from) to (x ∷ os) c a = subst (λ (ks : List Kind). Agree ks os) (c.1.1 ∙ sym c.2) a.1
@@ -148,15 +148,15 @@ module _ (m : Module) (lo : List ValType) (o : Option ValType) (labels : List (O
   test_known (Some t) (k ∷ j ∷ from) to (x ∷ []) c a = absurd a.1
   test_known (Some t) (k ∷ j ∷ from) to (x ∷ y ∷ os) c a = subst (λ (ks : List Kind). Agree ks (y ∷ os)) (sym c.2) (tt, subst (λ (ks : List Kind). Agree ks os) c.1.1.1 a.1.1)
 
-  call_takes : (hc : Option HostCall) (ps : List ValType) → length (call_wants Here hc ps) ≡ length ps
+  call_takes : (hc : Option HostCall) (ps : List ValType) → length (call_requirements Here hc ps) ≡ length ps
   call_takes hc ps = by_slot (takes_slot hc) ps
     where
-      by_slot : (b : Bool) (ps : List ValType) → length (parameter_wants Here b ps) ≡ length ps
-      by_slot false ps = length-map (reverse ps) want.Value ∙ length-reverse ps
+      by_slot : (b : Bool) (ps : List ValType) → length (parameter_requirements Here b ps) ≡ length ps
+      by_slot false ps = length-map (reverse ps) requirement.Value ∙ length-reverse ps
       by_slot true [] = refl
       by_slot true (slot ∷ others) =
-          let a = length-append (map want.Value (reverse others)) (known Here slot premise.IsSlot ∷ []) in
-          let b = length-map (reverse others) want.Value in
+          let a = length-append (map requirement.Value (reverse others)) (known Here slot premise.IsSlot ∷ []) in
+          let b = length-map (reverse others) requirement.Value in
           let c = length-reverse others in
           omega (arith, a, b, c)
 
@@ -184,7 +184,7 @@ module _ (m : Module) (R : ℕ → ℕ → Type 0) where
   address_is v val_type.I64 n e = ap number_of e
 
   -- an operand that has to be an address
-  at_operand : (k : Kind) (o : Operand) (v : Value) (offset width : ℕ) → Meets (memory_bytes m) (want.Constant val_type.I32 (premise.Reaches offset width)) k → Tells k o → HasKind v k → AreMet (access_at o offset width) → R (number_of v + offset) width
+  at_operand : (k : Kind) (o : Operand) (v : Value) (offset width : ℕ) → Meets (memory_bytes m) (requirement.Constant val_type.I32 (premise.Reaches offset width)) k → Tells k o → HasKind v k → AreMet (access_at o offset width) → R (number_of v + offset) width
   at_operand (Any t) o v offset width w a h met = absurd w
   at_operand (Is t n) o v offset width w a h met = subst (λ (k : ℕ). R (k + offset) width) (sym (address_is v t n h)) (at_known n offset width o a w.1 met)
 
@@ -227,7 +227,7 @@ module _ (m : Module) (R : ℕ → ℕ → Type 0) where
     covered (code.call f rest) labels from to os i a met =
         let t = i.1.1.0 in
         let after = known_after (arity_at (arity_table m) f) os in
-        covered rest labels i.0 to after i.2 (forgets_all i.1.0 i.0 after i.1.2 (changed_at m lo o labels (first_type t.results) (call_wants (context m lo o labels) (host_call_at m f) t.parameters) (arity_at (arity_table m) f) from i.1.0 os (call_takes m lo o labels (host_call_at m f) t.parameters ∙ sym (call_counts m f t i.1.1.1 types)) (sym (call_results m f t i.1.1.1 types)) i.1.1.2 a)) met
+        covered rest labels i.0 to after i.2 (forgets_all i.1.0 i.0 after i.1.2 (changed_at m lo o labels (first_type t.results) (call_requirements (context m lo o labels) (host_call_at m f) t.parameters) (arity_at (arity_table m) f) from i.1.0 os (call_takes m lo o labels (host_call_at m f) t.parameters ∙ sym (call_counts m f t i.1.1.1 types)) (sym (call_results m f t i.1.1.1 types)) i.1.1.2 a)) met
     covered (code.call_indirect t rest) labels from to os i a met = tt
     covered (code.unreachable rest) labels from to os i a met = tt
     covered (code.block t body rest) labels from to os i a met =
@@ -250,7 +250,7 @@ module _ (m : Module) (R : ℕ → ℕ → Type 0) where
         let others = (halves first (second ++ last) met).1 in (
           covered body (t ∷ labels) [] (kinds t) [] i.1 tt (halves first (second ++ last) met).0,
           covered other (t ∷ labels) [] (kinds t) [] i.2 tt (halves second last others).0,
-          covered rest labels i.0 to after i.4 (forgets_all i.3.0 i.0 after i.3.2 (changed m lo o labels t (want.Value val_type.I32 ∷ []) from i.3.0 os i.3.1 a)) (halves second last others).1,
+          covered rest labels i.0 to after i.4 (forgets_all i.3.0 i.0 after i.3.2 (changed m lo o labels t (requirement.Value val_type.I32 ∷ []) from i.3.0 os i.3.1 a)) (halves second last others).1,
         )
 
   -- the accesses of a function are among the module's
@@ -320,7 +320,7 @@ anywhere_memory (memory.Store op a) (n ∷ v ∷ vs) = tt
 anywhere_memory memory.Size vs = tt
 anywhere_memory memory.Grow vs = tt
 
-anywhere_code : (vs : List Value) (is : Code) (ls : List Layer) (st : State) → Touches Anywhere (Running vs is ls st)
+anywhere_code : (vs : List Value) (is : Code) (ls : List ControlEntry) (st : State) → Touches Anywhere (Running vs is ls st)
 anywhere_code vs (code.plain (plain.Memory op) is) ls st = anywhere_memory op vs
 anywhere_code vs (code.plain plain.Nop is) ls st = tt
 anywhere_code vs (code.plain plain.Drop is) ls st = tt

@@ -1,4 +1,4 @@
--- A walk's turn, and the end of a walk that comes to one.
+-- A walk's turn, and the end of a walk.
 use Rattle.std.proofs.Common.{true, ◌≡◌, ◌≢◌, ℕ, zero, suc, ◌+◌, ◌<◌, ◌≤◌, refl, sym, ap, ◌∙◌, subst, arith}
 use Rattle.wasm_ast.specs.declared.module.Module.{Module}
 use Rattle.interp.specs.Configuration.{State}
@@ -17,7 +17,7 @@ comes_on m x y z h e = record { steps = suc h.steps; there = run_on m h.steps x 
 
 module _ (m : Module) (from : Machine) (p : Place) (comes : Comes m from (running p)) where
   not_before : (n : ℕ) → n < suc comes.steps → (st : State) → run m n from ≢ Done st
-  not_before n h st e = not_over_before m n comes.steps from (Done st) p.values p.code p.layers p.state comes.there (omega (arith, h)) e tt
+  not_before n h st e = not_over_before m n comes.steps from (Done st) p.values p.code p.entries p.state comes.there (omega (arith, h)) e tt
 
   pub finishes : (final : State) → advance m (running p) ≡ Done final → Finishes m from final
   finishes final e =
@@ -30,7 +30,7 @@ module _ (m : Module) (from : Machine) (p : Place) (comes : Comes m from (runnin
         let late : ends.steps ≤ comes.steps + suc ends.steps = omega arith in
         let there : run m (suc ends.steps) (running p) ≡ Done ends.final =
         ap (λ (x : Machine). run m (suc ends.steps) x) (sym comes.there) ∙ sym (run-add m comes.steps (suc ends.steps) from) ∙ stays m ends.steps (comes.steps + suc ends.steps) from (over_at m ends.steps from (Done ends.final) ends.done tt) late ∙ ends.done in
-        let counted : Counted (p.state.count + next_units m p.code) (Done ends.final) = subst (λ (x : Machine). Counted (p.state.count + next_units m p.code) x) there (counted_after m ends.steps p.values p.code p.layers p.state) in
+        let counted : Counted (p.state.count + next_units m p.code) (Done ends.final) = subst (λ (x : Machine). Counted (p.state.count + next_units m p.code) x) there (counted_after m ends.steps p.values p.code p.entries p.state) in
         let all : p.state.count + next_units m p.code ≤ ends.final.count = counted in
         omega (arith, all, ends.within)
 

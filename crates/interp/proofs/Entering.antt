@@ -14,15 +14,15 @@ use Rattle.host_calls.specs.declared.imports.HostCall.{HostCall}
 use Rattle.cost.specs.Weights.{call_units}
 use Rattle.cost.specs.LeastUnits.{call_least}
 use Rattle.host_calls.specs.Imports.{type_of_call}
-use Rattle.bounded_profile.specs.declared.wants.Want.TheVariants as want
+use Rattle.bounded_profile.specs.declared.requirements.Requirement.TheVariants as requirement
 use Rattle.validate.specs.Spaces.{first_type}
 use Rattle.bounded_profile.specs.Kinds.{Kind, kinds}
 use Rattle.bounded_profile.specs.Hosts.{host_call_at}
 use Rattle.bounded_profile.specs.Memory.{memory_bytes}
-use Rattle.bounded_profile.specs.Known.{Changes, call_wants}
+use Rattle.bounded_profile.specs.Known.{Changes, call_requirements}
 use Rattle.interp.specs.Configuration.{State, with_locals, tick}
 use Rattle.interp.specs.Effects.{call_effect}
-use Rattle.interp.specs.Machine.{Callee, Layer, Frame, Machine, Running, Stuck, gives_one, has_result, enter, take_call, advance}
+use Rattle.interp.specs.Machine.{Callee, ControlEntry, Frame, Machine, Running, Stuck, gives_one, has_result, enter, take_call, advance}
 use Rattle.bounded_profile.specs.Arities.{result_count}
 use Rattle.interp.specs.Heights.{beneath, callers}
 use Rattle.interp.proofs.Values.{HasKinds, HasTypes, Takes, takes, kinds_length, types-append, zeros_typed}
@@ -54,7 +54,7 @@ pub record Arguments (ts : List ValType) (vs : List Value) (below : List Kind) :
   pub left : HasKinds (drop (length ts) vs) below
   pub counted : length vs ≡ length ts + length (drop (length ts) vs)
 
-arguments : (bytes : ℕ) (ts : List ValType) (vs us : List Value) (below : List Kind) → Takes bytes (map want.Value ts) vs us → HasKinds us below → Arguments ts vs below
+arguments : (bytes : ℕ) (ts : List ValType) (vs us : List Value) (below : List Kind) → Takes bytes (map requirement.Value ts) vs us → HasKinds us below → Arguments ts vs below
 arguments bytes [] vs us below k h =
     record { enough = omega arith; taken = tt; left = subst (λ (ws : List Value). HasKinds ws below) (sym k) h; counted = omega arith }
 arguments bytes (t ∷ ts) [] us below k h = absurd k
@@ -70,16 +70,16 @@ module _ (m : Module) (H F : ℕ) (R : ℕ → ℕ → Type 0) (lo : List ValTyp
   -- ---- calls of the host
 
   abbrev TypedCall : Option HostCall → FuncType → List Kind → List Kind → Type 0
-  TypedCall hc t from to = Changes (context m lo o labels) (call_wants (context m lo o labels) hc t.parameters) (kinds (first_type t.results)) from to
+  TypedCall hc t from to = Changes (context m lo o labels) (call_requirements (context m lo o labels) hc t.parameters) (kinds (first_type t.results)) from to
 
   pub host_changes : (f : ℕ) (t : FuncType) (g : IsHostFunction m f t) (from to : List Kind) → TypedCall (host_call_at m f) t from to → TypedCall (Some g.call) (type_of_call g.call) from to
   host_changes f t g from to c =
       subst (λ (u : FuncType). TypedCall (Some g.call) u from to) g.typed (subst (λ (hc : Option HostCall). TypedCall hc t from to) g.named c)
 
-  host_good : (f s : ℕ) (t : FuncType) (g : IsHostFunction m f t) (from to : List Kind) → TypedCall (host_call_at m f) t from to → (vs : List Value) (is : Code) (ls : List Layer) (st : State) → HasKinds vs from → Sound m lo st → IsLow H F R (Running vs (code.call f is) ls st) → Reaches m H F R (context m lo o labels) (Named (code.call f code.end)) (call_units m f + s) (Running vs (code.call f is) ls st) is ls st to
+  host_good : (f s : ℕ) (t : FuncType) (g : IsHostFunction m f t) (from to : List Kind) → TypedCall (host_call_at m f) t from to → (vs : List Value) (is : Code) (ls : List ControlEntry) (st : State) → HasKinds vs from → Sound m lo st → IsLow H F R (Running vs (code.call f is) ls st) → Reaches m H F R (context m lo o labels) (Named (code.call f code.end)) (call_units m f + s) (Running vs (code.call f is) ls st) is ls st to
   host_good f s t g from to c vs is ls st h sound low =
       let d = host_changes f t g from to c in
-      let r = takes (memory_bytes m) (call_wants (context m lo o labels) (Some g.call) (type_of_call g.call).parameters) vs from d.0 d.1 h in
+      let r = takes (memory_bytes m) (call_requirements (context m lo o labels) (Some g.call) (type_of_call g.call).parameters) vs from d.0 d.1 h in
       let given = subst (λ (ks : List Kind). Given m lo (call_effect g.call vs (tick (call_units m f) st)) (tick (call_units m f) st) ks) (sym d.2) (host_given m lo g.call o labels vs r.0 (tick (call_units m f) st) d.0 r.1 r.2 (ticked m lo (call_units m f) st sound)) in
       larger m H F R (context m lo o labels) (Named (code.call f code.end)) (Named (code.call f code.end)) (λ l k. k) (call_units m f) (call_units m f + s) _ is ls st to (omega arith)
       (acts m H F R (call_units m f) (call_least m f) (context m lo o labels) (Named (code.call f code.end)) (Running vs (code.call f is) ls st) (call_effect g.call vs (tick (call_units m f) st)) (st.count + call_units m f) is ls st to low (ap (λ (x : Option Callee). take_call m x vs is ls (tick (call_units m f) st)) g.called) given)
@@ -89,7 +89,7 @@ module _ (m : Module) (H F : ℕ) (R : ℕ → ℕ → Type 0) (lo : List ValTyp
   defined_changes : (f : ℕ) (t : FuncType) (g : IsDefinedFunction m f t) (from to : List Kind) → TypedCall (host_call_at m f) t from to → TypedCall None t from to
   defined_changes f t g from to c = subst (λ (hc : Option HostCall). TypedCall hc t from to) g.unnamed c
 
-  enters : (f : ℕ) (t : FuncType) (g : IsDefinedFunction m f t) (vs : List Value) (is : Code) (ls : List Layer) (st : State) → length t.parameters ≤ length vs → advance m (Running vs (code.call f is) ls st) ≡ Running [] g.function.body (Frame (gives_one t.results) st.locals (drop (length t.parameters) vs) is ∷ ls) (with_locals (tick (call_units m f) st) (reverse (take (length t.parameters) vs) ++ map zero_of g.function.locals))
+  enters : (f : ℕ) (t : FuncType) (g : IsDefinedFunction m f t) (vs : List Value) (is : Code) (ls : List ControlEntry) (st : State) → length t.parameters ≤ length vs → advance m (Running vs (code.call f is) ls st) ≡ Running [] g.function.body (Frame (gives_one t.results) st.locals (drop (length t.parameters) vs) is ∷ ls) (with_locals (tick (call_units m f) st) (reverse (take (length t.parameters) vs) ++ map zero_of g.function.locals))
   enters f t g vs is ls st n =
       ap (λ (x : Option Callee). take_call m x vs is ls (tick (call_units m f) st)) g.called
       ∙ ap (λ (x : Option FuncType). enter g.function x vs is ls (tick (call_units m f) st)) g.typed
@@ -104,12 +104,12 @@ module _ (m : Module) (H F : ℕ) (R : ℕ → ℕ → Type 0) (lo : List ValTyp
       (omega (arith, n, a.enough), turned, subst (λ (j : ℕ). HasKinds (drop j vs) below) n a.left, subst (λ (j : ℕ). length vs ≡ j + length (drop j vs)) n a.counted)
 
   entered : (f s hf df r : ℕ) (t : FuncType) (g : IsDefinedFunction m f t) → GoodCode m H F R (inside m (t.parameters ++ g.function.locals) (first_type t.results)) s hf df g.function.body [] (kinds (first_type t.results))
-      → (from to : List Kind) → TypedCall (host_call_at m f) t from to → (vs : List Value) (is : Code) (ls : List Layer) (st : State) → HasKinds vs from → Sound m lo st → IsLow H F R (Running vs (code.call f is) ls st)
+      → (from to : List Kind) → TypedCall (host_call_at m f) t from to → (vs : List Value) (is : Code) (ls : List ControlEntry) (st : State) → HasKinds vs from → Sound m lo st → IsLow H F R (Running vs (code.call f is) ls st)
       → beneath ls + (length vs - length t.parameters + hf) ≤ H → beneath ls + length to ≤ H → callers ls + r ≤ F → df < r → 1 ≤ df
       → Reaches m H F R (context m lo o labels) (Named (code.call f code.end)) (call_units m f + s) (Running vs (code.call f is) ls st) is ls st to
   entered f s hf df r t g good from to c vs is ls st h sound low room after shallow less one =
       let d = defined_changes f t g from to c in
-      let k = takes (memory_bytes m) (map want.Value (reverse t.parameters)) vs from d.0 d.1 h in
+      let k = takes (memory_bytes m) (map requirement.Value (reverse t.parameters)) vs from d.0 d.1 h in
       let a = own_arguments t vs d.0 (arguments (memory_bytes m) (reverse t.parameters) vs k.0 d.0 k.1 k.2) in
       let us = drop (length t.parameters) vs in
       let zs = reverse (take (length t.parameters) vs) ++ map zero_of g.function.locals in
@@ -133,7 +133,7 @@ module _ (m : Module) (H F : ℕ) (R : ℕ → ℕ → Type 0) (lo : List ValTyp
   call_length_host : (f : ℕ) (t : FuncType) (g : IsHostFunction m f t) (from to : List Kind) → TypedCall (host_call_at m f) t from to → length to ≡ length from - length t.parameters + result_count (first_type t.results)
   call_length_host f t g from to c =
       let d = host_changes f t g from to c in
-      let e = changes_length m lo o labels (call_wants (context m lo o labels) (Some g.call) (type_of_call g.call).parameters) (kinds (first_type (type_of_call g.call).results)) from to d in
+      let e = changes_length m lo o labels (call_requirements (context m lo o labels) (Some g.call) (type_of_call g.call).parameters) (kinds (first_type (type_of_call g.call).results)) from to d in
       let n = host_length m lo o labels g.call in
       let k = kinds_count (first_type (type_of_call g.call).results) in
       let there : length to ≡ length from - length (type_of_call g.call).parameters + result_count (first_type (type_of_call g.call).results) = omega (arith, e, n, k) in
@@ -141,7 +141,7 @@ module _ (m : Module) (H F : ℕ) (R : ℕ → ℕ → Type 0) (lo : List ValTyp
 
   call_length_defined : (f : ℕ) (t : FuncType) (g : IsDefinedFunction m f t) (from to : List Kind) → TypedCall (host_call_at m f) t from to → length to ≡ length from - length t.parameters + result_count (first_type t.results)
   call_length_defined f t g from to c =
-      let e = changes_length m lo o labels (call_wants (context m lo o labels) None t.parameters) (kinds (first_type t.results)) from to (defined_changes f t g from to c) in
+      let e = changes_length m lo o labels (call_requirements (context m lo o labels) None t.parameters) (kinds (first_type t.results)) from to (defined_changes f t g from to c) in
       let n = defined_length m lo o labels t.parameters in
       let k = kinds_count (first_type t.results) in
       omega (arith, e, n, k)
@@ -151,7 +151,7 @@ module _ (m : Module) (H F : ℕ) (R : ℕ → ℕ → Type 0) (lo : List ValTyp
   call_length f t (inr g) from to c = call_length_defined f t g from to c
 
   pub call_good : (f s hf df r : ℕ) (t : FuncType) (which : IsHostFunction m f t ⊎ IsDefinedFunction m f t) → ((g : IsDefinedFunction m f t) → (1 ≤ df) × GoodCode m H F R (inside m (t.parameters ++ g.function.locals) (first_type t.results)) s hf df g.function.body [] (kinds (first_type t.results)))
-      → (from to : List Kind) → TypedCall (host_call_at m f) t from to → (vs : List Value) (is : Code) (ls : List Layer) (st : State) → HasKinds vs from → Sound m lo st → IsLow H F R (Running vs (code.call f is) ls st)
+      → (from to : List Kind) → TypedCall (host_call_at m f) t from to → (vs : List Value) (is : Code) (ls : List ControlEntry) (st : State) → HasKinds vs from → Sound m lo st → IsLow H F R (Running vs (code.call f is) ls st)
       → beneath ls + (length vs - length t.parameters + hf) ≤ H → beneath ls + length to ≤ H → callers ls + r ≤ F → df < r
       → Reaches m H F R (context m lo o labels) (Named (code.call f code.end)) (call_units m f + s) (Running vs (code.call f is) ls st) is ls st to
   call_good f s hf df r t (inl g) good from to c vs is ls st h sound low room after shallow less = host_good f s t g from to c vs is ls st h sound low

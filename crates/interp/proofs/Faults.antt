@@ -1,4 +1,4 @@
--- A call that comes to its end comes to no other end.
+-- A call that ends has no other end.
 use Rattle.std.proofs.Common.{◌≡◌, ◌≢◌, ℕ, ◌≤◌, ap, ◌∙◌, arith}
 use Rattle.wasm_ast.specs.declared.module.Module.{Module}
 use Rattle.host_calls.specs.declared.call.CallInput.{CallInput}

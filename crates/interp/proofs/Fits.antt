@@ -1,4 +1,4 @@
--- What a step keeps and puts where fits: but for results, which are new, no value is there that was not there before.
+-- A step keeps values that fit. Except for results, which are new, it makes no value that was not there before.
 use Rattle.std.proofs.Common.{ℕ, zero, suc, ◌+◌, List, [], ◌∷◌, ◌++◌, Bool, true, false, Option, Some, None, length, slice_get, map, reverse, take, drop, nat_lt, nat_le, if◌then◌else◌, sym, subst, lit<}
 use Rattle.std.specs.Prelude.{slice_set}
 use Rattle.std.specs.Int.{cast_signed, w64}
@@ -24,17 +24,17 @@ use Rattle.wasm_ast.specs.Code.{Code}
 use Rattle.wasm_ast.specs.Numeric.{bits_of, conversion_from, division_traps, division_value}
 use Rattle.wasm_ast.specs.Values.{zero_of}
 use Rattle.wasm_ast.specs.Widths.{load_width, store_type, store_width}
-use Rattle.host_calls.specs.declared.call.TheConstants.{SLOTS}
+use Rattle.host_calls.specs.declared.call.TheConstants.{AGGREGATORS}
 use Rattle.host_calls.specs.declared.imports.HostCall.TheVariants as call
 use Rattle.host_calls.specs.Effects.{HostEffect}
 use Rattle.host_calls.specs.Effects as host
-use Rattle.host_calls.specs.Host.{Host, slot_value, with_contribution}
+use Rattle.host_calls.specs.Host.{Host, aggregator_value, with_contribution}
 use Rattle.host_calls.specs.Operands.{number, with_number, pop}
 use Rattle.interp.specs.Configuration.{State, Effect, Gives, Traps, Misses, with_locals, with_globals}
 use Rattle.interp.specs.Memory.{read, write}
 use Rattle.interp.specs.Effects.{value, popped, numeric_effect, discard, select, pushed, variable_effect, load_effect, store_effect, memory_effect, effect, lifted, call_effect}
-use Rattle.interp.specs.Machine.{Machine, Running, Stuck, Layer, Label, Frame, first, carry, landed, arrive, jump, back, leave, label_of, branch_unless_zero, take_branch, taking, gives_one, after_effect, enter}
-use Rattle.interp.specs.inside.Fits.{IsFit, AreFit, StateFits, LayersFit, MachineFits}
+use Rattle.interp.specs.Machine.{Machine, Running, Stuck, ControlEntry, Label, Frame, first, carry, landed, arrive, jump, back, leave, label_of, branch_unless_zero, take_branch, taking, gives_one, after_effect, enter}
+use Rattle.interp.specs.inside.Fits.{IsFit, AreFit, StateFits, EntriesFit, MachineFits}
 
 -- one that may be there
 abbrev IsFitIfAny : Option Value → Type 0
@@ -77,34 +77,34 @@ zeros_fit [] = tt
 zeros_fit (val_type.I32 ∷ ts) = (lit< tt, zeros_fit ts)
 zeros_fit (val_type.I64 ∷ ts) = (tt, zeros_fit ts)
 
--- ---- layers
+-- ---- entries
 
 first_fits : (vs : List Value) → AreFit vs → IsFitIfAny (first vs)
 first_fits [] f = tt
 first_fits (v ∷ vs) f = f.0
 
-landed_fits : (keeps : Bool) (top : Option Value) (vs : List Value) (is : Code) (ls : List Layer) (st : State) → IsFitIfAny top → AreFit vs → LayersFit ls → StateFits st → MachineFits (landed (carry keeps top vs) is ls st)
+landed_fits : (keeps : Bool) (top : Option Value) (vs : List Value) (is : Code) (ls : List ControlEntry) (st : State) → IsFitIfAny top → AreFit vs → EntriesFit ls → StateFits st → MachineFits (landed (carry keeps top vs) is ls st)
 landed_fits false top vs is ls st t f g h = (f, (g, h))
 landed_fits true None vs is ls st t f g h = tt
 landed_fits true (Some v) vs is ls st t f g h = ((t, f), (g, h))
 
-arrive_fits : (top : Option Value) (ls : List Layer) (st : State) → IsFitIfAny top → LayersFit ls → StateFits st → MachineFits (arrive top ls st)
+arrive_fits : (top : Option Value) (ls : List ControlEntry) (st : State) → IsFitIfAny top → EntriesFit ls → StateFits st → MachineFits (arrive top ls st)
 arrive_fits top [] st t g h = tt
 arrive_fits top (Label keeps vs a b ∷ ls) st t g h = landed_fits keeps top vs a ls st t g.0 g.1 h
 arrive_fits top (Frame keeps xs vs a ∷ ls) st t g h = landed_fits keeps top vs a ls (with_locals st xs) t g.1.0 g.1.1 (g.0, h.1)
 
-jump_fits : (l : ℕ) (top : Option Value) (ls : List Layer) (st : State) → IsFitIfAny top → LayersFit ls → StateFits st → MachineFits (jump l top ls st)
+jump_fits : (l : ℕ) (top : Option Value) (ls : List ControlEntry) (st : State) → IsFitIfAny top → EntriesFit ls → StateFits st → MachineFits (jump l top ls st)
 jump_fits zero top ls st t g h = arrive_fits top ls st t g h
 jump_fits (suc l) top [] st t g h = tt
 jump_fits (suc l) top (Label keeps vs a b ∷ ls) st t g h = jump_fits l top ls st t g.1 h
 jump_fits (suc l) top (Frame keeps xs vs a ∷ ls) st t g h = tt
 
-back_fits : (top : Option Value) (ls : List Layer) (st : State) → IsFitIfAny top → LayersFit ls → StateFits st → MachineFits (back top ls st)
+back_fits : (top : Option Value) (ls : List ControlEntry) (st : State) → IsFitIfAny top → EntriesFit ls → StateFits st → MachineFits (back top ls st)
 back_fits top [] st t g h = tt
 back_fits top (Label keeps vs a b ∷ ls) st t g h = back_fits top ls st t g.1 h
 back_fits top (Frame keeps xs vs a ∷ ls) st t g h = arrive_fits top (Frame keeps xs vs a ∷ ls) st t g h
 
-pub leave_fits : (vs : List Value) (ls : List Layer) (st : State) → AreFit vs → LayersFit ls → StateFits st → MachineFits (leave vs ls st)
+pub leave_fits : (vs : List Value) (ls : List ControlEntry) (st : State) → AreFit vs → EntriesFit ls → StateFits st → MachineFits (leave vs ls st)
 leave_fits vs [] st f g h = tt
 leave_fits vs (Label keeps us a b ∷ ls) st f g h = (fit-append vs us f g.0, (g.1, h))
 leave_fits vs (Frame keeps xs us a ∷ ls) st f g h = (fit-append vs us f g.1.0, (g.1.1, (g.0, h.1)))
@@ -128,7 +128,7 @@ EffectFits (Gives vs st) = AreFit vs × StateFits st
 EffectFits Traps = Unit {0}
 EffectFits Misses = Unit {0}
 
--- they do but for the operand on top
+-- they do except for the topmost operand
 abbrev pub RestFits : Effect → Type 0
 RestFits (Gives [] st) = StateFits st
 RestFits (Gives (v ∷ vs) st) = AreFit vs × StateFits st
@@ -220,14 +220,14 @@ module _ (st : State) (fits : StateFits st) where
   send_fits vs f = argument_fits val_type.I64 vs _ f (λ n us g. argument_fits val_type.I64 us _ g (λ k ws h. (h, fits)))
 
   pub aggregate_fits : (vs : List Value) → AreFit vs → EffectFits (call_effect call.Aggregate vs st)
-  aggregate_fits vs f = argument_fits val_type.I64 vs _ f (λ n us g. argument_fits val_type.I32 us _ g (λ k ws h. slot_fits (nat_lt k SLOTS) ws (with_contribution st.host k (cast_signed w64 n)) (h, fits)))
+  aggregate_fits vs f = argument_fits val_type.I64 vs _ f (λ n us g. argument_fits val_type.I32 us _ g (λ k ws h. slot_fits (nat_lt k AGGREGATORS) ws (with_contribution st.host k (cast_signed w64 n)) (h, fits)))
 
   pub aggregated_fits : (vs : List Value) → AreFit vs → EffectFits (call_effect call.Aggregated vs st)
-  aggregated_fits vs f = argument_fits val_type.I32 vs _ f (λ k us g. slot_fits (nat_lt k SLOTS) (host.signed (slot_value st.host k) ∷ us) st.host ((tt, g), fits))
+  aggregated_fits vs f = argument_fits val_type.I32 vs _ f (λ k us g. slot_fits (nat_lt k AGGREGATORS) (host.signed (aggregator_value st.host k) ∷ us) st.host ((tt, g), fits))
 
 -- ---- steps
 
-pub after_fits : (e : Effect) (is : Code) (ls : List Layer) (count : ℕ) → EffectFits e → LayersFit ls → MachineFits (after_effect e is ls count)
+pub after_fits : (e : Effect) (is : Code) (ls : List ControlEntry) (count : ℕ) → EffectFits e → EntriesFit ls → MachineFits (after_effect e is ls count)
 after_fits (Gives vs st) is ls count f g = (f.0, (g, f.1))
 after_fits Traps is ls count f g = tt
 after_fits Misses is ls count f g = tt
@@ -235,11 +235,11 @@ after_fits Misses is ls count f g = tt
 pub taking_fits : (vs : List Value) (count : ℕ) (go : ℕ → List Value → Machine) → AreFit vs → ((n : ℕ) (us : List Value) → AreFit us → MachineFits (go n us)) → MachineFits (taking vs count go)
 taking_fits vs count go f h = pop_fits MachineFits (Stuck count) tt val_type.I32 vs go f h
 
-unless_fits : (n l : ℕ) (vs : List Value) (is : Code) (ls : List Layer) (st : State) → AreFit vs → LayersFit ls → StateFits st → MachineFits (branch_unless_zero n l vs is ls st)
+unless_fits : (n l : ℕ) (vs : List Value) (is : Code) (ls : List ControlEntry) (st : State) → AreFit vs → EntriesFit ls → StateFits st → MachineFits (branch_unless_zero n l vs is ls st)
 unless_fits zero l vs is ls st f g h = (f, (g, h))
 unless_fits (suc n) l vs is ls st f g h = jump_fits l (first vs) ls st (first_fits vs f) g h
 
-pub branch_fits : (b : Branch) (vs : List Value) (is : Code) (ls : List Layer) (st : State) → AreFit vs → LayersFit ls → StateFits st → MachineFits (take_branch b vs is ls st)
+pub branch_fits : (b : Branch) (vs : List Value) (is : Code) (ls : List ControlEntry) (st : State) → AreFit vs → EntriesFit ls → StateFits st → MachineFits (take_branch b vs is ls st)
 branch_fits (branch.Br l) vs is ls st f g h = jump_fits l (first vs) ls st (first_fits vs f) g h
 branch_fits (branch.BrIf l) vs is ls st f g h = taking_fits vs st.count _ f (λ n us i. unless_fits n l us is ls st i g h)
 branch_fits (branch.BrTable labels other) vs is ls st f g h = taking_fits vs st.count _ f (λ n us i. jump_fits (label_of labels n other) (first us) ls st (first_fits us i) g h)
@@ -249,7 +249,7 @@ entered_fits : (b : Bool) (x : Machine) (count : ℕ) → MachineFits x → Mach
 entered_fits true x count f = f
 entered_fits false x count f = tt
 
-pub enter_fits : (fn : Function) (o : Option FuncType) (vs : List Value) (is : Code) (ls : List Layer) (st : State) → AreFit vs → LayersFit ls → StateFits st → MachineFits (enter fn o vs is ls st)
+pub enter_fits : (fn : Function) (o : Option FuncType) (vs : List Value) (is : Code) (ls : List ControlEntry) (st : State) → AreFit vs → EntriesFit ls → StateFits st → MachineFits (enter fn o vs is ls st)
 enter_fits fn None vs is ls st f g h = tt
 enter_fits fn (Some t) vs is ls st f g h =
     entered_fits (nat_le (length t.parameters) (length vs)) (Running [] fn.body (Frame (gives_one t.results) st.locals (drop (length t.parameters) vs) is ∷ ls) (with_locals st (reverse (take (length t.parameters) vs) ++ map zero_of fn.locals))) st.count

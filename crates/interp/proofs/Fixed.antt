@@ -1,5 +1,5 @@
--- Where no function calls itself, each table that is defined along calls is there: what is told of a function by what is
--- told of those that it calls.
+-- Where no function calls itself, each table that is defined along calls exists: the entry of a function by the
+-- entries of those that it calls.
 use Rattle.std.proofs.Common.{◌≡◌, ℕ, zero, suc, ◌+◌, ◌-◌, ◌<◌, ◌≤◌, ◌⊎◌, inl, inr, max, Bool, true, false, List, [], ◌∷◌, ◌++◌, length, get_or, slice_get, Option, Some, None, option_map, if◌then◌else◌, refl, sym, ap, ◌∙◌, subst, arith}
 use Rattle.std.specs.Prelude.{eqb}
 use Rattle.std.specs.List.{AllByRecursion, IsDistinct, list_any}

@@ -1,12 +1,12 @@
--- A walk over cells beside the run over values that it follows.
+-- A walk over cells follows a run over values.
 use Rattle.std.proofs.Common.{◌≡◌, ℕ, suc, ◌+◌, ◌-◌, ◌*◌, ◌<◌, ◌≤◌, Bool, List, [], ◌∷◌, length, map, true, refl, sym, ap, ◌∙◌, subst, arith}
 use Rattle.std.proofs.lemmas.List.{length-map}
 use Rattle.wasm_ast.specs.declared.module.Module.{Module}
 use Rattle.wasm_ast.specs.Code.{Code}
 use Rattle.interp.specs.Configuration.{State}
-use Rattle.interp.specs.Heights.{beneath, held, layers, locals, operands}
-use Rattle.interp.specs.Machine.{Machine, Running, Done, Trapped, Stuck, Layer, Label, Frame, advance, next_units, run}
-use Rattle.interp.specs.inside.Cells.{cell_advance, cell_of, cells, cells_layer, cells_place, cells_state, in_width, of_any_width}
+use Rattle.interp.specs.Heights.{beneath, held, entries, locals, operands}
+use Rattle.interp.specs.Machine.{Machine, Running, Done, Trapped, Stuck, ControlEntry, Label, Frame, advance, next_units, run}
+use Rattle.interp.specs.inside.Cells.{cell_advance, cell_of, cells, cells_entry, cells_place, cells_state, in_width, of_any_width}
 use Rattle.interp.specs.inside.Fits.{MachineFits}
 use Rattle.interp.specs.inside.Given.{HasGiven}
 use Rattle.interp.specs.inside.Going.{is_going}
@@ -26,7 +26,7 @@ going_as_cells ms (Stuck count) = refl
 
 -- the place of a machine that runs
 abbrev place_of : Place → Machine → Place
-place_of p (Running vs is ls st) = record { values = vs; code = is; layers = ls; state = st }
+place_of p (Running vs is ls st) = record { values = vs; code = is; entries = ls; state = st }
 place_of p (Done st) = p
 place_of p (Trapped count) = p
 place_of p (Stuck count) = p
@@ -38,9 +38,9 @@ final_of st (Trapped count) = st
 final_of st (Stuck count) = st
 
 left_as_cells : (ms : List Bool) (most : ℕ) (p : Place) → left_of most (cells_place ms p) ≡ left_of most p
-left_as_cells ms most p = ap (λ (n : ℕ). 2 * (most - p.state.count) + n) (length-map p.layers cells_layer)
+left_as_cells ms most p = ap (λ (n : ℕ). 2 * (most - p.state.count) + n) (length-map p.entries cells_entry)
 
--- what a step over values comes to that goes on
+-- the result of a step over values that goes on
 record Stepped (m : Module) (from next : Place) : Type 0 where
   place : Place
   there : advance m (running from) ≡ running place
@@ -49,7 +49,7 @@ record Stepped (m : Module) (from next : Place) : Type 0 where
 
 stepped : (m : Module) (from next : Place) (x : Machine) → advance m (running from) ≡ x → MachineFits x → running next ≡ cells (marks m) x → Stepped m from next
 stepped m from next (Running vs is ls st) s f e = record {
-  place = record { values = vs; code = is; layers = ls; state = st };
+  place = record { values = vs; code = is; entries = ls; state = st };
   there = s;
   fits = f;
   is = sym (ap (place_of next) e);
@@ -133,26 +133,26 @@ gives_on m from here follows most ends g =
 
 -- ---- room
 
-held_as_cells : (ls : List Layer) → held (map cells_layer ls) ≡ held ls
+held_as_cells : (ls : List ControlEntry) → held (map cells_entry ls) ≡ held ls
 held_as_cells [] = refl
 held_as_cells (Label keeps vs t a ∷ ls) = held_as_cells ls
 held_as_cells (Frame keeps xs vs a ∷ ls) = let l = length-map xs cell_of in let h = held_as_cells ls in omega (arith, l, h)
 
-beneath_as_cells : (ls : List Layer) → beneath (map cells_layer ls) ≡ beneath ls
+beneath_as_cells : (ls : List ControlEntry) → beneath (map cells_entry ls) ≡ beneath ls
 beneath_as_cells [] = refl
 beneath_as_cells (Label keeps vs t a ∷ ls) = let l = length-map vs cell_of in let h = beneath_as_cells ls in omega (arith, l, h)
 beneath_as_cells (Frame keeps xs vs a ∷ ls) = let l = length-map vs cell_of in let h = beneath_as_cells ls in omega (arith, l, h)
 
 -- where there are always fewer operands, there are here
-pub fewer_here : (m : Module) (from : Machine) (here : Place) (bound : ℕ) → Follows m from here → ((n : ℕ) → operands (run m n from) < bound) → length here.values + beneath here.layers < bound
+pub fewer_here : (m : Module) (from : Machine) (here : Place) (bound : ℕ) → Follows m from here → ((n : ℕ) → operands (run m n from) < bound) → length here.values + beneath here.entries < bound
 fewer_here m from here bound follows low =
     let p = follows.place in
     let w = low follows.comes.steps in
     let tall = ap (λ (x : Machine). operands x) follows.comes.there in
     let v = length-map p.values cell_of in
-    let u = beneath_as_cells p.layers in
+    let u = beneath_as_cells p.entries in
     let v' = ap (λ (q : Place). length q.values) follows.is in
-    let u' = ap (λ (q : Place). beneath q.layers) follows.is in
+    let u' = ap (λ (q : Place). beneath q.entries) follows.is in
     omega (arith, w, tall, v, u, v', u')
 
 -- where there is always room for another operand and another frame, there is here
@@ -160,24 +160,24 @@ pub frame_room : (m : Module) (from : Machine) (s : Standing) (k : Code) (count 
 frame_room m from s k count room same follows low =
     let p = follows.place in
     let w = low follows.comes.steps in
-    let few = ap (λ (x : Machine). layers x) follows.comes.there in
+    let few = ap (λ (x : Machine). entries x) follows.comes.there in
     let all = ap (λ (x : Machine). locals x) follows.comes.there in
     let tall = ap (λ (x : Machine). operands x) follows.comes.there in
     let v = length-map p.values cell_of in
-    let u = beneath_as_cells p.layers in
+    let u = beneath_as_cells p.entries in
     let v' = ap (λ (q : Place). length q.values) follows.is in
-    let u' = ap (λ (q : Place). beneath q.layers) follows.is in
+    let u' = ap (λ (q : Place). beneath q.entries) follows.is in
     let d = ap (λ (r : Room). r.operands) same in
-    let l = length-map p.layers cells_layer in
+    let l = length-map p.entries cells_entry in
     let n = length-map p.state.locals cell_of in
-    let h = held_as_cells p.layers in
-    let l' = ap (λ (q : Place). length q.layers) follows.is in
+    let h = held_as_cells p.entries in
+    let l' = ap (λ (q : Place). length q.entries) follows.is in
     let n' = ap (λ (q : Place). length q.state.locals) follows.is in
-    let h' = ap (λ (q : Place). held q.layers) follows.is in
-    let a = ap (λ (r : Room). r.layers) same in
+    let h' = ap (λ (q : Place). held q.entries) follows.is in
+    let a = ap (λ (r : Room). r.entries) same in
     let b = ap (λ (r : Room). r.locals) same in
     record {
-      layers = omega (arith, w.few_layers, few, l, l', a);
+      entries = omega (arith, w.few_entries, few, l, l', a);
       operands = omega (arith, w.few_operands, tall, v, v', u, u', d);
       locals = omega (arith, w.few_locals, all, n, n', h, h', b);
     }

@@ -1,4 +1,4 @@
--- What calls of the host give where their operands are as wanted.
+-- The results of host calls, where their operands meet the requirements.
 use Rattle.std.proofs.Common.{◌≡◌, ℕ, ◌+◌, ◌<◌, ℤ, Bool, List, [], ◌∷◌, ◌++◌, length, Option, Some, if◌then◌else◌, refl, ap, ◌∙◌, arith}
 use Rattle.std.specs.Int.{cast_signed, w64}
 use Rattle.std.proofs.lemmas.Bool.{lt-ltb}
@@ -11,16 +11,16 @@ use Rattle.host_calls.specs.declared.imports.HostCall.{HostCall}
 use Rattle.host_calls.specs.declared.imports.HostCall.TheVariants.{VertexId, Superstep, NumVertices, GetValue, SetValue, NextMessage, MessageValue, NextEdge, EdgeTarget, EdgeValue, Send, Aggregate, Aggregated, VoteToHalt}
 use Rattle.host_calls.specs.Imports.{type_of_call}
 use Rattle.host_calls.specs.Operands.{pop}
-use Rattle.host_calls.specs.Host.{Host, with_value, take_message, take_edge, with_send, with_contribution, with_halt, slot_value}
+use Rattle.host_calls.specs.Host.{Host, with_value, take_message, take_edge, with_send, with_contribution, with_halt, aggregator_value}
 use Rattle.host_calls.specs.Effects.{HostEffect, host_effect, signed, answer, at_slot}
 use Rattle.host_calls.specs.Effects as host
-use Rattle.bounded_profile.specs.declared.wants.Premise.TheVariants as premise
-use Rattle.bounded_profile.specs.declared.wants.Want.{Want}
-use Rattle.bounded_profile.specs.declared.wants.Want.TheVariants as want
+use Rattle.bounded_profile.specs.declared.requirements.Premise.TheVariants as premise
+use Rattle.bounded_profile.specs.declared.requirements.Requirement.{Requirement}
+use Rattle.bounded_profile.specs.declared.requirements.Requirement.TheVariants as requirement
 use Rattle.validate.specs.Spaces.{first_type}
 use Rattle.bounded_profile.specs.Kinds.{Kind, Any, kinds}
 use Rattle.bounded_profile.specs.Memory.{memory_bytes, number_of}
-use Rattle.bounded_profile.specs.Known.{call_wants}
+use Rattle.bounded_profile.specs.Known.{call_requirements}
 use Rattle.interp.specs.Configuration.{State, with_host}
 use Rattle.interp.specs.Effects.{lifted}
 use Rattle.interp.proofs.Values.{HasKinds, Takes, kept, popped_any, popped_known}
@@ -41,14 +41,14 @@ module _ (m : Module) (ls : List ValType) where
     counts = refl;
   }
 
-  abbrev HostGives : List Want → List Kind → (List Value → Host → HostEffect) → Type 0
+  abbrev HostGives : List Requirement → List Kind → (List Value → Host → HostEffect) → Type 0
   HostGives ws given act =
       (vs us : List Value) (st : State) (below : List Kind) → Takes (memory_bytes m) ws vs us → HasKinds us below → Sound m ls st → Given m ls (lifted st (act vs st.host)) st (given ++ below)
 
   gives_number : (f : Host → ℤ) → HostGives [] (Any val_type.I64 ∷ []) (λ vs h. host.Gives (signed (f h) ∷ vs) h)
   gives_number f vs us st below k h s = hosted _ st _ (signed (f st.host) ∷ vs) st.host 0 refl (refl, kept vs us below k h) (omega arith) s
 
-  sets_value : HostGives (want.Value val_type.I64 ∷ []) [] (host_effect SetValue)
+  sets_value : HostGives (requirement.Value val_type.I64 ∷ []) [] (host_effect SetValue)
   sets_value [] us st below k h s = absurd k
   sets_value (v ∷ vs) us st below k h s =
       hosted _ st below vs (with_value st.host (cast_signed w64 (number_of v))) 0 (popped_any host.Misses val_type.I64 v vs (λ n ws. host.Gives ws (with_value st.host (cast_signed w64 n))) k.0) (kept vs us below k.1 h) (omega arith) s
@@ -65,7 +65,7 @@ module _ (m : Module) (ls : List ValType) where
       let n : length st.host.edges ≡ length (x ∷ es) = ap (λ (l : List (ℤ × ℤ)). length l) e in
       hosted _ st _ (I32 1 ∷ vs) (take_edge (x ∷ es) st.host).1 1 refl (refl, h) (omega (arith, n)) s
 
-  sends : HostGives (want.Value val_type.I64 ∷ want.Value val_type.I64 ∷ []) [] (host_effect Send)
+  sends : HostGives (requirement.Value val_type.I64 ∷ requirement.Value val_type.I64 ∷ []) [] (host_effect Send)
   sends [] us st below k h s = absurd k
   sends (v ∷ []) us st below k h s = absurd k.1
   sends (v ∷ t ∷ vs) us st below k h s =
@@ -77,7 +77,7 @@ module _ (m : Module) (ls : List ValType) where
   there_is : (n : ℕ) (effect : HostEffect) → n < 8 → at_slot n effect ≡ effect
   there_is n effect h = ap (λ (b : Bool). if b then effect else host.Traps) (lt-ltb n 8 h)
 
-  aggregates : HostGives (want.Value val_type.I64 ∷ want.Constant val_type.I32 premise.IsSlot ∷ []) [] (host_effect Aggregate)
+  aggregates : HostGives (requirement.Value val_type.I64 ∷ requirement.Constant val_type.I32 premise.IsSlot ∷ []) [] (host_effect Aggregate)
   aggregates [] us st below k h s = absurd k
   aggregates (v ∷ []) us st below k h s = absurd k.1
   aggregates (v ∷ a ∷ vs) us st below k h s =
@@ -89,18 +89,18 @@ module _ (m : Module) (ls : List ValType) where
       ∙ there_is n after k.1.0.2)
       (kept vs us below k.1.1 h) (omega arith) s
 
-  reads_slot : HostGives (want.Constant val_type.I32 premise.IsSlot ∷ []) (Any val_type.I64 ∷ []) (host_effect Aggregated)
+  reads_slot : HostGives (requirement.Constant val_type.I32 premise.IsSlot ∷ []) (Any val_type.I64 ∷ []) (host_effect Aggregated)
   reads_slot [] us st below k h s = absurd k
   reads_slot (a ∷ vs) us st below k h s =
       let n = k.0.0 in
-      hosted _ st _ (signed (slot_value st.host n) ∷ vs) st.host 0
-      (popped_known host.Misses val_type.I32 a n vs (λ slot ws. at_slot slot (host.Gives (signed (slot_value st.host slot) ∷ ws) st.host)) k.0.1 ∙ there_is n (host.Gives (signed (slot_value st.host n) ∷ vs) st.host) k.0.2)
+      hosted _ st _ (signed (aggregator_value st.host n) ∷ vs) st.host 0
+      (popped_known host.Misses val_type.I32 a n vs (λ slot ws. at_slot slot (host.Gives (signed (aggregator_value st.host slot) ∷ ws) st.host)) k.0.1 ∙ there_is n (host.Gives (signed (aggregator_value st.host n) ∷ vs) st.host) k.0.2)
       (refl, kept vs us below k.1 h) (omega arith) s
 
   halts : HostGives [] [] (host_effect VoteToHalt)
   halts vs us st below k h s = hosted _ st below vs (with_halt st.host) 0 refl (kept vs us below k h) (omega arith) s
 
-  pub host_given : (call : HostCall) (o : Option ValType) (labels : List (Option ValType)) → HostGives (call_wants (context m ls o labels) (Some call) (type_of_call call).parameters) (kinds (first_type (type_of_call call).results)) (host_effect call)
+  pub host_given : (call : HostCall) (o : Option ValType) (labels : List (Option ValType)) → HostGives (call_requirements (context m ls o labels) (Some call) (type_of_call call).parameters) (kinds (first_type (type_of_call call).results)) (host_effect call)
   host_given VertexId o l = gives_number (λ h. h.id)
   host_given Superstep o l = gives_number (λ h. h.superstep)
   host_given NumVertices o l = gives_number (λ h. h.num_vertices)

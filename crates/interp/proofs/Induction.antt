@@ -18,8 +18,8 @@ use Rattle.validate.specs.Spaces.{first_type}
 use Rattle.cost.specs.Weights.{plain_units, branch_units, call_units, units_of}
 use Rattle.cost.specs.LeastUnits.{plain_least, units_least}
 use Rattle.cost.specs.Sizes.{code_size}
-use Rattle.bounded_profile.specs.declared.wants.Want.TheVariants as want
-use Rattle.bounded_profile.specs.Kinds.{Kind, kinds, wants}
+use Rattle.bounded_profile.specs.declared.requirements.Requirement.TheVariants as requirement
+use Rattle.bounded_profile.specs.Kinds.{Kind, kinds, requirements}
 use Rattle.bounded_profile.specs.Memory.{memory_bytes}
 use Rattle.interp.specs.Effects.{effect}
 use Rattle.bounded_profile.specs.Hosts.{IsHostImport, host_call_at}
@@ -34,7 +34,7 @@ use Rattle.interp.proofs.Values.{HasKinds, kinds_length, forget_all, forget_leng
 use Rattle.interp.proofs.Sound.{ticked, given_forget, items_left}
 use Rattle.interp.proofs.Plains.{context, plain_given}
 use Rattle.interp.proofs.Callees.{IsHostFunction, IsDefinedFunction, function_at}
-use Rattle.interp.proofs.Lengths.{changes_length, plain_length, kinds_count, wants_count, low_from, call_counts, call_results}
+use Rattle.interp.proofs.Lengths.{changes_length, plain_length, kinds_count, requirements_count, low_from, call_counts, call_results}
 use Rattle.interp.proofs.Reach.{Falls, Named, Reaches, GoodCode, GoodStep, below_one, larger, after_step, block}
 use Rattle.interp.proofs.Calling.{inside}
 use Rattle.interp.proofs.Loops.{GoodTurn, turns}
@@ -129,7 +129,7 @@ module _ (m : Module) (imports : AllByRecursion (IsHostImport m) m.imports) (typ
 
     -- ---- instructions
 
-    -- an instruction after which so many operands stand
+    -- an instruction after which there are this many operands
     abbrev Step : List (Option ValType) → (first : Code) → (u : ℕ) → (whole rest : Code) → (from mid : List Kind) → (after : ℕ) → Type 0
     Step labels first u whole rest from mid after =
         (length mid ≡ after) × GoodStep m H F R (context m lo o labels) (Named first) u (peak m hs whole (length from)) r whole rest from mid
@@ -160,10 +160,10 @@ module _ (m : Module) (imports : AllByRecursion (IsHostImport m) m.imports) (typ
 
     br_if_step : (labels : List (Option ValType)) (l : ℕ) (rest : Code) (from mid : List Kind) → Forgetting (BranchKnown (context m lo o labels) (branch.BrIf l)) from mid → Step labels (code.branch (branch.BrIf l) code.end) (branch_units (branch.BrIf l)) (code.branch (branch.BrIf l) rest) rest from mid (length from - 1 + 0)
     br_if_step labels l rest from mid i =
-        let d = meet_length (memory_bytes m) (want.Value val_type.I32 ∷ wants i.1.0) from i.1.2.0 i.1.2.1 in
-        let k = changes_length m lo o labels (want.Value val_type.I32 ∷ wants i.1.0) (kinds i.1.0) from i.0 i.1.2 in
+        let d = meet_length (memory_bytes m) (requirement.Value val_type.I32 ∷ requirements i.1.0) from i.1.2.0 i.1.2.1 in
+        let k = changes_length m lo o labels (requirement.Value val_type.I32 ∷ requirements i.1.0) (kinds i.1.0) from i.0 i.1.2 in
         let a = forget_length i.0 mid i.2 in
-        let w = wants_count i.1.0 in
+        let w = requirements_count i.1.0 in
         let v = kinds_count i.1.0 in (
           omega (arith, d, k, a, w, v),
           λ vs ls st h s low shallow.
@@ -223,9 +223,9 @@ module _ (m : Module) (imports : AllByRecursion (IsHostImport m) m.imports) (typ
               forgets m H F R (context m lo o labels) (Named (code.loop t body code.end)) (u + code_size m sizes body) (Running vs (code.loop t body rest) ls st) rest ls st i.0 mid i.2 (subst (Reaches m H F R (context m lo o labels) (Named (code.loop t body code.end)) (u + code_size m sizes body) (Running vs (code.loop t body rest) ls st) rest ls st) is w),
         )
 
-    choice_step : (labels : List (Option ValType)) (t : Option ValType) (body other rest : Code) (from mid : List Kind) → Good body (t ∷ labels) [] (kinds t) → Good other (t ∷ labels) [] (kinds t) → Forgetting (Changes (context m lo o labels) (want.Value val_type.I32 ∷ []) (kinds t)) from mid → Step labels (code.choice t body other code.end) (units_of m (instr.If t body other) + code_size m sizes body + code_size m sizes other) (code.choice t body other rest) rest from mid (length from - 1 + 0 - 0 + result_count t)
+    choice_step : (labels : List (Option ValType)) (t : Option ValType) (body other rest : Code) (from mid : List Kind) → Good body (t ∷ labels) [] (kinds t) → Good other (t ∷ labels) [] (kinds t) → Forgetting (Changes (context m lo o labels) (requirement.Value val_type.I32 ∷ []) (kinds t)) from mid → Step labels (code.choice t body other code.end) (units_of m (instr.If t body other) + code_size m sizes body + code_size m sizes other) (code.choice t body other rest) rest from mid (length from - 1 + 0 - 0 + result_count t)
     choice_step labels t body other rest from mid good good2 i =
-        let l = changes_length m lo o labels (want.Value val_type.I32 ∷ []) (kinds t) from i.0 i.1 in
+        let l = changes_length m lo o labels (requirement.Value val_type.I32 ∷ []) (kinds t) from i.0 i.1 in
         let a = forget_length i.0 mid i.2 in
         let v = kinds_count t in
         let least = low_from m hs rest (length from - 1 + 0 - 0 + result_count t) in (

@@ -1,4 +1,4 @@
--- A memory as it is kept: beside the whole one, and beside the bytes that lie together.
+-- The kept bytes of a memory, compared with the whole memory and with the adjacent bytes.
 use Rattle.std.proofs.Common.{◌≡◌, ℕ, zero, suc, ◌+◌, ◌*◌, ◌<◌, ◌≤◌, Bool, true, false, ◌&&◌, List, [], ◌∷◌, ◌++◌, length, map, take, drop, replicate, get_or, nat_le, Some, None, option_map, cond, if◌then◌else◌, refl, sym, ap, ◌∙◌, subst, arith}
 use Rattle.std.proofs.lemmas.Bool.{and_parts, le-leb, leb-true}
 use Rattle.std.proofs.lemmas.List.{get_or-drop, length-drop, length-replicate, take-append-drop}
@@ -8,7 +8,7 @@ use Rattle.bounded_profile.specs.Profile.{IsBounded}
 use Rattle.bounded_profile.specs.Reached.{is_reached, reached_below, reached_bytes}
 use Rattle.interp.specs.Memory.{bytes_of_number, number_of_bytes, read, write}
 use Rattle.interp.specs.inside.Kept.{AreMarked, are_kept, byte_of, count_kept, is_kept, kept_read, kept_write, laid_over, marked_before, marks, marks_from, masked, over, spread}
-use Rattle.bounded_profile.proofs.Marking.{memory_small}
+use Rattle.bounded_profile.proofs.ReachedFootprint.{memory_small}
 use Rattle.interp.proofs.Plains.{bytes_length}
 
 both_true : (a b : Bool) → a ≡ true → b ≡ true → a && b ≡ true
@@ -143,7 +143,7 @@ length-spread (false ∷ ms) bs = ap suc (length-spread ms bs)
 length-spread (true ∷ ms) [] = ap suc (length-spread ms [])
 length-spread (true ∷ ms) (b ∷ bs) = ap suc (length-spread ms bs)
 
--- so many bytes that are kept are all there
+-- this many kept bytes all exist
 kept_bytes : (width : ℕ) (ms : List Bool) (bs : List ℕ) → are_kept (take width (spread ms bs)) ≡ true → width ≤ length ms → (width ≤ length bs) × (map byte_of (take width (spread ms bs)) ≡ take width bs)
 kept_bytes zero ms bs e h = (omega arith, refl)
 kept_bytes (suc width) [] bs e h = absurd (omega arith)

@@ -1,4 +1,4 @@
--- How many operands stand after an instruction, by its typing.
+-- The number of operands after an instruction, by its typing.
 use Rattle.std.proofs.Common.{◌≡◌, ℕ, zero, suc, ◌+◌, ◌-◌, ◌≤◌, List, [], ◌∷◌, length, map, slice_get, Option, Some, None, option_map, refl, ap, ◌∙◌, subst, arith}
 use Rattle.std.specs.Prelude.{reverse}
 use Rattle.std.specs.Option.{option_and_then}
@@ -22,12 +22,12 @@ use Rattle.wasm_ast.specs.Code as code
 use Rattle.host_calls.specs.declared.imports.HostCall.{HostCall}
 use Rattle.host_calls.specs.declared.imports.HostCall.TheVariants.{VertexId, Superstep, NumVertices, GetValue, SetValue, NextMessage, MessageValue, NextEdge, EdgeTarget, EdgeValue, Send, Aggregate, Aggregated, VoteToHalt}
 use Rattle.host_calls.specs.Imports.{type_of_call}
-use Rattle.bounded_profile.specs.declared.wants.Premise.TheVariants as premise
-use Rattle.bounded_profile.specs.declared.wants.Want.{Want}
-use Rattle.bounded_profile.specs.declared.wants.Want.TheVariants as want
-use Rattle.bounded_profile.specs.Kinds.{Kind, Any, kinds, wants}
+use Rattle.bounded_profile.specs.declared.requirements.Premise.TheVariants as premise
+use Rattle.bounded_profile.specs.declared.requirements.Requirement.{Requirement}
+use Rattle.bounded_profile.specs.declared.requirements.Requirement.TheVariants as requirement
+use Rattle.bounded_profile.specs.Kinds.{Kind, Any, kinds, requirements}
 use Rattle.bounded_profile.specs.Memory.{memory_bytes}
-use Rattle.bounded_profile.specs.Known.{Changes, PlainKnown, numeric_wants, constant_kind, call_wants}
+use Rattle.bounded_profile.specs.Known.{Changes, PlainKnown, numeric_requirements, constant_kind, call_requirements}
 use Rattle.validate.specs.Spaces.{first_type, function_type, spaces_of}
 use Rattle.validate.specs.Modules.{TypeHolds}
 use Rattle.bounded_profile.specs.declared.arity.Arity.{Arity}
@@ -40,9 +40,9 @@ pub kinds_count : (t : Option ValType) → length (kinds t) ≡ result_count t
 kinds_count None = refl
 kinds_count (Some t) = refl
 
-pub wants_count : (t : Option ValType) → length (wants t) ≡ result_count t
-wants_count None = refl
-wants_count (Some t) = refl
+pub requirements_count : (t : Option ValType) → length (requirements t) ≡ result_count t
+requirements_count None = refl
+requirements_count (Some t) = refl
 
 -- ---- functions
 
@@ -87,14 +87,14 @@ low_from m hs (code.loop t body rest) h = omega arith
 low_from m hs (code.choice t body other rest) h = omega arith
 
 module _ (m : Module) (ls : List ValType) (o : Option ValType) (labels : List (Option ValType)) where
-  pub changes_length : (ws : List Want) (gs from to : List Kind) → Changes (context m ls o labels) ws gs from to → length to ≡ length from - length ws + length gs
+  pub changes_length : (ws : List Requirement) (gs from to : List Kind) → Changes (context m ls o labels) ws gs from to → length to ≡ length from - length ws + length gs
   changes_length ws gs from to c =
       let a = meet_length (memory_bytes m) ws from c.0 c.1 in
       let b = ap (λ (ks : List Kind). length ks) c.2 in
       let d = length-append gs c.0 in
       omega (arith, a, b, d)
 
-  pub numeric_length : (op : Numeric) → length (numeric_wants (context m ls o labels) op) ≡ length (numeric_takes op)
+  pub numeric_length : (op : Numeric) → length (numeric_requirements (context m ls o labels) op) ≡ length (numeric_takes op)
   numeric_length (numeric.Eqz t) = refl
   numeric_length (numeric.Comparison t op) = refl
   numeric_length (numeric.Unary t op) = refl
@@ -104,27 +104,27 @@ module _ (m : Module) (ls : List ValType) (o : Option ValType) (labels : List (O
 
   pub plain_length : (p : Plain) (from to : List Kind) → PlainKnown (context m ls o labels) p from to → length to ≡ length from - (plain_arity p).takes + (plain_arity p).gives
   plain_length plain.Nop from to t = changes_length [] [] from to t
-  plain_length plain.Drop from to t = changes_length (want.Value t.0 ∷ []) [] from to t.1
-  plain_length plain.Select from to t = changes_length (want.Value val_type.I32 ∷ want.Value t.0 ∷ want.Value t.0 ∷ []) (Any t.0 ∷ []) from to t.1
+  plain_length plain.Drop from to t = changes_length (requirement.Value t.0 ∷ []) [] from to t.1
+  plain_length plain.Select from to t = changes_length (requirement.Value val_type.I32 ∷ requirement.Value t.0 ∷ requirement.Value t.0 ∷ []) (Any t.0 ∷ []) from to t.1
   plain_length (plain.Const v) from to t = changes_length [] (constant_kind v ∷ []) from to t
-  plain_length (plain.Numeric op) from to t = let a = changes_length (numeric_wants (context m ls o labels) op) (Any (numeric_gives op) ∷ []) from to t in let b = numeric_length op in omega (arith, a, b)
+  plain_length (plain.Numeric op) from to t = let a = changes_length (numeric_requirements (context m ls o labels) op) (Any (numeric_gives op) ∷ []) from to t in let b = numeric_length op in omega (arith, a, b)
   plain_length (plain.Variable (variable.LocalGet x)) from to t = changes_length [] (Any t.0 ∷ []) from to t.2
-  plain_length (plain.Variable (variable.LocalSet x)) from to t = changes_length (want.Value t.0 ∷ []) [] from to t.2
-  plain_length (plain.Variable (variable.LocalTee x)) from to t = changes_length (want.Value t.0 ∷ []) (Any t.0 ∷ []) from to t.2
+  plain_length (plain.Variable (variable.LocalSet x)) from to t = changes_length (requirement.Value t.0 ∷ []) [] from to t.2
+  plain_length (plain.Variable (variable.LocalTee x)) from to t = changes_length (requirement.Value t.0 ∷ []) (Any t.0 ∷ []) from to t.2
   plain_length (plain.Variable (variable.GlobalGet x)) from to t = changes_length [] (Any t.0.value ∷ []) from to t.2
-  plain_length (plain.Variable (variable.GlobalSet x)) from to t = changes_length (want.Value t.0.value ∷ []) [] from to t.2.1
-  plain_length (plain.Memory (memory.Load op a)) from to t = changes_length (want.Constant val_type.I32 (premise.Reaches a.offset (load_width op)) ∷ []) (Any (load_type op) ∷ []) from to t.1.1
-  plain_length (plain.Memory (memory.Store op a)) from to t = changes_length (want.Value (store_type op) ∷ want.Constant val_type.I32 (premise.Reaches a.offset (store_width op)) ∷ []) [] from to t.1.1
+  plain_length (plain.Variable (variable.GlobalSet x)) from to t = changes_length (requirement.Value t.0.value ∷ []) [] from to t.2.1
+  plain_length (plain.Memory (memory.Load op a)) from to t = changes_length (requirement.Constant val_type.I32 (premise.Reaches a.offset (load_width op)) ∷ []) (Any (load_type op) ∷ []) from to t.1.1
+  plain_length (plain.Memory (memory.Store op a)) from to t = changes_length (requirement.Value (store_type op) ∷ requirement.Constant val_type.I32 (premise.Reaches a.offset (store_width op)) ∷ []) [] from to t.1.1
   plain_length (plain.Memory memory.Size) from to t = changes_length [] (Any val_type.I32 ∷ []) from to t.1
-  plain_length (plain.Memory memory.Grow) from to t = changes_length (want.Value val_type.I32 ∷ []) (Any val_type.I32 ∷ []) from to t.1
+  plain_length (plain.Memory memory.Grow) from to t = changes_length (requirement.Value val_type.I32 ∷ []) (Any val_type.I32 ∷ []) from to t.1
 
-  values_length : (ts : List ValType) → length (map want.Value (reverse ts)) ≡ length ts
-  values_length ts = length-map (reverse ts) want.Value ∙ length-reverse ts
+  values_length : (ts : List ValType) → length (map requirement.Value (reverse ts)) ≡ length ts
+  values_length ts = length-map (reverse ts) requirement.Value ∙ length-reverse ts
 
-  pub defined_length : (ts : List ValType) → length (call_wants (context m ls o labels) None ts) ≡ length ts
+  pub defined_length : (ts : List ValType) → length (call_requirements (context m ls o labels) None ts) ≡ length ts
   defined_length ts = values_length ts
 
-  pub host_length : (call : HostCall) → length (call_wants (context m ls o labels) (Some call) (type_of_call call).parameters) ≡ length (type_of_call call).parameters
+  pub host_length : (call : HostCall) → length (call_requirements (context m ls o labels) (Some call) (type_of_call call).parameters) ≡ length (type_of_call call).parameters
   host_length VertexId = refl
   host_length Superstep = refl
   host_length NumVertices = refl

@@ -6,11 +6,11 @@ use Rattle.std.proofs.Math.Seq.{take-length}
 use borrow.Rule.Slice.PartMut.{post_of}
 use Rattle.wasm_ast.specs.declared.types.Value.{Value}
 use Rattle.wasm_ast.specs.declared.types.Value.TheVariants.{I64}
-use Rattle.interp.specs.inside.Pile.{pile}
+use Rattle.interp.specs.inside.OperandStack.{operand_stack}
 use Rattle.interp.specs.inside.Split.{Below}
 use Rattle.interp.proofs.Lists.{drop-length_is, take-length_is}
 use Rattle.interp.proofs.Parts.{below_of}
-use Rattle.interp.proofs.Piles.{held, held_cut, pile_here}
+use Rattle.interp.proofs.OperandStacks.{held, held_cut, operand_stack_here}
 
 -- the part from `from` on of these cells, of which there are `long`, was lent as a slice of `whole`, and came back as `part`
 pub record IsLent (from long : ℕ) (whole part cells : List ℕ) : Type 0 where
@@ -34,9 +34,9 @@ rest_is from whole = ap (λ (n : ℕ). take n (drop from whole)) (sym (length-dr
 -- ---- as it is lent
 
 module _ (from : ℕ) (whole cells : List ℕ) (same : whole ≡ cells) where
-  pub lent_here : (top : ℕ) → from ≤ top → pile (lent from whole) (top - from) ≡ reverse (drop from (held top cells))
+  pub lent_here : (top : ℕ) → from ≤ top → operand_stack (lent from whole) (top - from) ≡ reverse (drop from (held top cells))
   lent_here top h =
-      ap (λ (l : List ℕ). pile l (top - from)) (rest_is from whole ∙ ap (λ (l : List ℕ). drop from l) same) ∙ pile_here from top cells h
+      ap (λ (l : List ℕ). operand_stack l (top - from)) (rest_is from whole ∙ ap (λ (l : List ℕ). drop from l) same) ∙ operand_stack_here from top cells h
 
   pub lent_long : length (lent from whole) ≡ length cells - from
   lent_long =
@@ -79,11 +79,11 @@ module _ (from long : ℕ) (whole part cells : List ℕ) (h : IsLent from long w
   back_front : take from (given_back from long whole part cells) ≡ take from cells
   back_front = ap (λ (l : List ℕ). take from l) back_is ∙ take-length_is from (take from cells) part front_long
 
-  pub back_here : (top : ℕ) → reverse (drop from (held (from + top) (given_back from long whole part cells))) ≡ pile part top
+  pub back_here : (top : ℕ) → reverse (drop from (held (from + top) (given_back from long whole part cells))) ≡ operand_stack part top
   back_here top =
       let e : from + top - from ≡ top = omega arith in
-      sym (pile_here from (from + top) (given_back from long whole part cells) (omega arith))
-      ∙ ap (λ (l : List ℕ). pile l (from + top - from)) back_part ∙ ap (λ (n : ℕ). pile part n) e
+      sym (operand_stack_here from (from + top) (given_back from long whole part cells) (omega arith))
+      ∙ ap (λ (l : List ℕ). operand_stack l (from + top - from)) back_part ∙ ap (λ (n : ℕ). operand_stack part n) e
 
   back_below : (now top : ℕ) → from ≤ now → from ≤ top → reverse (take from (held now (given_back from long whole part cells))) ≡ reverse (take from (held top cells))
   back_below now top g k =

@@ -43,7 +43,7 @@ pub mod Fits
 pub mod Stored
 pub mod Renewing
 pub mod Following
-pub mod Laying
-pub mod Piles
+pub mod Resetting
+pub mod OperandStacks
 pub mod Lent
 pub mod Passing

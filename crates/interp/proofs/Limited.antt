@@ -35,29 +35,29 @@ use Rattle.host_calls.specs.Operands.{number, with_number, pop}
 use Rattle.interp.specs.Configuration.{State, with_locals, with_globals, tick, Effect, Gives, Traps, Misses}
 use Rattle.interp.specs.Effects.{value, popped, numeric_effect, discard, select, pushed, variable_effect, load_effect, store_effect, memory_effect, effect, lifted}
 use Rattle.interp.specs.Machine as machine
-use Rattle.interp.specs.Machine.{Machine, Running, Done, Trapped, Stuck, Layer, Label, Frame, Callee, defined, functions_of, landed, arrive, jump, back, leave, label_of, taking, branch_unless_zero, take_branch, gives_one, after_effect, take_call, next_units, take_next, first, carry, advance, run}
+use Rattle.interp.specs.Machine.{Machine, Running, Done, Trapped, Stuck, ControlEntry, Label, Frame, Callee, defined, functions_of, landed, arrive, jump, back, leave, label_of, taking, branch_unless_zero, take_branch, gives_one, after_effect, take_call, next_units, take_next, first, carry, advance, run}
 use Rattle.interp.specs.Heights.{callers, held}
 use Rattle.interp.proofs.Functions.{of_defined}
 
--- so many levels of blocks are left to the code that runs in the layers, of those that a function may have
-abbrev pub LayersWithin : ℕ → List Layer → Type 0
-LayersWithin k [] = k ≡ max_nesting
-LayersWithin k (Label keeps vs target after ∷ ls) =
-    IsCodeWithin (suc k) target × IsCodeWithin (suc k) after × LayersWithin (suc k) ls
-LayersWithin k (Frame keeps xs vs after ∷ ls) =
-    (k ≡ max_nesting) × (length xs ≤ max_locals) × ((j : ℕ) × IsCodeWithin j after × LayersWithin j ls)
+-- the levels of blocks that remain to the code running in the entries, of those that a function may have
+abbrev pub EntriesWithin : ℕ → List ControlEntry → Type 0
+EntriesWithin k [] = k ≡ max_nesting
+EntriesWithin k (Label keeps vs target after ∷ ls) =
+    IsCodeWithin (suc k) target × IsCodeWithin (suc k) after × EntriesWithin (suc k) ls
+EntriesWithin k (Frame keeps xs vs after ∷ ls) =
+    (k ≡ max_nesting) × (length xs ≤ max_locals) × ((j : ℕ) × IsCodeWithin j after × EntriesWithin j ls)
 
-abbrev pub CodeWithin : Code → List Layer → Type 0
-CodeWithin is ls = (k : ℕ) × IsCodeWithin k is × LayersWithin k ls
+abbrev pub CodeWithin : Code → List ControlEntry → Type 0
+CodeWithin is ls = (k : ℕ) × IsCodeWithin k is × EntriesWithin k ls
 
 -- ---- what that bounds
 
-pub few_layers : (k : ℕ) (ls : List Layer) → LayersWithin k ls → length ls + k ≤ max_nesting + callers ls * (1 + max_nesting)
-few_layers k [] w = omega (arith, w)
-few_layers k (Label keeps vs t a ∷ ls) w = let h = few_layers (suc k) ls w.2 in omega (arith, h)
-few_layers k (Frame keeps xs vs a ∷ ls) w = let h = few_layers w.2.0 ls w.2.2 in omega (arith, h, w.0)
+pub few_entries : (k : ℕ) (ls : List ControlEntry) → EntriesWithin k ls → length ls + k ≤ max_nesting + callers ls * (1 + max_nesting)
+few_entries k [] w = omega (arith, w)
+few_entries k (Label keeps vs t a ∷ ls) w = let h = few_entries (suc k) ls w.2 in omega (arith, h)
+few_entries k (Frame keeps xs vs a ∷ ls) w = let h = few_entries w.2.0 ls w.2.2 in omega (arith, h, w.0)
 
-pub few_held : (k : ℕ) (ls : List Layer) → LayersWithin k ls → held ls ≤ callers ls * max_locals
+pub few_held : (k : ℕ) (ls : List ControlEntry) → EntriesWithin k ls → held ls ≤ callers ls * max_locals
 few_held k [] w = omega arith
 few_held k (Label keeps vs t a ∷ ls) w = let h = few_held (suc k) ls w.2 in omega (arith, h)
 few_held k (Frame keeps xs vs a ∷ ls) w = let h = few_held w.2.0 ls w.2.2 in omega (arith, h, w.1)
@@ -82,29 +82,29 @@ module _ (Q : Host → Type 0) where
   MachineWithin (Trapped count) = Unit {0}
   MachineWithin (Stuck count) = Unit {0}
 
-  -- ---- layers
+  -- ---- entries
 
-  landed_within : (o : Option (List Value)) (is : Code) (ls : List Layer) (st : State) → CodeWithin is ls → StateWithin st → MachineWithin (landed o is ls st)
+  landed_within : (o : Option (List Value)) (is : Code) (ls : List ControlEntry) (st : State) → CodeWithin is ls → StateWithin st → MachineWithin (landed o is ls st)
   landed_within None is ls st c s = tt
   landed_within (Some vs) is ls st c s = (s, c)
 
-  arrive_within : (k : ℕ) (top : Option Value) (ls : List Layer) (st : State) → LayersWithin k ls → StateWithin st → MachineWithin (arrive top ls st)
+  arrive_within : (k : ℕ) (top : Option Value) (ls : List ControlEntry) (st : State) → EntriesWithin k ls → StateWithin st → MachineWithin (arrive top ls st)
   arrive_within k top [] st w s = s.1
   arrive_within k top (Label keeps vs t a ∷ ls) st w s = landed_within (carry keeps top vs) t ls st (suc k, w.0, w.2) s
   arrive_within k top (Frame keeps xs vs a ∷ ls) st w s = landed_within (carry keeps top vs) a ls (with_locals st xs) w.2 (w.1, s.1)
 
-  jump_within : (k l : ℕ) (top : Option Value) (ls : List Layer) (st : State) → LayersWithin k ls → StateWithin st → MachineWithin (jump l top ls st)
+  jump_within : (k l : ℕ) (top : Option Value) (ls : List ControlEntry) (st : State) → EntriesWithin k ls → StateWithin st → MachineWithin (jump l top ls st)
   jump_within k zero top ls st w s = arrive_within k top ls st w s
   jump_within k (suc l) top [] st w s = tt
   jump_within k (suc l) top (Label keeps vs t a ∷ ls) st w s = jump_within (suc k) l top ls st w.2 s
   jump_within k (suc l) top (Frame keeps xs vs a ∷ ls) st w s = tt
 
-  back_within : (k : ℕ) (top : Option Value) (ls : List Layer) (st : State) → LayersWithin k ls → StateWithin st → MachineWithin (back top ls st)
+  back_within : (k : ℕ) (top : Option Value) (ls : List ControlEntry) (st : State) → EntriesWithin k ls → StateWithin st → MachineWithin (back top ls st)
   back_within k top [] st w s = s.1
   back_within k top (Label keeps vs t a ∷ ls) st w s = back_within (suc k) top ls st w.2 s
   back_within k top (Frame keeps xs vs a ∷ ls) st w s = arrive_within k top (Frame keeps xs vs a ∷ ls) st w s
 
-  leave_within : (k : ℕ) (vs : List Value) (ls : List Layer) (st : State) → LayersWithin k ls → StateWithin st → MachineWithin (leave vs ls st)
+  leave_within : (k : ℕ) (vs : List Value) (ls : List ControlEntry) (st : State) → EntriesWithin k ls → StateWithin st → MachineWithin (leave vs ls st)
   leave_within k vs [] st w s = s.1
   leave_within k vs (Label keeps us t a ∷ ls) st w s = (s, (suc k, w.1, w.2))
   leave_within k vs (Frame keeps xs us a ∷ ls) st w s = ((w.1, s.1), w.2)
@@ -210,7 +210,7 @@ module _ (Q : Host → Type 0) where
 
   -- ---- steps
 
-  after_within : (e : Effect) (is : Code) (ls : List Layer) (count : ℕ) → EffectWithin e → CodeWithin is ls → MachineWithin (after_effect e is ls count)
+  after_within : (e : Effect) (is : Code) (ls : List ControlEntry) (count : ℕ) → EffectWithin e → CodeWithin is ls → MachineWithin (after_effect e is ls count)
   after_within (Gives vs st) is ls count s c = (s, c)
   after_within Traps is ls count s c = tt
   after_within Misses is ls count s c = tt
@@ -218,11 +218,11 @@ module _ (Q : Host → Type 0) where
   taking_within : (vs : List Value) (count : ℕ) (go : ℕ → List Value → Machine) → ((n : ℕ) (us : List Value) → MachineWithin (go n us)) → MachineWithin (taking vs count go)
   taking_within vs count go h = pop_within MachineWithin (Stuck count) val_type.I32 vs go tt h
 
-  unless_within : (n l : ℕ) (vs : List Value) (is : Code) (ls : List Layer) (st : State) → CodeWithin is ls → StateWithin st → MachineWithin (branch_unless_zero n l vs is ls st)
+  unless_within : (n l : ℕ) (vs : List Value) (is : Code) (ls : List ControlEntry) (st : State) → CodeWithin is ls → StateWithin st → MachineWithin (branch_unless_zero n l vs is ls st)
   unless_within zero l vs is ls st c s = (s, c)
   unless_within (suc n) l vs is ls st c s = jump_within c.0 l (first vs) ls st c.2 s
 
-  branch_within : (b : Branch) (vs : List Value) (is : Code) (ls : List Layer) (st : State) → CodeWithin is ls → StateWithin st → MachineWithin (take_branch b vs is ls st)
+  branch_within : (b : Branch) (vs : List Value) (is : Code) (ls : List ControlEntry) (st : State) → CodeWithin is ls → StateWithin st → MachineWithin (take_branch b vs is ls st)
   branch_within (branch.Br l) vs is ls st c s = jump_within c.0 l (first vs) ls st c.2 s
   branch_within (branch.BrIf l) vs is ls st c s = taking_within vs st.count _ (λ n us. unless_within n l us is ls st c s)
   branch_within (branch.BrTable labels other) vs is ls st c s = taking_within vs st.count _ (λ n us. jump_within c.0 (label_of labels n other) (first us) ls st c.2 s)
@@ -240,14 +240,14 @@ module _ (Q : Host → Type 0) where
       let d = length-map f.locals zero_of in
       omega (arith, a, b, c, d, h)
 
-  enter_within : (f : Function) (o : Option FuncType) (vs : List Value) (is : Code) (ls : List Layer) (st : State) → length_of_parameters o + length f.locals ≤ max_locals → IsCodeWithin max_nesting f.body → CodeWithin is ls → StateWithin st → MachineWithin (machine.enter f o vs is ls st)
+  enter_within : (f : Function) (o : Option FuncType) (vs : List Value) (is : Code) (ls : List ControlEntry) (st : State) → length_of_parameters o + length f.locals ≤ max_locals → IsCodeWithin max_nesting f.body → CodeWithin is ls → StateWithin st → MachineWithin (machine.enter f o vs is ls st)
   enter_within f None vs is ls st few body c s = tt
   enter_within f (Some t) vs is ls st few body c s =
       framed_within (nat_le (length t.parameters) (length vs)) (Running [] f.body (Frame (gives_one t.results) st.locals (drop (length t.parameters) vs) is ∷ ls) (with_locals st (reverse (take (length t.parameters) vs) ++ map zero_of f.locals))) st.count
       ((opened f t vs few, s.1), (max_nesting, body, (refl, s.0, c)))
 
   module _ (m : Module) (functions : AllByRecursion (IsFunctionWithin m.types) m.functions) (lasts : Lasts Q) where
-    taken_within : (o : Option Callee) → ((f : Function) → o ≡ Some (defined f) → IsFunctionWithin m.types f) → (vs : List Value) (is : Code) (ls : List Layer) (st : State) → CodeWithin is ls → StateWithin st → MachineWithin (take_call m o vs is ls st)
+    taken_within : (o : Option Callee) → ((f : Function) → o ≡ Some (defined f) → IsFunctionWithin m.types f) → (vs : List Value) (is : Code) (ls : List ControlEntry) (st : State) → CodeWithin is ls → StateWithin st → MachineWithin (take_call m o vs is ls st)
     taken_within None here vs is ls st c s = tt
     taken_within (Some (machine.host call)) here vs is ls st c s = after_within (machine.host_effect call vs st) is ls st.count (call_within st s lasts call vs) c
     taken_within (Some (defined f)) here vs is ls st c s = let w = here f refl in enter_within f (slice_get m.types f.type_number) vs is ls st w.0 w.1 c s
@@ -256,16 +256,16 @@ module _ (Q : Host → Type 0) where
     up k h = omega (arith, h)
 
     -- a block and what stays behind it
-    block_within : (k : ℕ) (body is : Code) (target : Code) (keeps : Bool) (vs us : List Value) (ls : List Layer) (st : State) → 1 ≤ k → IsCodeWithin (k - 1) body → IsCodeWithin k is → IsCodeWithin k target → LayersWithin k ls → StateWithin st → MachineWithin (Running us body (Label keeps vs target is ∷ ls) st)
+    block_within : (k : ℕ) (body is : Code) (target : Code) (keeps : Bool) (vs us : List Value) (ls : List ControlEntry) (st : State) → 1 ≤ k → IsCodeWithin (k - 1) body → IsCodeWithin k is → IsCodeWithin k target → EntriesWithin k ls → StateWithin st → MachineWithin (Running us body (Label keeps vs target is ∷ ls) st)
     block_within k body is target keeps vs us ls st one inner after to w s =
-        let P : ℕ → Type 0 = λ (j : ℕ). IsCodeWithin j target × IsCodeWithin j is × LayersWithin j ls in
+        let P : ℕ → Type 0 = λ (j : ℕ). IsCodeWithin j target × IsCodeWithin j is × EntriesWithin j ls in
         (s, (k - 1, inner, subst P (sym (up k one)) (to, after, w)))
 
     arm_within : (k n : ℕ) (body other : Code) → IsCodeWithin k body → IsCodeWithin k other → IsCodeWithin k (machine.arm n body other)
     arm_within k zero body other b o = o
     arm_within k (suc n) body other b o = b
 
-    next_within : (vs : List Value) (is : Code) (ls : List Layer) (st : State) → CodeWithin is ls → StateWithin st → MachineWithin (take_next m vs is ls st)
+    next_within : (vs : List Value) (is : Code) (ls : List ControlEntry) (st : State) → CodeWithin is ls → StateWithin st → MachineWithin (take_next m vs is ls st)
     next_within vs code.end ls st c s = leave_within c.0 vs ls st c.2 s
     next_within vs (code.plain p is) ls st c s = after_within (effect p vs st) is ls st.count (plain_within st s p vs) (c.0, c.1.1, c.2)
     next_within vs (code.branch b is) ls st c s = branch_within b vs is ls st (c.0, c.1.1, c.2) s

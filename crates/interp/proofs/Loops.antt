@@ -11,7 +11,7 @@ use Rattle.cost.specs.LeastUnits.{units_least}
 use Rattle.bounded_profile.specs.Kinds.{Kind, kinds}
 use Rattle.bounded_profile.specs.Known.{Context, with_label}
 use Rattle.interp.specs.Configuration.{State, tick}
-use Rattle.interp.specs.Machine.{Layer, Label, Machine, Running, advance}
+use Rattle.interp.specs.Machine.{ControlEntry, Label, Machine, Running, advance}
 use Rattle.interp.specs.Heights.{beneath, callers}
 use Rattle.interp.proofs.Values.{HasKinds, kinds_length, kinds-append}
 use Rattle.interp.proofs.Sound.{Sound, items_left, ticked}
@@ -29,21 +29,21 @@ goes s a b t (Branches zero top) h k = (h, k)
 goes s a b t (Branches (suc l) top) h k = tt
 goes s a b t (Returns top) h k = tt
 
-abbrev pub Turned : Module → ℕ → ℕ → (ℕ → ℕ → Type 0) → Context → (ℕ → Type 0) → ℕ → Machine → List Layer → State → List Kind → Type 0
+abbrev pub Turned : Module → ℕ → ℕ → (ℕ → ℕ → Type 0) → Context → (ℕ → Type 0) → ℕ → Machine → List ControlEntry → State → List Kind → Type 0
 Turned m H F R c N s x ls st to =
     (e : Exit) × (r : Reach m H F R c N s x code.end ls st to e) × GoesOn s st.count r.final.count r.taken e
 
 -- a turn of a loop with this body
 abbrev pub GoodTurn : Module → ℕ → ℕ → (ℕ → ℕ → Type 0) → Context → ℕ → ℕ → ℕ → Code → List Kind → Type 0
 GoodTurn m H F R c s h r body to =
-    (ls : List Layer) (st : State) → Sound m c.locals st → beneath ls + h ≤ H → callers ls + r ≤ F → Turned m H F R c (Named body) s (Running [] body ls st) ls st to
+    (ls : List ControlEntry) (st : State) → Sound m c.locals st → beneath ls + h ≤ H → callers ls + r ≤ F → Turned m H F R c (Named body) s (Running [] body ls st) ls st to
 
 -- a label beyond the loop's, that the body names, is named by the loop
 out_of_loop : (t : Option ValType) (body : Code) (l : ℕ) → Named body (suc l) → Named (code.loop t body code.end) l
 out_of_loop t body l k w = k (below_one l body w.0)
 
 module _ (m : Module) (H F : ℕ) (R : ℕ → ℕ → Type 0) where
-  turn_end : (u : ℕ) → 1 ≤ u → (c : Context) (N M : ℕ → Type 0) → ((l : ℕ) → N (suc l) → M l) → (s : ℕ) (t : Option ValType) (body : Code) (vs : List Value) (is : Code) (ls : List Layer) (st : State) (from : List Kind) → HasKinds vs from → (x : Machine) → IsLow H F R x → length (kinds t) + (length vs + beneath ls) ≤ H → 1 + callers ls ≤ F
+  turn_end : (u : ℕ) → 1 ≤ u → (c : Context) (N M : ℕ → Type 0) → ((l : ℕ) → N (suc l) → M l) → (s : ℕ) (t : Option ValType) (body : Code) (vs : List Value) (is : Code) (ls : List ControlEntry) (st : State) (from : List Kind) → HasKinds vs from → (x : Machine) → IsLow H F R x → length (kinds t) + (length vs + beneath ls) ≤ H → 1 + callers ls ≤ F
       → (e : Exit) (q : Reach m H F R (with_label None c) N s (advance m x) code.end (Label false vs (code.loop t body is) is ∷ ls) (tick u st) (kinds t) e) → GoesOn s (st.count + u) q.final.count q.taken e
       → ((fin : State) → items_left fin.host < items_left st.host → Sound m c.locals fin → Reaches m H F R c M (u + s) (Running vs (code.loop t body is) ls fin) is ls fin (kinds t ++ from))
       → Reaches m H F R c M (u + s) x is ls st (kinds t ++ from)
@@ -59,7 +59,7 @@ module _ (m : Module) (H F : ℕ) (R : ℕ → ℕ → Type 0) where
       (p.0, record { final = r.final; steps = 1 + (q.steps + r.steps); by = comes_first m H F R (q.steps + r.steps) x _ low (comes_on m H F R q.steps r.steps (advance m x) _ _ q.by r.by); fits = r.fits; named = r.named; sound = r.sound; taken = q.taken + r.taken; items = omega (arith, q.items, r.items); cost = cost_turn u s st.count q.final.count r.final.count q.taken r.taken go.0 go.1 r.cost; short = omega (arith, q.short, r.short, least) })
 
   -- a loop: by the number of items that are left
-  pub turns : (c : Context) (s h r : ℕ) (t : Option ValType) (body : Code) → GoodTurn m H F R (with_label None c) s h r body (kinds t) → (vs : List Value) (is : Code) (ls : List Layer) (from : List Kind) → HasKinds vs from → (length vs + beneath ls) + h ≤ H → length (kinds t) + (length vs + beneath ls) ≤ H → callers ls + r ≤ F → 1 ≤ r → (n : ℕ) (st : State) → items_left st.host < n → Sound m c.locals st → Reaches m H F R c (Named (code.loop t body code.end)) (units_of m (instr.Loop t body) + s) (Running vs (code.loop t body is) ls st) is ls st (kinds t ++ from)
+  pub turns : (c : Context) (s h r : ℕ) (t : Option ValType) (body : Code) → GoodTurn m H F R (with_label None c) s h r body (kinds t) → (vs : List Value) (is : Code) (ls : List ControlEntry) (from : List Kind) → HasKinds vs from → (length vs + beneath ls) + h ≤ H → length (kinds t) + (length vs + beneath ls) ≤ H → callers ls + r ≤ F → 1 ≤ r → (n : ℕ) (st : State) → items_left st.host < n → Sound m c.locals st → Reaches m H F R c (Named (code.loop t body code.end)) (units_of m (instr.Loop t body) + s) (Running vs (code.loop t body is) ls st) is ls st (kinds t ++ from)
   turns c s h r t body good vs is ls from k low after shallow one zero st le sound = absurd (omega arith)
   turns c s h r t body good vs is ls from k low after shallow one (suc n) st le sound =
       let u = units_of m (instr.Loop t body) in

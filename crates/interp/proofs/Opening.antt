@@ -17,15 +17,15 @@ use Rattle.host_calls.specs.Host.{take_message, take_edge}
 use Rattle.host_calls.specs.Effects.{answer}
 use Rattle.cost.specs.Weights.{plain_units, branch_units, call_units}
 use Rattle.cost.specs.LeastUnits.{plain_least, branch_least, call_least}
-use Rattle.bounded_profile.specs.declared.wants.Want.TheVariants as want
+use Rattle.bounded_profile.specs.declared.requirements.Requirement.TheVariants as requirement
 use Rattle.validate.specs.Spaces.{first_type}
-use Rattle.bounded_profile.specs.Kinds.{Kind, Any, kinds, wants}
+use Rattle.bounded_profile.specs.Kinds.{Kind, Any, kinds, requirements}
 use Rattle.bounded_profile.specs.Memory.{memory_bytes}
-use Rattle.bounded_profile.specs.Known.{Context, Changes, call_wants}
+use Rattle.bounded_profile.specs.Known.{Context, Changes, call_requirements}
 use Rattle.bounded_profile.specs.Shapes.{TakesItem}
 use Rattle.interp.specs.Configuration.{State, tick, with_host, Effect, Gives}
 use Rattle.interp.specs.Effects.{call_effect, lifted}
-use Rattle.interp.specs.Machine.{Callee, host, functions_of, Layer, Machine, Running, jump, advance, take_call, after_effect}
+use Rattle.interp.specs.Machine.{Callee, host, functions_of, ControlEntry, Machine, Running, jump, advance, take_call, after_effect}
 use Rattle.interp.specs.Heights.{beneath, callers}
 use Rattle.interp.proofs.Values.{HasKinds, IsTop, takes}
 use Rattle.interp.proofs.Sound.{Sound, items_left, ticked}
@@ -45,25 +45,25 @@ module _ (m : Module) (ls : List ValType) (o : Option ValType) (labels : List (O
   took_kinds : (to below : List Kind) (b : ℕ) → [] ≡ below → to ≡ Any val_type.I32 ∷ below → HasKinds (I32 b ∷ []) to
   took_kinds to below b e t = subst (HasKinds (I32 b ∷ [])) (sym t) (refl, no_kinds below e)
 
-  -- one i32 stands after the call
-  pub call_kinds : (call : HostCall) → TakesItem (Some call) → (to : List Kind) → Changes (context m ls o labels) (call_wants (context m ls o labels) (Some call) (type_of_call call).parameters) (kinds (first_type (type_of_call call).results)) [] to → (b : ℕ) → HasKinds (I32 b ∷ []) to
+  -- one i32 is there after the call
+  pub call_kinds : (call : HostCall) → TakesItem (Some call) → (to : List Kind) → Changes (context m ls o labels) (call_requirements (context m ls o labels) (Some call) (type_of_call call).parameters) (kinds (first_type (type_of_call call).results)) [] to → (b : ℕ) → HasKinds (I32 b ∷ []) to
   call_kinds NextMessage i to c b = took_kinds to c.0 b c.1 c.2
   call_kinds NextEdge i to c b = took_kinds to c.0 b c.1 c.2
   call_kinds _ i to c b = absurd i
 
   -- and after the test
-  pub eqz_kinds : (from to : List Kind) → Changes (context m ls o labels) (want.Value val_type.I32 ∷ []) (Any val_type.I32 ∷ []) from to → (b x : ℕ) → HasKinds (I32 b ∷ []) from → HasKinds (I32 x ∷ []) to
+  pub eqz_kinds : (from to : List Kind) → Changes (context m ls o labels) (requirement.Value val_type.I32 ∷ []) (Any val_type.I32 ∷ []) from to → (b x : ℕ) → HasKinds (I32 b ∷ []) from → HasKinds (I32 x ∷ []) to
   eqz_kinds from to c b x h =
-      let r = takes (memory_bytes m) (want.Value val_type.I32 ∷ []) (I32 b ∷ []) from c.0 c.1 h in
+      let r = takes (memory_bytes m) (requirement.Value val_type.I32 ∷ []) (I32 b ∷ []) from c.0 c.1 h in
       subst (HasKinds (I32 x ∷ [])) (sym c.2) (refl, subst (λ (vs : List Value). HasKinds vs c.0) (sym r.1.1) r.2)
 
   -- none after the branch, which carries none
-  pub branch_kinds : (t : Option ValType) (from to : List Kind) → Changes (context m ls o labels) (want.Value val_type.I32 ∷ wants t) (kinds t) from to → (x : ℕ) → HasKinds (I32 x ∷ []) from → IsTop t None × HasKinds [] to
+  pub branch_kinds : (t : Option ValType) (from to : List Kind) → Changes (context m ls o labels) (requirement.Value val_type.I32 ∷ requirements t) (kinds t) from to → (x : ℕ) → HasKinds (I32 x ∷ []) from → IsTop t None × HasKinds [] to
   branch_kinds None from to c x h =
-      let r = takes (memory_bytes m) (want.Value val_type.I32 ∷ []) (I32 x ∷ []) from c.0 c.1 h in
+      let r = takes (memory_bytes m) (requirement.Value val_type.I32 ∷ []) (I32 x ∷ []) from c.0 c.1 h in
       (tt, subst (HasKinds []) (sym c.2) (subst (λ (vs : List Value). HasKinds vs c.0) (sym r.1.1) r.2))
   branch_kinds (Some u) from to c x h =
-      let r = takes (memory_bytes m) (want.Value val_type.I32 ∷ want.Value u ∷ []) (I32 x ∷ []) from c.0 c.1 h in
+      let r = takes (memory_bytes m) (requirement.Value val_type.I32 ∷ requirement.Value u ∷ []) (I32 x ∷ []) from c.0 c.1 h in
       absurd r.1.1
 
 -- ---- what the call does
@@ -127,7 +127,7 @@ cost_none : (u s a S : ℕ) → u + s ≤ S → a + u ≤ a + S * (1 + 0)
 cost_none u s a S h = omega arith
 
 module _ (m : Module) (H F : ℕ) (R : ℕ → ℕ → Type 0) (c : Context) (f l : ℕ) (rest : Code) (call : HostCall) (takes_item : TakesItem (Some call)) (called : slice_get (functions_of m) f ≡ Some (host (Some call))) (t : Option ValType) (label : slice_get c.labels (suc l) ≡ Some t) (top : IsTop t None) (mid to : List Kind) (empty : HasKinds [] mid) (s h r S h0 : ℕ) (good : GoodCode m H F R c s h r rest mid to) (sized : opening_units m f (suc l) + s ≤ S) (one : 1 ≤ h0) (high : h ≤ h0) (frame : 1 ≤ r) where
-  module _ (ls : List Layer) (st : State) (low : beneath ls + h0 ≤ H) (shallow : callers ls + r ≤ F) where
+  module _ (ls : List ControlEntry) (st : State) (low : beneath ls + h0 ≤ H) (shallow : callers ls + r ≤ F) where
     -- the call, and the instructions after it, where it gives this number
     called_gives : (b : ℕ) (after : State) → call_effect call [] (tick (call_units m f) st) ≡ Gives (I32 b ∷ []) after → advance m (Running [] (opening f (suc l) rest) ls st) ≡ Running (I32 b ∷ []) (code.plain (plain.Numeric (numeric.Eqz val_type.I32)) (code.branch (branch.BrIf (suc l)) rest)) ls after
     called_gives b after e =

@@ -13,7 +13,7 @@ use Rattle.host_calls.specs.Host.{Host}
 use Rattle.host_calls.specs.declared.imports.HostCall.{HostCall}
 use Rattle.interp.specs.Configuration.{State, Effect, Gives, tick}
 use Rattle.interp.specs.Heights.{beneath}
-use Rattle.interp.specs.Machine.{Machine, Running, Layer, Callee, defined, host, after_effect, functions_of, next_units}
+use Rattle.interp.specs.Machine.{Machine, Running, ControlEntry, Callee, defined, host, after_effect, functions_of, next_units}
 use Rattle.interp.specs.declared.straight.Straight.{Straight}
 use Rattle.interp.specs.declared.straight.Straight.TheVariants as straight
 use Rattle.interp.specs.inside.Cells.{cell_advance, cell_call, cell_take_call, in_width, of_any_width}
@@ -27,12 +27,12 @@ use Rattle.interp.proofs.Following.{cell_goes, cell_room, fewer_here, follows_on
 use Rattle.interp.proofs.Sending.{call_gives}
 use Rattle.interp.proofs.Weighing.{call_counts}
 
-straight_asked : (may : Value → Bool) (what : Straight) (vs : List Value) (is : Code) (ls : List Layer) (st : State) → is_going (after_effect (straight_effect may what vs st) is ls st.count) ≡ true → straight_asks what vs st.locals st.globals st.memory ≡ true
+straight_asked : (may : Value → Bool) (what : Straight) (vs : List Value) (is : Code) (ls : List ControlEntry) (st : State) → is_going (after_effect (straight_effect may what vs st) is ls st.count) ≡ true → straight_asks what vs st.locals st.globals st.memory ≡ true
 straight_asked may (straight.Plain p) vs is ls st g = plain_asked may p vs is ls st g
 straight_asked may (straight.Host c) vs is ls st g = call_asked may c vs is ls st g
 
 -- a call that may take memory gives something where it is done
-straight_given : (what : Straight) (vs : List Value) (is : Code) (ls : List Layer) (st : State) (count : ℕ) → straight_gives what ≡ true → is_going (after_effect (straight_effect of_any_width what vs st) is ls count) ≡ true → HasGiven (after_effect (straight_effect in_width what vs st) is ls count)
+straight_given : (what : Straight) (vs : List Value) (is : Code) (ls : List ControlEntry) (st : State) (count : ℕ) → straight_gives what ≡ true → is_going (after_effect (straight_effect of_any_width what vs st) is ls count) ≡ true → HasGiven (after_effect (straight_effect in_width what vs st) is ls count)
 straight_given (straight.Plain p) vs is ls st count g e = absurd cc
 straight_given (straight.Host c) vs is ls st count g e = call_gives c vs is ls st count g e
 
@@ -104,25 +104,25 @@ module _ (m : Module) (most : ℕ) where
   pub leads_on : (free : ℕ) (s t : Spot) → LeadsAmid m s most free → Passes m most s t → LeadsAmid m t most free
   leads_on free s t l on =
       let d = l.leads in
-      record { layers = l.layers; leads = record { from = d.from; follows = on l.layers d.from d.follows d.ends; ends = d.ends }; low = l.low }
+      record { entries = l.entries; leads = record { from = d.from; follows = on l.entries d.from d.follows d.ends; ends = d.ends }; low = l.low }
 
-  pub passes_on : (s t u : Spot) → Passes m most s t → ((ls : List Layer) → cell_advance in_width m (running (amid t ls)) ≡ running (amid u ls)) → Passes m most s u
+  pub passes_on : (s t u : Spot) → Passes m most s t → ((ls : List ControlEntry) → cell_advance in_width m (running (amid t ls)) ≡ running (amid u ls)) → Passes m most s u
   passes_on s t u on step = λ ls from follows ends. follows_on m from (amid t ls) (on ls from follows ends) most ends (amid u ls) (step ls)
 
   pub sends_on : (s t : Spot) → Passes m most s t → SendsAmid m most t → SendsAmid m most s
   sends_on s t on sends = λ ls from follows ends. sends ls from (on ls from follows ends) ends
 
   pub room_amid : (free : ℕ) (s : Spot) → LeadsAmid m s most free → s.state.count + next_units m s.code ≤ most
-  room_amid free s l = let d = l.leads in cell_room m d.from (amid s l.layers) d.follows most d.ends
+  room_amid free s l = let d = l.leads in cell_room m d.from (amid s l.entries) d.follows most d.ends
 
-  goes_amid : (free : ℕ) (s : Spot) (l : LeadsAmid m s most free) → is_going (cell_advance of_any_width m (running (amid s l.layers))) ≡ true
-  goes_amid free s l = let d = l.leads in cell_goes m d.from (amid s l.layers) d.follows most d.ends
+  goes_amid : (free : ℕ) (s : Spot) (l : LeadsAmid m s most free) → is_going (cell_advance of_any_width m (running (amid s l.entries))) ≡ true
+  goes_amid free s l = let d = l.leads in cell_goes m d.from (amid s l.entries) d.follows most d.ends
 
   -- there is room for one operand more
   pub fewer_amid : (free : ℕ) (s : Spot) → LeadsAmid m s most free → length s.values < free
   fewer_amid free s l =
       let d = l.leads in
-      let h = fewer_here m d.from (amid s l.layers) (beneath l.layers + free) d.follows l.low in omega (arith, h)
+      let h = fewer_here m d.from (amid s l.entries) (beneath l.entries + free) d.follows l.low in omega (arith, h)
 
   module _ (s : Spot) (what : Straight) (units : ℕ) (rest : Code) (g : GoesStraight m s.code what units rest) where
     pub straight_room : (free : ℕ) → LeadsAmid m s most free → s.state.count + units ≤ most
@@ -130,17 +130,17 @@ module _ (m : Module) (most : ℕ) where
 
     pub straight_asked_amid : (free : ℕ) → LeadsAmid m s most free → straight_asks what s.values s.state.locals s.state.globals s.state.memory ≡ true
     straight_asked_amid free l =
-        straight_asked of_any_width what s.values rest l.layers (tick units s.state)
-        (ap (λ (x : Machine). is_going x) (sym (g.steps of_any_width s.values l.layers s.state)) ∙ goes_amid free s l)
+        straight_asked of_any_width what s.values rest l.entries (tick units s.state)
+        (ap (λ (x : Machine). is_going x) (sym (g.steps of_any_width s.values l.entries s.state)) ∙ goes_amid free s l)
 
-    -- it sends something, or gives something to a slot
+    -- it sends something, or contributes to an aggregator
     pub straight_sends : straight_gives what ≡ true → SendsAmid m most s
     straight_sends may_take ls from follows ends =
         let going = ap (λ (x : Machine). is_going x) (sym (g.steps of_any_width s.values ls s.state)) ∙ cell_goes m from (amid s ls) follows most ends in
         let given = straight_given what s.values rest ls (tick units s.state) (s.state.count + units) may_take going in
         gives_on m from (amid s ls) follows most ends (subst HasGiven (sym (g.steps in_width s.values ls s.state)) given)
 
-    pub straight_step : (t : Spot) → straight_effect in_width what s.values (tick units s.state) ≡ Gives t.values t.state → rest ≡ t.code → (ls : List Layer) → cell_advance in_width m (running (amid s ls)) ≡ running (amid t ls)
+    pub straight_step : (t : Spot) → straight_effect in_width what s.values (tick units s.state) ≡ Gives t.values t.state → rest ≡ t.code → (ls : List ControlEntry) → cell_advance in_width m (running (amid s ls)) ≡ running (amid t ls)
     straight_step t gives same ls =
         g.steps in_width s.values ls s.state
         ∙ ap (λ (x : Effect). after_effect x rest ls (s.state.count + units)) gives

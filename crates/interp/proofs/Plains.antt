@@ -1,4 +1,4 @@
--- What instructions that neither branch nor call give where their operands are as wanted.
+-- The results of instructions that neither branch nor call, where their operands meet the requirements.
 use Rattle.std.proofs.Common.{◌≡◌, ℕ, zero, suc, ◌+◌, ◌/◌, ◌≤◌, Bool, false, List, [], ◌∷◌, ◌++◌, length, take, drop, slice_get, Option, Some, None, option_map, if◌then◌else◌, refl, sym, ap, ◌∙◌, subst, arith}
 use Rattle.std.specs.Prelude.{slice_set, ◌&&◌, ◌==◌}
 use Rattle.std.specs.Int.{bytes_low_first}
@@ -27,13 +27,13 @@ use Rattle.wasm_ast.specs.Numeric.{bits_of, truth, eqz_value, comparison_holds, 
 use Rattle.wasm_ast.specs.NumericTypes.{numeric_gives}
 use Rattle.wasm_ast.specs.Widths.{load_width, load_type, store_width, store_type}
 use Rattle.wasm_ast.specs.Values.{type_of}
-use Rattle.bounded_profile.specs.declared.wants.Premise.TheVariants as premise
-use Rattle.bounded_profile.specs.declared.wants.Want.{Want}
-use Rattle.bounded_profile.specs.declared.wants.Want.TheVariants as want
+use Rattle.bounded_profile.specs.declared.requirements.Premise.TheVariants as premise
+use Rattle.bounded_profile.specs.declared.requirements.Requirement.{Requirement}
+use Rattle.bounded_profile.specs.declared.requirements.Requirement.TheVariants as requirement
 use Rattle.validate.specs.Spaces.{spaces_of}
 use Rattle.bounded_profile.specs.Kinds.{Kind, Any, Met, AllMeet}
 use Rattle.bounded_profile.specs.Memory.{page, number_of, memory_bytes}
-use Rattle.bounded_profile.specs.Known.{Context, division_premise, numeric_wants, constant_kind, PlainKnown}
+use Rattle.bounded_profile.specs.Known.{Context, division_premise, numeric_requirements, constant_kind, PlainKnown}
 use Rattle.bounded_profile.specs.Shapes.{NotGrow}
 use Rattle.bounded_profile.specs.Profile.{asks_all}
 use Rattle.interp.specs.Configuration.{State, with_locals, with_globals, with_memory, Effect, Gives, Traps, Misses}
@@ -88,17 +88,17 @@ no_trap t division.RemS x n bytes h = ne_eqb n 0 h
 no_trap t division.RemU x n bytes h = ne_eqb n 0 h
 
 module _ (m : Module) (ls : List ValType) where
-  -- what an instruction gives where the operands that it takes are as wanted
-  abbrev GivesWith : List Want → List Kind → (List Value → State → Effect) → Type 0
+  -- the result of an instruction, where the operands that it takes meet the requirements
+  abbrev GivesWith : List Requirement → List Kind → (List Value → State → Effect) → Type 0
   GivesWith ws given act =
       (vs us : List Value) (st : State) (below : List Kind) → Takes (memory_bytes m) ws vs us → HasKinds us below → Sound m ls st → Given m ls (act vs st) st (given ++ below)
 
-  unary : (t u : ValType) (f : ℕ → ℕ) → GivesWith (want.Value t ∷ []) (Any u ∷ []) (λ vs st. popped t vs (λ x ws. Gives (value u (f x) ∷ ws) st))
+  unary : (t u : ValType) (f : ℕ → ℕ) → GivesWith (requirement.Value t ∷ []) (Any u ∷ []) (λ vs st. popped t vs (λ x ws. Gives (value u (f x) ∷ ws) st))
   unary t u f [] us st below k h s = absurd k
   unary t u f (v ∷ vs) us st below k h s =
       same_state m ls _ st (Any u ∷ below) (value u (f (number_of v)) ∷ vs) (popped_any Misses t v vs (λ x ws. Gives (value u (f x) ∷ ws) st) k.0) (type-value u (f (number_of v)), kept vs us below k.1 h) s
 
-  binary : (t u : ValType) (f : ℕ → ℕ → ℕ) → GivesWith (want.Value t ∷ want.Value t ∷ []) (Any u ∷ []) (λ vs st. popped t vs (λ y ws. popped t ws (λ x zs. Gives (value u (f x y) ∷ zs) st)))
+  binary : (t u : ValType) (f : ℕ → ℕ → ℕ) → GivesWith (requirement.Value t ∷ requirement.Value t ∷ []) (Any u ∷ []) (λ vs st. popped t vs (λ y ws. popped t ws (λ x zs. Gives (value u (f x y) ∷ zs) st)))
   binary t u f [] us st below k h s = absurd k
   binary t u f (y ∷ []) us st below k h s = absurd k.1
   binary t u f (y ∷ x ∷ vs) us st below k h s =
@@ -106,7 +106,7 @@ module _ (m : Module) (ls : List ValType) where
       (popped_any Misses t y (x ∷ vs) (λ y ws. popped t ws (λ x zs. Gives (value u (f x y) ∷ zs) st)) k.0 ∙ popped_any Misses t x vs (λ x zs. Gives (value u (f x (number_of y)) ∷ zs) st) k.1.0)
       (type-value u (f (number_of x) (number_of y)), kept vs us below k.1.1 h) s
 
-  divided : (t : ValType) (op : Division) → GivesWith (want.Constant t (division_premise op) ∷ want.Value t ∷ []) (Any t ∷ []) (λ vs st. popped t vs (λ y us. popped t us (λ x ws. division_effect t op x y ws st)))
+  divided : (t : ValType) (op : Division) → GivesWith (requirement.Constant t (division_premise op) ∷ requirement.Value t ∷ []) (Any t ∷ []) (λ vs st. popped t vs (λ y us. popped t us (λ x ws. division_effect t op x y ws st)))
   divided t op [] us st below k h s = absurd k
   divided t op (y ∷ []) us st below k h s = absurd k.1
   divided t op (y ∷ x ∷ vs) us st below k h s =
@@ -119,12 +119,12 @@ module _ (m : Module) (ls : List ValType) where
       (type-value t (division_value (bits_of t) op z n), kept vs us below k.1.1 h) s
 
   -- from the typing of an instruction
-  from_changes : (ws : List Want) (given from to : List Kind) (act : List Value → State → Effect) → GivesWith ws given act → (below : List Kind) → AllMeet (memory_bytes m) ws from below → to ≡ given ++ below → (vs : List Value) (st : State) → HasKinds vs from → Sound m ls st → Given m ls (act vs st) st to
+  from_changes : (ws : List Requirement) (given from to : List Kind) (act : List Value → State → Effect) → GivesWith ws given act → (below : List Kind) → AllMeet (memory_bytes m) ws from below → to ≡ given ++ below → (vs : List Value) (st : State) → HasKinds vs from → Sound m ls st → Given m ls (act vs st) st to
   from_changes ws given from to act g below a t vs st h s =
       let r = takes (memory_bytes m) ws vs from below a h in
       subst (λ (ks : List Kind). Given m ls (act vs st) st ks) (sym t) (g vs r.0 st below r.1 r.2 s)
 
-  numeric_given : (op : Numeric) (outcome : Option ValType) (labels : List (Option ValType)) → GivesWith (numeric_wants (context m ls outcome labels) op) (Any (numeric_gives op) ∷ []) (numeric_effect op)
+  numeric_given : (op : Numeric) (outcome : Option ValType) (labels : List (Option ValType)) → GivesWith (numeric_requirements (context m ls outcome labels) op) (Any (numeric_gives op) ∷ []) (numeric_effect op)
   numeric_given (numeric.Eqz t) o l = unary t val_type.I32 eqz_value
   numeric_given (numeric.Comparison t op) o l = binary t val_type.I32 (λ x y. truth (comparison_holds (bits_of t) op x y))
   numeric_given (numeric.Unary t op) o l = unary t t (unary_value (bits_of t) op)
@@ -137,7 +137,7 @@ module _ (m : Module) (ls : List ValType) where
   nop_given : GivesWith [] [] (effect plain.Nop)
   nop_given vs us st below k h s = same_state m ls _ st below vs refl (kept vs us below k h) s
 
-  drop_given : (t : ValType) → GivesWith (want.Value t ∷ []) [] discard
+  drop_given : (t : ValType) → GivesWith (requirement.Value t ∷ []) [] discard
   drop_given t [] us st below k h s = absurd k
   drop_given t (v ∷ vs) us st below k h s = same_state m ls _ st below vs refl (kept vs us below k.1 h) s
 
@@ -149,7 +149,7 @@ module _ (m : Module) (ls : List ValType) where
   selected t n (I32 b) (I64 a) vs st e g = absurd cc
   selected t n (I64 b) (I32 a) vs st e g = absurd cc
 
-  select_given : (t : ValType) → GivesWith (want.Value val_type.I32 ∷ want.Value t ∷ want.Value t ∷ []) (Any t ∷ []) (effect plain.Select)
+  select_given : (t : ValType) → GivesWith (requirement.Value val_type.I32 ∷ requirement.Value t ∷ requirement.Value t ∷ []) (Any t ∷ []) (effect plain.Select)
   select_given t [] us st below k h s = absurd k
   select_given t (c ∷ []) us st below k h s = absurd k.1
   select_given t (c ∷ b ∷ []) us st below k h s = absurd k.1.1
@@ -194,15 +194,15 @@ module _ (m : Module) (ls : List ValType) where
         counts = refl;
       }
 
-  set_given : (x : ℕ) (t : ValType) → slice_get ls x ≡ Some t → GivesWith (want.Value t ∷ []) [] (variable_effect (variable.LocalSet x))
+  set_given : (x : ℕ) (t : ValType) → slice_get ls x ≡ Some t → GivesWith (requirement.Value t ∷ []) [] (variable_effect (variable.LocalSet x))
   set_given x t e [] us st below k h s = absurd k
   set_given x t e (v ∷ vs) us st below k h s = local_given x t v vs st below e k.0 (kept vs us below k.1 h) s
 
-  tee_given : (x : ℕ) (t : ValType) → slice_get ls x ≡ Some t → GivesWith (want.Value t ∷ []) (Any t ∷ []) (variable_effect (variable.LocalTee x))
+  tee_given : (x : ℕ) (t : ValType) → slice_get ls x ≡ Some t → GivesWith (requirement.Value t ∷ []) (Any t ∷ []) (variable_effect (variable.LocalTee x))
   tee_given x t e [] us st below k h s = absurd k
   tee_given x t e (v ∷ vs) us st below k h s = local_given x t v (v ∷ vs) st (Any t ∷ below) e k.0 (k.0, kept vs us below k.1 h) s
 
-  global_set_given : (x : ℕ) (t : ValType) → slice_get (global_types m) x ≡ Some t → GivesWith (want.Value t ∷ []) [] (variable_effect (variable.GlobalSet x))
+  global_set_given : (x : ℕ) (t : ValType) → slice_get (global_types m) x ≡ Some t → GivesWith (requirement.Value t ∷ []) [] (variable_effect (variable.GlobalSet x))
   global_set_given x t e [] us st below k h s = absurd k
   global_set_given x t e (v ∷ vs) us st below k h s = global_given x t v vs st below e k.0 (kept vs us below k.1 h) s
 
@@ -211,7 +211,7 @@ module _ (m : Module) (ls : List ValType) where
 
   -- ---- memory
 
-  load_given : (op : Load) (offset : ℕ) → GivesWith (want.Constant val_type.I32 (premise.Reaches offset (load_width op)) ∷ []) (Any (load_type op) ∷ []) (λ vs st. popped val_type.I32 vs (λ i us. load_effect op (read (i + offset) (load_width op) st.memory) us st))
+  load_given : (op : Load) (offset : ℕ) → GivesWith (requirement.Constant val_type.I32 (premise.Reaches offset (load_width op)) ∷ []) (Any (load_type op) ∷ []) (λ vs st. popped val_type.I32 vs (λ i us. load_effect op (read (i + offset) (load_width op) st.memory) us st))
   load_given op offset [] us st below k h s = absurd k
   load_given op offset (v ∷ vs) us st below k h s =
       let n = k.0.0 in
@@ -221,7 +221,7 @@ module _ (m : Module) (ls : List ValType) where
       ∙ ap (λ (o : Option ℕ). load_effect op o vs st) (was_read (n + offset) (load_width op) st.memory (omega (arith, k.0.2, s.bytes_there))))
       (type-value (load_type op) (loaded op r), kept vs us below k.1 h) s
 
-  store_given : (op : Store) (offset : ℕ) → GivesWith (want.Value (store_type op) ∷ want.Constant val_type.I32 (premise.Reaches offset (store_width op)) ∷ []) [] (λ vs st. popped (store_type op) vs (λ n us. popped val_type.I32 us (λ i ws. store_effect (write (i + offset) (store_width op) n st.memory) ws st)))
+  store_given : (op : Store) (offset : ℕ) → GivesWith (requirement.Value (store_type op) ∷ requirement.Constant val_type.I32 (premise.Reaches offset (store_width op)) ∷ []) [] (λ vs st. popped (store_type op) vs (λ n us. popped val_type.I32 us (λ i ws. store_effect (write (i + offset) (store_width op) n st.memory) ws st)))
   store_given op offset [] us st below k h s = absurd k
   store_given op offset (v ∷ []) us st below k h s = absurd k.1
   store_given op offset (v ∷ a ∷ vs) us st below k h s =
@@ -248,16 +248,16 @@ module _ (m : Module) (ls : List ValType) where
   module _ (o : Option ValType) (labels : List (Option ValType)) where
     pub plain_given : (p : Plain) (from to : List Kind) → PlainKnown (context m ls o labels) p from to → NotGrow (code.plain p code.end) → (vs : List Value) (st : State) → HasKinds vs from → Sound m ls st → Given m ls (effect p vs st) st to
     plain_given plain.Nop from to t g vs st h s = from_changes [] [] from to (effect plain.Nop) nop_given t.0 t.1 t.2 vs st h s
-    plain_given plain.Drop from to t g vs st h s = from_changes (want.Value t.0 ∷ []) [] from to discard (drop_given t.0) t.1.0 t.1.1 t.1.2 vs st h s
-    plain_given plain.Select from to t g vs st h s = from_changes (want.Value val_type.I32 ∷ want.Value t.0 ∷ want.Value t.0 ∷ []) (Any t.0 ∷ []) from to (effect plain.Select) (select_given t.0) t.1.0 t.1.1 t.1.2 vs st h s
+    plain_given plain.Drop from to t g vs st h s = from_changes (requirement.Value t.0 ∷ []) [] from to discard (drop_given t.0) t.1.0 t.1.1 t.1.2 vs st h s
+    plain_given plain.Select from to t g vs st h s = from_changes (requirement.Value val_type.I32 ∷ requirement.Value t.0 ∷ requirement.Value t.0 ∷ []) (Any t.0 ∷ []) from to (effect plain.Select) (select_given t.0) t.1.0 t.1.1 t.1.2 vs st h s
     plain_given (plain.Const v) from to t g vs st h s = from_changes [] (constant_kind v ∷ []) from to (effect (plain.Const v)) (const_given v) t.0 t.1 t.2 vs st h s
-    plain_given (plain.Numeric op) from to t g vs st h s = from_changes (numeric_wants (context m ls o labels) op) (Any (numeric_gives op) ∷ []) from to (numeric_effect op) (numeric_given op o labels) t.0 t.1 t.2 vs st h s
+    plain_given (plain.Numeric op) from to t g vs st h s = from_changes (numeric_requirements (context m ls o labels) op) (Any (numeric_gives op) ∷ []) from to (numeric_effect op) (numeric_given op o labels) t.0 t.1 t.2 vs st h s
     plain_given (plain.Variable (variable.LocalGet x)) from to t g vs st h s = from_changes [] (Any t.0 ∷ []) from to (variable_effect (variable.LocalGet x)) (λ vs us st below k h s. get_given st.locals ls x t.0 vs us st below s.locals_typed t.1 k h s) t.2.0 t.2.1 t.2.2 vs st h s
-    plain_given (plain.Variable (variable.LocalSet x)) from to t g vs st h s = from_changes (want.Value t.0 ∷ []) [] from to (variable_effect (variable.LocalSet x)) (set_given x t.0 t.1) t.2.0 t.2.1 t.2.2 vs st h s
-    plain_given (plain.Variable (variable.LocalTee x)) from to t g vs st h s = from_changes (want.Value t.0 ∷ []) (Any t.0 ∷ []) from to (variable_effect (variable.LocalTee x)) (tee_given x t.0 t.1) t.2.0 t.2.1 t.2.2 vs st h s
+    plain_given (plain.Variable (variable.LocalSet x)) from to t g vs st h s = from_changes (requirement.Value t.0 ∷ []) [] from to (variable_effect (variable.LocalSet x)) (set_given x t.0 t.1) t.2.0 t.2.1 t.2.2 vs st h s
+    plain_given (plain.Variable (variable.LocalTee x)) from to t g vs st h s = from_changes (requirement.Value t.0 ∷ []) (Any t.0 ∷ []) from to (variable_effect (variable.LocalTee x)) (tee_given x t.0 t.1) t.2.0 t.2.1 t.2.2 vs st h s
     plain_given (plain.Variable (variable.GlobalGet x)) from to t g vs st h s = from_changes [] (Any t.0.value ∷ []) from to (variable_effect (variable.GlobalGet x)) (λ vs us st below k h s. get_given st.globals (global_types m) x t.0.value vs us st below s.globals_typed (global_at x t.0 t.1) k h s) t.2.0 t.2.1 t.2.2 vs st h s
-    plain_given (plain.Variable (variable.GlobalSet x)) from to t g vs st h s = from_changes (want.Value t.0.value ∷ []) [] from to (variable_effect (variable.GlobalSet x)) (global_set_given x t.0.value (global_at x t.0 t.1)) t.2.1.0 t.2.1.1 t.2.1.2 vs st h s
-    plain_given (plain.Memory (memory.Load op a)) from to t g vs st h s = from_changes (want.Constant val_type.I32 (premise.Reaches a.offset (load_width op)) ∷ []) (Any (load_type op) ∷ []) from to (memory_effect (memory.Load op a)) (load_given op a.offset) t.1.1.0 t.1.1.1 t.1.1.2 vs st h s
-    plain_given (plain.Memory (memory.Store op a)) from to t g vs st h s = from_changes (want.Value (store_type op) ∷ want.Constant val_type.I32 (premise.Reaches a.offset (store_width op)) ∷ []) [] from to (memory_effect (memory.Store op a)) (store_given op a.offset) t.1.1.0 t.1.1.1 t.1.1.2 vs st h s
+    plain_given (plain.Variable (variable.GlobalSet x)) from to t g vs st h s = from_changes (requirement.Value t.0.value ∷ []) [] from to (variable_effect (variable.GlobalSet x)) (global_set_given x t.0.value (global_at x t.0 t.1)) t.2.1.0 t.2.1.1 t.2.1.2 vs st h s
+    plain_given (plain.Memory (memory.Load op a)) from to t g vs st h s = from_changes (requirement.Constant val_type.I32 (premise.Reaches a.offset (load_width op)) ∷ []) (Any (load_type op) ∷ []) from to (memory_effect (memory.Load op a)) (load_given op a.offset) t.1.1.0 t.1.1.1 t.1.1.2 vs st h s
+    plain_given (plain.Memory (memory.Store op a)) from to t g vs st h s = from_changes (requirement.Value (store_type op) ∷ requirement.Constant val_type.I32 (premise.Reaches a.offset (store_width op)) ∷ []) [] from to (memory_effect (memory.Store op a)) (store_given op a.offset) t.1.1.0 t.1.1.1 t.1.1.2 vs st h s
     plain_given (plain.Memory memory.Size) from to t g vs st h s = from_changes [] (Any val_type.I32 ∷ []) from to (memory_effect memory.Size) size_given t.1.0 t.1.1 t.1.2 vs st h s
     plain_given (plain.Memory memory.Grow) from to t g vs st h s = absurd g

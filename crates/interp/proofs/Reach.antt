@@ -10,13 +10,14 @@ use Rattle.bounded_profile.specs.Kinds.{Kind, kinds}
 use Rattle.bounded_profile.specs.Known.{Context, with_label}
 use Rattle.bounded_profile.specs.Shapes.{NamesNot}
 use Rattle.interp.specs.Configuration.{State, tick}
-use Rattle.interp.specs.Machine.{Layer, Label, Machine, Running, jump, back, landed, has_result, advance, run}
+use Rattle.interp.specs.Machine.{ControlEntry, Label, Machine, Running, jump, back, landed, has_result, advance, run}
 use Rattle.interp.specs.Heights.{beneath, operands, callers, frames}
 use Rattle.interp.specs.inside.Kept.{Touches}
 use Rattle.interp.proofs.Values.{HasKinds, IsTop, kinds_length, kinds-append, carried, some_is}
 use Rattle.interp.proofs.Sound.{Sound, items_left}
 
--- not too many operands or frames stand, and R holds of the place and the width that the next instruction loads or stores
+-- there are not too many operands or frames, and R holds of the place and the width that the next instruction loads
+-- or stores
 abbrev pub IsLow : ℕ → ℕ → (ℕ → ℕ → Type 0) → Machine → Type 0
 IsLow H F R x = (operands x ≤ H) × (frames x ≤ F) × Touches R x
 
@@ -36,8 +37,8 @@ pub data Exit : Type 0 where
   Branches : (label : ℕ) (top : Option Value) → Exit
   Returns : (top : Option Value) → Exit
 
--- where that leads, with the code that follows and the layers round it
-abbrev pub arrives : Exit → Code → List Layer → State → Machine
+-- where that leads, with the code after it and the entries round it
+abbrev pub arrives : Exit → Code → List ControlEntry → State → Machine
 arrives (Falls vs) is ls st = Running vs is ls st
 arrives (Branches l top) is ls st = jump l top ls st
 arrives (Returns top) is ls st = back top ls st
@@ -63,7 +64,7 @@ below_one l body w = let e : l + 1 ≡ suc l = omega arith in subst (λ (n : ℕ
 
 -- from x, where the state is st, the exit is reached, and its cost is at most s times one more than the items taken;
 -- where it is a branch, it goes to one of the labels N
-pub record Reach (m : Module) (H F : ℕ) (R : ℕ → ℕ → Type 0) (c : Context) (N : ℕ → Type 0) (s : ℕ) (x : Machine) (is : Code) (ls : List Layer) (st : State) (to : List Kind) (e : Exit) : Type 0 where
+pub record Reach (m : Module) (H F : ℕ) (R : ℕ → ℕ → Type 0) (c : Context) (N : ℕ → Type 0) (s : ℕ) (x : Machine) (is : Code) (ls : List ControlEntry) (st : State) (to : List Kind) (e : Exit) : Type 0 where
   pub final : State
   pub steps : ℕ
   pub by : Comes m H F R steps x (arrives e is ls final)
@@ -75,19 +76,19 @@ pub record Reach (m : Module) (H F : ℕ) (R : ℕ → ℕ → Type 0) (c : Cont
   pub cost : final.count ≤ st.count + s * (1 + taken)
   pub short : steps + 2 * st.count ≤ 2 * final.count
 
-abbrev pub Reaches : Module → ℕ → ℕ → (ℕ → ℕ → Type 0) → Context → (ℕ → Type 0) → ℕ → Machine → Code → List Layer → State → List Kind → Type 0
+abbrev pub Reaches : Module → ℕ → ℕ → (ℕ → ℕ → Type 0) → Context → (ℕ → Type 0) → ℕ → Machine → Code → List ControlEntry → State → List Kind → Type 0
 Reaches m H F R c N s x is ls st to = (e : Exit) × Reach m H F R c N s x is ls st to e
 
 -- Code of these operands, this size s and this height h reaches an exit, whatever lies round it. So many frames, r, may
 -- stand in the function that runs.
 abbrev pub GoodCode : Module → ℕ → ℕ → (ℕ → ℕ → Type 0) → Context → ℕ → ℕ → ℕ → Code → List Kind → List Kind → Type 0
 GoodCode m H F R c s h r is from to =
-    (vs : List Value) (ls : List Layer) (st : State) → HasKinds vs from → Sound m c.locals st → beneath ls + h ≤ H → callers ls + r ≤ F → Reaches m H F R c (Named is) s (Running vs is ls st) code.end ls st to
+    (vs : List Value) (ls : List ControlEntry) (st : State) → HasKinds vs from → Sound m c.locals st → beneath ls + h ≤ H → callers ls + r ≤ F → Reaches m H F R c (Named is) s (Running vs is ls st) code.end ls st to
 
--- the first instruction of a code reaches the code after it, with labels N, so many units and this height
+-- the first instruction of a code reaches the code after it, with labels N, this many units and this height
 abbrev pub GoodStep : Module → ℕ → ℕ → (ℕ → ℕ → Type 0) → Context → (ℕ → Type 0) → ℕ → ℕ → ℕ → Code → Code → List Kind → List Kind → Type 0
 GoodStep m H F R c N u h r whole rest from mid =
-    (vs : List Value) (ls : List Layer) (st : State) → HasKinds vs from → Sound m c.locals st → beneath ls + h ≤ H → callers ls + r ≤ F → Reaches m H F R c N u (Running vs whole ls st) rest ls st mid
+    (vs : List Value) (ls : List ControlEntry) (st : State) → HasKinds vs from → Sound m c.locals st → beneath ls + h ≤ H → callers ls + r ≤ F → Reaches m H F R c N u (Running vs whole ls st) rest ls st mid
 
 -- arithmetic on costs
 pub cost_more : (s s' a b t : ℕ) → s ≤ s' → b ≤ a + s * (1 + t) → b ≤ a + s' * (1 + t)
@@ -133,19 +134,19 @@ module _ (m : Module) (H F : ℕ) (R : ℕ → ℕ → Type 0) where
   renamed N M up (Branches l top) n = up l n
   renamed N M up (Returns top) n = tt
 
-  pub larger : (c : Context) (N M : ℕ → Type 0) → ((l : ℕ) → N l → M l) → (s s' : ℕ) (x : Machine) (is : Code) (ls : List Layer) (st : State) (to : List Kind) → s ≤ s' → Reaches m H F R c N s x is ls st to → Reaches m H F R c M s' x is ls st to
+  pub larger : (c : Context) (N M : ℕ → Type 0) → ((l : ℕ) → N l → M l) → (s s' : ℕ) (x : Machine) (is : Code) (ls : List ControlEntry) (st : State) (to : List Kind) → s ≤ s' → Reaches m H F R c N s x is ls st to → Reaches m H F R c M s' x is ls st to
   larger c N M up s s' x is ls st to h r =
       let q = r.1 in
       (r.0, record { final = q.final; steps = q.steps; by = q.by; fits = q.fits; named = renamed N M up r.0 q.named; sound = q.sound; taken = q.taken; items = q.items; cost = cost_more s s' st.count q.final.count q.taken h q.cost; short = q.short })
 
   -- from the end of one code on to the next
-  pub join : (c : Context) (N1 N2 N : ℕ → Type 0) → ((l : ℕ) → N2 l → N l) → (s1 s2 : ℕ) (x : Machine) (is1 is : Code) (ls : List Layer) (st : State) (mid to : List Kind) (vs : List Value) (r : Reach m H F R c N1 s1 x is1 ls st mid (Falls vs)) → Reaches m H F R c N2 s2 (Running vs is1 ls r.final) is ls r.final to → Reaches m H F R c N (s1 + s2) x is ls st to
+  pub join : (c : Context) (N1 N2 N : ℕ → Type 0) → ((l : ℕ) → N2 l → N l) → (s1 s2 : ℕ) (x : Machine) (is1 is : Code) (ls : List ControlEntry) (st : State) (mid to : List Kind) (vs : List Value) (r : Reach m H F R c N1 s1 x is1 ls st mid (Falls vs)) → Reaches m H F R c N2 s2 (Running vs is1 ls r.final) is ls r.final to → Reaches m H F R c N (s1 + s2) x is ls st to
   join c N1 N2 N up s1 s2 x is1 is ls st mid to vs r p =
       let q = p.1 in
       (p.0, record { final = q.final; steps = r.steps + q.steps; by = comes_on r.steps q.steps x _ _ r.by q.by; fits = q.fits; named = renamed N2 N up p.0 q.named; sound = q.sound; taken = r.taken + q.taken; items = omega (arith, r.items, q.items); cost = cost_seq s1 s2 _ _ _ r.taken q.taken r.cost q.cost; short = omega (arith, r.short, q.short) })
 
   -- an instruction, and the code after it
-  pub sequence : (c : Context) (N1 N : ℕ → Type 0) (s1 s2 h d : ℕ) (x : Machine) (is : Code) (ls : List Layer) (st : State) (mid to : List Kind) (e : Exit) → ((l : ℕ) → N1 l → N l) → ((l : ℕ) → Named is l → N l) → Reach m H F R c N1 s1 x is ls st mid e → GoodCode m H F R c s2 h d is mid to → beneath ls + h ≤ H → callers ls + d ≤ F → Reaches m H F R c N (s1 + s2) x code.end ls st to
+  pub sequence : (c : Context) (N1 N : ℕ → Type 0) (s1 s2 h d : ℕ) (x : Machine) (is : Code) (ls : List ControlEntry) (st : State) (mid to : List Kind) (e : Exit) → ((l : ℕ) → N1 l → N l) → ((l : ℕ) → Named is l → N l) → Reach m H F R c N1 s1 x is ls st mid e → GoodCode m H F R c s2 h d is mid to → beneath ls + h ≤ H → callers ls + d ≤ F → Reaches m H F R c N (s1 + s2) x code.end ls st to
   sequence c N1 N s1 s2 h d x is ls st mid to (Falls vs) up1 up2 r g low shallow = join c N1 (Named is) N up2 s1 s2 x is code.end ls st mid to vs r (g vs ls r.final r.fits r.sound low shallow)
   sequence c N1 N s1 s2 h d x is ls st mid to (Branches l top) up1 up2 r g low shallow =
       (Branches l top, record { final = r.final; steps = r.steps; by = r.by; fits = r.fits; named = up1 l r.named; sound = r.sound; taken = r.taken; items = r.items; cost = cost_more s1 (s1 + s2) _ _ r.taken (omega arith) r.cost; short = r.short })
@@ -160,7 +161,7 @@ module _ (m : Module) (H F : ℕ) (R : ℕ → ℕ → Type 0) where
   -- ---- blocks
 
   -- a block, from its inside
-  pub block : (u : ℕ) → 1 ≤ u → (c : Context) (N M : ℕ → Type 0) → ((l : ℕ) → N (suc l) → M l) → (t : Option ValType) (s : ℕ) (x : Machine) (vs : List Value) (is : Code) (ls : List Layer) (st : State) (from : List Kind) (e : Exit) → Reach m H F R (with_label t c) N s (advance m x) code.end (Label (has_result t) vs is is ∷ ls) (tick u st) (kinds t) e → HasKinds vs from → IsLow H F R x → length (kinds t) + (length vs + beneath ls) ≤ H → 1 + callers ls ≤ F → Reaches m H F R c M (u + s) x is ls st (kinds t ++ from)
+  pub block : (u : ℕ) → 1 ≤ u → (c : Context) (N M : ℕ → Type 0) → ((l : ℕ) → N (suc l) → M l) → (t : Option ValType) (s : ℕ) (x : Machine) (vs : List Value) (is : Code) (ls : List ControlEntry) (st : State) (from : List Kind) (e : Exit) → Reach m H F R (with_label t c) N s (advance m x) code.end (Label (has_result t) vs is is ∷ ls) (tick u st) (kinds t) e → HasKinds vs from → IsLow H F R x → length (kinds t) + (length vs + beneath ls) ≤ H → 1 + callers ls ≤ F → Reaches m H F R c M (u + s) x is ls st (kinds t ++ from)
   block u one c N M up t s x vs is ls st from (Falls ws) q h low room shallow =
       (Falls (ws ++ vs), record { final = q.final; steps = 1 + (q.steps + 1); by = comes_first (q.steps + 1) x _ low (comes_last q.steps (advance m x) _ _ q.by (omega (arith, kinds_length ws (kinds t) q.fits), shallow, tt) refl); fits = kinds-append ws vs (kinds t) from q.fits h; named = tt; sound = q.sound; taken = q.taken; items = q.items; cost = cost_tick u s st.count q.final.count q.taken q.cost; short = omega (arith, q.short, one) })
   block u one c N M up t s x vs is ls st from (Branches zero top) q h low room shallow =

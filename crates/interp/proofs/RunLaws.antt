@@ -4,7 +4,7 @@ use Rattle.wasm_ast.specs.declared.types.Value.{Value}
 use Rattle.wasm_ast.specs.declared.module.Module.{Module}
 use Rattle.wasm_ast.specs.Code.{Code}
 use Rattle.interp.specs.Configuration.{State}
-use Rattle.interp.specs.Machine.{Machine, Running, Done, Trapped, Stuck, Layer, IsOver, advance, run}
+use Rattle.interp.specs.Machine.{Machine, Running, Done, Trapped, Stuck, ControlEntry, IsOver, advance, run}
 
 pub run-suc : (m : Module) (n : ℕ) (x : Machine) → run m (suc n) x ≡ advance m (run m n x)
 run-suc m zero x = refl
@@ -48,7 +48,7 @@ one_end m a b x y z e g h k =
     sym e ∙ sym (stays m a (a + b) x (over_at m a x y e h) n) ∙ stays m b (a + b) x (over_at m b x z g k) n' ∙ g
 
 -- a run that goes on was not over before
-pub not_over_before : (m : Module) (a b : ℕ) (x y : Machine) (vs : List Value) (is : Code) (ls : List Layer) (st : State) → run m b x ≡ Running vs is ls st → a ≤ b → run m a x ≡ y → IsOver y → ⊥
+pub not_over_before : (m : Module) (a b : ℕ) (x y : Machine) (vs : List Value) (is : Code) (ls : List ControlEntry) (st : State) → run m b x ≡ Running vs is ls st → a ≤ b → run m a x ≡ y → IsOver y → ⊥
 not_over_before m a b x y vs is ls st e h g over =
     let s : Running vs is ls st ≡ y = sym e ∙ stays m a b x (over_at m a x y g over) h ∙ g in
     subst (λ (z : Machine). IsOver z) (sym s) over

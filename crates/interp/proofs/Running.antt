@@ -1,4 +1,4 @@
--- What a call of a module in the bounded profile begins with, and what it comes to.
+-- The beginning and the outcome of a call of a module in the bounded profile.
 use Rattle.std.proofs.Common.{◌≡◌, ℕ, ◌+◌, ◌*◌, ◌≤◌, Bool, List, length, arith, Result, Ok, Err, sym, ap, ◌∙◌, subst}
 use Rattle.std.specs.Prelude.{IfOk, Some, slice_get}
 use Rattle.wasm_ast.specs.declared.module.Function.{Function}
@@ -81,7 +81,7 @@ module _ (m : Module) (typed : IsTyped m) (bounded : IsBounded m) where
     pub within_bound : (outcome : CallOutcome) → IsOutcome m input outcome → IsWithinBound m input outcome
     within_bound outcome is size told = within size told outcome is
 
--- each start of an equal module ends within the units that are told of it
+-- each start of an equal module ends within its bound on units
 pub ends_at : (n m : Module) → n ≡ m → IsTyped m → IsBounded m → (input : CallInput) (size : ℕ) → IsSizeOfCompute m size → (most : ℕ) → most ≡ size * (1 + items_of input) → (x : Machine) → Starts n input x → EndsWithin n x most
 ends_at n m same typed bounded input size told most e x s =
     let t = subst (λ (k : Module). Starts k input x) same s in

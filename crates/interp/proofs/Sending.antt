@@ -1,4 +1,4 @@
--- What a call has sent and given to slots stays so.
+-- What a call has sent and contributed to aggregators stays so.
 use Rattle.std.proofs.Common.{◌≡◌, ℕ, ℤ, ◌+◌, ◌≤◌, List, [], ◌∷◌, ◌++◌, Bool, true, false, Option, Some, None, Result, Ok, Err, length, nat_lt, if◌then◌else◌, refl, sym, ap, ◌∙◌, subst, arith, length-append}
 use Rattle.std.specs.Prelude.{IsOk, OnErr}
 use Rattle.wasm_ast.specs.declared.types.ValType.{ValType}
@@ -7,7 +7,7 @@ use Rattle.wasm_ast.specs.declared.types.Value.{Value}
 use Rattle.wasm_ast.specs.declared.module.Module.{Module}
 use Rattle.wasm_ast.specs.Code.{Code}
 use Rattle.wasm_ast.specs.Limits.{IsWithinLimits}
-use Rattle.host_calls.specs.declared.call.TheConstants.{SLOTS}
+use Rattle.host_calls.specs.declared.call.TheConstants.{AGGREGATORS}
 use Rattle.host_calls.specs.declared.call.CallInput.{CallInput}
 use Rattle.host_calls.specs.declared.imports.HostCall.{HostCall}
 use Rattle.host_calls.specs.declared.imports.HostCall.TheVariants.{VertexId, Superstep, NumVertices, GetValue, SetValue, NextMessage, MessageValue, NextEdge, EdgeTarget, EdgeValue, Send, Aggregate, Aggregated, VoteToHalt}
@@ -20,7 +20,7 @@ use Rattle.bounded_profile.specs.Profile.{IsBounded}
 use Rattle.interp.specs.Call.{outcome_of}
 use Rattle.interp.specs.Configuration.{State}
 use Rattle.interp.specs.Effects.{lifted}
-use Rattle.interp.specs.Machine.{Machine, Running, Done, Trapped, Stuck, Layer, after_effect, run}
+use Rattle.interp.specs.Machine.{Machine, Running, Done, Trapped, Stuck, ControlEntry, after_effect, run}
 use Rattle.interp.specs.Room.{IsSilent}
 use Rattle.interp.specs.Start.{Starts}
 use Rattle.interp.specs.inside.Begun.{Sends}
@@ -75,8 +75,8 @@ given_lasts NextEdge vs h g = edge_keeps h.edges vs h g
 given_lasts EdgeTarget vs h g = g
 given_lasts EdgeValue vs h g = g
 given_lasts Send vs h g = pop_keeps val_type.I64 vs _ (λ n us. pop_keeps val_type.I64 us _ (λ k ws. one_more h.sends _ (length h.contributions)))
-given_lasts Aggregate vs h g = pop_keeps val_type.I64 vs _ (λ n us. pop_keeps val_type.I32 us _ (λ k ws. slot_keeps (nat_lt k SLOTS) ws _ (one_more_after h.contributions _ (length h.sends))))
-given_lasts Aggregated vs h g = pop_keeps val_type.I32 vs _ (λ k us. slot_keeps (nat_lt k SLOTS) _ h g)
+given_lasts Aggregate vs h g = pop_keeps val_type.I64 vs _ (λ n us. pop_keeps val_type.I32 us _ (λ k ws. slot_keeps (nat_lt k AGGREGATORS) ws _ (one_more_after h.contributions _ (length h.sends))))
+given_lasts Aggregated vs h g = pop_keeps val_type.I32 vs _ (λ k us. slot_keeps (nat_lt k AGGREGATORS) _ h g)
 given_lasts VoteToHalt vs h g = g
 
 -- ---- runs
@@ -106,18 +106,18 @@ not_silent m typed bounded limits input x starts n has silent =
 
 -- ---- where memory runs out
 
-slot_gives : (b : Bool) (vs : List Value) (h : Host) (is : Code) (ls : List Layer) (st : State) (count : ℕ) → 1 ≤ given h → is_going (after_effect (lifted st (if b then Gives vs h else Traps)) is ls count) ≡ true → HasGiven (after_effect (lifted st (if b then Gives vs h else Traps)) is ls count)
+slot_gives : (b : Bool) (vs : List Value) (h : Host) (is : Code) (ls : List ControlEntry) (st : State) (count : ℕ) → 1 ≤ given h → is_going (after_effect (lifted st (if b then Gives vs h else Traps)) is ls count) ≡ true → HasGiven (after_effect (lifted st (if b then Gives vs h else Traps)) is ls count)
 slot_gives true vs h is ls st count g e = g
 slot_gives false vs h is ls st count g e = absurd cc
 
 -- a call that may take memory gives something where it is done
-pub call_gives : (c : HostCall) (vs : List Value) (is : Code) (ls : List Layer) (st : State) (count : ℕ) → gives c ≡ true → is_going (after_effect (cell_call of_any_width c vs st) is ls count) ≡ true → HasGiven (after_effect (cell_call in_width c vs st) is ls count)
+pub call_gives : (c : HostCall) (vs : List Value) (is : Code) (ls : List ControlEntry) (st : State) (count : ℕ) → gives c ≡ true → is_going (after_effect (cell_call of_any_width c vs st) is ls count) ≡ true → HasGiven (after_effect (cell_call in_width c vs st) is ls count)
 call_gives Send [] is ls st count g e = absurd cc
 call_gives Send (v ∷ []) is ls st count g e = absurd cc
 call_gives Send (v ∷ u ∷ vs) is ls st count g e = one_more st.host.sends _ (length st.host.contributions)
 call_gives Aggregate [] is ls st count g e = absurd cc
 call_gives Aggregate (v ∷ []) is ls st count g e = absurd cc
-call_gives Aggregate (v ∷ u ∷ vs) is ls st count g e = slot_gives (nat_lt (narrowed val_type.I32 (number_of u)) SLOTS) vs _ is ls st count (one_more_after st.host.contributions _ (length st.host.sends)) e
+call_gives Aggregate (v ∷ u ∷ vs) is ls st count g e = slot_gives (nat_lt (narrowed val_type.I32 (number_of u)) AGGREGATORS) vs _ is ls st count (one_more_after st.host.contributions _ (length st.host.sends)) e
 call_gives VertexId vs is ls st count g e = absurd cc
 call_gives Superstep vs is ls st count g e = absurd cc
 call_gives NumVertices vs is ls st count g e = absurd cc

@@ -1,4 +1,4 @@
--- Sequences by themselves: where they are left, and what they count.
+-- Single sequences: where they are left, and what they count.
 use Rattle.std.proofs.Common.{ℕ, zero, suc, ◌+◌, ◌≤◌, inl, inr, Bool, true, false, List, [], ◌∷◌, length, map, Option, Some, None, arith}
 use Rattle.wasm_ast.specs.declared.types.Value.{Value}
 use Rattle.wasm_ast.specs.declared.module.Module.{Module}
@@ -14,7 +14,7 @@ use Rattle.bounded_profile.specs.Known.{Context}
 use Rattle.bounded_profile.specs.Reached.{accesses, accesses_along}
 use Rattle.interp.specs.Configuration.{State}
 use Rattle.interp.specs.Heights.{beneath, operands, callers, frames}
-use Rattle.interp.specs.Machine.{Layer, Label, Frame, Running, landed, carry, arrive, jump, back}
+use Rattle.interp.specs.Machine.{ControlEntry, Label, Frame, Running, landed, carry, arrive, jump, back}
 use Rattle.interp.specs.Sequences.{CountsWithin, SequencesCount}
 use Rattle.interp.proofs.Values.{kinds_length}
 use Rattle.interp.proofs.Reach.{Exit, Falls, Branches, Returns, Reach, Named}
@@ -27,32 +27,32 @@ use Rattle.interp.proofs.Whole.{function_good}
 
 -- ---- a branch brings no more operands and frames than lie round the sequence, but for the one that it carries
 
-landed_low : (keeps : Bool) (top : Option Value) (below : List Value) (is : Code) (ls : List Layer) (st : State) → (operands (landed (carry keeps top below) is ls st) ≤ 1 + (length below + beneath ls)) × (frames (landed (carry keeps top below) is ls st) ≤ 1 + callers ls)
+landed_low : (keeps : Bool) (top : Option Value) (below : List Value) (is : Code) (ls : List ControlEntry) (st : State) → (operands (landed (carry keeps top below) is ls st) ≤ 1 + (length below + beneath ls)) × (frames (landed (carry keeps top below) is ls st) ≤ 1 + callers ls)
 landed_low false top below is ls st = (omega arith, omega arith)
 landed_low true None below is ls st = (omega arith, omega arith)
 landed_low true (Some v) below is ls st = (omega arith, omega arith)
 
-arrive_low : (top : Option Value) (ls : List Layer) (st : State) → (operands (arrive top ls st) ≤ 1 + beneath ls) × (frames (arrive top ls st) ≤ 1 + callers ls)
+arrive_low : (top : Option Value) (ls : List ControlEntry) (st : State) → (operands (arrive top ls st) ≤ 1 + beneath ls) × (frames (arrive top ls st) ≤ 1 + callers ls)
 arrive_low top [] st = (omega arith, omega arith)
 arrive_low top (Label keeps below target after ∷ ls) st = landed_low keeps top below target ls st
 arrive_low top (Frame keeps xs below after ∷ ls) st =
     let p = landed_low keeps top below after ls (record st { locals = xs }) in (p.0, omega (arith, p.1))
 
-jump_low : (l : ℕ) (top : Option Value) (ls : List Layer) (st : State) → (operands (jump l top ls st) ≤ 1 + beneath ls) × (frames (jump l top ls st) ≤ 1 + callers ls)
+jump_low : (l : ℕ) (top : Option Value) (ls : List ControlEntry) (st : State) → (operands (jump l top ls st) ≤ 1 + beneath ls) × (frames (jump l top ls st) ≤ 1 + callers ls)
 jump_low zero top ls st = arrive_low top ls st
 jump_low (suc l) top [] st = (omega arith, omega arith)
 jump_low (suc l) top (Label keeps below target after ∷ ls) st =
     let p = jump_low l top ls st in (omega (arith, p.0), p.1)
 jump_low (suc l) top (Frame keeps xs below after ∷ ls) st = (omega arith, omega arith)
 
-back_low : (top : Option Value) (ls : List Layer) (st : State) → (operands (back top ls st) ≤ 1 + beneath ls) × (frames (back top ls st) ≤ 1 + callers ls)
+back_low : (top : Option Value) (ls : List ControlEntry) (st : State) → (operands (back top ls st) ≤ 1 + beneath ls) × (frames (back top ls st) ≤ 1 + callers ls)
 back_low top [] st = (omega arith, omega arith)
 back_low top (Label keeps below target after ∷ ls) st = let p = back_low top ls st in (omega (arith, p.0), p.1)
 back_low top (Frame keeps xs below after ∷ ls) st = arrive_low top (Frame keeps xs below after ∷ ls) st
 
 -- ---- where a sequence is left
 
-module _ (m : Module) (H F : ℕ) (c : Context) (N : ℕ → Type 0) (size : ℕ) (is : Code) (vs : List Value) (ls : List Layer) (st : State) (to : List Kind) (room : 1 + (length to + beneath ls) ≤ H) (deep : 1 + callers ls ≤ F) where
+module _ (m : Module) (H F : ℕ) (c : Context) (N : ℕ → Type 0) (size : ℕ) (is : Code) (vs : List Value) (ls : List ControlEntry) (st : State) (to : List Kind) (room : 1 + (length to + beneath ls) ≤ H) (deep : 1 + callers ls ≤ F) where
   leaves : (e : Exit) → Reach m H F Anywhere c N size (Running vs is ls st) code.end ls st to e → CountsWithin m size is vs ls st
   leaves (Falls us) q =
       let n = kinds_length us to q.fits in

@@ -1,4 +1,4 @@
--- The layers, as one is taken off or put on.
+-- The control entries, as one is popped or pushed.
 use Rattle.std.proofs.Common.{◌≡◌, ℕ, suc, Option, Some, None, ◌+◌, ◌-◌, ◌<◌, ◌≤◌, List, [], ◌∷◌, ◌++◌, Bool, true, length, take, drop, refl, sym, ap, ◌∙◌, subst, arith, length-drop, length-append}
 use Rattle.std.proofs.lemmas.List.{length-reverse, length-take-le}
 use Rattle.std.proofs.lemmas.Bool.{false≢true}
@@ -12,46 +12,46 @@ use Rattle.interp.specs.Configuration.{State}
 use Rattle.interp.specs.Heights.{beneath, held}
 use Rattle.interp.specs.Machine as machine
 use Rattle.interp.specs.inside.Going.{has_labels}
-use Rattle.interp.specs.inside.Meaning.{layers_of, Ordered, floor_of}
-use Rattle.interp.specs.inside.Place.{HasLayerRoom, Standing}
+use Rattle.interp.specs.inside.Meaning.{entries_of, Ordered, floor_of}
+use Rattle.interp.specs.inside.Place.{HasEntryRoom, Standing}
 use Rattle.interp.specs.inside.Split.{HasSpare, Split}
-use Rattle.interp.specs.declared.layers.Layer.{Layer}
-use Rattle.interp.specs.declared.layers.Layer.TheVariants as layer
+use Rattle.interp.specs.declared.control_entry.ControlEntry.{ControlEntry}
+use Rattle.interp.specs.declared.control_entry.ControlEntry.TheVariants as control
 use Rattle.interp.proofs.Lists.{take-length_is, drop-length_is}
 
 left_of : (f : ℕ) (vs : List Value) → f ≤ length vs → length (drop (length vs - f) vs) ≡ f
 left_of f vs h = omega (arith, length-drop (length vs - f) vs)
 
 -- a label is taken off
-pub record LabelOff (rs' : List Layer) (vs vs' ls : List Value) (f : ℕ) (keeps : Bool) (t a : Bor (List Instr)) (rs : List Layer) : Type 0 where
+pub record LabelOff (rs' : List ControlEntry) (vs vs' ls : List Value) (f : ℕ) (keeps : Bool) (t a : Bor (List Instr)) (rs : List ControlEntry) : Type 0 where
   pub floor : f ≤ length vs
   pub ordered : Ordered rs' (length vs') (length ls)
-  pub layers : layers_of rs vs ls ≡ machine.Label keeps (take (length vs - f) vs) (code_of t.now) (code_of a.now) ∷ layers_of rs' vs' ls
+  pub entries : entries_of rs vs ls ≡ machine.Label keeps (take (length vs - f) vs) (code_of t.now) (code_of a.now) ∷ entries_of rs' vs' ls
 
-pub label_floor : (rs rs' : List Layer) (vs ls : List Value) (f : ℕ) (keeps : Bool) (t a : Bor (List Instr)) → rs ≡ layer.Label keeps f t a ∷ rs' → Ordered rs (length vs) (length ls) → f ≤ length vs
-label_floor rs rs' vs ls f keeps t a e o = (subst (λ (r : List Layer). Ordered r (length vs) (length ls)) e o).0
+pub label_floor : (rs rs' : List ControlEntry) (vs ls : List Value) (f : ℕ) (keeps : Bool) (t a : Bor (List Instr)) → rs ≡ control.Label keeps f t a ∷ rs' → Ordered rs (length vs) (length ls) → f ≤ length vs
+label_floor rs rs' vs ls f keeps t a e o = (subst (λ (r : List ControlEntry). Ordered r (length vs) (length ls)) e o).0
 
-pub label_off : (rs rs' : List Layer) (vs vs' ls : List Value) (f : ℕ) (keeps : Bool) (t a : Bor (List Instr)) → rs ≡ layer.Label keeps f t a ∷ rs' → Ordered rs (length vs) (length ls) → vs' ≡ drop (length vs - f) vs → LabelOff rs' vs vs' ls f keeps t a rs
+pub label_off : (rs rs' : List ControlEntry) (vs vs' ls : List Value) (f : ℕ) (keeps : Bool) (t a : Bor (List Instr)) → rs ≡ control.Label keeps f t a ∷ rs' → Ordered rs (length vs) (length ls) → vs' ≡ drop (length vs - f) vs → LabelOff rs' vs vs' ls f keeps t a rs
 label_off rs rs' vs vs' ls f keeps t a e o d =
-    let here : (f ≤ length vs) × Ordered rs' f (length ls) = subst (λ (r : List Layer). Ordered r (length vs) (length ls)) e o in
+    let here : (f ≤ length vs) × Ordered rs' f (length ls) = subst (λ (r : List ControlEntry). Ordered r (length vs) (length ls)) e o in
     let n : f ≡ length vs' = sym (ap (λ (l : List Value). length l) d ∙ left_of f vs here.0) in
     record {
       floor = here.0;
       ordered = subst (λ (k : ℕ). Ordered rs' k (length ls)) n here.1;
-      layers = ap (λ (r : List Layer). layers_of r vs ls) e ∙ ap (λ (l : List Value). machine.Label keeps (take (length vs - f) vs) (code_of t.now) (code_of a.now) ∷ layers_of rs' l ls) (sym d);
+      entries = ap (λ (r : List ControlEntry). entries_of r vs ls) e ∙ ap (λ (l : List Value). machine.Label keeps (take (length vs - f) vs) (code_of t.now) (code_of a.now) ∷ entries_of rs' l ls) (sym d);
     }
 
 -- a frame is taken off
-pub record FrameOff (rs' : List Layer) (vs vs' ls ls' : List Value) (f b : ℕ) (keeps : Bool) (a : Bor (List Instr)) (rs : List Layer) : Type 0 where
+pub record FrameOff (rs' : List ControlEntry) (vs vs' ls ls' : List Value) (f b : ℕ) (keeps : Bool) (a : Bor (List Instr)) (rs : List ControlEntry) : Type 0 where
   pub floor : f ≤ length vs
   pub base : b ≤ length ls
   pub ordered : Ordered rs' (length vs') (length ls')
-  pub layers : layers_of rs vs ls ≡ machine.Frame keeps (drop b ls) (take (length vs - f) vs) (code_of a.now) ∷ layers_of rs' vs' ls'
+  pub entries : entries_of rs vs ls ≡ machine.Frame keeps (drop b ls) (take (length vs - f) vs) (code_of a.now) ∷ entries_of rs' vs' ls'
 
-pub frame_floors : (rs rs' : List Layer) (vs ls : List Value) (f b : ℕ) (keeps : Bool) (a : Bor (List Instr)) → rs ≡ layer.Frame keeps f b a ∷ rs' → Ordered rs (length vs) (length ls) → (f ≤ length vs) × (b ≤ length ls) × Ordered rs' f b
-frame_floors rs rs' vs ls f b keeps a e o = subst (λ (r : List Layer). Ordered r (length vs) (length ls)) e o
+pub frame_floors : (rs rs' : List ControlEntry) (vs ls : List Value) (f b : ℕ) (keeps : Bool) (a : Bor (List Instr)) → rs ≡ control.Frame keeps f b a ∷ rs' → Ordered rs (length vs) (length ls) → (f ≤ length vs) × (b ≤ length ls) × Ordered rs' f b
+frame_floors rs rs' vs ls f b keeps a e o = subst (λ (r : List ControlEntry). Ordered r (length vs) (length ls)) e o
 
-pub frame_off : (rs rs' : List Layer) (vs vs' ls ls' : List Value) (f b : ℕ) (keeps : Bool) (a : Bor (List Instr)) → rs ≡ layer.Frame keeps f b a ∷ rs' → Ordered rs (length vs) (length ls) → vs' ≡ drop (length vs - f) vs → ls' ≡ take b ls → FrameOff rs' vs vs' ls ls' f b keeps a rs
+pub frame_off : (rs rs' : List ControlEntry) (vs vs' ls ls' : List Value) (f b : ℕ) (keeps : Bool) (a : Bor (List Instr)) → rs ≡ control.Frame keeps f b a ∷ rs' → Ordered rs (length vs) (length ls) → vs' ≡ drop (length vs - f) vs → ls' ≡ take b ls → FrameOff rs' vs vs' ls ls' f b keeps a rs
 frame_off rs rs' vs vs' ls ls' f b keeps a e o d g =
     let here = frame_floors rs rs' vs ls f b keeps a e o in
     let n : f ≡ length vs' = sym (ap (λ (l : List Value). length l) d ∙ left_of f vs here.0) in
@@ -60,7 +60,7 @@ frame_off rs rs' vs vs' ls ls' f b keeps a e o d g =
       floor = here.0;
       base = here.1;
       ordered = subst (λ (k : ℕ). Ordered rs' (length vs') k) m (subst (λ (k : ℕ). Ordered rs' k b) n here.2);
-      layers = ap (λ (r : List Layer). layers_of r vs ls) e ∙ ap (λ (l : List Value). machine.Frame keeps (drop b ls) (take (length vs - f) vs) (code_of a.now) ∷ layers_of rs' l (take b ls)) (sym d) ∙ ap (λ (l : List Value). machine.Frame keeps (drop b ls) (take (length vs - f) vs) (code_of a.now) ∷ layers_of rs' vs' l) (sym g);
+      entries = ap (λ (r : List ControlEntry). entries_of r vs ls) e ∙ ap (λ (l : List Value). machine.Frame keeps (drop b ls) (take (length vs - f) vs) (code_of a.now) ∷ entries_of rs' l (take b ls)) (sym d) ∙ ap (λ (l : List Value). machine.Frame keeps (drop b ls) (take (length vs - f) vs) (code_of a.now) ∷ entries_of rs' vs' l) (sym g);
     }
 
 -- what a label put on stands over
@@ -70,105 +70,105 @@ above_is vs us = take-length_is (length (vs ++ us) - length us) vs us (omega (ar
 pub under_is : (vs us : List Value) → drop (length (vs ++ us) - length us) (vs ++ us) ≡ us
 under_is vs us = drop-length_is (length (vs ++ us) - length us) vs us (omega (arith, length-append vs us))
 
-pub label_on : (rs : List Layer) (vs us ls : List Value) (f : ℕ) (keeps : Bool) (t a : Bor (List Instr)) → f ≡ length us → layers_of (layer.Label keeps f t a ∷ rs) (vs ++ us) ls ≡ machine.Label keeps vs (code_of t.now) (code_of a.now) ∷ layers_of rs us ls
+pub label_on : (rs : List ControlEntry) (vs us ls : List Value) (f : ℕ) (keeps : Bool) (t a : Bor (List Instr)) → f ≡ length us → entries_of (control.Label keeps f t a ∷ rs) (vs ++ us) ls ≡ machine.Label keeps vs (code_of t.now) (code_of a.now) ∷ entries_of rs us ls
 label_on rs vs us ls f keeps t a e =
-    ap (λ (k : ℕ). machine.Label keeps (take (length (vs ++ us) - k) (vs ++ us)) (code_of t.now) (code_of a.now) ∷ layers_of rs (drop (length (vs ++ us) - k) (vs ++ us)) ls) e
-    ∙ ap (λ (l : List Value). machine.Label keeps l (code_of t.now) (code_of a.now) ∷ layers_of rs (drop (length (vs ++ us) - length us) (vs ++ us)) ls) (above_is vs us)
-    ∙ ap (λ (l : List Value). machine.Label keeps vs (code_of t.now) (code_of a.now) ∷ layers_of rs l ls) (under_is vs us)
+    ap (λ (k : ℕ). machine.Label keeps (take (length (vs ++ us) - k) (vs ++ us)) (code_of t.now) (code_of a.now) ∷ entries_of rs (drop (length (vs ++ us) - k) (vs ++ us)) ls) e
+    ∙ ap (λ (l : List Value). machine.Label keeps l (code_of t.now) (code_of a.now) ∷ entries_of rs (drop (length (vs ++ us) - length us) (vs ++ us)) ls) (above_is vs us)
+    ∙ ap (λ (l : List Value). machine.Label keeps vs (code_of t.now) (code_of a.now) ∷ entries_of rs l ls) (under_is vs us)
 
-pub frame_on : (rs : List Layer) (vs us ls ms : List Value) (f b : ℕ) (keeps : Bool) (a : Bor (List Instr)) → f ≡ length us → b ≡ length ms → layers_of (layer.Frame keeps f b a ∷ rs) (vs ++ us) (ms ++ ls) ≡ machine.Frame keeps ls vs (code_of a.now) ∷ layers_of rs us ms
+pub frame_on : (rs : List ControlEntry) (vs us ls ms : List Value) (f b : ℕ) (keeps : Bool) (a : Bor (List Instr)) → f ≡ length us → b ≡ length ms → entries_of (control.Frame keeps f b a ∷ rs) (vs ++ us) (ms ++ ls) ≡ machine.Frame keeps ls vs (code_of a.now) ∷ entries_of rs us ms
 frame_on rs vs us ls ms f b keeps a e g =
-    ap (λ (k : ℕ). machine.Frame keeps (drop b (ms ++ ls)) (take (length (vs ++ us) - k) (vs ++ us)) (code_of a.now) ∷ layers_of rs (drop (length (vs ++ us) - k) (vs ++ us)) (take b (ms ++ ls))) e
-    ∙ ap (λ (l : List Value). machine.Frame keeps (drop b (ms ++ ls)) l (code_of a.now) ∷ layers_of rs (drop (length (vs ++ us) - length us) (vs ++ us)) (take b (ms ++ ls))) (above_is vs us)
-    ∙ ap (λ (l : List Value). machine.Frame keeps (drop b (ms ++ ls)) vs (code_of a.now) ∷ layers_of rs l (take b (ms ++ ls))) (under_is vs us)
-    ∙ ap (λ (l : List Value). machine.Frame keeps l vs (code_of a.now) ∷ layers_of rs us (take b (ms ++ ls))) (drop-length_is b ms ls g)
-    ∙ ap (λ (l : List Value). machine.Frame keeps ls vs (code_of a.now) ∷ layers_of rs us l) (take-length_is b ms ls g)
+    ap (λ (k : ℕ). machine.Frame keeps (drop b (ms ++ ls)) (take (length (vs ++ us) - k) (vs ++ us)) (code_of a.now) ∷ entries_of rs (drop (length (vs ++ us) - k) (vs ++ us)) (take b (ms ++ ls))) e
+    ∙ ap (λ (l : List Value). machine.Frame keeps (drop b (ms ++ ls)) l (code_of a.now) ∷ entries_of rs (drop (length (vs ++ us) - length us) (vs ++ us)) (take b (ms ++ ls))) (above_is vs us)
+    ∙ ap (λ (l : List Value). machine.Frame keeps (drop b (ms ++ ls)) vs (code_of a.now) ∷ entries_of rs l (take b (ms ++ ls))) (under_is vs us)
+    ∙ ap (λ (l : List Value). machine.Frame keeps l vs (code_of a.now) ∷ entries_of rs us (take b (ms ++ ls))) (drop-length_is b ms ls g)
+    ∙ ap (λ (l : List Value). machine.Frame keeps ls vs (code_of a.now) ∷ entries_of rs us l) (take-length_is b ms ls g)
 
 -- a branch goes past a label
-pub jump_label : (n k : ℕ) (top : Option Value) (st : State) (ls ms : List machine.Layer) (keeps : Bool) (vs : List Value) (t a : Code) → n ≡ suc k → ls ≡ machine.Label keeps vs t a ∷ ms → machine.jump n top ls st ≡ machine.jump k top ms st
-jump_label n k top st ls ms keeps vs t a e g = ap (λ (j : ℕ). machine.jump j top ls st) e ∙ ap (λ (l : List machine.Layer). machine.jump (suc k) top l st) g
+pub jump_label : (n k : ℕ) (top : Option Value) (st : State) (ls ms : List machine.ControlEntry) (keeps : Bool) (vs : List Value) (t a : Code) → n ≡ suc k → ls ≡ machine.Label keeps vs t a ∷ ms → machine.jump n top ls st ≡ machine.jump k top ms st
+jump_label n k top st ls ms keeps vs t a e g = ap (λ (j : ℕ). machine.jump j top ls st) e ∙ ap (λ (l : List machine.ControlEntry). machine.jump (suc k) top l st) g
 
 -- a branch that goes past a label goes past one fewer beyond it
-pub labels_label : (n k : ℕ) (ls ms : List machine.Layer) (keeps : Bool) (vs : List Value) (t a : Code) → n ≡ suc k → ls ≡ machine.Label keeps vs t a ∷ ms → has_labels n ls ≡ true → has_labels k ms ≡ true
-labels_label n k ls ms keeps vs t a e g h = sym (ap (λ (j : ℕ). has_labels j ls) e ∙ ap (λ (l : List machine.Layer). has_labels (suc k) l) g) ∙ h
+pub labels_label : (n k : ℕ) (ls ms : List machine.ControlEntry) (keeps : Bool) (vs : List Value) (t a : Code) → n ≡ suc k → ls ≡ machine.Label keeps vs t a ∷ ms → has_labels n ls ≡ true → has_labels k ms ≡ true
+labels_label n k ls ms keeps vs t a e g h = sym (ap (λ (j : ℕ). has_labels j ls) e ∙ ap (λ (l : List machine.ControlEntry). has_labels (suc k) l) g) ∙ h
 
-pub no_frame : (n k : ℕ) (ls ms : List machine.Layer) (keeps : Bool) (xs vs : List Value) (a : Code) → n ≡ suc k → ls ≡ machine.Frame keeps xs vs a ∷ ms → has_labels n ls ≡ true → ⊥
-no_frame n k ls ms keeps xs vs a e g h = false≢true (sym (ap (λ (j : ℕ). has_labels j ls) e ∙ ap (λ (l : List machine.Layer). has_labels (suc k) l) g) ∙ h)
+pub no_frame : (n k : ℕ) (ls ms : List machine.ControlEntry) (keeps : Bool) (xs vs : List Value) (a : Code) → n ≡ suc k → ls ≡ machine.Frame keeps xs vs a ∷ ms → has_labels n ls ≡ true → ⊥
+no_frame n k ls ms keeps xs vs a e g h = false≢true (sym (ap (λ (j : ℕ). has_labels j ls) e ∙ ap (λ (l : List machine.ControlEntry). has_labels (suc k) l) g) ∙ h)
 
-pub no_end : (n k : ℕ) (rs : List Layer) (vs ls : List Value) → n ≡ suc k → rs ≡ [] → has_labels n (layers_of rs vs ls) ≡ true → ⊥
-no_end n k rs vs ls e g h = false≢true (sym (ap (λ (j : ℕ). has_labels j (layers_of rs vs ls)) e ∙ ap (λ (r : List Layer). has_labels (suc k) (layers_of r vs ls)) g) ∙ h)
+pub no_end : (n k : ℕ) (rs : List ControlEntry) (vs ls : List Value) → n ≡ suc k → rs ≡ [] → has_labels n (entries_of rs vs ls) ≡ true → ⊥
+no_end n k rs vs ls e g h = false≢true (sym (ap (λ (j : ℕ). has_labels j (entries_of rs vs ls)) e ∙ ap (λ (r : List ControlEntry). has_labels (suc k) (entries_of r vs ls)) g) ∙ h)
 
 -- out of a frame past a label
-pub record LabelPast (rs' : List Layer) (vs vs' ls : List Value) (f : ℕ) (rs : List Layer) : Type 0 where
+pub record LabelPast (rs' : List ControlEntry) (vs vs' ls : List Value) (f : ℕ) (rs : List ControlEntry) : Type 0 where
   pub floor : f ≤ length vs
   pub ordered : Ordered rs' (length vs') (length ls)
-  pub back : (top : Option Value) (st : State) → machine.back top (layers_of rs vs ls) st ≡ machine.back top (layers_of rs' vs' ls) st
+  pub back : (top : Option Value) (st : State) → machine.back top (entries_of rs vs ls) st ≡ machine.back top (entries_of rs' vs' ls) st
 
-pub floor_fits : (rs : List Layer) (vs ls : List Value) (f : ℕ) → floor_of rs ≡ Some f → Ordered rs (length vs) (length ls) → f ≤ length vs
+pub floor_fits : (rs : List ControlEntry) (vs ls : List Value) (f : ℕ) → floor_of rs ≡ Some f → Ordered rs (length vs) (length ls) → f ≤ length vs
 floor_fits [] vs ls f e o = absurd cc
-floor_fits (layer.Label keeps g t a ∷ rs) vs ls f e o = let h : g ≡ f = cc in subst (λ (k : ℕ). k ≤ length vs) h o.0
-floor_fits (layer.Frame keeps g b a ∷ rs) vs ls f e o = absurd cc
+floor_fits (control.Label keeps g t a ∷ rs) vs ls f e o = let h : g ≡ f = cc in subst (λ (k : ℕ). k ≤ length vs) h o.0
+floor_fits (control.Frame keeps g b a ∷ rs) vs ls f e o = absurd cc
 
-past_cons : (l : Layer) (rs : List Layer) (vs vs' ls : List Value) (f : ℕ) → floor_of (l ∷ rs) ≡ Some f → Ordered (l ∷ rs) (length vs) (length ls) → vs' ≡ drop (length vs - f) vs → LabelPast rs vs vs' ls f (l ∷ rs)
-past_cons (layer.Label keeps g t a) rs vs vs' ls f e o d =
+past_cons : (l : ControlEntry) (rs : List ControlEntry) (vs vs' ls : List Value) (f : ℕ) → floor_of (l ∷ rs) ≡ Some f → Ordered (l ∷ rs) (length vs) (length ls) → vs' ≡ drop (length vs - f) vs → LabelPast rs vs vs' ls f (l ∷ rs)
+past_cons (control.Label keeps g t a) rs vs vs' ls f e o d =
     let h : g ≡ f = cc in
     let d' : vs' ≡ drop (length vs - g) vs = d ∙ ap (λ (k : ℕ). drop (length vs - k) vs) (sym h) in
-    let off = label_off (layer.Label keeps g t a ∷ rs) rs vs vs' ls g keeps t a refl o d' in
+    let off = label_off (control.Label keeps g t a ∷ rs) rs vs vs' ls g keeps t a refl o d' in
     record {
       floor = subst (λ (k : ℕ). k ≤ length vs) h o.0;
       ordered = off.ordered;
-      back = λ top st. ap (λ (l : List machine.Layer). machine.back top l st) off.layers;
+      back = λ top st. ap (λ (l : List machine.ControlEntry). machine.back top l st) off.entries;
     }
-past_cons (layer.Frame keeps g b a) rs vs vs' ls f e o d = absurd cc
+past_cons (control.Frame keeps g b a) rs vs vs' ls f e o d = absurd cc
 
-pub label_past : (rs rs' : List Layer) (l : Layer) (vs vs' ls : List Value) (f : ℕ) → floor_of rs ≡ Some f → rs ≡ l ∷ rs' → Ordered rs (length vs) (length ls) → vs' ≡ drop (length vs - f) vs → LabelPast rs' vs vs' ls f rs
+pub label_past : (rs rs' : List ControlEntry) (l : ControlEntry) (vs vs' ls : List Value) (f : ℕ) → floor_of rs ≡ Some f → rs ≡ l ∷ rs' → Ordered rs (length vs) (length ls) → vs' ≡ drop (length vs - f) vs → LabelPast rs' vs vs' ls f rs
 label_past rs rs' l vs vs' ls f e g o d =
-    let P : List Layer → Type 0 = λ (r : List Layer). LabelPast rs' vs vs' ls f r in
-    subst P (sym g) (past_cons l rs' vs vs' ls f (ap (λ (r : List Layer). floor_of r) (sym g) ∙ e) (subst (λ (r : List Layer). Ordered r (length vs) (length ls)) g o) d)
+    let P : List ControlEntry → Type 0 = λ (r : List ControlEntry). LabelPast rs' vs vs' ls f r in
+    subst P (sym g) (past_cons l rs' vs vs' ls f (ap (λ (r : List ControlEntry). floor_of r) (sym g) ∙ e) (subst (λ (r : List ControlEntry). Ordered r (length vs) (length ls)) g o) d)
 
-pub back_arrives : (rs : List Layer) (vs ls : List Value) (top : Option Value) (st : State) → floor_of rs ≡ None → machine.back top (layers_of rs vs ls) st ≡ machine.arrive top (layers_of rs vs ls) st
+pub back_arrives : (rs : List ControlEntry) (vs ls : List Value) (top : Option Value) (st : State) → floor_of rs ≡ None → machine.back top (entries_of rs vs ls) st ≡ machine.arrive top (entries_of rs vs ls) st
 back_arrives [] vs ls top st e = refl
-back_arrives (layer.Label keeps g t a ∷ rs) vs ls top st e = absurd cc
-back_arrives (layer.Frame keeps g b a ∷ rs) vs ls top st e = refl
+back_arrives (control.Label keeps g t a ∷ rs) vs ls top st e = absurd cc
+back_arrives (control.Frame keeps g b a ∷ rs) vs ls top st e = refl
 
 -- ---- how many there are
 
-pub layers_long : (rs : List Layer) (vs ls : List Value) → length (layers_of rs vs ls) ≡ length rs
-layers_long [] vs ls = refl
-layers_long (layer.Label keeps f t a ∷ rs) vs ls = ap suc (layers_long rs (drop (length vs - f) vs) ls)
-layers_long (layer.Frame keeps f b a ∷ rs) vs ls = ap suc (layers_long rs (drop (length vs - f) vs) (take b ls))
+pub entries_long : (rs : List ControlEntry) (vs ls : List Value) → length (entries_of rs vs ls) ≡ length rs
+entries_long [] vs ls = refl
+entries_long (control.Label keeps f t a ∷ rs) vs ls = ap suc (entries_long rs (drop (length vs - f) vs) ls)
+entries_long (control.Frame keeps f b a ∷ rs) vs ls = ap suc (entries_long rs (drop (length vs - f) vs) (take b ls))
 
--- there is room for a layer in a list where there is room for one in the walk
-pub room_for_one : (rs : List Layer) (vs ls : List Value) (long capacity : ℕ) (s : Standing) → long ≡ length rs → s.layers ≡ layers_of (reverse rs) vs ls → s.room.layers ≡ capacity → HasLayerRoom s → long < capacity
+-- there is room for an entry in a list where there is room for one in the walk
+pub room_for_one : (rs : List ControlEntry) (vs ls : List Value) (long capacity : ℕ) (s : Standing) → long ≡ length rs → s.entries ≡ entries_of (reverse rs) vs ls → s.room.entries ≡ capacity → HasEntryRoom s → long < capacity
 room_for_one rs vs ls long capacity s l e r h =
-    let a = layers_long (reverse rs) vs ls in
+    let a = entries_long (reverse rs) vs ls in
     let b = length-reverse rs in
     let d = ap length e in
     omega (arith, l, a, b, d, r, h)
 
 -- the locals of the functions that called are those below
-pub held_is : (rs : List Layer) (vs ls : List Value) → Ordered rs (length vs) (length ls) → held (layers_of rs vs ls) ≡ length ls
+pub held_is : (rs : List ControlEntry) (vs ls : List Value) → Ordered rs (length vs) (length ls) → held (entries_of rs vs ls) ≡ length ls
 held_is [] vs ls o = sym o.1
-held_is (layer.Label keeps f t a ∷ rs) vs ls o =
+held_is (control.Label keeps f t a ∷ rs) vs ls o =
     held_is rs (drop (length vs - f) vs) ls (subst (λ (k : ℕ). Ordered rs k (length ls)) (sym (left_of f vs o.0)) o.1)
-held_is (layer.Frame keeps f b a ∷ rs) vs ls o =
+held_is (control.Frame keeps f b a ∷ rs) vs ls o =
     let l = length-take-le b ls o.1 in
     let ordered = subst (λ (k : ℕ). Ordered rs (length (drop (length vs - f) vs)) k) (sym l) (subst (λ (k : ℕ). Ordered rs k b) (sym (left_of f vs o.0)) o.2) in
     let h = held_is rs (drop (length vs - f) vs) (take b ls) ordered in
     let d = length-drop b ls in
     omega (arith, h, l, d, o.1)
 
--- the operands of the layers are those below
-pub beneath_is : (rs : List Layer) (vs ls : List Value) → Ordered rs (length vs) (length ls) → beneath (layers_of rs vs ls) ≡ length vs
+-- the operands of the entries are those below
+pub beneath_is : (rs : List ControlEntry) (vs ls : List Value) → Ordered rs (length vs) (length ls) → beneath (entries_of rs vs ls) ≡ length vs
 beneath_is [] vs ls o = sym o.0
-beneath_is (layer.Label keeps f t a ∷ rs) vs ls o =
+beneath_is (control.Label keeps f t a ∷ rs) vs ls o =
     let under = drop (length vs - f) vs in
     let l = left_of f vs o.0 in
     let h = beneath_is rs under ls (subst (λ (k : ℕ). Ordered rs k (length ls)) (sym l) o.1) in
     let less : length vs - f ≤ length vs = omega arith in
     let above = length-take-le (length vs - f) vs less in
     omega (arith, h, l, above, o.0)
-beneath_is (layer.Frame keeps f b a ∷ rs) vs ls o =
+beneath_is (control.Frame keeps f b a ∷ rs) vs ls o =
     let under = drop (length vs - f) vs in
     let l = left_of f vs o.0 in
     let cut = length-take-le b ls o.1 in
@@ -179,9 +179,9 @@ beneath_is (layer.Frame keeps f b a ∷ rs) vs ls o =
     omega (arith, h, l, above, o.0)
 
 -- there is room for an operand in the list where there is room for one in the walk, and the other way round
-module _ (rs : List Layer) (ops : Split) (ls : List Value) (ordered : Ordered rs (length ops.below.values) (length ls)) where
-  pub spare_in : length ops.here + beneath (layers_of rs ops.below.values ls) < ops.below.room → HasSpare ops
+module _ (rs : List ControlEntry) (ops : Split) (ls : List Value) (ordered : Ordered rs (length ops.below.values) (length ls)) where
+  pub spare_in : length ops.here + beneath (entries_of rs ops.below.values ls) < ops.below.room → HasSpare ops
   spare_in h = let d = beneath_is rs ops.below.values ls ordered in omega (arith, h, d)
 
-  pub spare_out : HasSpare ops → length ops.here + beneath (layers_of rs ops.below.values ls) < ops.below.room
+  pub spare_out : HasSpare ops → length ops.here + beneath (entries_of rs ops.below.values ls) < ops.below.room
   spare_out h = let d = beneath_is rs ops.below.values ls ordered in omega (arith, h, d)

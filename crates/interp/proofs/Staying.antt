@@ -1,4 +1,4 @@
--- How many layers and locals stand in a call of a bounded module, and that what it sent stays sent.
+-- The number of control entries and locals in a call of a bounded module, and that what it sent stays sent.
 use Rattle.std.proofs.Common.{◌≡◌, ℕ, ◌≤◌, length, refl, sym, subst, arith}
 use Rattle.std.proofs.lemmas.List.{length-map}
 use Rattle.wasm_ast.specs.declared.module.Function.{Function}
@@ -10,16 +10,16 @@ use Rattle.host_calls.specs.Host.{Host, host_of}
 use Rattle.host_calls.specs.declared.call.CallInput.{CallInput}
 use Rattle.validate.specs.Modules.{IsTyped}
 use Rattle.bounded_profile.specs.Profile.{IsBounded}
-use Rattle.interp.specs.Heights.{frames, layers, locals, operands}
+use Rattle.interp.specs.Heights.{frames, entries, locals, operands}
 use Rattle.interp.specs.Machine.{Machine, Running, Done, Trapped, Stuck, run}
-use Rattle.interp.specs.Room.{CallsStayWithin, most_layers, most_locals}
+use Rattle.interp.specs.Room.{CallsStayWithin, most_entries, most_locals}
 use Rattle.interp.specs.Start.{Starts, StartsFrom}
 use Rattle.interp.specs.inside.Begun.{EndsEachWithin, EndsInRoom, HasRoom, HasStartRoom}
 use Rattle.interp.specs.inside.Place.{Room}
 use Rattle.interp.specs.inside.Walk.{IsWithinRoom}
 use Rattle.interp.proofs.Fixed.{sizes_there}
 use Rattle.interp.proofs.Functions.{of_defined}
-use Rattle.interp.proofs.Limited.{HostEffectKeeps, Lasts, MachineWithin, few_held, few_layers, run_within}
+use Rattle.interp.proofs.Limited.{HostEffectKeeps, Lasts, MachineWithin, few_held, few_entries, run_within}
 use Rattle.interp.proofs.OneEnd.{one_start}
 use Rattle.interp.proofs.Told.{facts_hold}
 use Rattle.interp.proofs.Whole.{calls_end}
@@ -47,9 +47,9 @@ start_within Q m limits h first s q =
 
 -- ---- how many stand
 
-few_at : (F : ℕ) (x : Machine) → MachineWithin AnyHost x → frames x ≤ F → (layers x ≤ most_layers F) × (locals x ≤ most_locals F)
+few_at : (F : ℕ) (x : Machine) → MachineWithin AnyHost x → frames x ≤ F → (entries x ≤ most_entries F) × (locals x ≤ most_locals F)
 few_at F (Running vs is ls st) w h =
-    let a = few_layers w.1.0 ls w.1.2 in
+    let a = few_entries w.1.0 ls w.1.2 in
     let b = few_held w.1.0 ls w.1.2 in
     (omega (arith, a, h), omega (arith, b, h, w.0.0))
 few_at F (Done st) w h = (omega arith, omega arith)
@@ -61,11 +61,11 @@ calls_stay_within m typed bounded limits facts are input first starts =
     let e = facts_hold m typed bounded facts are input in
     let same = one_start m input e.first first e.starts starts in
     let start = start_within AnyHost m limits (host_of input) first starts tt in
-    let few : (n : ℕ) → (layers (run m n first) ≤ most_layers facts.max_frames) × (locals (run m n first) ≤ most_locals facts.max_frames) = λ n.
+    let few : (n : ℕ) → (entries (run m n first) ≤ most_entries facts.max_frames) × (locals (run m n first) ≤ most_locals facts.max_frames) = λ n.
     few_at facts.max_frames (run m n first) (run_within AnyHost m limits.functions any_lasts n first start) (subst (λ (x : Machine). frames (run m n x) ≤ facts.max_frames) same (e.shallow n)) in
-    record { few_layers = λ n. (few n).0; few_locals = λ n. (few n).1 }
+    record { few_entries = λ n. (few n).0; few_locals = λ n. (few n).1 }
 
--- where there is room for all that may stand, there is always room for another frame
+-- where there is room for the most that a call has, there is always room for another frame
 pub low_room : (m : Module) → IsTyped m → IsBounded m → IsWithinLimits m → (room : Room) → HasRoom m room → (input : CallInput) (x : Machine) → Starts m input x → (n : ℕ) → IsWithinRoom room (run m n x)
 low_room m typed bounded limits room has input x starts n =
     let d = has.told bounded.compute in
@@ -77,7 +77,7 @@ low_room m typed bounded limits room has input x starts n =
     let start = start_within AnyHost m limits (host_of input) x starts tt in
     let shallow : frames (run m n x) ≤ has.frames = subst (λ (k : ℕ). frames (run m n x) ≤ k) d.2 (subst (λ (y : Machine). frames (run m n y) ≤ d.0 bounded.compute.number) same (e.shallow n)) in
     let few = few_at has.frames (run m n x) (run_within AnyHost m limits.functions any_lasts n x start) shallow in
-    record { few_layers = omega (arith, few.0, has.few_layers); few_operands = omega (arith, low, has.few_operands); few_locals = omega (arith, few.1, has.few_locals) }
+    record { few_entries = omega (arith, few.0, has.few_entries); few_operands = omega (arith, low, has.few_operands); few_locals = omega (arith, few.1, has.few_locals) }
 
 -- the same of an equal module, whose calls end
 pub in_room : (m k : Module) → m ≡ k → IsTyped m → IsBounded m → IsWithinLimits m → (room : Room) → HasRoom m room → (input : CallInput) (most : ℕ) → EndsEachWithin k input most → EndsInRoom k input most room

@@ -1,4 +1,4 @@
--- Cells as they are stored, and as the values that stand for them.
+-- Cells as they are stored, and as values.
 use Rattle.std.proofs.Common.{◌≡◌, ℕ, zero, suc, ◌-◌, ◌≤◌, List, [], ◌∷◌, map, length, take, drop, refl, sym, ap, ◌∙◌, arith}
 use Rattle.std.specs.Prelude.{slice_set}
 use Rattle.std.specs.List.{take-map, drop-map}

@@ -1,4 +1,4 @@
--- The bound by the facts that are told of a module, and without any.
+-- The bound by the facts of a module, and without any.
 use Rattle.std.proofs.Common.{ℕ, ◌+◌, ◌*◌, subst}
 use Rattle.wasm_ast.specs.declared.module.Module.{Module}
 use Rattle.host_calls.specs.declared.call.CallInput.{CallInput}

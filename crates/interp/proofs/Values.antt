@@ -7,9 +7,9 @@ use Rattle.wasm_ast.specs.declared.types.Value.{Value}
 use Rattle.wasm_ast.specs.declared.types.Value.TheVariants.{I32, I64}
 use Rattle.wasm_ast.specs.Values.{type_of, zero_of}
 use Rattle.host_calls.specs.Operands.{number, with_number, pop}
-use Rattle.bounded_profile.specs.declared.wants.Want.{Want}
-use Rattle.bounded_profile.specs.declared.wants.Want.TheVariants as want
-use Rattle.bounded_profile.specs.Kinds.{Kind, Any, Is, Forgets, AllForget, Met, Meets, AllMeet, wants, kinds}
+use Rattle.bounded_profile.specs.declared.requirements.Requirement.{Requirement}
+use Rattle.bounded_profile.specs.declared.requirements.Requirement.TheVariants as requirement
+use Rattle.bounded_profile.specs.Kinds.{Kind, Any, Is, Forgets, AllForget, Met, Meets, AllMeet, requirements, kinds}
 use Rattle.bounded_profile.specs.Memory.{number_of}
 use Rattle.interp.specs.Effects.{value}
 pub use Rattle.interp.specs.Typed.{HasKind, HasKinds, HasTypes}
@@ -48,7 +48,7 @@ forget_length [] (j ∷ js) a = absurd a
 forget_length (k ∷ ks) [] a = absurd a
 forget_length (k ∷ ks) (j ∷ js) a = ap suc (forget_length ks js a.1)
 
-pub meet_length : (bytes : ℕ) (ws : List Want) (from below : List Kind) → AllMeet bytes ws from below → length from ≡ length ws + length below
+pub meet_length : (bytes : ℕ) (ws : List Requirement) (from below : List Kind) → AllMeet bytes ws from below → length from ≡ length ws + length below
 meet_length bytes [] from below a = let e = ap (λ (ks : List Kind). length ks) a in omega (arith, e)
 meet_length bytes (w ∷ ws) [] below a = absurd a
 meet_length bytes (w ∷ ws) (k ∷ ks) below a = let e = meet_length bytes ws ks below a.1 in omega (arith, e)
@@ -102,25 +102,25 @@ pub zeros_typed : (ts : List ValType) → HasTypes (map zero_of ts) ts
 zeros_typed [] = tt
 zeros_typed (t ∷ ts) = (zero_typed t, zeros_typed ts)
 
--- ---- what is wanted of operands
+-- ---- requirements on operands
 
-abbrev pub Wanted : ℕ → Want → Value → Type 0
-Wanted bytes (want.Value t) v = type_of v ≡ t
-Wanted bytes (want.Constant t p) v = (n : ℕ) × (v ≡ value t n) × Met bytes t p n
+abbrev pub IsRequired : ℕ → Requirement → Value → Type 0
+IsRequired bytes (requirement.Value t) v = type_of v ≡ t
+IsRequired bytes (requirement.Constant t p) v = (n : ℕ) × (v ≡ value t n) × Met bytes t p n
 
-wanted : (bytes : ℕ) (w : Want) (k : Kind) (v : Value) → Meets bytes w k → HasKind v k → Wanted bytes w v
-wanted bytes (want.Value t) (Any s) v m h = h ∙ m
-wanted bytes (want.Value t) (Is s n) v m h = absurd m
-wanted bytes (want.Constant t p) (Any s) v m h = absurd m
-wanted bytes (want.Constant t p) (Is s n) v m h = (n, h ∙ ap (λ (x : ValType). value x n) m.0, m.1)
+wanted : (bytes : ℕ) (w : Requirement) (k : Kind) (v : Value) → Meets bytes w k → HasKind v k → IsRequired bytes w v
+wanted bytes (requirement.Value t) (Any s) v m h = h ∙ m
+wanted bytes (requirement.Value t) (Is s n) v m h = absurd m
+wanted bytes (requirement.Constant t p) (Any s) v m h = absurd m
+wanted bytes (requirement.Constant t p) (Is s n) v m h = (n, h ∙ ap (λ (x : ValType). value x n) m.0, m.1)
 
--- the topmost operands are what is wanted, and the rest lie below
-abbrev pub Takes : ℕ → List Want → List Value → List Value → Type 0
+-- the topmost operands meet the requirements, and the rest is below
+abbrev pub Takes : ℕ → List Requirement → List Value → List Value → Type 0
 Takes bytes [] vs below = vs ≡ below
 Takes bytes (w ∷ ws) [] below = ⊥
-Takes bytes (w ∷ ws) (v ∷ vs) below = Wanted bytes w v × Takes bytes ws vs below
+Takes bytes (w ∷ ws) (v ∷ vs) below = IsRequired bytes w v × Takes bytes ws vs below
 
-pub takes : (bytes : ℕ) (ws : List Want) (vs : List Value) (from below : List Kind) → AllMeet bytes ws from below → HasKinds vs from → (us : List Value) × Takes bytes ws vs us × HasKinds us below
+pub takes : (bytes : ℕ) (ws : List Requirement) (vs : List Value) (from below : List Kind) → AllMeet bytes ws from below → HasKinds vs from → (us : List Value) × Takes bytes ws vs us × HasKinds us below
 takes bytes [] vs from below a h = (vs, refl, subst (HasKinds vs) a h)
 takes bytes (w ∷ ws) vs [] below a h = absurd a
 takes bytes (w ∷ ws) [] (k ∷ ks) below a h = absurd h
@@ -152,17 +152,17 @@ popped_known missing t v n vs go e = ap (λ o. with_number missing o (λ n. go n
 
 -- ---- what a branch carries
 
--- the operand is there, where one is wanted
+-- the operand is there, where one is kept
 abbrev pub IsTop : Option ValType → Option Value → Type 0
 IsTop None top = Unit {0}
 IsTop (Some t) None = ⊥
 IsTop (Some t) (Some v) = type_of v ≡ t
 
-pub top_is : (bytes : ℕ) (t : Option ValType) (vs : List Value) (from below : List Kind) → AllMeet bytes (wants t) from below → HasKinds vs from → IsTop t (first vs)
+pub top_is : (bytes : ℕ) (t : Option ValType) (vs : List Value) (from below : List Kind) → AllMeet bytes (requirements t) from below → HasKinds vs from → IsTop t (first vs)
 top_is bytes None vs from below a h = tt
 top_is bytes (Some t) vs [] below a h = absurd a
 top_is bytes (Some t) [] (k ∷ ks) below a h = absurd h
-top_is bytes (Some t) (v ∷ vs) (k ∷ ks) below a h = wanted bytes (want.Value t) k v a.0 h.0
+top_is bytes (Some t) (v ∷ vs) (k ∷ ks) below a h = wanted bytes (requirement.Value t) k v a.0 h.0
 
 pub carried : (t : Option ValType) (top : Option Value) (vs : List Value) (from : List Kind) → IsTop t top → HasKinds vs from → (us : List Value) × (carry (has_result t) top vs ≡ Some us) × HasKinds us (kinds t ++ from)
 carried None top vs from i h = (vs, refl, h)

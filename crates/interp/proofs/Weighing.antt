@@ -43,7 +43,7 @@ pub call_counts : (m : Module) (calls : List HostCall) → AreImports calls m �
 unfolding call_units
 call_counts m calls a f = ap host_units (sym (same_call (filter is_function m.imports) calls (sym (all_named m.imports) ∙ a) f))
 
--- the next instruction is the one that stands before the others
+-- the next instruction comes before the others
 pub next_counts : (m : Module) (i : Instr) (rest : Code) → next_units m (then_code i rest) ≡ units_of m i
 next_counts m (instr.Plain p) rest = refl
 next_counts m (instr.Branch b) rest = refl

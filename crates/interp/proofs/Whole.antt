@@ -1,4 +1,4 @@
--- Every function by its rank, and what a compute call of a bounded module comes to.
+-- Every function by its rank, and the end of a compute call of a bounded module.
 use Rattle.std.proofs.Common.{◌≡◌, ◌≢◌, ℕ, zero, suc, ◌+◌, ◌-◌, ◌*◌, ◌≤◌, ◌<◌, List, [], ◌∷◌, ◌++◌, map, slice_get, Option, Some, None, refl, sym, ap, ◌∙◌, subst, arith}
 use Rattle.std.proofs.lemmas.List.{length-map}
 use Rattle.std.specs.List.{AllByRecursion}
@@ -157,7 +157,7 @@ compute_defined m bounded =
     numbered (g ∷ fs) zero e = ap (λ (h : Function). Some h.type_number) (some_is g bounded.compute.function e)
     numbered (g ∷ fs) (suc k) e = numbered fs k e
 
--- what the first configuration of a call begins with, and where it comes to
+-- the beginning of the first configuration of a call, and its end
 module _ (m : Module) (typed : IsTyped m) (bounded : IsBounded m) (sizes hs depths : ℕ → ℕ) (are_sizes : AreSizes m sizes) (are_heights : AreHeights m hs) (are_depths : AreDepths m depths) (input : CallInput) where
   begins : Begun m bounded.compute.function
   begins = begun m typed bounded (compute_defined m bounded)

@@ -1,4 +1,4 @@
--- What a compute call of a bounded module comes to.
+-- The bounds on a compute call of a bounded module.
 use Rattle.std.specs.Prelude.{◌≡◌, ◌≢◌, ℕ, ◌+◌, ◌*◌, ◌≤◌, ℤ, length}
 use Rattle.std.specs.List.{AllByRecursion}
 use Rattle.wasm_ast.specs.declared.module.Module.{Module}
@@ -16,8 +16,8 @@ use Rattle.bounded_profile.specs.declared.facts.Facts.{Facts}
 use Rattle.bounded_profile.specs.Facts.{AreDepths, AreFacts, IsSizeOfCompute}
 use Rattle.interp.specs.Heights.{operands, frames}
 
--- The call begins and comes to its end, within so many units: it never traps, and there is a step for each instruction.
--- Never do more operands and more frames stand than so many.
+-- The call begins and ends, within this many units. It never traps, and there is a step for each instruction. It
+-- never has more operands and frames than these.
 pub record Ends (m : Module) (input : CallInput) (units most_operands most_frames : ℕ) : Type 0 where
   pub first : Machine
   pub starts : Starts m input first
@@ -25,46 +25,46 @@ pub record Ends (m : Module) (input : CallInput) (units most_operands most_frame
   pub final : State
   pub done : run m steps first ≡ Done final
   pub within : final.count ≤ units
-  -- each step but those that leave a block or a function takes an instruction
+  -- each step takes an instruction, except those that leave a block or a function
   pub short : steps ≤ 2 * final.count + 1
   pub untrapped : (n count : ℕ) → run m n first ≢ Trapped count
   pub unstuck : (n count : ℕ) → run m n first ≢ Stuck count
   pub low : (n : ℕ) → operands (run m n first) ≤ most_operands
   pub shallow : (n : ℕ) → frames (run m n first) ≤ most_frames
 
--- how many messages and edges there are to take
+-- the number of messages and edges to take
 abbrev pub items_of : CallInput → ℕ
 items_of input = length input.messages.now + length input.edges.now
 
--- Each call of a bounded module ends so: within its size times one more than there are messages and edges.
+-- Each call of a bounded module ends within its size, times one more than there are messages and edges.
 abbrev pub CallsEnd : Module → Type 0
 CallsEnd m =
     (typed : IsTyped m) (bounded : IsBounded m) (sizes heights depths : ℕ → ℕ) → AreSizes m sizes → AreHeights m heights → AreDepths m depths
     → (input : CallInput) → let f = bounded.compute.number in Ends m input (sizes f * (1 + items_of input)) (heights f) (depths f)
 
--- the same by the facts that are told of the module
+-- the same by the bounds that `verify` returns
 abbrev pub FactsHold : Module → Type 0
 FactsHold m =
     IsTyped m → IsBounded m → (facts : Facts) → AreFacts m facts
     → (input : CallInput) → Ends m input (facts.size * (1 + items_of input)) facts.max_operands facts.max_frames
 
--- the call ends, within bounds of its own
+-- the call ends, within some bounds
 abbrev pub ComesToItsEnd : Module → CallInput → Type 0
 ComesToItsEnd m input = (units most_operands most_frames : ℕ) × Ends m input units most_operands most_frames
 
--- these bounds are there
+-- these bounds exist
 pub record HasBounds (m : Module) : Type 0 where
   pub sizes : (sizes : ℕ → ℕ) × AreSizes m sizes
   pub heights : (heights : ℕ → ℕ) × AreHeights m heights
   pub depths : (depths : ℕ → ℕ) × AreDepths m depths
 
--- The call is never trapped and has a step for each instruction, and its outcome counts no more than so many units.
+-- The call never traps and has a step for each instruction. Its outcome counts no more than this many units.
 pub record MeetsNoFault (m : Module) (input : CallInput) (units : ℕ) : Type 0 where
   pub outcome : (outcome : CallOutcome) → IsOutcome m input outcome → outcome.units ≤ units
   pub trap : (count : ℕ) → IsTrapped m input count → ⊥
   pub stick : (count : ℕ) → IsStuck m input count → ⊥
 
--- the outcome counts no more than the size of `compute` times one more than there are messages and edges
+-- the outcome counts no more than the size of `compute`, times one more than there are messages and edges
 abbrev pub IsWithinBound : Module → CallInput → CallOutcome → Type 0
 IsWithinBound m input outcome = (size : ℕ) → IsSizeOfCompute m size → outcome.units ≤ size * (1 + items_of input)
 

@@ -1,4 +1,4 @@
--- A compute call: the least number of steps that ends it, and what it leaves.
+-- A compute call: the least number of steps after which it is done, and its outcome.
 use Rattle.std.specs.Prelude.{◌≡◌, ◌≢◌, ℕ, ℤ, ◌<◌, Bool, List}
 use Rattle.wasm_ast.specs.declared.module.Module.{Module}
 use Rattle.host_calls.specs.declared.call.CallInput.{CallInput}
@@ -8,17 +8,18 @@ use Rattle.interp.specs.Configuration.{State}
 use Rattle.interp.specs.Machine.{Machine, Done, Trapped, Stuck, run}
 use Rattle.interp.specs.Start.{Starts, StartsFrom}
 
--- What a call leaves, as pure data.
+-- The outcome of a call, as pure data.
 pub record Outcome : Type 0 where
   pub value : ℤ
-  -- the messages that it sent, each with its target and its value, and what it gave to the slots
+  -- the messages that it sent, each with its target and value, and what it contributed to aggregators, each with the
+  -- aggregator's number
   pub sends : List (ℤ × ℤ)
   pub contributions : List (ℕ × ℤ)
   pub halted : Bool
-  -- how much it took
+  -- the units that it took
   pub units : ℕ
 
--- that of the state in which a run ends
+-- the outcome of the state in which a run ends
 abbrev pub outcome_of : State → Outcome
 outcome_of st = record {
   value = st.host.value;
@@ -28,7 +29,8 @@ outcome_of st = record {
   units = st.count;
 }
 
--- The call that finds the vertex so comes to this outcome. There is one only where some number of steps ends the run.
+-- The call that finds the vertex like this has this outcome. There is one only where some number of steps ends the
+-- run.
 pub record ComesTo (m : Module) (host : Host) (outcome : Outcome) : Type 0 where
   pub first : Machine
   pub starts : StartsFrom m host first
@@ -38,7 +40,7 @@ pub record ComesTo (m : Module) (host : Host) (outcome : Outcome) : Type 0 where
   pub least : (n : ℕ) → n < steps → (st : State) → run m n first ≢ Done st
   pub leaves : outcome ≡ outcome_of final
 
--- what an outcome shows
+-- the model of an outcome
 abbrev pub shown : CallOutcome → Outcome
 shown outcome = record {
   value = outcome.value;
@@ -48,25 +50,25 @@ shown outcome = record {
   units = outcome.units;
 }
 
--- it shows what the call comes to
+-- the outcome is that of the call
 abbrev pub IsOutcome : Module → CallInput → CallOutcome → Type 0
 IsOutcome m input outcome = ComesTo m (host_of input) (shown outcome)
 
--- the call comes to an instruction that traps, with so many units, its own among them
+-- the call reaches an instruction that traps, with this many units, its own included
 pub record IsTrapped (m : Module) (input : CallInput) (count : ℕ) : Type 0 where
   pub first : Machine
   pub starts : Starts m input first
   pub steps : ℕ
   pub trapped : run m steps first ≡ Trapped count
 
--- the call comes to an instruction for which there is no step, with so many units, its own among them
+-- the call reaches an instruction for which there is no step, with this many units, its own included
 pub record IsStuck (m : Module) (input : CallInput) (count : ℕ) : Type 0 where
   pub first : Machine
   pub starts : Starts m input first
   pub steps : ℕ
   pub stuck : run m steps first ≡ Stuck count
 
--- the same values
+-- both outcomes have the same values
 pub record SameOutcome (a b : CallOutcome) : Type 0 where
   pub value : a.value ≡ b.value
   pub sends : a.sends.items ≡ b.sends.items

@@ -1,9 +1,9 @@
--- What instructions change besides the operands (Core 1.0, 4.2), and what one of them may do.
+-- The state that instructions change besides the operands (Core 1.0, 4.2), and the effect of one of them.
 use Rattle.std.specs.Prelude.{ℕ, ◌+◌, List}
 use Rattle.wasm_ast.specs.declared.types.Value.{Value}
 use Rattle.host_calls.specs.Host.{Host}
 
--- the locals of the running function, the globals, the bytes of the memory, the host, and the units that were taken
+-- the locals of the running function, the globals, the bytes of the memory, the host, and the units so far
 pub record State : Type 0 where
   pub locals : List Value
   pub globals : List Value
@@ -23,11 +23,11 @@ with_memory st «memory» = record st { memory = «memory» }
 abbrev pub with_host : State → Host → State
 with_host st host = record st { host = host }
 
--- so many units more
+-- this many units more
 abbrev pub tick : ℕ → State → State
 tick units st = record st { count = st.count + units }
 
--- what an instruction does to the operands, the topmost first, and the state
+-- the effect of an instruction on the operands, the topmost first, and the state
 pub data Effect : Type 0 where
   Gives : (values : List Value) (state : State) → Effect
   Traps : Effect

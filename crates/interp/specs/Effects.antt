@@ -1,4 +1,4 @@
--- What each instruction that neither branches nor calls does (Core 1.0, 4.4.1 to 4.4.4), and each call of the host.
+-- The effect of each instruction that neither branches nor calls (Core 1.0, 4.4.1 to 4.4.4), and of each host call.
 use Rattle.std.specs.Prelude.{ℕ, zero, suc, ◌+◌, ◌/◌, List, [], ◌∷◌, slice_get, slice_set, length, nat_lt, Option, Some, None, if◌then◌else◌}
 use Rattle.wasm_ast.specs.declared.types.ValType.{ValType}
 use Rattle.wasm_ast.specs.declared.types.ValType.TheVariants as val_type
@@ -29,7 +29,7 @@ abbrev pub value : ValType → ℕ → Value
 value val_type.I32 n = I32 n
 value val_type.I64 n = I64 n
 
--- takes a number of a type off the operands, and goes on with it
+-- pops a number of a type, and goes on with it
 abbrev pub popped : ValType → List Value → (ℕ → List Value → Effect) → Effect
 popped t vs go = pop Misses t vs go
 
@@ -60,7 +60,7 @@ abbrev pub pick : ℕ → Value → Value → Value
 pick zero first second = second
 pick (suc n) first second = first
 
--- two operands of one type
+-- the two operands have one type
 abbrev pub select : ℕ → List Value → State → Effect
 select n (I32 b ∷ I32 a ∷ vs) st = Gives (pick n (I32 a) (I32 b) ∷ vs) st
 select n (I64 b ∷ I64 a ∷ vs) st = Gives (pick n (I64 a) (I64 b) ∷ vs) st
@@ -72,12 +72,12 @@ abbrev pub pushed : Option Value → List Value → State → Effect
 pushed None vs st = Misses
 pushed (Some v) vs st = Gives (v ∷ vs) st
 
--- the value becomes the local's, if there is such a local
+-- the value becomes that of the local, if there is such a local
 abbrev pub local_set : ℕ → Value → List Value → State → Effect
 local_set x v vs st =
     if nat_lt x (length st.locals) then Gives vs (with_locals st (slice_set st.locals x v)) else Misses
 
--- the same of a global
+-- the same for a global
 abbrev pub global_set : ℕ → Value → List Value → State → Effect
 global_set x v vs st =
     if nat_lt x (length st.globals) then Gives vs (with_globals st (slice_set st.globals x v)) else Misses
@@ -94,12 +94,12 @@ variable_effect (variable.GlobalSet x) (v ∷ vs) st = global_set x v vs st
 
 -- ---- the memory (4.4.4)
 
--- what is given for the number that was read, if all its bytes are there
+-- the effect of a load by the number that was read, if all its bytes exist
 abbrev pub load_effect : Load → Option ℕ → List Value → State → Effect
 load_effect op None vs st = Traps
 load_effect op (Some n) vs st = Gives (value (load_type op) (loaded op n) ∷ vs) st
 
--- the memory after a write, if all bytes are there
+-- the effect of a store by the memory after the write, if all bytes exist
 abbrev pub store_effect : Option (List ℕ) → List Value → State → Effect
 store_effect None vs st = Traps
 store_effect (Some bytes) vs st = Gives vs (with_memory st bytes)
@@ -110,7 +110,7 @@ memory_effect (memory.Store op a) vs st =
     popped (store_type op) vs (λ n us. popped val_type.I32 us (λ i ws.
     store_effect (write (i + a.offset) (store_width op) n st.memory) ws st))
 memory_effect memory.Size vs st = Gives (I32 (length st.memory / page) ∷ vs) st
--- there is no growing
+-- no memory grows
 memory_effect memory.Grow vs st = Misses
 
 -- ---- all of them
@@ -126,7 +126,7 @@ effect (plain.Memory op) vs st = memory_effect op vs st
 
 -- ---- calls of the host (4.4.7)
 
--- what a call did to the operands and the host, with the rest of the state
+-- the effect of a host call on the operands and the host; the rest of the state stays
 abbrev pub lifted : State → HostEffect → Effect
 lifted st (host.Gives vs h) = Gives vs (with_host st h)
 lifted st host.Traps = Traps

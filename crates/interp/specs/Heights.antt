@@ -1,9 +1,9 @@
--- How many operands, layers and locals stand in a configuration.
+-- The number of operands, control entries and locals in a configuration.
 use Rattle.std.specs.Prelude.{ℕ, ◌+◌, List, [], ◌∷◌, length}
-use Rattle.interp.specs.Machine.{Layer, Label, Frame, Machine, Running, Done, Trapped, Stuck}
+use Rattle.interp.specs.Machine.{ControlEntry, Label, Frame, Machine, Running, Done, Trapped, Stuck}
 
--- the operands of the layers round the innermost
-abbrev pub beneath : List Layer → ℕ
+-- the operands of the entries round the innermost
+abbrev pub beneath : List ControlEntry → ℕ
 beneath [] = 0
 beneath (Label keeps values target after ∷ ls) = length values + beneath ls
 beneath (Frame keeps locals values after ∷ ls) = length values + beneath ls
@@ -14,8 +14,8 @@ operands (Done st) = 0
 operands (Trapped count) = 0
 operands (Stuck count) = 0
 
--- the frames of the functions that called
-abbrev pub callers : List Layer → ℕ
+-- the number of calling functions
+abbrev pub callers : List ControlEntry → ℕ
 callers [] = 0
 callers (Label keeps values target after ∷ ls) = callers ls
 callers (Frame keeps locals values after ∷ ls) = 1 + callers ls
@@ -26,15 +26,15 @@ frames (Done st) = 0
 frames (Trapped count) = 0
 frames (Stuck count) = 0
 
--- the labels, and the frames of the functions that called
-abbrev pub layers : Machine → ℕ
-layers (Running vs is ls st) = length ls
-layers (Done st) = 0
-layers (Trapped count) = 0
-layers (Stuck count) = 0
+-- the number of labels, and of frames of calling functions
+abbrev pub entries : Machine → ℕ
+entries (Running vs is ls st) = length ls
+entries (Done st) = 0
+entries (Trapped count) = 0
+entries (Stuck count) = 0
 
--- the locals of the functions that called
-abbrev pub held : List Layer → ℕ
+-- the locals of the calling functions
+abbrev pub held : List ControlEntry → ℕ
 held [] = 0
 held (Label keeps values target after ∷ ls) = held ls
 held (Frame keeps locals values after ∷ ls) = length locals + held ls

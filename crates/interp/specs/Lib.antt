@@ -1,19 +1,19 @@
--- What a reader has to believe, in this order.
--- the machine: what a configuration is, what instructions do to it, its steps
+-- What a reader has to believe, in this order. First the machine: configurations, what instructions do to them, and
+-- steps.
 pub mod Configuration
 pub mod Memory
 pub mod Effects
 pub mod Machine
--- a call: its first configuration, what it comes to, and that as a function of pure data
+-- a call: its first configuration, its outcome, and that as a function of pure data
 pub mod Start
 pub mod Call
 pub mod Outcomes
--- how high it gets, that it ends, and how much room it needs
+-- the height of the stack, the bound, and the room that a call needs
 pub mod Heights
 pub mod Bounded
 pub mod Room
--- what a sequence counts
+-- the bound on a sequence
 pub mod Typed
 pub mod Sequences
--- what only mirrors the code, for its proofs
+-- definitions that mirror the code, only for its proofs
 pub mod inside

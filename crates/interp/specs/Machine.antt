@@ -1,4 +1,4 @@
--- The machine (Core 1.0, 4.2 and 4.4): a configuration, one step of reduction, and so many steps.
+-- The machine (Core 1.0, 4.2 and 4.4): a configuration, one step of reduction, and a number of steps.
 use Rattle.std.specs.Prelude.{ℕ, zero, suc, List, [], ◌∷◌, ◌++◌, map, reverse, take, drop, length, slice_get, nat_le, Bool, true, false, Option, Some, None, if◌then◌else◌}
 use Rattle.wasm_ast.specs.declared.types.ValType.{ValType}
 use Rattle.wasm_ast.specs.declared.types.ValType.TheVariants as val_type
@@ -24,19 +24,19 @@ use Rattle.interp.specs.Effects.{effect, call_effect}
 
 -- ---- the configuration (4.2.12, 4.2.13)
 
--- what lies round the running sequence: a label or a frame, and the operands and the code beyond it
-pub data Layer : Type 0 where
-  -- a branch to it may keep the topmost operand and goes on at the target; its end goes on after it
-  Label : (keeps : Bool) (values : List Value) (target after : Code) → Layer
-  -- the caller's locals, and whether there is a result
-  Frame : (keeps : Bool) (locals : List Value) (values : List Value) (after : Code) → Layer
+-- a control entry round the running sequence: a label or a frame, with the operands below it and the code after it
+pub data ControlEntry : Type 0 where
+  -- a branch to it goes on at `target`, and may keep the topmost operand; its end goes on at `after`
+  Label : (keeps : Bool) (values : List Value) (target after : Code) → ControlEntry
+  -- `locals` are those of the caller; `keeps` says whether there is a result
+  Frame : (keeps : Bool) (locals : List Value) (values : List Value) (after : Code) → ControlEntry
 
--- The operands and the code of the innermost layer stand in front, the topmost operand first. The frame of the function
--- that was called from outside lies round all layers.
+-- The operands and the code of the innermost entry come first, the topmost operand first. The frame of `compute`,
+-- which was called from outside, has no entry: it is round all entries.
 pub data Machine : Type 0 where
-  Running : (values : List Value) (code : Code) (layers : List Layer) (state : State) → Machine
+  Running : (values : List Value) (code : Code) (entries : List ControlEntry) (state : State) → Machine
   Done : State → Machine
-  -- with the units that were taken
+  -- `count` is the number of units so far
   Trapped : (count : ℕ) → Machine
   Stuck : (count : ℕ) → Machine
 
@@ -67,57 +67,57 @@ abbrev pub first : List Value → Option Value
 first [] = None
 first (v ∷ vs) = Some v
 
--- an operand on top of others, where it is wanted
+-- pushes an operand, where one is kept
 abbrev pub carry : Bool → Option Value → List Value → Option (List Value)
 carry false top below = Some below
 carry true None below = None
 carry true (Some v) below = Some (v ∷ below)
 
--- goes on with these operands, if they are there
-abbrev pub landed : Option (List Value) → Code → List Layer → State → Machine
+-- goes on with these operands, if they exist
+abbrev pub landed : Option (List Value) → Code → List ControlEntry → State → Machine
 landed None is ls st = Stuck st.count
 landed (Some vs) is ls st = Running vs is ls st
 
--- to the innermost label or frame, with an operand; the outermost frame is the end
-abbrev pub arrive : Option Value → List Layer → State → Machine
+-- goes on at the innermost label or frame, with an operand; the outermost frame is the end
+abbrev pub arrive : Option Value → List ControlEntry → State → Machine
 arrive top [] st = Done st
 arrive top (Label keeps below target after ∷ ls) st = landed (carry keeps top below) target ls st
 arrive top (Frame keeps locals below after ∷ ls) st = landed (carry keeps top below) after ls (with_locals st locals)
 
--- a branch to a label: a frame is a label too, and there is no label beyond it
-abbrev pub jump : ℕ → Option Value → List Layer → State → Machine
+-- branches to a label; a frame is a label too, and no label is beyond it
+abbrev pub jump : ℕ → Option Value → List ControlEntry → State → Machine
 jump zero top ls st = arrive top ls st
 jump (suc l) top [] st = Stuck st.count
 jump (suc l) top (Label keeps below target after ∷ ls) st = jump l top ls st
 jump (suc l) top (Frame keeps locals below after ∷ ls) st = Stuck st.count
 
--- out of the innermost frame
-abbrev pub back : Option Value → List Layer → State → Machine
+-- returns from the innermost frame
+abbrev pub back : Option Value → List ControlEntry → State → Machine
 back top [] st = arrive top [] st
 back top (Label keeps below target after ∷ ls) st = back top ls st
 back top (Frame keeps locals below after ∷ ls) st = arrive top (Frame keeps locals below after ∷ ls) st
 
 -- the end of a sequence
-abbrev pub leave : List Value → List Layer → State → Machine
+abbrev pub leave : List Value → List ControlEntry → State → Machine
 leave vs [] st = Done st
 leave vs (Label keeps below target after ∷ ls) st = Running (vs ++ below) after ls st
 leave vs (Frame keeps locals below after ∷ ls) st = Running (vs ++ below) after ls (with_locals st locals)
 
--- the label at a place of a table, or the one for all places past it
+-- the label at a place of a branch table, or the default for all places past its end
 abbrev pub label_of : List ℕ → ℕ → ℕ → ℕ
 label_of [] n other = other
 label_of (l ∷ ls) zero other = l
 label_of (l ∷ ls) (suc n) other = label_of ls n other
 
--- with an i32 off the operands
+-- pops an i32
 abbrev pub taking : List Value → ℕ → (ℕ → List Value → Machine) → Machine
 taking vs count go = pop (Stuck count) val_type.I32 vs go
 
-abbrev pub branch_unless_zero : ℕ → ℕ → List Value → Code → List Layer → State → Machine
+abbrev pub branch_unless_zero : ℕ → ℕ → List Value → Code → List ControlEntry → State → Machine
 branch_unless_zero zero l vs is ls st = Running vs is ls st
 branch_unless_zero (suc n) l vs is ls st = jump l (first vs) ls st
 
-abbrev pub take_branch : Branch → List Value → Code → List Layer → State → Machine
+abbrev pub take_branch : Branch → List Value → Code → List ControlEntry → State → Machine
 take_branch (branch.Br l) vs is ls st = jump l (first vs) ls st
 take_branch (branch.BrIf l) vs is ls st = taking vs st.count (λ n us. branch_unless_zero n l us is ls st)
 take_branch (branch.BrTable labels other) vs is ls st =
@@ -130,7 +130,7 @@ abbrev pub has_result : Option ValType → Bool
 has_result None = false
 has_result (Some t) = true
 
--- the arm for a number other than 0, and that for 0
+-- the first sequence for a number other than 0, and the second for 0
 abbrev pub arm : ℕ → Code → Code → Code
 arm zero then_body else_body = else_body
 arm (suc n) then_body else_body = then_body
@@ -141,8 +141,9 @@ abbrev pub gives_one : List ValType → Bool
 gives_one [] = false
 gives_one (t ∷ ts) = true
 
--- a function of this type in its frame: its arguments are the topmost operands, the lowest first, before its other locals
-abbrev pub enter : Function → Option FuncType → List Value → Code → List Layer → State → Machine
+-- enters a function of this type in its frame; its arguments are the topmost operands, the lowest first, before its
+-- other locals
+abbrev pub enter : Function → Option FuncType → List Value → Code → List ControlEntry → State → Machine
 enter f None vs is ls st = Stuck st.count
 enter f (Some t) vs is ls st =
     if nat_le (length t.parameters) (length vs)
@@ -150,7 +151,7 @@ enter f (Some t) vs is ls st =
     (with_locals st (reverse (take (length t.parameters) vs) ++ map zero_of f.locals))
     else Stuck st.count
 
-abbrev pub after_effect : Effect → Code → List Layer → ℕ → Machine
+abbrev pub after_effect : Effect → Code → List ControlEntry → ℕ → Machine
 after_effect (Gives vs st) is ls count = Running vs is ls st
 after_effect Traps is ls count = Trapped count
 after_effect Misses is ls count = Stuck count
@@ -159,14 +160,14 @@ abbrev pub host_effect : Option HostCall → List Value → State → Effect
 host_effect None vs st = Misses
 host_effect (Some call) vs st = call_effect call vs st
 
-abbrev pub take_call : Module → Option Callee → List Value → Code → List Layer → State → Machine
+abbrev pub take_call : Module → Option Callee → List Value → Code → List ControlEntry → State → Machine
 take_call m None vs is ls st = Stuck st.count
 take_call m (Some (host call)) vs is ls st = after_effect (host_effect call vs st) is ls st.count
 take_call m (Some (defined f)) vs is ls st = enter f (slice_get m.types f.type_number) vs is ls st
 
 -- ---- steps
 
--- what the next instruction counts
+-- the units of the next instruction
 abbrev pub next_units : Module → Code → ℕ
 next_units m code.end = 0
 next_units m (code.plain p rest) = units_of m (instr.Plain p)
@@ -178,8 +179,8 @@ next_units m (code.block t body rest) = units_of m (instr.Block t body)
 next_units m (code.loop t body rest) = units_of m (instr.Loop t body)
 next_units m (code.choice t body other rest) = units_of m (instr.If t body other)
 
--- the next instruction, counted already. There is no step for call_indirect.
-abbrev pub take_next : Module → List Value → Code → List Layer → State → Machine
+-- takes the next instruction, which was counted; there is no step for `call_indirect`
+abbrev pub take_next : Module → List Value → Code → List ControlEntry → State → Machine
 take_next m vs code.end ls st = leave vs ls st
 take_next m vs (code.plain p is) ls st = after_effect (effect p vs st) is ls st.count
 take_next m vs (code.branch b is) ls st = take_branch b vs is ls st
@@ -191,7 +192,7 @@ take_next m vs (code.loop t body is) ls st = Running [] body (Label false vs (co
 take_next m vs (code.choice t body other is) ls st =
     taking vs st.count (λ n us. Running [] (arm n body other) (Label (has_result t) us is is ∷ ls) st)
 
--- One step. Taking an instruction from its sequence counts its units, and leaving a label or a frame nothing.
+-- One step. Taking an instruction from its sequence counts its units. Leaving a label or a frame counts nothing.
 abbrev pub advance : Module → Machine → Machine
 advance m (Running vs code.end ls st) = leave vs ls st
 advance m (Running vs next ls st) = take_next m vs next ls (tick (next_units m next) st)
@@ -199,12 +200,12 @@ advance m (Done st) = Done st
 advance m (Trapped count) = Trapped count
 advance m (Stuck count) = Stuck count
 
--- so many steps
+-- this many steps
 abbrev pub run : Module → ℕ → Machine → Machine
 run m zero x = x
 run m (suc n) x = run m n (advance m x)
 
--- a run is over where the machine is done, or has trapped, or has no step
+-- a run is over where the machine is done, has trapped, or has no step
 abbrev pub IsOver : Machine → Type 0
 IsOver (Running vs is ls st) = ⊥
 IsOver (Done st) = Unit {0}

@@ -10,15 +10,15 @@ abbrev pub number_of_bytes : List ℕ → ℕ
 number_of_bytes [] = 0
 number_of_bytes (b ∷ bs) = b + 256 * number_of_bytes bs
 
--- the lowest bytes of a number, so many, the lowest first
+-- this many lowest bytes of a number, the lowest first
 abbrev pub bytes_of_number : ℕ → ℕ → List ℕ
 bytes_of_number width n = bytes_low_first 0 width n
 
--- a number of so many bits as a value of as many bits as a type has, with its sign (4.3.4, extend_s)
+-- extends a number of `from` bits to `to` bits, with its sign (4.3.4, extend_s)
 abbrev pub sign_extended : ℕ → ℕ → ℕ → ℕ
 sign_extended from to n = unsigned to (signed from n)
 
--- what is given for the number that was read
+-- the result of a load, by the number that was read
 abbrev pub loaded : Load → ℕ → ℕ
 loaded load.I32 n = n
 loaded load.I64 n = n
@@ -33,17 +33,17 @@ loaded load.I64From16U n = n
 loaded load.I64From32S n = sign_extended 32 64 n
 loaded load.I64From32U n = n
 
--- the number in so many bytes from a place on, if all of them are there
+-- the number in `width` bytes from a place on, if all of them exist
 abbrev pub read : (place width : ℕ) → List ℕ → Option ℕ
 read place width bytes =
     if nat_le (place + width) (length bytes) then Some (number_of_bytes (take width (drop place bytes))) else None
 
--- others in the stead of the bytes from a place on, if all of those are there
+-- replaces the bytes from a place on, if all of those exist
 abbrev pub laid : (place : ℕ) (others bytes : List ℕ) → Option (List ℕ)
 laid place others bytes =
     if nat_le (place + length others) (length bytes)
     then Some (take place bytes ++ others ++ drop (place + length others) bytes) else None
 
--- the lowest bytes of a number in the stead of so many
+-- replaces `width` bytes from a place on by the lowest bytes of a number
 abbrev pub write : (place width n : ℕ) → List ℕ → Option (List ℕ)
 write place width n bytes = laid place (bytes_of_number width n) bytes

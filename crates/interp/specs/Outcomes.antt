@@ -1,4 +1,4 @@
--- What the calls of a module come to, as a function of pure data.
+-- The outcomes of a module's calls, as a function of pure data.
 use Rattle.std.specs.Prelude.{◌≡◌, ℕ, ℤ, pos, List, [], map, false}
 use Rattle.std.specs.Int.{cast_signed, w64}
 use Rattle.wasm_ast.specs.declared.module.Module.{Module}
@@ -6,11 +6,11 @@ use Rattle.host_calls.specs.declared.call.CallInput.{CallInput}
 use Rattle.host_calls.specs.Host.{Host, seen_edge}
 use Rattle.interp.specs.Call.{ComesTo, Outcome}
 
--- What a call is given, as pure data.
+-- The input of a call, as pure data.
 pub record Given : Type 0 where
   pub id : ℕ
   pub superstep : ℕ
-  -- how many vertices there are
+  -- the number of vertices
   pub count : ℕ
   pub value : ℤ
   pub messages : List ℤ
@@ -18,7 +18,7 @@ pub record Given : Type 0 where
   pub edges : List (ℕ × ℤ)
   pub aggregated : List ℤ
 
--- what an input shows
+-- the model of an input
 abbrev pub given_of : CallInput → Given
 given_of input = record {
   id = input.id;
@@ -30,7 +30,7 @@ given_of input = record {
   aggregated = input.aggregated;
 }
 
--- the vertex before the call; that of what an input shows is its `host_of`
+-- the vertex before the call; for the model of an input it is its `host_of`
 abbrev pub vertex_of : Given → Host
 vertex_of given = record {
   id = cast_signed w64 given.id;
@@ -47,13 +47,13 @@ vertex_of given = record {
   halted = false;
 }
 
--- The function says what each call of the module comes to. Machines are run by steps, and no number of steps is enough
--- for all modules; but each call of a module in the bounded profile comes to its end, whatever it is given, and so there
--- is such a function for each of these modules, total, and no more than one.
+-- The function has the outcome of each call of the module. Machines are run by steps, and no number of steps is
+-- enough for all modules. But each call of a module in the bounded profile ends, whatever its input. So each of these
+-- modules has exactly one such function, and it is total.
 abbrev pub AreOutcomes : Module → (Given → Outcome) → Type 0
 AreOutcomes m outcomes = (given : Given) → ComesTo m (vertex_of given) (outcomes given)
 
--- there is one such function
+-- there is exactly one such function
 pub record HasOneOutcome (m : Module) : Type 0 where
   pub outcomes : Given → Outcome
   pub are : AreOutcomes m outcomes

@@ -1,4 +1,4 @@
--- What a sequence counts, from its first instruction to where it is left.
+-- The bound on a sequence, from its first instruction to where it is left.
 use Rattle.std.specs.Prelude.{◌≡◌, ℕ, ◌+◌, ◌*◌, ◌≤◌, ◌⊎◌, List, Option}
 use Rattle.wasm_ast.specs.declared.types.ValType.{ValType}
 use Rattle.wasm_ast.specs.declared.types.Value.{Value}
@@ -13,11 +13,12 @@ use Rattle.bounded_profile.specs.Known.{Known}
 use Rattle.bounded_profile.specs.Profile.{IsBounded, asks_all}
 use Rattle.bounded_profile.specs.Shapes.{Everywhere, NotIndirect, NotUnreachable, NotGrow, LoopTakes}
 use Rattle.interp.specs.Configuration.{State}
-use Rattle.interp.specs.Machine.{Layer, Machine, Running, jump, back, run}
+use Rattle.interp.specs.Machine.{ControlEntry, Machine, Running, jump, back, run}
 use Rattle.interp.specs.Typed.{HasKinds, Sound, items_left}
 
--- The sequence keeps the rules of the profile that each sequence keeps: it takes operands of kinds `from` to those of
--- `to` in a function of these locals and this result, inside blocks of these results, the innermost first.
+-- The sequence keeps the rules of the profile that hold for each sequence. It takes operands of kinds `from` to those
+-- of `to`, in a function with these locals and this result. The blocks round it have these results, the innermost
+-- first.
 pub record IsBoundedSequence (m : Module) (locals : List ValType) (outcome : Option ValType) (labels : List (Option ValType)) (is : Code) (from to : List Kind) : Type 0 where
   pub known : Known is (record { «module» = m; asks = asks_all; locals = locals; labels = labels; outcome = outcome }) from to
   pub direct : Everywhere NotIndirect is
@@ -25,14 +26,15 @@ pub record IsBoundedSequence (m : Module) (locals : List ValType) (outcome : Opt
   pub steady : Everywhere NotGrow is
   pub loops : Everywhere (LoopTakes (host_call_at m)) is
 
--- a sequence with these layers round it is left in this state: at its end, by a branch to a label, or by a return
-abbrev pub IsLeft : Machine → List Layer → State → Type 0
+-- a sequence with these entries round it is left in this state: at its end, by a branch to a label, or by a return
+abbrev pub IsLeft : Machine → List ControlEntry → State → Type 0
 IsLeft x ls st =
     ((vs : List Value) × (x ≡ Running vs code.end ls st))
     ⊎ (((l : ℕ) × (top : Option Value) × (x ≡ jump l top ls st)) ⊎ ((top : Option Value) × (x ≡ back top ls st)))
 
--- the sequence is left after so many steps, and counts no more than its size times one more than the items that it takes
-pub record CountsWithin (m : Module) (size : ℕ) (is : Code) (vs : List Value) (ls : List Layer) (st : State) : Type 0 where
+-- the sequence is left after this many steps, and counts no more than its size, times one more than the items that it
+-- takes
+pub record CountsWithin (m : Module) (size : ℕ) (is : Code) (vs : List Value) (ls : List ControlEntry) (st : State) : Type 0 where
   pub steps : ℕ
   pub final : State
   pub items : ℕ
@@ -40,10 +42,10 @@ pub record CountsWithin (m : Module) (size : ℕ) (is : Code) (vs : List Value) 
   pub taken : items_left st.host ≡ items + items_left final.host
   pub within : final.count ≤ st.count + size * (1 + items)
 
--- Each sequence that keeps the rules counts so in a module of the profile, whatever lies round it, with operands of its
--- kinds and a state that fits its function.
+-- Each sequence that keeps the rules counts so in a module of the profile, whatever is round it. Its operands have
+-- their kinds, and the state fits its function.
 abbrev pub SequencesCount : Module → Type 0
 SequencesCount m =
     IsTyped m → IsBounded m → (sizes : ℕ → ℕ) → AreSizes m sizes
     → (locals : List ValType) (outcome : Option ValType) (labels : List (Option ValType)) (is : Code) (from to : List Kind) → IsBoundedSequence m locals outcome labels is from to
-    → (vs : List Value) (ls : List Layer) (st : State) → HasKinds vs from → Sound m locals st → CountsWithin m (code_size m sizes is) is vs ls st
+    → (vs : List Value) (ls : List ControlEntry) (st : State) → HasKinds vs from → Sound m locals st → CountsWithin m (code_size m sizes is) is vs ls st

@@ -41,7 +41,7 @@ constant_plain globals plain.Select = None
 constant_plain globals (plain.Numeric op) = None
 constant_plain globals (plain.Memory op) = None
 
--- the value of an expression where the globals have these
+-- the value of an expression, by the values of the globals
 abbrev pub constant_value : List Value → Code → Option Value
 constant_value globals (code.plain p code.end) = constant_plain globals p
 constant_value globals _ = None
@@ -53,7 +53,7 @@ before None vs = None
 before (Some v) None = None
 before (Some v) (Some vs) = Some (v ∷ vs)
 
--- the initial value of each; no global is imported, which their expressions might name
+-- the initial value of each global; no global is imported, so the expressions name none
 abbrev pub initial_globals : List Global → Option (List Value)
 initial_globals [] = Some []
 initial_globals (g ∷ gs) = before (constant_value [] g.initial) (initial_globals gs)
@@ -63,11 +63,11 @@ laid_at None segment bytes = None
 laid_at (Some (I64 n)) segment bytes = None
 laid_at (Some (I32 n)) segment bytes = laid n segment bytes
 
--- a segment over the bytes, where it has a place and lies within them
+-- writes a segment over the bytes, where it has an offset and is within them
 abbrev pub segment_laid : List Value → Data → List ℕ → Option (List ℕ)
 segment_laid globals d bytes = laid_at (constant_value globals d.offset) d.bytes bytes
 
--- the segments, in order
+-- writes the segments, in order
 abbrev pub laid_in : List Value → List Data → List ℕ → Option (List ℕ)
 laid_in globals [] bytes = Some bytes
 laid_in globals (d ∷ ds) bytes =
@@ -79,12 +79,12 @@ initial_memory globals m = laid_in globals m.data (replicate (memory_bytes m) 0)
 
 -- ---- the start
 
--- What a call of the module begins with, whatever it is given. A module that has none of it is not called.
+-- What each call of the module begins with, whatever its input. A module without it is not called.
 pub record Begins (m : Module) (function : Function) (globals : List Value) (bytes : List ℕ) : Type 0 where
   pub imports : ImportsHostCalls m
   pub no_start : NoStart m
   pub no_elements : NoElements m
-  -- the function that the module defines and exports as `compute`, which takes nothing and gives nothing
+  -- the function that the module defines and exports as `compute`, without parameters and results
   pub number : ℕ
   pub exported : exported_compute m.exports ≡ Some number
   pub is_defined : slice_get (functions_of m) number ≡ Some (defined function)
@@ -92,7 +92,7 @@ pub record Begins (m : Module) (function : Function) (globals : List Value) (byt
   pub initial_values : initial_globals m.globals ≡ Some globals
   pub initial_bytes : initial_memory globals m ≡ Some bytes
 
--- the function's frame over them: no operands, and each local 0 (4.4.7)
+-- the frame of the function over them: no operands, and each local 0 (4.4.7)
 abbrev pub state_from : Function → List Value → List ℕ → Host → State
 state_from function globals bytes host = record {
   locals = map zero_of function.locals;
@@ -102,7 +102,7 @@ state_from function globals bytes host = record {
   count = 0;
 }
 
--- this is the first configuration of a call that finds the vertex so
+-- this is the first configuration of a call that finds the vertex like this
 pub record StartsFrom (m : Module) (host : Host) (first : Machine) : Type 0 where
   pub function : Function
   pub globals : List Value
@@ -110,7 +110,7 @@ pub record StartsFrom (m : Module) (host : Host) (first : Machine) : Type 0 wher
   pub begins : Begins m function globals bytes
   pub is : first ≡ Running [] function.body [] (state_from function globals bytes host)
 
--- the same of what a call is given
+-- the same for the input of a call
 abbrev pub start_state : Function → List Value → List ℕ → CallInput → State
 start_state function globals bytes input = state_from function globals bytes (host_of input)
 

@@ -1,4 +1,4 @@
--- Values and states that fit the types that code is looked at with.
+-- Values and states that fit the types of code.
 use Rattle.std.specs.Prelude.{◌≡◌, ℕ, ◌+◌, List, [], ◌∷◌, length, map}
 use Rattle.wasm_ast.specs.declared.types.ValType.{ValType}
 use Rattle.wasm_ast.specs.declared.types.GlobalType.{GlobalType}
@@ -12,7 +12,7 @@ use Rattle.bounded_profile.specs.Memory.{memory_bytes}
 use Rattle.interp.specs.Configuration.{State}
 use Rattle.interp.specs.Effects.{value}
 
--- a value of the type, or the one that is known
+-- a value of the type, or the known constant
 abbrev pub HasKind : Value → Kind → Type 0
 HasKind v (Any t) = type_of v ≡ t
 HasKind v (Is t n) = v ≡ value t n
@@ -32,12 +32,12 @@ HasTypes (v ∷ vs) (t ∷ ts) = (type_of v ≡ t) × HasTypes vs ts
 abbrev pub global_types : Module → List ValType
 global_types m = map (λ (g : GlobalType). g.value) (spaces_of m).globals
 
--- locals and globals are of their types, and the memory is as long as at the beginning
+-- locals and globals have their types, and the memory is as long as at the beginning
 pub record Sound (m : Module) (locals : List ValType) (st : State) : Type 0 where
   pub locals_typed : HasTypes st.locals locals
   pub globals_typed : HasTypes st.globals (global_types m)
   pub bytes_there : length st.memory ≡ memory_bytes m
 
--- the messages and edges that are still to be taken
+-- the number of messages and edges that were not taken yet
 abbrev pub items_left : Host → ℕ
 items_left h = length h.messages + length h.edges

@@ -1,14 +1,14 @@
--- Words that mirror the code for its proof. No contract of a public function cites them.
+-- Definitions that mirror the code, only for its proofs. No contract of a public function cites them.
 
--- operands and locals in two parts, operands in a list with room, and where a run is
+-- operands and locals in two parts, the operand stack, and the place of a run
 pub mod Split
-pub mod Pile
+pub mod OperandStack
 -- globals that are renewed by the numbers of those that were set
 pub mod Renewed
 pub mod Place
--- what the walk's lists mean
+-- the meaning of the walk's lists
 pub mod Meaning
--- what its parts do, and what they ask
+-- what its parts do, and what they require
 pub mod Acts
 pub mod Given
 pub mod Going
@@ -19,5 +19,5 @@ pub mod Begun
 -- the machine over cells, and values that fit their type
 pub mod Cells
 pub mod Fits
--- what is kept of a memory
+-- the kept bytes of a memory
 pub mod Kept

@@ -1,4 +1,4 @@
-//! The globals of a call, which the next one renews.
+//! The globals of a call, which are renewed before the next one.
 
 ghost use Rattle.std.specs.Prelude.{◌≡◌, ◌<◌, [], Some, length, slice_get, slice_set, IfOk, IsSome, OnOk};
 ghost use Rattle.wasm_ast.specs.declared.types.Value.TheVariants.{I64};
@@ -8,8 +8,8 @@ use crate::globals::Globals;
 use std::alloc::{AllocError, Global};
 use std::marker::Model;
 
-/// The globals of a call, beside what they begin with. The numbers of those that are set are noted, as many as there are
-/// globals at most, so that they are renewed in time by how many were set.
+/// The globals of a call, and their initial values. The numbers of those that are set are noted, up to as many as
+/// there are globals. So renewing takes time by how many were set.
 #[derive(Drop)]
 pub struct CallGlobals {
     here: Globals,
@@ -30,7 +30,7 @@ impl Model for CallGlobals {
 }
 
 impl CallGlobals {
-    /// None; it takes no memory.
+    /// Makes an empty list. It allocates nothing.
     pub fn new(alloc: Global) -> CallGlobals
         ensures { result ≡ record { here = []; initial = [] } }
     {
@@ -41,7 +41,7 @@ impl CallGlobals {
         }
     }
 
-    /// Becomes those that begin with these.
+    /// Replaces the globals and their initial values. The only error is that an allocation fails.
     pub fn begin_with(&mut self, alloc: Global, initial: &Globals) -> Result<(), AllocError>
         ensures { OnOk result (self.new.initial ≡ initial.now) }
     {
@@ -49,7 +49,7 @@ impl CallGlobals {
         Ok(())
     }
 
-    /// Those that begin with these, and room to note as many numbers.
+    /// Makes the globals with these initial values, with room to note as many numbers.
     fn of(alloc: Global, initial: &Globals) -> Result<CallGlobals, AllocError>
         ensures { IfOk result (λ globals. globals.initial ≡ initial.now) }
     {
@@ -64,7 +64,7 @@ impl CallGlobals {
         })
     }
 
-    /// A global.
+    /// Returns the global with this number.
     #[inline]
     pub fn get(&self, number: u32) -> u64
         requires { IsSome (slice_get self.now.here number) }
@@ -73,7 +73,7 @@ impl CallGlobals {
         self.here.get(number)
     }
 
-    /// Sets a global.
+    /// Sets the global with this number.
     #[inline]
     pub fn set(&mut self, number: u32, cell: u64)
         requires { number < length self.old.here }
@@ -86,8 +86,8 @@ impl CallGlobals {
         }
     }
 
-    /// Sets each to what it begins with. It takes time by how many were set since the last time, or by how many there are
-    /// where those are fewer.
+    /// Sets each global to its initial value. It takes time by how many were set since the last time, at most by how
+    /// many there are.
     pub fn renew(&mut self)
         ensures here { self.new.here ≡ self.old.initial }
         ensures initial { self.new.initial ≡ self.old.initial }
@@ -101,7 +101,7 @@ impl CallGlobals {
     }
 }
 
-// The others in the stead of those with these numbers.
+// Sets the globals with these numbers to the values of the others.
 fn put_back(here: &mut Globals, others: &Globals, numbers: &[u32])
     requires { length here.old ≡ length others.now }
     ensures { here.new ≡ put_back numbers.now others.now here.old }

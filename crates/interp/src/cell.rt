@@ -1,4 +1,4 @@
-//! Values as cells: an i32 is its unsigned number, so it lies below 2^32.
+//! Values as cells. The cell of an i32 is its unsigned number, which is below 2^32.
 
 ghost use Rattle.std.specs.Prelude.{◌≡◌, true};
 ghost use Rattle.wasm_ast.specs.declared.types.ValType.TheVariants.{I32 as i32_type};
@@ -8,7 +8,7 @@ ghost use Rattle.interp.specs.inside.Cells.{cell_of, in_width, narrowed};
 
 use wasm_ast::{ValType, Value};
 
-/// The i32 that a cell holds.
+/// Returns the i32 in the low half of a cell.
 #[inline]
 pub fn as_i32(cell: u64) -> u32
     ensures { result ≡ narrowed i32_type cell }
@@ -16,7 +16,7 @@ pub fn as_i32(cell: u64) -> u32
     (cell % 0x1_0000_0000) as u32
 }
 
-/// The number of a cell as one of a type.
+/// Returns the number of a cell, read as a type.
 #[inline]
 pub fn as_number(of: ValType, cell: u64) -> u64
     ensures { result ≡ narrowed of cell }
@@ -27,7 +27,7 @@ pub fn as_number(of: ValType, cell: u64) -> u64
     }
 }
 
-/// The cell of an i32.
+/// Makes the cell of an i32.
 #[inline]
 pub fn of_i32(number: u32) -> u64
     ensures same { result ≡ number }
@@ -36,7 +36,7 @@ pub fn of_i32(number: u32) -> u64
     u64::from(number)
 }
 
-/// The cell of a value.
+/// Makes the cell of a value.
 #[inline]
 pub fn of_value(value: Value) -> u64
     ensures number { result ≡ number_of value }

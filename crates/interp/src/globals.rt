@@ -6,7 +6,7 @@ ghost use Rattle.wasm_ast.specs.declared.types.Value.TheVariants.{I64};
 use std::alloc::{AllocError, Global};
 use std::marker::Model;
 
-/// The globals as cells, which contracts see as the i64 of their numbers.
+/// The globals as cells. Their model is the i64 of each cell.
 #[derive(Drop)]
 pub struct Globals {
     cells: Vec<u64>,
@@ -23,7 +23,7 @@ impl Model for Globals {
 }
 
 impl Globals {
-    /// None; it takes no memory.
+    /// Makes an empty list. It allocates nothing.
     pub fn new(alloc: Global) -> Globals
         ensures { result ≡ [] }
     {
@@ -32,7 +32,7 @@ impl Globals {
         }
     }
 
-    /// Makes so many of them.
+    /// Changes the number of globals; new ones are 0.
     pub fn extend(&mut self, count: usize) -> Result<(), AllocError>
         ensures { OnOk result (length self.new ≡ count) }
     {
@@ -40,7 +40,7 @@ impl Globals {
         Ok(())
     }
 
-    /// As many as these, and the same.
+    /// Copies these globals. The only error is that an allocation fails.
     pub fn copy_of(alloc: Global, others: &Globals) -> Result<Globals, AllocError>
         ensures { IfOk result (λ globals. globals ≡ others.now) }
     {
@@ -50,7 +50,7 @@ impl Globals {
         Ok(globals)
     }
 
-    /// How many there are.
+    /// Counts the globals.
     #[inline]
     pub fn len(&self) -> usize
         ensures { result ≡ length self.now }
@@ -59,14 +59,14 @@ impl Globals {
     }
 
     /// Sets the global at a place.
-    pub fn lay(&mut self, place: usize, cell: u64)
+    pub fn set_at(&mut self, place: usize, cell: u64)
         requires { place < length self.old }
         ensures { self.new ≡ slice_set self.old place (I64 cell) }
     {
         self.cells[place] = cell;
     }
 
-    /// Becomes the same as others, of which there are as many.
+    /// Copies the values of as many other globals.
     pub fn copy_from(&mut self, others: &Globals)
         requires { length self.old ≡ length others.now }
         ensures { self.new ≡ others.now }
@@ -74,14 +74,14 @@ impl Globals {
         self.cells.copy_from_slice(others.cells.as_slice());
     }
 
-    /// The global with this number, if there is one.
+    /// Returns the global with this number, if there is one.
     pub fn find(&self, number: u32) -> Option<u64>
         ensures { option_map I64 result ≡ slice_get self.now number }
     {
         self.cells.as_slice().get(number as usize).copied()
     }
 
-    /// A global.
+    /// Returns the global with this number.
     #[inline]
     pub fn get(&self, number: u32) -> u64
         requires { IsSome (slice_get self.now number) }
@@ -90,7 +90,7 @@ impl Globals {
         self.find(number).unwrap()
     }
 
-    /// Sets a global.
+    /// Sets the global with this number.
     #[inline]
     pub fn set(&mut self, number: u32, cell: u64)
         requires { number < length self.old }

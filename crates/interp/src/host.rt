@@ -1,24 +1,26 @@
-//! Calls of the host (Core 1.0, 4.4.7) on operands in a list with room for one more. Each answers how many there are then.
+//! Host calls (Core 1.0, 4.4.7) on an operand stack with room for one more cell. Each returns the new height of the
+//! stack.
 
 ghost use Rattle.std.specs.Prelude.{◌≡◌, ◌<◌, ◌≤◌, length, nat_lt, true, IfOk, OnErr};
 ghost use Rattle.wasm_ast.specs.declared.types.ValType.TheVariants.{I32 as i32_type};
 ghost use Rattle.wasm_ast.specs.declared.types.Value.TheVariants.{I64};
-ghost use Rattle.host_calls.specs.declared.call.TheConstants.{SLOTS};
+ghost use Rattle.host_calls.specs.declared.call.TheConstants.{AGGREGATORS};
 ghost use Rattle.host_calls.specs.declared.imports.HostCall.TheVariants as calls;
 ghost use Rattle.host_calls.specs.Effects.{signed};
 ghost use Rattle.interp.specs.inside.Acts.{ActsOnHost};
 ghost use Rattle.interp.specs.inside.Cells.{cell_call, in_width};
 ghost use Rattle.interp.specs.inside.Given.{gives};
 ghost use Rattle.interp.specs.inside.Going.{call_asks, has_tops, of_next, of_top};
-ghost use Rattle.interp.specs.inside.Pile.{pile};
+ghost use Rattle.interp.specs.inside.OperandStack.{operand_stack};
 
 use crate::cell::{as_i32, of_i32};
-use crate::pile::{pop, push};
+use crate::operand_stack::{pop, push};
 use host_calls::{CallState, HostCall};
 use std::alloc::AllocError;
 
-/// Takes the arguments of a call off the operands, gives its results, and changes the vertex as it says. The arguments are
-/// there, and a slot among them is none past the last. Only `send` and `aggregate` take memory.
+/// Pops the arguments of a host call, pushes its results, and changes the vertex. The contract requires that the
+/// arguments are there, and that the number of an aggregator is in range. Only `send` and `aggregate` allocate; the
+/// only error is that this fails.
 #[inline(always)]
 pub fn call_host(
     call: HostCall,
@@ -27,9 +29,9 @@ pub fn call_host(
     vertex: &mut CallState,
 ) -> Result<usize, AllocError>
     requires room { top < length cells.old }
-    requires asks { call_asks call (pile cells.old top) ≡ true }
+    requires asks { call_asks call (operand_stack cells.old top) ≡ true }
     ensures acts { IfOk result (λ now. ActsOnHost (cell_call in_width call)
-        (pile cells.old top) (pile cells.new now) vertex.old vertex.new) }
+        (operand_stack cells.old top) (operand_stack cells.new now) vertex.old vertex.new) }
     ensures within { IfOk result (λ now. now ≤ length cells.new) }
     ensures fails { OnErr result (gives call ≡ true) }
 {
@@ -54,7 +56,7 @@ pub fn call_host(
     }
 }
 
-// The cell of a signed number.
+// Returns the cell of a signed number.
 #[inline(always)]
 fn signed(number: i64) -> u64
     ensures { I64 result ≡ signed number }
@@ -65,9 +67,9 @@ fn signed(number: i64) -> u64
 #[inline(always)]
 fn set_value(cells: &[u64], top: usize, vertex: &mut CallState) -> usize
     requires within { top ≤ length cells.now }
-    requires tops { has_tops 1 (pile cells.now top) ≡ true }
+    requires tops { has_tops 1 (operand_stack cells.now top) ≡ true }
     ensures acts { ActsOnHost (cell_call in_width calls.SetValue)
-        (pile cells.now top) (pile cells.now result) vertex.old vertex.new }
+        (operand_stack cells.now top) (operand_stack cells.now result) vertex.old vertex.new }
     ensures within { result ≤ length cells.now }
 {
     let (value, below) = pop(cells, top);
@@ -78,9 +80,9 @@ fn set_value(cells: &[u64], top: usize, vertex: &mut CallState) -> usize
 #[inline(always)]
 fn send(cells: &[u64], top: usize, vertex: &mut CallState) -> Result<usize, AllocError>
     requires within { top ≤ length cells.now }
-    requires tops { has_tops 2 (pile cells.now top) ≡ true }
+    requires tops { has_tops 2 (operand_stack cells.now top) ≡ true }
     ensures acts { IfOk result (λ now. ActsOnHost (cell_call in_width calls.Send)
-        (pile cells.now top) (pile cells.now now) vertex.old vertex.new) }
+        (operand_stack cells.now top) (operand_stack cells.now now) vertex.old vertex.new) }
     ensures within { IfOk result (λ now. now ≤ length cells.now) }
 {
     let (value, under) = pop(cells, top);
@@ -92,10 +94,11 @@ fn send(cells: &[u64], top: usize, vertex: &mut CallState) -> Result<usize, Allo
 #[inline(always)]
 fn aggregate(cells: &[u64], top: usize, vertex: &mut CallState) -> Result<usize, AllocError>
     requires within { top ≤ length cells.now }
-    requires tops { has_tops 2 (pile cells.now top) ≡ true }
-    requires slot { of_next i32_type (λ slot. nat_lt slot SLOTS) (pile cells.now top) ≡ true }
+    requires tops { has_tops 2 (operand_stack cells.now top) ≡ true }
+    requires slot { of_next i32_type (λ slot. nat_lt slot AGGREGATORS)
+        (operand_stack cells.now top) ≡ true }
     ensures acts { IfOk result (λ now. ActsOnHost (cell_call in_width calls.Aggregate)
-        (pile cells.now top) (pile cells.now now) vertex.old vertex.new) }
+        (operand_stack cells.now top) (operand_stack cells.now now) vertex.old vertex.new) }
     ensures within { IfOk result (λ now. now ≤ length cells.now) }
 {
     let (value, under) = pop(cells, top);
@@ -107,10 +110,11 @@ fn aggregate(cells: &[u64], top: usize, vertex: &mut CallState) -> Result<usize,
 #[inline(always)]
 fn aggregated(cells: &mut [u64], top: usize, vertex: &CallState) -> usize
     requires within { top ≤ length cells.old }
-    requires tops { has_tops 1 (pile cells.old top) ≡ true }
-    requires slot { of_top i32_type (λ slot. nat_lt slot SLOTS) (pile cells.old top) ≡ true }
+    requires tops { has_tops 1 (operand_stack cells.old top) ≡ true }
+    requires slot { of_top i32_type (λ slot. nat_lt slot AGGREGATORS)
+        (operand_stack cells.old top) ≡ true }
     ensures acts { ActsOnHost (cell_call in_width calls.Aggregated)
-        (pile cells.old top) (pile cells.new result) vertex.now vertex.now }
+        (operand_stack cells.old top) (operand_stack cells.new result) vertex.now vertex.now }
     ensures within { result ≤ length cells.new }
 {
     let (slot, below) = pop(cells, top);

@@ -1,4 +1,4 @@
-//! What holds of every run of the machine.
+//! Laws of every run of the machine.
 
 ghost use Rattle.std.specs.Prelude.{◌≡◌, ◌≤◌, ℕ};
 ghost use Rattle.wasm_ast.specs.declared.module.Module.{Module as AnyModule};
@@ -13,13 +13,13 @@ ghost use Rattle.interp.specs.Machine.{Machine, IsOver, run};
 ghost use Rattle.interp.specs.Room.{CallsStayWithin};
 ghost use Rattle.interp.specs.Sequences.{SequencesCount};
 
-/// A run that is over stays over.
+/// Proves that a run that is over stays over.
 pub fn an_end_stays()
     ensures { (m : AnyModule) (n k : ℕ) (x : Machine) → IsOver (run m n x) → n ≤ k
         → run m k x ≡ run m n x }
 {}
 
-/// A call has one end: one outcome, or one count at which it traps or has no step, or no first step.
+/// Proves that a call has one end: one outcome, or one count at which it traps or has no step, or no first step.
 pub fn one_outcome()
     ensures outcome { (m : AnyModule) (input : AnyInput) (a b : AnyOutcome)
         → IsOutcome m input a → IsOutcome m input b → SameOutcome a b }
@@ -35,8 +35,8 @@ pub fn one_outcome()
         → IsTrapped m input a → IsStuck m input b → ⊥ }
 {}
 
-/// What the calls of a module in the bounded profile come to is one function of what they are given, and what a call
-/// answers is what that function says.
+/// Proves that the calls of a module in the bounded profile have one function from input to outcome. What a call
+/// returns is the value of that function.
 pub fn calls_are_a_function()
     ensures one { (m : AnyModule) → IsTyped m → IsBounded m → HasOneOutcome m }
     ensures told { (m : AnyModule) (outcomes : Given → Outcome) → AreOutcomes m outcomes
@@ -44,9 +44,9 @@ pub fn calls_are_a_function()
         → shown outcome ≡ outcomes (given_of input) }
 {}
 
-/// Each compute call of a module in the bounded profile comes to its end: it is never trapped, there is a step for each of
-/// its instructions, it counts no more than the size of `compute` times one more than there are messages and edges, and
-/// never do more operands or frames stand than the module's bounds say.
+/// Proves that each compute call of a module in the bounded profile ends. It never traps, and there is a step for
+/// each of its instructions. It counts no more than the size of `compute`, times one more than there are messages and
+/// edges. It never has more operands or frames than the module's bounds.
 pub fn calls_end()
     ensures ends { (m : AnyModule) → CallsEnd m }
     ensures facts { (m : AnyModule) → FactsHold m }
@@ -57,14 +57,14 @@ pub fn calls_end()
     ensures bounds { (m : AnyModule) → IsBounded m → HasBounds m }
 {}
 
-/// Each sequence that keeps the profile's rules, with loops that take their item first or last, counts no more than its size
-/// times one more than the items that it takes, from its first instruction to where it is left.
+/// Proves a bound on each sequence that keeps the rules of the profile, from its first instruction to where it is
+/// left. It counts no more than its size, times one more than the items that it takes.
 pub fn sequences_count()
     ensures { (m : AnyModule) → SequencesCount m }
 {}
 
-/// Never do more labels and locals stand in a call than those of so many frames as there are in the longest chain of calls,
-/// each with the most that a function may have.
+/// Proves that a call never has more labels and locals than its frames allow. There are at most as many frames as in
+/// the longest chain of calls, each with the most that a function may have.
 pub fn calls_stay_within()
     ensures { (m : AnyModule) → CallsStayWithin m }
 {}

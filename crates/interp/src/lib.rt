@@ -1,20 +1,20 @@
 //! Compute calls: the reduction of WebAssembly (Core 1.0, section 4) over modules in the bounded profile.
 #![tactic(auto)]
 
+mod buffers;
 mod call_globals;
 mod cell;
+mod control_entry;
 mod globals;
 mod host;
 mod laws;
-mod layers;
 mod locals;
 mod memory;
 mod numeric;
+mod operand_stack;
 mod operands;
-mod pile;
 mod plain;
 mod program;
-mod rooms;
 mod runs;
 mod scratch;
 mod start;

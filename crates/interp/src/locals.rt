@@ -1,4 +1,4 @@
-//! The locals of all frames in one list, of which the last belong to the innermost.
+//! The locals of all frames in one list. The last ones are those of the innermost frame.
 
 ghost use Rattle.std.specs.Prelude.{◌≡◌, ◌+◌, ◌++◌, ◌<◌, ◌≤◌, [], Some, length, take, drop, map, slice_get, slice_set, vec_capacity, vec_len, IsSome, OnOk};
 ghost use Rattle.wasm_ast.specs.declared.types.Value.TheVariants.{I64};
@@ -9,8 +9,8 @@ use std::alloc::{AllocError, Global};
 use std::marker::Model;
 use wasm_ast::ValType;
 
-/// Locals as cells, which contracts see as the i64 of their numbers in two parts in order: those of the innermost frame,
-/// and those below, with the room for all of them.
+/// The locals as cells. Their model is the i64 of each cell, in two lists in order: the locals of the innermost
+/// frame, and those below. It also has the room for all of them.
 #[derive(Drop)]
 pub struct Locals {
     pub(crate) cells: Vec<u64>,
@@ -34,7 +34,7 @@ impl Model for Locals {
 }
 
 impl Locals {
-    /// None; it takes no memory.
+    /// Makes an empty list. It allocates nothing.
     pub fn new(alloc: Global) -> Locals
         ensures here { result.here ≡ [] }
         ensures below { result.below ≡ record { values = []; room = 0 } }
@@ -46,7 +46,7 @@ impl Locals {
         }
     }
 
-    /// Makes room for so many.
+    /// Reserves room for this many locals.
     pub fn reserve(&mut self, room: usize) -> Result<(), AllocError>
         ensures { OnOk result (self.new.below.room ≡ room) }
     {
@@ -55,7 +55,7 @@ impl Locals {
         Ok(())
     }
 
-    /// Drops all and keeps the room for them.
+    /// Removes all locals and keeps their room.
     pub fn clear(&mut self)
         ensures { self.new
             ≡ record { here = []; below = record { values = []; room = self.old.below.room } } }
@@ -64,7 +64,7 @@ impl Locals {
         self.base = 0;
     }
 
-    /// Where the innermost frame's begin.
+    /// Returns where the locals of the innermost frame begin.
     #[inline]
     pub fn base(&self) -> usize
         ensures { result ≡ length self.now.below.values }
@@ -72,7 +72,7 @@ impl Locals {
         self.base
     }
 
-    /// Begins a frame with these.
+    /// Begins a frame with these arguments.
     #[inline]
     pub fn open(&mut self, arguments: &[u64])
         requires { all_of self.old + length arguments.now ≤ self.old.below.room }
@@ -100,7 +100,7 @@ impl Locals {
         add_zeros(&mut self.cells, types);
     }
 
-    /// Ends a frame. The next one's begin at a base.
+    /// Ends a frame. `base` is where the locals of the next frame begin.
     #[inline]
     pub fn close(&mut self, base: usize)
         requires { base ≤ length self.old.below.values }
@@ -124,7 +124,7 @@ fn add_zeros(cells: &mut Vec<u64>, types: &[ValType])
     }
 }
 
-/// A local of a frame that has these.
+/// Returns a local of the frame with these cells.
 #[inline(always)]
 pub fn local(cells: &[u64], number: u32) -> u64
     requires { IsSome (slice_get (map I64 cells.now) number) }
@@ -133,7 +133,7 @@ pub fn local(cells: &[u64], number: u32) -> u64
     cells[number as usize]
 }
 
-/// Sets a local of a frame that has these.
+/// Sets a local of the frame with these cells.
 #[inline(always)]
 pub fn set_local(cells: &mut [u64], number: u32, cell: u64)
     requires { number < length (map I64 cells.old) }

@@ -14,8 +14,8 @@ use std::alloc::{AllocError, Global};
 use std::marker::Model;
 use wasm_ast::{Limits, Load, Store, i64_extend_i32_s};
 
-/// The bytes of the memory that loads and stores of the module reach, and where each lies. Contracts see it as a list of
-/// all bytes, in which those that are not kept are marked.
+/// The bytes of the memory that loads and stores of the module reach, and the place of each. Its model is a list of
+/// all bytes, which marks those that are not kept.
 #[derive(Drop)]
 pub struct Memory<'a> {
     verified: &'a Verified,
@@ -30,13 +30,13 @@ impl<'a> Model for Memory<'a> {
 
     ghost view = { λ a. spread (marks a.verified.now) a.bytes.items };
 
-    // There are no bytes beside those that are kept.
+    // All bytes that are stored are kept ones.
     ghost invariant = { λ a. count_kept (spread (marks a.verified.now) a.bytes.items)
         ≡ length a.bytes.items };
 }
 
 impl<'a> Memory<'a> {
-    /// Keeps nothing; it takes no memory.
+    /// Makes a memory that keeps nothing. It allocates nothing.
     pub fn new(alloc: Global, verified: &'a Verified) -> Memory<'a> {
         Memory {
             verified,
@@ -44,7 +44,7 @@ impl<'a> Memory<'a> {
         }
     }
 
-    /// Keeps a 0 for each byte that the module reaches.
+    /// Keeps a 0 for each byte that the module reaches. The only error is that an allocation fails.
     pub fn extend(&mut self, verified: &'a Verified) -> Result<(), AllocError>
         ensures zeros { OnOk result (self.new
             ≡ masked (marks verified.now) (replicate (memory_bytes verified.now) 0)) }
@@ -55,7 +55,7 @@ impl<'a> Memory<'a> {
         clear_to_zeros(&mut self.bytes, verified.reach() as usize)
     }
 
-    /// Becomes the same as another one that keeps as many bytes.
+    /// Copies another memory of as many kept bytes.
     pub fn copy_from(&mut self, other: &Memory<'a>)
         requires { count_kept self.old ≡ count_kept other.now }
         ensures { self.new ≡ other.now }
@@ -64,16 +64,16 @@ impl<'a> Memory<'a> {
         self.bytes.copy_from_slice(other.bytes.as_slice());
     }
 
-    /// How many pages there are (Core 1.0, 4.4.4, memory.size).
+    /// Counts the pages (Core 1.0, 4.4.4, memory.size).
     pub fn size(&self) -> u32
         ensures { result ≡ length self.now / page }
     {
         page_count(self.verified.module().memories.as_slice())
     }
 
-    /// Writes others in the stead of the bytes from a place on, those of them that are kept. It looks at halves where some
-    /// are, so it takes time by how many are kept and how they are scattered.
-    pub fn lay(&mut self, place: u64, others: &[u8])
+    /// Replaces the bytes from a place on, as far as they are kept. It splits the range in halves while some are
+    /// kept, so it takes time by how many are kept and how they are scattered.
+    pub fn write_kept(&mut self, place: u64, others: &[u8])
         requires { place + length others.now ≤ length self.old }
         ensures laid { laid_over place others.now self.old ≡ self.new }
         ensures kept { count_kept self.new ≡ count_kept self.old }
@@ -85,13 +85,13 @@ impl<'a> Memory<'a> {
                 self.write(place, others);
             } else {
                 let (first, rest) = others.split_at(others.len() / 2);
-                self.lay(place, first);
-                self.lay(place + first.len() as u64, rest);
+                self.write_kept(place, first);
+                self.write_kept(place + first.len() as u64, rest);
             }
         }
     }
 
-    // Writes others in the stead of the bytes from a place on, which are all kept.
+    // Replaces the bytes from a place on, which are all kept.
     #[inline]
     fn write(&mut self, place: u64, others: &[u8])
         requires kept { is_kept place (length others.now) self.old ≡ true }
@@ -103,7 +103,7 @@ impl<'a> Memory<'a> {
         write_at(&mut self.bytes, start, others);
     }
 
-    /// What a load gives from a place where all its bytes are kept, as a cell.
+    /// Loads a value from a place where all its bytes are kept, as a cell.
     #[inline]
     pub fn load(&self, op: Load, place: u64) -> u64
         requires { is_kept place (load_width op) self.now ≡ true }
@@ -127,7 +127,7 @@ impl<'a> Memory<'a> {
         }
     }
 
-    /// Writes the lowest bytes of a number at a place where as many as the store writes are kept.
+    /// Stores the lowest bytes of a number at a place where all of them are kept.
     #[inline]
     pub fn store(&mut self, op: Store, place: u64, number: u64)
         requires { is_kept place (store_width op) self.old ≡ true }
@@ -176,19 +176,19 @@ impl<'a> Memory<'a> {
     }
 }
 
-// How many kept bytes lie before this one.
+// Counts the kept bytes before this one.
 #[inline]
 fn kept_place(verified: &Verified, byte: u64) -> usize
     requires { byte ≤ memory_bytes verified.now }
     ensures place { result ≡ marked_before (marks verified.now) byte }
     ensures small { memory_bytes verified.now ≤ page * max_minimum }
 {
-    // It is in the profile, so its memory is small.
+    // The module is in the profile, so its memory is small.
     let _module = verified.module();
     verified.place(byte as u32) as usize
 }
 
-// Zeros alone, so many, in the stead of all bytes; none where there is no memory for them.
+// Replaces all bytes by this many zeros; by none where the allocation fails.
 fn clear_to_zeros(bytes: &mut Vec<u8>, count: usize) -> Result<(), AllocError>
     ensures zeros { OnOk result (bytes.new.items ≡ replicate count 0) }
     ensures none { OnErr result (bytes.new.items ≡ []) }
@@ -197,7 +197,7 @@ fn clear_to_zeros(bytes: &mut Vec<u8>, count: usize) -> Result<(), AllocError>
     bytes.resize(count, 0)
 }
 
-// Others in the stead of the bytes from an index on.
+// Replaces the bytes from an index on.
 #[inline]
 fn write_at(bytes: &mut [u8], start: usize, others: &[u8])
     requires { start + length others.now ≤ length bytes.old }
@@ -208,7 +208,7 @@ fn write_at(bytes: &mut [u8], start: usize, others: &[u8])
     bytes[start..start + others.len()].copy_from_slice(others);
 }
 
-// The pages of the one memory, if there is one.
+// Counts the pages of the one memory, if there is one.
 fn page_count(memories: &[Limits]) -> u32
     ensures { page * result ≡ bytes_of memories.now }
 {
@@ -218,7 +218,7 @@ fn page_count(memories: &[Limits]) -> u32
     }
 }
 
-// The number in 1 byte at an index.
+// Reads the number in 1 byte at an index.
 #[inline]
 fn number_1(bytes: &[u8], at: usize) -> u8
     requires { at + 1 ≤ length bytes.now }
@@ -227,7 +227,7 @@ fn number_1(bytes: &[u8], at: usize) -> u8
     u8::from_le_bytes([bytes[at]])
 }
 
-// The number in 2 bytes from an index on.
+// Reads the number in 2 bytes from an index on.
 #[inline]
 fn number_2(bytes: &[u8], at: usize) -> u16
     requires { at + 2 ≤ length bytes.now }
@@ -236,7 +236,7 @@ fn number_2(bytes: &[u8], at: usize) -> u16
     u16::from_le_bytes([bytes[at], bytes[at + 1]])
 }
 
-// The number in 4 bytes from an index on.
+// Reads the number in 4 bytes from an index on.
 #[inline]
 fn number_4(bytes: &[u8], at: usize) -> u32
     requires { at + 4 ≤ length bytes.now }
@@ -245,7 +245,7 @@ fn number_4(bytes: &[u8], at: usize) -> u32
     u32::from_le_bytes([bytes[at], bytes[at + 1], bytes[at + 2], bytes[at + 3]])
 }
 
-// The number in 8 bytes from an index on.
+// Reads the number in 8 bytes from an index on.
 #[inline]
 fn number_8(bytes: &[u8], at: usize) -> u64
     requires { at + 8 ≤ length bytes.now }
@@ -263,7 +263,7 @@ fn number_8(bytes: &[u8], at: usize) -> u64
     ])
 }
 
-// A number of 8 bits with its sign, as an i32 (Core 1.0, 4.3.4, extend_s).
+// Extends a number of 8 bits to an i32, with its sign (Core 1.0, 4.3.4, extend_s).
 #[inline]
 fn i32_sign_8(n: u8) -> u32
     ensures { result ≡ sign_extended 8 32 n }

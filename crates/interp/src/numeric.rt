@@ -1,30 +1,30 @@
-//! Numeric instructions (Core 1.0, 4.4.1) on the operands as cells. Each answers how many operands there are then, and what it
-//! counts where it is told from others.
+//! Numeric instructions (Core 1.0, 4.4.1) on the operand stack. Each returns the new height of the stack, and its
+//! units.
 
 ghost use Rattle.std.specs.Prelude.{◌≡◌, ◌≤◌, length, true};
 ghost use Rattle.interp.specs.inside.Acts.{ActsAlone};
 ghost use Rattle.interp.specs.inside.Cells.{cell_numeric, in_width};
 ghost use Rattle.interp.specs.inside.Going.{divides, has_tops, numeric_asks};
-ghost use Rattle.interp.specs.inside.Pile.{pile};
+ghost use Rattle.interp.specs.inside.OperandStack.{operand_stack};
 ghost use Rattle.cost.specs.Weights.{numeric_units};
 ghost use Rattle.wasm_ast.specs.declared.numeric.Numeric.TheVariants as numeric;
 ghost use Rattle.wasm_ast.specs.declared.types.ValType.TheVariants.{I32 as i32_type, I64 as i64_type};
 
 use crate::cell::{as_i32, of_i32};
-use crate::pile::{pop, push};
+use crate::operand_stack::{pop, push};
 use crate::plain::Acted;
 use wasm_ast::{
     Binary, Comparison, Conversion, Division, Numeric, Plain, Unary, ValType, i32_eqz,
     i32_wrap_i64, i64_eqz, i64_extend_i32_s, i64_extend_i32_u,
 };
 
-/// Takes the operands of a numeric instruction and gives its result, which there is.
+/// Pops the operands of a numeric instruction and pushes its result; the contract requires that it does not trap.
 #[inline(always)]
 pub fn act_numeric(op: Numeric, cells: &mut [u64], top: usize) -> Acted
     requires within { top ≤ length cells.old }
-    requires asks { numeric_asks op (pile cells.old top) ≡ true }
+    requires asks { numeric_asks op (operand_stack cells.old top) ≡ true }
     ensures acts { ActsAlone (cell_numeric in_width op)
-        (pile cells.old top) (pile cells.new result.top) }
+        (operand_stack cells.old top) (operand_stack cells.new result.top) }
     ensures units { result.units ≡ numeric_units op }
     ensures within { result.top ≤ length cells.new }
 {
@@ -48,9 +48,9 @@ pub fn act_numeric(op: Numeric, cells: &mut [u64], top: usize) -> Acted
 #[inline(always)]
 fn act_eqz(of: ValType, cells: &mut [u64], top: usize) -> usize
     requires within { top ≤ length cells.old }
-    requires tops { has_tops 1 (pile cells.old top) ≡ true }
+    requires tops { has_tops 1 (operand_stack cells.old top) ≡ true }
     ensures acts { ActsAlone (cell_numeric in_width (numeric.Eqz of))
-        (pile cells.old top) (pile cells.new result) }
+        (operand_stack cells.old top) (operand_stack cells.new result) }
     ensures within { result ≤ length cells.new }
 {
     let (cell, below) = pop(cells, top);
@@ -64,9 +64,9 @@ fn act_eqz(of: ValType, cells: &mut [u64], top: usize) -> usize
 #[inline(always)]
 fn act_comparison(of: ValType, comparison: Comparison, cells: &mut [u64], top: usize) -> usize
     requires within { top ≤ length cells.old }
-    requires tops { has_tops 2 (pile cells.old top) ≡ true }
+    requires tops { has_tops 2 (operand_stack cells.old top) ≡ true }
     ensures acts { ActsAlone (cell_numeric in_width (numeric.Comparison of comparison))
-        (pile cells.old top) (pile cells.new result) }
+        (operand_stack cells.old top) (operand_stack cells.new result) }
     ensures within { result ≤ length cells.new }
 {
     let (second, under) = pop(cells, top);
@@ -81,9 +81,9 @@ fn act_comparison(of: ValType, comparison: Comparison, cells: &mut [u64], top: u
 #[inline(always)]
 fn act_unary(of: ValType, unary: Unary, cells: &mut [u64], top: usize) -> usize
     requires within { top ≤ length cells.old }
-    requires tops { has_tops 1 (pile cells.old top) ≡ true }
+    requires tops { has_tops 1 (operand_stack cells.old top) ≡ true }
     ensures acts { ActsAlone (cell_numeric in_width (numeric.Unary of unary))
-        (pile cells.old top) (pile cells.new result) }
+        (operand_stack cells.old top) (operand_stack cells.new result) }
     ensures within { result ≤ length cells.new }
 {
     let (cell, below) = pop(cells, top);
@@ -97,9 +97,9 @@ fn act_unary(of: ValType, unary: Unary, cells: &mut [u64], top: usize) -> usize
 #[inline(always)]
 fn act_binary(of: ValType, binary: Binary, cells: &mut [u64], top: usize) -> usize
     requires within { top ≤ length cells.old }
-    requires tops { has_tops 2 (pile cells.old top) ≡ true }
+    requires tops { has_tops 2 (operand_stack cells.old top) ≡ true }
     ensures acts { ActsAlone (cell_numeric in_width (numeric.Binary of binary))
-        (pile cells.old top) (pile cells.new result) }
+        (operand_stack cells.old top) (operand_stack cells.new result) }
     ensures within { result ≤ length cells.new }
 {
     let (second, under) = pop(cells, top);
@@ -114,10 +114,10 @@ fn act_binary(of: ValType, binary: Binary, cells: &mut [u64], top: usize) -> usi
 #[inline(always)]
 fn act_division(of: ValType, division: Division, cells: &mut [u64], top: usize) -> usize
     requires within { top ≤ length cells.old }
-    requires tops { has_tops 2 (pile cells.old top) ≡ true }
-    requires divisor { divides of division (pile cells.old top) ≡ true }
+    requires tops { has_tops 2 (operand_stack cells.old top) ≡ true }
+    requires divisor { divides of division (operand_stack cells.old top) ≡ true }
     ensures acts { ActsAlone (cell_numeric in_width (numeric.Division of division))
-        (pile cells.old top) (pile cells.new result) }
+        (operand_stack cells.old top) (operand_stack cells.new result) }
     ensures within { result ≤ length cells.new }
 {
     match of {
@@ -129,10 +129,10 @@ fn act_division(of: ValType, division: Division, cells: &mut [u64], top: usize) 
 #[inline(always)]
 fn divide_i32(division: Division, cells: &mut [u64], top: usize) -> usize
     requires within { top ≤ length cells.old }
-    requires tops { has_tops 2 (pile cells.old top) ≡ true }
-    requires divisor { divides i32_type division (pile cells.old top) ≡ true }
+    requires tops { has_tops 2 (operand_stack cells.old top) ≡ true }
+    requires divisor { divides i32_type division (operand_stack cells.old top) ≡ true }
     ensures acts { ActsAlone (cell_numeric in_width (numeric.Division i32_type division))
-        (pile cells.old top) (pile cells.new result) }
+        (operand_stack cells.old top) (operand_stack cells.new result) }
     ensures within { result ≤ length cells.new }
 {
     let (second, under) = pop(cells, top);
@@ -147,10 +147,10 @@ fn divide_i32(division: Division, cells: &mut [u64], top: usize) -> usize
 #[inline(always)]
 fn divide_i64(division: Division, cells: &mut [u64], top: usize) -> usize
     requires within { top ≤ length cells.old }
-    requires tops { has_tops 2 (pile cells.old top) ≡ true }
-    requires divisor { divides i64_type division (pile cells.old top) ≡ true }
+    requires tops { has_tops 2 (operand_stack cells.old top) ≡ true }
+    requires divisor { divides i64_type division (operand_stack cells.old top) ≡ true }
     ensures acts { ActsAlone (cell_numeric in_width (numeric.Division i64_type division))
-        (pile cells.old top) (pile cells.new result) }
+        (operand_stack cells.old top) (operand_stack cells.new result) }
     ensures within { result ≤ length cells.new }
 {
     let (second, under) = pop(cells, top);
@@ -161,9 +161,9 @@ fn divide_i64(division: Division, cells: &mut [u64], top: usize) -> usize
 #[inline(always)]
 fn act_conversion(conversion: Conversion, cells: &mut [u64], top: usize) -> usize
     requires within { top ≤ length cells.old }
-    requires tops { has_tops 1 (pile cells.old top) ≡ true }
+    requires tops { has_tops 1 (operand_stack cells.old top) ≡ true }
     ensures acts { ActsAlone (cell_numeric in_width (numeric.Conversion conversion))
-        (pile cells.old top) (pile cells.new result) }
+        (operand_stack cells.old top) (operand_stack cells.new result) }
     ensures within { result ≤ length cells.new }
 {
     let (cell, below) = pop(cells, top);

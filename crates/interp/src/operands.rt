@@ -1,4 +1,4 @@
-//! Operands in one list, of which the topmost belong to the innermost layer.
+//! The operands of all control entries in one list. The topmost ones are those of the innermost entry.
 
 ghost use Rattle.std.specs.Prelude.{◌≡◌, ◌∷◌, ◌++◌, ◌-◌, ◌≤◌, [], Some, length, map, take, drop, reverse, option_map, IsSome, OnOk};
 ghost use Rattle.wasm_ast.specs.declared.types.Value.TheVariants.{I64};
@@ -8,9 +8,9 @@ ghost use Rattle.interp.specs.inside.Split.{HasSpare};
 use std::alloc::{AllocError, Global};
 use std::marker::Model;
 
-/// Operands as cells, which contracts see as the i64 of their numbers in two parts with the topmost first: those of the
-/// innermost layer, and those below, with the room for all of them. The list is as long as there is room; its cells from the
-/// top on say nothing.
+/// The operands as cells. Their model is the i64 of each cell, in two lists with the topmost first: the operands of
+/// the innermost entry, and those below. It also has the room for all of them. The list is as long as the room. Its
+/// cells from `top` on mean nothing.
 #[derive(Drop)]
 pub struct Operands {
     pub(crate) cells: Vec<u64>,
@@ -37,7 +37,7 @@ impl Model for Operands {
 }
 
 impl Operands {
-    /// None; it takes no memory.
+    /// Makes an empty stack without room. It allocates nothing.
     pub fn new(alloc: Global) -> Operands
         ensures here { result.here ≡ [] }
         ensures below { result.below ≡ record { values = []; room = 0 } }
@@ -49,7 +49,7 @@ impl Operands {
         }
     }
 
-    /// Drops all and makes room for so many.
+    /// Removes all operands and reserves room for this many.
     pub fn reserve(&mut self, room: usize) -> Result<(), AllocError>
         ensures { OnOk result (self.new.below.room ≡ room) }
     {
@@ -59,7 +59,7 @@ impl Operands {
         Ok(())
     }
 
-    /// Drops all and keeps the room for them.
+    /// Removes all operands and keeps their room.
     pub fn clear(&mut self)
         ensures { self.new
             ≡ record { here = []; below = record { values = []; room = self.old.below.room } } }
@@ -68,7 +68,7 @@ impl Operands {
         self.floor = 0;
     }
 
-    /// Puts a cell on top, for which there is room.
+    /// Pushes a cell, for which there is room.
     #[inline]
     pub fn push(&mut self, cell: u64)
         requires { HasSpare self.old }
@@ -79,7 +79,7 @@ impl Operands {
         self.top += 1;
     }
 
-    /// The topmost cell, which the layer has. There is room for one then.
+    /// Pops the topmost cell, which the entry has. Then there is room for one.
     #[inline]
     pub fn pop(&mut self) -> u64
         requires { 1 ≤ length self.old.here }
@@ -92,7 +92,7 @@ impl Operands {
         self.cells[below]
     }
 
-    /// The topmost cell, where the layer has one.
+    /// Returns the topmost cell of the entry, if it has one.
     #[inline]
     pub fn top(&self) -> Option<u64>
         ensures { option_map I64 result ≡ first self.now.here }
@@ -101,7 +101,7 @@ impl Operands {
         here.last().copied()
     }
 
-    /// Puts a cell on top where one is wanted, and there is one then.
+    /// Pushes the cell if `keeps` says so; then there is a cell.
     #[inline]
     pub fn carry(&mut self, keeps: bool, top: Option<u64>)
         requires there { IsSome (carry keeps (option_map I64 top) self.old.here) }
@@ -117,7 +117,7 @@ impl Operands {
         }
     }
 
-    /// So many of the topmost cells, the lowest first. The layer has as many.
+    /// Returns this many of the topmost cells, the lowest first. The entry has as many.
     #[inline]
     pub fn topmost(&self, count: usize) -> &[u64]
         requires { count ≤ length self.now.here }
@@ -126,7 +126,7 @@ impl Operands {
         &self.cells[self.top - count..self.top]
     }
 
-    /// Drops so many of the topmost cells.
+    /// Removes this many of the topmost cells.
     #[inline]
     pub fn shed(&mut self, count: usize)
         requires { count ≤ length self.old.here }
@@ -135,7 +135,7 @@ impl Operands {
         self.top -= count;
     }
 
-    /// How many lie below the innermost layer.
+    /// Counts the operands below the innermost entry.
     #[inline]
     pub fn floor(&self) -> usize
         ensures { result ≡ length self.now.below.values }
@@ -143,7 +143,7 @@ impl Operands {
         self.floor
     }
 
-    /// Begins a layer on top.
+    /// Begins an entry on top.
     #[inline]
     pub fn open(&mut self)
         ensures { self.new ≡ record {
@@ -157,7 +157,7 @@ impl Operands {
         self.floor = self.top;
     }
 
-    /// Joins the innermost layer to the next one, which begins at a floor.
+    /// Joins the innermost entry to the next one, which begins at this floor.
     #[inline]
     pub fn join(&mut self, floor: usize)
         requires { floor ≤ length self.old.below.values }
@@ -171,7 +171,7 @@ impl Operands {
         self.floor = floor;
     }
 
-    /// Drops the innermost layer and opens the next one, which begins at a floor.
+    /// Removes the innermost entry and opens the next one, which begins at this floor.
     #[inline]
     pub fn fall(&mut self, floor: usize)
         requires { floor ≤ length self.old.below.values }

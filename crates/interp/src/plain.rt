@@ -1,5 +1,5 @@
-//! Instructions that neither branch nor call (Core 1.0, 4.4.1 to 4.4.4), on operands in a list with room for one more. Each
-//! answers how many operands there are then, and what it counts where it is told from others.
+//! Instructions that neither branch nor call (Core 1.0, 4.4.1 to 4.4.4), on an operand stack with room for one more
+//! cell. Each returns the new height of the stack, and its units.
 
 ghost use Rattle.std.specs.Prelude.{◌≡◌, ◌<◌, ◌≤◌, length, map, true};
 ghost use Rattle.wasm_ast.specs.declared.types.ValType.TheVariants.{I32 as i32_type};
@@ -12,7 +12,7 @@ ghost use Rattle.interp.specs.inside.Acts.{ActsAlone, ActsOn, ActsOnBytes, ActsO
 ghost use Rattle.interp.specs.inside.Cells.{cell_effect, cell_memory, in_width};
 ghost use Rattle.interp.specs.inside.Going.{has_tops, memory_asks, of_next, of_top, plain_asks, reaches, variable_asks};
 ghost use Rattle.interp.specs.inside.Kept.{count_kept};
-ghost use Rattle.interp.specs.inside.Pile.{pile};
+ghost use Rattle.interp.specs.inside.OperandStack.{operand_stack};
 ghost use Rattle.interp.specs.Effects.{variable_effect};
 
 use crate::call_globals::CallGlobals;
@@ -20,12 +20,12 @@ use crate::cell::{as_i32, as_number, of_i32, of_value};
 use crate::locals::{local, set_local};
 use crate::memory::Memory;
 use crate::numeric::act_numeric;
-use crate::pile::{pop, push};
+use crate::operand_stack::{pop, push};
 use cost::plain_units;
 use wasm_ast::{Load, Memory as MemoryAccess, MemoryArgument, Plain, Store, Variable};
 
-/// How many operands there are after an instruction, and what it counts. The count is asked for where the instruction is told
-/// from others, so that what is known of it there is not looked for twice.
+/// The height of the operand stack after an instruction, and its units. The units are computed where the kind of the
+/// instruction is matched, so that a proof does not match it twice.
 #[derive(Clone, Copy)]
 pub struct Acted {
     pub top: usize,
@@ -45,7 +45,7 @@ impl Acted {
     }
 }
 
-/// Acts on the operands, the locals, the globals and the memory. The instruction does not trap, and there is a step for it.
+/// Executes a plain instruction. The contract requires that it does not trap, and that there is a step for it.
 #[inline(always)]
 pub fn act_plain(
     instruction: Plain,
@@ -57,10 +57,11 @@ pub fn act_plain(
 ) -> Acted
     requires room { top < length cells.old }
     requires asks { plain_asks instruction
-        (pile cells.old top) (map I64 locals.old) globals.old.here bytes.old ≡ true }
+        (operand_stack cells.old top) (map I64 locals.old) globals.old.here bytes.old ≡ true }
     ensures acts { ActsOn (cell_effect in_width instruction)
-        (pile cells.old top) (pile cells.new result.top)
-        (map I64 locals.old) (map I64 locals.new) globals.old.here globals.new.here bytes.old bytes.new }
+        (operand_stack cells.old top) (operand_stack cells.new result.top)
+        (map I64 locals.old) (map I64 locals.new) globals.old.here globals.new.here
+        bytes.old bytes.new }
     ensures units { result.units ≡ plain_units instruction }
     ensures within { result.top ≤ length cells.new }
     ensures kept_globals { globals.new.initial ≡ globals.old.initial }
@@ -80,13 +81,13 @@ pub fn act_plain(
     }
 }
 
-/// Gives the first of two operands of one type for a number other than 0, and the second for 0 (Core 1.0, 4.4.2).
+/// Keeps the first of two operands for a number other than 0, and the second for 0 (Core 1.0, 4.4.2).
 #[inline(always)]
 fn act_select(cells: &mut [u64], top: usize) -> usize
     requires within { top ≤ length cells.old }
-    requires tops { has_tops 3 (pile cells.old top) ≡ true }
+    requires tops { has_tops 3 (operand_stack cells.old top) ≡ true }
     ensures acts { ActsAlone (cell_effect in_width plain.Select)
-        (pile cells.old top) (pile cells.new result) }
+        (operand_stack cells.old top) (operand_stack cells.new result) }
     ensures within { result ≤ length cells.new }
 {
     let (number, over) = pop(cells, top);
@@ -99,7 +100,7 @@ fn act_select(cells: &mut [u64], top: usize) -> usize
     )
 }
 
-/// Reads and writes of locals and globals (Core 1.0, 4.4.3).
+/// Reads or writes a local or a global (Core 1.0, 4.4.3).
 #[inline(always)]
 fn act_variable(
     instruction: Variable,
@@ -110,9 +111,9 @@ fn act_variable(
 ) -> usize
     requires room { top < length cells.old }
     requires asks { variable_asks instruction
-        (pile cells.old top) (map I64 locals.old) globals.old.here ≡ true }
+        (operand_stack cells.old top) (map I64 locals.old) globals.old.here ≡ true }
     ensures acts { ActsOnVariables (variable_effect instruction)
-        (pile cells.old top) (pile cells.new result)
+        (operand_stack cells.old top) (operand_stack cells.new result)
         (map I64 locals.old) (map I64 locals.new) globals.old.here globals.new.here }
     ensures within { result ≤ length cells.new }
     ensures kept_globals { globals.new.initial ≡ globals.old.initial }
@@ -138,13 +139,13 @@ fn act_variable(
     }
 }
 
-/// Loads, stores and the size of the memory (Core 1.0, 4.4.4). There is no growing.
+/// Loads, stores, or returns the size of the memory (Core 1.0, 4.4.4). There is no `memory.grow`.
 #[inline(always)]
 fn act_memory(instruction: MemoryAccess, cells: &mut [u64], top: usize, bytes: &mut Memory) -> Acted
     requires room { top < length cells.old }
-    requires asks { memory_asks instruction (pile cells.old top) bytes.old ≡ true }
+    requires asks { memory_asks instruction (operand_stack cells.old top) bytes.old ≡ true }
     ensures acts { ActsOnBytes (cell_memory in_width instruction)
-        (pile cells.old top) (pile cells.new result.top) bytes.old bytes.new }
+        (operand_stack cells.old top) (operand_stack cells.new result.top) bytes.old bytes.new }
     ensures units { result.units ≡ memory_units instruction }
     ensures within { result.top ≤ length cells.new }
     ensures kept_bytes { count_kept bytes.new ≡ count_kept bytes.old }
@@ -171,11 +172,11 @@ fn act_load(
     bytes: &Memory,
 ) -> usize
     requires within { top ≤ length cells.old }
-    requires tops { has_tops 1 (pile cells.old top) ≡ true }
+    requires tops { has_tops 1 (operand_stack cells.old top) ≡ true }
     requires there { of_top i32_type (reaches argument.offset (load_width op) bytes.now)
-        (pile cells.old top) ≡ true }
+        (operand_stack cells.old top) ≡ true }
     ensures acts { ActsOnBytes (cell_memory in_width (memory_variant.Load op argument))
-        (pile cells.old top) (pile cells.new result) bytes.now bytes.now }
+        (operand_stack cells.old top) (operand_stack cells.new result) bytes.now bytes.now }
     ensures within { result ≤ length cells.new }
 {
     let (cell, below) = pop(cells, top);
@@ -192,11 +193,11 @@ fn act_store(
     bytes: &mut Memory,
 ) -> usize
     requires within { top ≤ length cells.now }
-    requires tops { has_tops 2 (pile cells.now top) ≡ true }
+    requires tops { has_tops 2 (operand_stack cells.now top) ≡ true }
     requires there { of_next i32_type (reaches argument.offset (store_width op) bytes.old)
-        (pile cells.now top) ≡ true }
+        (operand_stack cells.now top) ≡ true }
     ensures acts { ActsOnBytes (cell_memory in_width (memory_variant.Store op argument))
-        (pile cells.now top) (pile cells.now result) bytes.old bytes.new }
+        (operand_stack cells.now top) (operand_stack cells.now result) bytes.old bytes.new }
     ensures within { result ≤ length cells.now }
     ensures kept_bytes { count_kept bytes.new ≡ count_kept bytes.old }
 {

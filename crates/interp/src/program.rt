@@ -14,14 +14,14 @@ use cost::host_units;
 use host_calls::HostCall;
 use wasm_ast::{Function, Module};
 
-/// A module whose imports bring in these functions of the host, in order.
+/// A module, and the host calls that its imports name, in order.
 #[derive(Clone, Copy)]
 pub struct Program<'a> {
     pub module: &'a Module,
     pub calls: &'a [HostCall],
 }
 
-/// What a number of a function names.
+/// What the number of a function names.
 #[derive(Clone, Copy)]
 pub enum Callee<'a> {
     Host(HostCall),
@@ -29,7 +29,7 @@ pub enum Callee<'a> {
 }
 
 impl<'a> Program<'a> {
-    /// The module, and the functions of the host that it imports.
+    /// Makes the program of a verified module.
     pub fn of(verified: &'a Verified) -> Program<'a>
         ensures same { result.«module».now ≡ verified.now }
         ensures typed { IsTyped verified.now }
@@ -43,7 +43,7 @@ impl<'a> Program<'a> {
         }
     }
 
-    /// The function with this number, which the module defines.
+    /// Returns the function with this number, which the module defines.
     pub fn defined(self, number: u32) -> &'a Function
         requires calls { AreImports self.calls.now self.«module».now }
         requires defined { IsDefinedAt self.«module».now number }
@@ -57,7 +57,7 @@ impl<'a> Program<'a> {
         }
     }
 
-    /// The function with this number, imports first (Core 1.0, 2.5.1).
+    /// Returns the function with this number, imports first (Core 1.0, 2.5.1).
     #[inline]
     pub fn callee(self, number: u32) -> Option<Callee<'a>>
         requires { AreImports self.calls.now self.«module».now }
@@ -77,7 +77,7 @@ impl<'a> Program<'a> {
         }
     }
 
-    /// What a call of the function with this number counts.
+    /// Returns the units of a call of the function with this number.
     #[inline]
     pub fn call_units(self, number: u32) -> u32
         requires { AreImports self.calls.now self.«module».now }
@@ -86,7 +86,7 @@ impl<'a> Program<'a> {
         host_units(self.host_call(number))
     }
 
-    /// The function of the host with this number, if it is one.
+    /// Returns the host call with this number, if it is one.
     #[inline]
     pub fn host_call(self, number: u32) -> Option<HostCall>
         ensures { result ≡ slice_get self.entry.calls.now number }

@@ -11,8 +11,8 @@ ghost use Rattle.interp.specs.inside.Meaning.{AreImports};
 ghost use Rattle.interp.specs.inside.Place.{at};
 ghost use Rattle.interp.specs.inside.Walk.{LeadsWithin, SendsFrom};
 
+use crate::buffers::Buffers;
 use crate::program::Program;
-use crate::rooms::Rooms;
 use crate::scratch::Scratch;
 use crate::start::begin;
 use crate::start::image::Image;
@@ -23,13 +23,14 @@ use std::alloc::{AllocError, Global};
 use std::mem::replace;
 use wasm_ast::{Function, Instr};
 
-/// The greatest id.
+/// The greatest id of a vertex.
 const MAX_ID: u64 = 9_223_372_036_854_775_807;
 
-/// A compute call of a vertex: the run of the module's function `compute` over fresh memory and globals (Core 1.0, 4.5.5).
+/// Calls `compute` for a vertex: it runs the module's function over its initial memory and globals (Core 1.0, 4.5.5).
 ///
-/// It comes to its end within a bound that can be told beforehand, and nothing is compared with that bound while it runs.
-/// The only refusal is that there is no memory; a call that sends nothing and gives nothing to a slot takes none.
+/// The call ends within a bound that is known beforehand, and it never compares anything with that bound. The only
+/// error is that an allocation fails. A call that sends no message and contributes to no aggregator allocates nothing and
+/// always succeeds.
 pub fn run(
     alloc: Global,
     verified: &Verified,
@@ -50,14 +51,14 @@ pub fn run(
     scratch.call(alloc, program, function, input, most)
 }
 
-/// Whether the id and the targets of the edges are in their range, as `run` asks.
+/// Decides whether the id and the targets of the edges are in range, which is a precondition of `run`.
 pub fn has_ids(input: &CallInput) -> bool
     ensures { IsTrue result ↔ HasIds input.now }
 {
     input.id <= MAX_ID && input.edges.iter().all(|edge| edge.0 <= MAX_ID)
 }
 
-// The size times one more than there are messages and edges.
+// Returns the bound on the units of a call: the size, times one more than there are messages and edges.
 fn most_units(size: u32, input: &CallInput) -> u128
     ensures { result ≡ size * (1 + items_of input.now) }
 {
@@ -65,7 +66,7 @@ fn most_units(size: u32, input: &CallInput) -> u128
     u128::from(size) * (1 + items)
 }
 
-/// A call of the function in these lists, which keep their room.
+/// Calls the function in these buffers, which keep their room.
 pub(crate) fn call_in<'a>(
     alloc: Global,
     image: &Image<'a>,
@@ -73,33 +74,33 @@ pub(crate) fn call_in<'a>(
     function: &'a Function,
     input: &CallInput,
     most: u128,
-    rooms: &mut Rooms<'a>,
+    buffers: &mut Buffers<'a>,
 ) -> Result<CallOutcome, AllocError>
     requires own { image.now ≡ program.«module».now }
     requires calls { AreImports program.calls.now program.«module».now }
     requires begins { BeginsWith program.«module».now function.now }
     requires within { IsWithinLimits program.«module».now }
-    requires room { HasStartRoom program.«module».now function.now (room_in rooms.old) }
-    requires ends { EndsInRoom program.«module».now input.now most (room_in rooms.old) }
-    ensures room { room_in rooms.new ≡ room_in rooms.old }
+    requires room { HasStartRoom program.«module».now function.now (room_in buffers.old) }
+    requires ends { EndsInRoom program.«module».now input.now most (room_in buffers.old) }
+    ensures room { room_in buffers.new ≡ room_in buffers.old }
     ensures sends { OnErr result (Sends program.entry.«module».now input.now) }
     ensures outcome { IfOk result (IsOutcome program.entry.«module».now input.now) }
 {
-    image.lay(function, rooms);
-    let laid = replace(rooms, Rooms::new(alloc, image.verified()));
+    image.reset(function, buffers);
+    let laid = replace(buffers, Buffers::new(alloc, image.verified()));
     let walk = begin(alloc, program.module, function, input, laid);
     let (ended, left) = finish(walk, program, function.body.as_slice(), most);
-    *rooms = left;
+    *buffers = left;
     ended
 }
 
-// The walk to its end, and its lists.
+// Walks to the end, and returns the outcome and the buffers.
 fn finish<'a, 'b>(
     mut walk: Walk<'a, 'b>,
     program: Program<'a>,
     code: &'a [Instr],
     most: u128,
-) -> (Result<CallOutcome, AllocError>, Rooms<'a>)
+) -> (Result<CallOutcome, AllocError>, Buffers<'a>)
     requires calls { AreImports program.calls.now program.«module».now }
     requires within { IsWithinLimits program.«module».now }
     requires ends { LeadsWithin program.«module».now walk.room
@@ -112,22 +113,22 @@ fn finish<'a, 'b>(
 {
     let ended = walk.finish(program, code, most);
     let Walk {
-        layers,
+        entries,
         operands,
         locals,
         globals,
         memory,
         host,
     } = walk;
-    let rooms = Rooms {
-        layers,
+    let buffers = Buffers {
+        entries,
         operands,
         locals,
         globals,
         memory,
     };
     match ended {
-        Ok(count) => (Ok(host.into_outcome(count)), rooms),
-        Err(AllocError) => (Err(AllocError), rooms),
+        Ok(count) => (Ok(host.into_outcome(count)), buffers),
+        Err(AllocError) => (Err(AllocError), buffers),
     }
 }

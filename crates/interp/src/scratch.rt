@@ -1,16 +1,16 @@
-//! What the calls of a module have in common.
+//! What the calls of a module share.
 
 ghost use Rattle.std.specs.Prelude.{◌≡◌, ◌+◌, ◌*◌, ◌^◌, ◌≤◌, ◌↔◌, length, IfOk, IsTrue, OnErr, OnOk};
 ghost use Rattle.wasm_ast.specs.Limits.{IsWithinLimits, max_locals};
 ghost use Rattle.validate.specs.Modules.{IsTyped};
 ghost use Rattle.bounded_profile.specs.Profile.{IsBounded};
 ghost use Rattle.interp.specs.Call.{IsOutcome};
-ghost use Rattle.interp.specs.Room.{most_layers, most_locals};
-ghost use Rattle.interp.specs.inside.Begun.{AreInitial, BeginsWith, EndsEachWithin, HasRoom, Sends, room_in};
+ghost use Rattle.interp.specs.Room.{most_entries, most_locals};
+ghost use Rattle.interp.specs.inside.Begun.{BeginsWith, EndsEachWithin, HasRoom, Sends, room_in};
 ghost use Rattle.interp.specs.inside.Meaning.{AreImports};
 
+use crate::buffers::Buffers;
 use crate::program::Program;
-use crate::rooms::Rooms;
 use crate::runs::call_in;
 use crate::start::image::Image;
 use bounded_profile::Verified;
@@ -19,20 +19,20 @@ use std::alloc::{AllocError, Global};
 use std::marker::Model;
 use wasm_ast::{Function, MAX_LOCALS, MAX_NESTING};
 
-/// What the calls of one module have in common: what each begins with, and lists that they take over from one another.
-/// Contracts see it as the module.
+/// The state that the calls of one module share: what each call begins with, and buffers that one call leaves to the
+/// next. Its model is the module.
 #[derive(Drop)]
 pub struct Scratch<'a> {
     verified: &'a Verified,
-    // In a box, so that an owner drops it by one call.
+    // In a box, so that dropping the owner is one call.
     lists: Box<Lists<'a>>,
 }
 
-/// What each call begins with, and the lists of the last one.
+/// What each call begins with, and the buffers of the last call.
 #[derive(Drop)]
 pub struct Lists<'a> {
     image: Image<'a>,
-    rooms: Rooms<'a>,
+    buffers: Buffers<'a>,
 }
 
 impl<'a> Model for Scratch<'a> {
@@ -48,30 +48,31 @@ impl<'a> Model for Scratch<'a> {
     ghost view = { λ scratch. scratch.verified.now };
 
     ghost invariant = { λ scratch. (scratch.lists.value.image ≡ scratch.verified.now)
-        × HasRoom scratch.verified.now (room_in scratch.lists.value.rooms) };
+        × HasRoom scratch.verified.now (room_in scratch.lists.value.buffers) };
 }
 
 impl<'a> Scratch<'a> {
-    /// Lists for the calls of the module, with its globals and memory, and room for all layers, operands and locals that
-    /// may stand at a time. The only refusal is that there is no memory.
+    /// Allocates the buffers for calls of the module, and evaluates its initial globals and memory. The buffers have
+    /// room for the most entries, operands and locals that a call has at a time. The only error is that an allocation
+    /// fails.
     pub fn new(alloc: Global, verified: &'a Verified) -> Result<Scratch<'a>, AllocError>
         ensures { IfOk result (λ scratch. scratch ≡ verified.now) }
     {
         let image = Image::new(alloc, verified)?;
-        let rooms = Rooms::new(alloc, verified);
-        let mut lists = Box::new(alloc, Lists { image, rooms })?;
+        let buffers = Buffers::new(alloc, verified);
+        let mut lists = Box::new(alloc, Lists { image, buffers })?;
         make_room(alloc, verified, &mut lists)?;
         Ok(Scratch { verified, lists })
     }
 
-    /// Whether it was made for this module or for one that is equal to it, as a copy is; it takes no memory.
+    /// Decides whether it was made for this module, or for an equal one, such as a copy. It allocates nothing.
     pub fn fits(&self, verified: &Verified) -> bool
         ensures { IsTrue result ↔ (self.now ≡ verified.now) }
     {
         *self.verified.module() == *verified.module()
     }
 
-    // The functions of the module that it was made for, which is that of `verified`.
+    // Returns the functions of the module that it was made for, which is that of `verified`.
     pub(crate) fn program_for(&self, verified: &Verified) -> Program<'a>
         requires { self.now ≡ verified.now }
         ensures same { result.«module».now ≡ verified.now }
@@ -83,7 +84,7 @@ impl<'a> Scratch<'a> {
         Program::of(self.verified)
     }
 
-    // A call of the function in the lists of the last one.
+    // Calls the function, with the buffers of the last call.
     pub(crate) fn call(
         &mut self,
         alloc: Global,
@@ -112,12 +113,12 @@ impl<'a> Scratch<'a> {
             function,
             input,
             most,
-            &mut lists.rooms,
+            &mut lists.buffers,
         )
     }
 }
 
-// Room in the lists for all that may stand at a time.
+// Reserves room in the buffers for the most that a call has at a time.
 fn make_room<'a>(
     alloc: Global,
     verified: &'a Verified,
@@ -125,28 +126,28 @@ fn make_room<'a>(
 ) -> Result<(), AllocError>
     requires { lists.old.image ≡ verified.now }
     ensures same { lists.new.image ≡ lists.old.image }
-    ensures room { OnOk result (HasRoom verified.now (room_in lists.new.rooms)) }
+    ensures room { OnOk result (HasRoom verified.now (room_in lists.new.buffers)) }
 {
-    let rooms = &mut lists.rooms;
+    let buffers = &mut lists.buffers;
     let frames = verified.max_frames() as usize;
-    rooms.layers.reserve(most_layers(frames) + 1)?;
-    rooms
+    buffers.entries.reserve(most_entries(frames) + 1)?;
+    buffers
         .operands
         .reserve(verified.max_operands() as usize + 1)?;
-    rooms.locals.reserve(most_locals(frames + 1))?;
-    rooms.globals.begin_with(alloc, lists.image.globals())?;
-    rooms.memory.extend(verified)
+    buffers.locals.reserve(most_locals(frames + 1))?;
+    buffers.globals.begin_with(alloc, lists.image.globals())?;
+    buffers.memory.extend(verified)
 }
 
-// The layers of so many frames.
-fn most_layers(frames: usize) -> usize
+// Returns the most control entries that this many frames have.
+fn most_entries(frames: usize) -> usize
     requires { frames ≤ 2 ^ 32 }
-    ensures { result ≡ most_layers frames }
+    ensures { result ≡ most_entries frames }
 {
     frames * (1 + MAX_NESTING as usize)
 }
 
-// The locals of so many frames.
+// Returns the most locals that this many frames have.
 fn most_locals(frames: usize) -> usize
     requires { frames ≤ 2 ^ 32 }
     ensures { result ≡ most_locals frames }

@@ -1,39 +1,39 @@
 //! The start of a compute call (Core 1.0, 4.5.4 and 4.5.5).
 
 ghost use Rattle.std.specs.Prelude.{◌≡◌};
-ghost use Rattle.interp.specs.inside.Begun.{AreLaid, BeginsWith, IsBeginning, room_in};
+ghost use Rattle.interp.specs.inside.Begun.{AreReset, BeginsWith, IsBeginning, room_in};
 
 pub mod image;
 mod initial;
 
-use crate::rooms::Rooms;
+use crate::buffers::Buffers;
 use crate::walk::Walk;
 use host_calls::{CallInput, CallState};
 use std::alloc::Global;
 use wasm_ast::{Function, Module};
 
-/// Where a call of the function begins, of which the lists hold what it begins with.
+/// Makes the walk at the start of a call of the function, from buffers that were reset.
 pub fn begin<'a, 'b>(
     alloc: Global,
     module: &Module,
     function: &'a Function,
     input: &CallInput<'b>,
-    rooms: Rooms<'a>,
+    buffers: Buffers<'a>,
 ) -> Walk<'a, 'b>
     requires begins { BeginsWith «module».now function.now }
-    requires laid { AreLaid «module».now function.now rooms }
+    requires laid { AreReset «module».now function.now buffers }
     ensures begins { IsBeginning «module».now function.now.body input.now result }
-    ensures room { result.room ≡ room_in rooms.entry }
+    ensures room { result.room ≡ room_in buffers.entry }
 {
-    let Rooms {
-        layers,
+    let Buffers {
+        entries,
         operands,
         locals,
         globals,
         memory,
-    } = rooms;
+    } = buffers;
     Walk {
-        layers,
+        entries,
         operands,
         locals,
         globals,

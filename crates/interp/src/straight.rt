@@ -1,5 +1,6 @@
-//! Runs of straight code: of instructions that neither branch nor call what the module defines, so that the layers stay. The
-//! operands lie in a list with room, and their number, the code and the count are passed by value.
+//! Runs of straight code: of instructions that neither branch nor call a function of the module, so that the control
+//! entries stay. The operands are in a slice with free cells; their number, the code and the count are passed by
+//! value.
 
 ghost use Rattle.std.specs.Prelude.{◌≡◌, ◌<◌, ◌≤◌, ℕ, length, map, false, true, IfNone, IfOk, IfSome, OnErr};
 ghost use Rattle.wasm_ast.specs.declared.types.Value.TheVariants.{I64};
@@ -8,7 +9,7 @@ ghost use Rattle.interp.specs.Configuration.{Gives};
 ghost use Rattle.interp.specs.inside.Acts.{state};
 ghost use Rattle.interp.specs.inside.Cells.{in_width};
 ghost use Rattle.interp.specs.inside.Kept.{count_kept};
-ghost use Rattle.interp.specs.inside.Pile.{pile};
+ghost use Rattle.interp.specs.inside.OperandStack.{operand_stack};
 ghost use Rattle.interp.specs.inside.Meaning.{AreImports};
 ghost use Rattle.interp.specs.inside.Split.{free_of};
 ghost use Rattle.interp.specs.inside.Straight.{GoesStraight, LeadsAmid, Passes, SendsAmid, is_straight, spot, straight_asks, straight_effect, straight_gives, straight_units};
@@ -25,7 +26,7 @@ use host_calls::{CallState, HostCall};
 use std::alloc::AllocError;
 use wasm_ast::{Instr, Plain};
 
-/// Where straight code stops: the code that is left, the units that were taken, and how many operands there are.
+/// Where straight code stops: the remaining code, the units so far, and the number of operands.
 #[derive(Clone, Copy)]
 pub struct Stop<'a> {
     pub code: &'a [Instr],
@@ -33,21 +34,22 @@ pub struct Stop<'a> {
     pub top: usize,
 }
 
-/// What an instruction that goes straight on does.
+/// An instruction that is straight.
 #[derive(Clone, Copy)]
 pub enum Straight {
     Plain(Plain),
     Host(HostCall),
 }
 
-/// An instruction that goes straight on, and the code after it.
+/// A straight instruction, and the code after it.
 #[derive(Clone, Copy)]
 struct Next<'a> {
     what: Straight,
     code: &'a [Instr],
 }
 
-/// Goes on as far as the code is straight.
+/// Runs straight code up to the first instruction that is not straight. The only error is that an allocation fails,
+/// in a call that sends or aggregates.
 #[inline]
 pub fn go_straight<'a>(
     program: Program<'a>,
@@ -102,7 +104,7 @@ pub fn go_straight<'a>(
     Ok(stop)
 }
 
-/// The same over the operands and the locals of what runs alone.
+/// Runs straight code over the operands of the innermost entry and the locals of the innermost frame.
 fn run_straight<'a>(
     program: Program<'a>,
     code: &'a [Instr],
@@ -117,16 +119,17 @@ fn run_straight<'a>(
 ) -> Result<Stop<'a>, AllocError>
     requires calls { AreImports program.calls.now program.«module».now }
     requires within { top ≤ length cells.old }
-    requires leads { LeadsAmid program.«module».now (spot (pile cells.old top) (code_of code.now)
-        (map I64 locals.old) globals.old.here bytes.old host.old count) most
+    requires leads { LeadsAmid program.«module».now
+        (spot (operand_stack cells.old top) (code_of code.now) (map I64 locals.old)
+        globals.old.here bytes.old host.old count) most
         (length cells.old) }
     ensures passes { IfOk result (λ stop. Passes program.entry.«module».now most
-        (spot (pile cells.old top) (code_of code.entry.now)
+        (spot (operand_stack cells.old top) (code_of code.entry.now)
         (map I64 locals.old) globals.old.here bytes.old host.old count)
-        (spot (pile cells.new stop.top) (code_of stop.code.now)
+        (spot (operand_stack cells.new stop.top) (code_of stop.code.now)
         (map I64 locals.new) globals.new.here bytes.new host.new stop.count)) }
     ensures sends { OnErr result (SendsAmid program.entry.«module».now most
-        (spot (pile cells.old top) (code_of code.entry.now)
+        (spot (operand_stack cells.old top) (code_of code.entry.now)
         (map I64 locals.old) globals.old.here bytes.old host.old count)) }
     ensures more { IfOk result (λ stop. count ≤ stop.count) }
     ensures stops { IfOk result (λ stop. is_straight program.entry.calls.now
@@ -151,7 +154,7 @@ fn run_straight<'a>(
     }
 }
 
-/// The next instruction, if it goes straight on.
+/// Returns the next instruction, if it is straight.
 #[inline(always)]
 fn next_straight<'a>(program: Program<'a>, code: &'a [Instr]) -> Option<Next<'a>>
     requires { AreImports program.calls.now program.«module».now }
@@ -180,7 +183,7 @@ fn next_straight<'a>(program: Program<'a>, code: &'a [Instr]) -> Option<Next<'a>
     }
 }
 
-/// Acts on the operands and on what there is besides.
+/// Executes a straight instruction.
 #[inline(always)]
 fn act_straight(
     what: Straight,
@@ -193,10 +196,11 @@ fn act_straight(
 ) -> Result<Acted, AllocError>
     requires room { top < length cells.old }
     requires asks { straight_asks what
-        (pile cells.old top) (map I64 locals.old) globals.old.here bytes.old ≡ true }
+        (operand_stack cells.old top) (map I64 locals.old) globals.old.here bytes.old ≡ true }
     ensures acts { IfOk result (λ acted. (count : ℕ) → straight_effect in_width what
-        (pile cells.old top) (state (map I64 locals.old) globals.old.here bytes.old host.old count)
-        ≡ Gives (pile cells.new acted.top)
+        (operand_stack cells.old top)
+        (state (map I64 locals.old) globals.old.here bytes.old host.old count)
+        ≡ Gives (operand_stack cells.new acted.top)
         (state (map I64 locals.new) globals.new.here bytes.new host.new count)) }
     ensures units { IfOk result (λ acted. acted.units ≡ straight_units what) }
     ensures within { IfOk result (λ acted. acted.top ≤ length cells.new) }

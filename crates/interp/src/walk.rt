@@ -1,4 +1,4 @@
-//! The walk over nested code, which is the machine's run (Core 1.0, 4.4).
+//! The walk over nested code, which is the run of the machine (Core 1.0, 4.4).
 
 ghost use Rattle.std.specs.Prelude.{◌≡◌, ◌+◌, ◌^◌, ◌<◌, ◌≤◌, false, true, IfOk, OnErr};
 ghost use Rattle.wasm_ast.specs.Limits.{IsWithinLimits};
@@ -8,7 +8,7 @@ ghost use Rattle.interp.specs.inside.Cells.{cell_advance, in_width, of_any_width
 ghost use Rattle.interp.specs.inside.Going.{goes_on, is_going};
 ghost use Rattle.interp.specs.inside.Meaning.{AreImports};
 ghost use Rattle.interp.specs.inside.Place.{HasFrameRoom, at, running, state_of};
-ghost use Rattle.interp.specs.inside.Walk.{Arrives, Concludes, HasRoom, LeadsWithin, SendsFrom, Turned, Turns, left_of, taken};
+ghost use Rattle.interp.specs.inside.Walk.{Arrives, Concludes, HasCountRoom, LeadsWithin, SendsFrom, Turned, Turns, left_of, taken};
 ghost use Rattle.interp.specs.inside.Straight.{is_straight};
 
 mod branches;
@@ -16,7 +16,7 @@ mod calls;
 mod labels;
 
 use crate::call_globals::CallGlobals;
-use crate::layers::Layer;
+use crate::control_entry::ControlEntry;
 use crate::locals::Locals;
 use crate::memory::Memory;
 use crate::operands::Operands;
@@ -28,17 +28,17 @@ use std::alloc::AllocError;
 use std::marker::Model;
 use wasm_ast::Instr;
 
-/// Where the run goes on, or that it is done, with the units that were taken.
+/// Where the run goes on, or that it is done, with the units so far.
 #[derive(Clone, Copy)]
 pub enum Turn<'a> {
     Next { code: &'a [Instr], count: u128 },
     Finished { count: u128 },
 }
 
-/// What a run has besides the code and the count, which are passed from step to step.
+/// The state of a run, except for the code and the count, which are passed from step to step.
 #[derive(Drop)]
 pub struct Walk<'a, 'b> {
-    pub layers: Vec<Layer<'a>>,
+    pub entries: Vec<ControlEntry<'a>>,
     pub operands: Operands,
     pub locals: Locals,
     pub globals: CallGlobals,
@@ -60,7 +60,8 @@ impl<'a, 'b> Model for Walk<'a, 'b> {
 }
 
 impl<'a, 'b> Walk<'a, 'b> {
-    /// Runs to its end, which comes within so many units, and answers how many it took. They are not looked at.
+    /// Runs to the end, and returns the units that the run took. The run ends within `most` units, which it never
+    /// compares. The only error is that an allocation fails, in a call that sends or aggregates.
     pub fn finish(
         &mut self,
         program: Program<'a>,
@@ -94,7 +95,7 @@ impl<'a, 'b> Walk<'a, 'b> {
         }
     }
 
-    /// Straight on, as far as the code is.
+    /// Runs straight code up to the first instruction that is not straight.
     #[inline]
     fn go_on(
         &mut self,
@@ -132,12 +133,12 @@ impl<'a, 'b> Walk<'a, 'b> {
         Ok(stop)
     }
 
-    /// One step, which there is.
+    /// Takes one step; the contract requires that there is one.
     #[inline]
     fn turn(&mut self, program: Program<'a>, code: &'a [Instr], count: u128) -> Turn<'a>
         requires calls { AreImports program.calls.now program.«module».now }
         requires within { IsWithinLimits program.«module».now }
-        requires fits { HasRoom program.«module».now (at self.old (code_of code.now) count) }
+        requires fits { HasCountRoom program.«module».now (at self.old (code_of code.now) count) }
         requires room { HasFrameRoom self.old }
         requires stops { is_straight program.calls.now (code_of code.now) ≡ false }
         requires goes { is_going (cell_advance of_any_width program.«module».now
@@ -152,7 +153,8 @@ impl<'a, 'b> Walk<'a, 'b> {
         }
     }
 
-    /// An instruction, which is counted where it is told from others; `whole` begins with it, before `rest`.
+    /// Takes the instruction `first`, and counts its units where its kind is matched. `whole` is `first` and then
+    /// `rest`.
     #[inline]
     fn take(
         &mut self,

@@ -1,4 +1,4 @@
--- The last two instructions of a loop, and labels that are counted in 32 bits.
+-- The last two instructions of a loop, and labels counted in 32 bits.
 use Rattle.std.specs.Prelude.{◌≡◌, ℕ, ◌-◌, ◌^◌, Option}
 use Rattle.wasm_ast.specs.declared.plain.Branch.TheVariants as branch
 use Rattle.wasm_ast.specs.declared.body.Instr.{Instr}
@@ -8,13 +8,13 @@ use Rattle.wasm_ast.specs.Limits.{IsCodeWithin}
 use Rattle.host_calls.specs.declared.imports.HostCall.{HostCall}
 use Rattle.bounded_profile.specs.Shapes.{TakesItem}
 
--- the first of the two takes an item, and the other goes back to the loop where there was one
+-- the first instruction takes an item, and the second goes back to the loop where there was one
 pub record GoesBackWithItem (calls : ℕ → Option HostCall) (first second : Instr) : Type 0 where
   pub function : ℕ
   pub is_call : first ≡ instr.Call function
   pub takes : TakesItem (calls function)
   pub is_back : second ≡ instr.Branch (branch.BrIf 0)
 
--- in code so deeply nested the label's number stays below 2 ^ 32
+-- the scope of the code keeps the label's number below 2 ^ 32
 abbrev pub LabelFits : ℕ → Code → Type 0
 LabelFits label c = IsCodeWithin (2 ^ 32 - 1 - label) c

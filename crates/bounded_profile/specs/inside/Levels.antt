@@ -1,20 +1,20 @@
--- How far the heights of functions are told.
+-- How far the table of heights is set.
 use Rattle.std.specs.Prelude.{◌≡◌, ℕ, ◌<◌, ◌≤◌, List}
 use Rattle.wasm_ast.specs.declared.module.Module.{Module}
 use Rattle.cost.specs.declared.table.Mark.{Mark}
 use Rattle.cost.specs.Marks.{rank_at}
 use Rattle.cost.specs.Sizes.{AreSizes, max_size}
-use Rattle.bounded_profile.specs.inside.Climbs.{height_at}
+use Rattle.bounded_profile.specs.inside.StackHeights.{height_at}
 use Rattle.bounded_profile.specs.Heights.{AreHeights}
 
--- the heights are told of the functions of a lower rank, and of those of this rank that have lower numbers than `next`;
--- of functions that are too large nothing is said
+-- the table has the heights of the functions of lower ranks, and of those of this rank with numbers below `next`; of
+-- functions that are too large it says nothing
 abbrev pub AreToldBelow : Module → List Mark → List ℕ → ℕ → ℕ → Type 0
 AreToldBelow m ranks told rank next =
     (heights sizes : ℕ → ℕ) → AreHeights m heights → AreSizes m sizes →
     (f : ℕ) → rank_at ranks f ≤ rank → (rank_at ranks f ≡ rank → f < next) → sizes f ≤ max_size → height_at told f ≡ heights f
 
--- the heights are told of the functions up to this rank
+-- the table has the heights of the functions up to this rank
 abbrev pub AreTold : Module → List Mark → List ℕ → ℕ → Type 0
 AreTold m ranks told rank =
     (heights sizes : ℕ → ℕ) → AreHeights m heights → AreSizes m sizes →

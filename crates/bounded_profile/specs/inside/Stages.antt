@@ -1,11 +1,11 @@
--- What is known of a module when the rules up to one hold.
+-- What holds of a module once its rules are checked up to one of them.
 use Rattle.std.specs.Prelude.{ℕ}
 use Rattle.wasm_ast.specs.declared.module.Module.{Module}
 use Rattle.bounded_profile.specs.declared.facts.Facts.{Facts}
 use Rattle.bounded_profile.specs.declared.fault.ProfileRule.{ProfileRule}
 use Rattle.bounded_profile.specs.declared.fault.ProfileRule.TheVariants.{P5, P6, P7, P8, P9}
 use Rattle.bounded_profile.specs.declared.shapes.Shape.{Shape}
-use Rattle.bounded_profile.specs.declared.shapes.Shape.TheVariants.{Direct, Reached, Steady, Ordered, Taking}
+use Rattle.bounded_profile.specs.declared.shapes.Shape.TheVariants as shape
 use Rattle.bounded_profile.specs.Compute.{IsComputeNumber}
 use Rattle.bounded_profile.specs.Facts.{IsSizeAt, AreFactsAt}
 use Rattle.bounded_profile.specs.Profile.{ImportsHostCalls, NoStart, NoElements, NoIndirectCalls, NoUnreachable, NoGrowth, NothingAfterBranches, LoopsTakeItems, NoCycles, SizeWithin}
@@ -24,13 +24,13 @@ pub record ShapesHold (m : Module) : Type 0 where
   pub ordered : NothingAfterBranches m
   pub loops : LoopsTakeItems m
 
--- the rule that each shape is of
+-- the rule of each shape
 abbrev pub rule_of : Shape → ProfileRule
-rule_of Direct = P5
-rule_of Reached = P6
-rule_of Steady = P7
-rule_of Ordered = P8
-rule_of Taking = P9
+rule_of shape.NoIndirectCalls = P5
+rule_of shape.NoUnreachable = P6
+rule_of shape.NoGrowth = P7
+rule_of shape.NothingAfterBranches = P8
+rule_of shape.LoopsTakeItems = P9
 
 -- P12 and P14, where `compute` has this number
 pub record CallsHold (m : Module) (compute : ℕ) : Type 0 where
@@ -41,10 +41,10 @@ pub record CallsHold (m : Module) (compute : ℕ) : Type 0 where
 abbrev pub PartsHoldAt : Module → ℕ → Type 0
 PartsHoldAt m compute = PartsHold m × IsComputeNumber m compute
 
--- P14, and the size of the function
+-- P14, and the size of the function with calls inlined
 abbrev pub SizeHolds : Module → ℕ → ℕ → Type 0
 SizeHolds m function size = SizeWithin m function × IsSizeAt m function size
 
--- P12 and P14, and what is told of a call of `compute`
+-- P12 and P14, and the bounds on a call of `compute`
 abbrev pub CallsHoldWith : Module → ℕ → Facts → Type 0
 CallsHoldWith m compute facts = CallsHold m compute × AreFactsAt m compute facts

@@ -1,10 +1,10 @@
--- What is found in a module in the bounded profile.
+-- The tables of a module in the bounded profile.
 use Rattle.std.specs.Prelude.{◌≡◌}
 use Rattle.wasm_ast.specs.declared.module.Module.{Module}
 use Rattle.bounded_profile.specs.Cells.{cells_table}
 use Rattle.bounded_profile.specs.Facts.{AreFacts}
 use Rattle.bounded_profile.specs.Hosts.{AreHostCalls}
-use Rattle.bounded_profile.specs.inside.Marks.{TellReached}
+use Rattle.bounded_profile.specs.inside.Footprint.{TellReached}
 use Rattle.bounded_profile.specs.declared.tables.Tables.{Tables}
 
 -- the tables are those of the module
@@ -12,4 +12,4 @@ pub record AreTables (m : Module) (tables : Tables) : Type 0 where
   pub facts : AreFacts m tables.facts
   pub calls : AreHostCalls m tables.calls.items
   pub cells : tables.cells.items ≡ cells_table m
-  pub spans : TellReached m tables.spans.items
+  pub extents : TellReached m tables.extents.items

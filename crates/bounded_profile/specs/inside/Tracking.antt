@@ -1,5 +1,5 @@
--- What the pass for known constants finds, one function a rule of `Known`. The types of operands are not looked at:
--- the module is typed, so that they are right.
+-- The pass for known constants, one function for each rule of `Known`. It does not look at the types of operands: the
+-- module is typed, so they are right.
 use Rattle.std.specs.Prelude.{◌≡◌, ℕ, ◌+◌, ◌==◌, Bool, true, false, cond, ◌&&◌, not, leb, ltb, List, [], ◌∷◌, ◌++◌, map, reverse, slice_get, Option, Some, None, Result, MatchResult, if◌then◌else◌}
 use Rattle.std.specs.Option.{option_and_then, option_map}
 use Rattle.std.specs.List.{AllByRecursion, filter_map}
@@ -26,17 +26,17 @@ use Rattle.wasm_ast.specs.View.{then_code}
 use Rattle.wasm_ast.specs.NumericTypes.{numeric_takes}
 use Rattle.wasm_ast.specs.Widths.{load_width, store_width}
 use Rattle.validate.specs.Spaces.{function_import, imported, first_type, spaces_of}
-use Rattle.host_calls.specs.declared.call.TheConstants.{SLOTS}
+use Rattle.host_calls.specs.declared.call.TheConstants.{AGGREGATORS}
 use Rattle.host_calls.specs.declared.imports.HostCall.{HostCall}
 use Rattle.host_calls.specs.Imports.{call_named}
-use Rattle.bounded_profile.specs.declared.wants.Premise.{Premise}
-use Rattle.bounded_profile.specs.declared.wants.Premise.TheVariants.{Reaches, Divides, DividesSigned, IsSlot}
+use Rattle.bounded_profile.specs.declared.requirements.Premise.{Premise}
+use Rattle.bounded_profile.specs.declared.requirements.Premise.TheVariants.{Reaches, Divides, DividesSigned, IsSlot}
 use Rattle.bounded_profile.specs.declared.constants.asks.Asks.{Asks}
 use Rattle.bounded_profile.specs.declared.constants.asks.Asks.TheVariants.{Addresses, Divisors, Slots, All}
 use Rattle.bounded_profile.specs.declared.constants.demands.Demand.{Demand}
 use Rattle.bounded_profile.specs.declared.constants.demands.Demand.TheVariants.{Any, Constant}
 use Rattle.bounded_profile.specs.declared.constants.fault.ConstantsFault.{ConstantsFault}
-use Rattle.validate.specs.declared.nesting.Nesting.{Nesting}
+use Rattle.validate.specs.declared.labels.Labels.{Labels}
 use Rattle.bounded_profile.specs.declared.constants.operands.Operand.{Operand}
 use Rattle.bounded_profile.specs.declared.constants.operands.Operand.TheVariants.{Unknown, Known}
 use Rattle.bounded_profile.specs.declared.constants.operands.Operands.{Operands}
@@ -46,15 +46,15 @@ use Rattle.bounded_profile.specs.Known.{division_premise, takes_slot}
 use Rattle.bounded_profile.specs.Memory.{memory_bytes, number_of}
 use Rattle.bounded_profile.specs.Profile.{asks_addresses, asks_divisors, asks_slots, asks_all}
 
--- which premises are asked
+-- the premises that are selected
 abbrev pub asks_of : Asks → Premise → Bool
 asks_of Addresses = asks_addresses
 asks_of Divisors = asks_divisors
 asks_of Slots = asks_slots
 asks_of All = asks_all
 
--- what instructions are looked at in: the types, the type number of each function, the calls of the host that imported
--- functions are by name, the bytes of the memory, and which premises are asked
+-- The context in which instructions are checked: the types, the type number of each function, and the host calls that
+-- imported functions name. Then the bytes of the memory, and the selected premises.
 pub record Setting : Type 0 where
   pub types : List FuncType
   pub functions : List ℕ
@@ -62,7 +62,7 @@ pub record Setting : Type 0 where
   pub bytes : ℕ
   pub asks : Asks
 
--- what an import is by its name, if it is a function
+-- the host call that an import names, if the import is a function
 unfoldable pub imported_call : Import → Option (Option HostCall)
 imported_call i = option_map (λ n. call_named i.«module» i.name) (function_import i.description)
 
@@ -91,12 +91,12 @@ host_called t f = option_and_then (λ h. h) (slice_get t.host_calls f)
 abbrev pub operands_of : Operands → List Operand
 operands_of o = reverse o.operands.items
 
--- the operands become what the step makes of them; a refusal says that it makes nothing
+-- the operands become the result of the step; an error says that the step has none
 abbrev pub Goes : (List Operand → Option (List Operand)) → Operands → Operands → Result (Unit {0}) ConstantsFault → Type 0
 Goes step before after r = Finds (step (operands_of before)) r (operands_of after)
 
 -- the labels in scope, the innermost first
-abbrev pub labels_of : Nesting → List (Option ValType)
+abbrev pub labels_of : Labels → List (Option ValType)
 labels_of n = reverse n.labels.items
 
 -- whether the constant meets the premise
@@ -104,15 +104,15 @@ abbrev pub is_met : ℕ → ValType → Premise → ℕ → Bool
 is_met bytes t (Reaches offset width) address = leb (address + offset + width) bytes
 is_met bytes t Divides n = not (n == 0)
 is_met bytes t DividesSigned n = not (n == 0) && not (n == minus_one t)
-is_met bytes t IsSlot n = ltb n SLOTS
+is_met bytes t IsSlot n = ltb n AGGREGATORS
 
--- whether the operand is what is asked
+-- whether the operand meets the demand
 abbrev pub fits : ℕ → Demand → Operand → Bool
 fits bytes Any o = true
 fits bytes (Constant t p) Unknown = false
 fits bytes (Constant t p) (Known n) = is_met bytes t p n
 
--- of an operand that is not there nothing is known
+-- an operand that is not there is unknown
 abbrev pub top : List Operand → Operand
 top [] = Unknown
 top (o ∷ os) = o
@@ -150,7 +150,7 @@ abbrev pub given_of : Option Operand → List Operand
 given_of None = []
 given_of (Some o) = o ∷ []
 
--- a constant that meets the premise, where the premise is asked
+-- a constant that meets the premise, where the premise is selected
 abbrev pub asked : Asks → ValType → Premise → Demand
 asked a t p = if asks_of a p then Constant t p else Any
 
@@ -190,7 +190,7 @@ plain_step t (plain.Numeric op) s = numeric_step t op s
 plain_step t (plain.Variable op) s = Some (variable_step op s)
 plain_step t (plain.Memory op) s = memory_step t op s
 
--- where a branch is always taken, nothing comes after it
+-- nothing comes after a branch that is always taken
 abbrev pub branch_step : List (Option ValType) → Branch → List Operand → Option (List Operand)
 branch_step labels (branch.Br l) s = Some s
 branch_step labels (branch.BrIf l) s =
@@ -198,7 +198,7 @@ branch_step labels (branch.BrIf l) s =
 branch_step labels (branch.BrTable ls l) s = Some s
 branch_step labels branch.Return s = Some s
 
--- the parameters are taken, of which the first may be a slot
+-- the arguments are taken; the first may be the number of an aggregator
 abbrev pub take_parameters : Setting → Bool → List ValType → List Operand → Option (List Operand)
 take_parameters t false parameters s = Some (forget_each parameters s)
 take_parameters t true [] s = Some s
@@ -216,7 +216,7 @@ abbrev pub holds_then : {A : Type 0} → Option A → (A → Bool) → Bool
 holds_then None p = false
 holds_then (Some a) p = p a
 
--- whether each constant that is asked is known in the code, which begins with these operands
+-- whether each selected constant is known in the code, which begins with these operands
 abbrev pub check : Code → Setting → List (Option ValType) → List Operand → Bool
 check code.end t labels s = true
 check (code.plain p rest) t labels s = holds_then (plain_step t p s) (λ r. check rest t labels r)
@@ -229,12 +229,13 @@ check (code.loop u body rest) t labels s = check body t (None ∷ labels) [] && 
 check (code.choice u body other rest) t labels s =
     check body t (u ∷ labels) [] && (check other t (u ∷ labels) [] && check rest t labels (unknowns u ++ below s))
 
--- after the instruction the code passes exactly where the rest does from `after` on; a refusal says that it does not pass
+-- after the instruction the code passes exactly where the rest does from `after` on; an error says that the code does
+-- not pass
 abbrev pub StepsOver : Setting → List (Option ValType) → Instr → (before after : List Operand) → Result (Unit {0}) ConstantsFault → Type 0
 StepsOver t labels i before after r =
     (rest : Code) → MatchResult r (λ _. check (then_code i rest) t labels before ≡ check rest t labels after) (λ e. FalseBut e (check (then_code i rest) t labels before))
 
--- whether it is in the body of the function
+-- whether each selected constant is known in the body of the function
 abbrev pub function_passes : Setting → Function → Bool
 function_passes t f =
     holds_then (slice_get t.types f.type_number) (λ u. check f.body t (first_type u.results ∷ []) [])
@@ -242,6 +243,6 @@ function_passes t f =
 abbrev pub Passes : Setting → Function → Type 0
 Passes t f = function_passes t f ≡ true
 
--- in each body
+-- each body passes
 abbrev pub AllPass : Asks → Module → Type 0
 AllPass a m = AllByRecursion (Passes (setting_of a m)) m.functions

@@ -1,21 +1,21 @@
-//! Which constants are asked.
+//! Which constants have to be known.
 
 ghost use Rattle.std.specs.Prelude.{◌≡◌};
 ghost use Rattle.bounded_profile.specs.Known.{division_premise};
 ghost use Rattle.bounded_profile.specs.inside.Tracking.{asks_of, asked};
 
 use crate::constants::demands::Demand;
-use crate::wants::Premise;
+use crate::requirements::Premise;
 use wasm_ast::{Division, ValType};
 
-/// Which constants have to be known.
+/// The constants that have to be known.
 #[derive(Clone, Copy)]
 pub enum Asks {
     /// The addresses of loads and stores.
     Addresses,
     /// Divisors.
     Divisors,
-    /// The slots of `aggregate` and `aggregated`.
+    /// The numbers of aggregators in `aggregate` and `aggregated`.
     Slots,
     /// All of them.
     All,
@@ -34,7 +34,7 @@ impl Asks {
         }
     }
 
-    /// A constant that meets the premise, where the premise is asked.
+    /// Returns the demand on an operand: a constant that meets the premise, where the premise is selected.
     pub fn demand(self, of: ValType, premise: Premise) -> Demand
         ensures { result ≡ asked self of premise }
     {
@@ -46,7 +46,7 @@ impl Asks {
     }
 }
 
-/// What a divisor has to be, so that no operands trap (Core 1.0, 4.3.2).
+/// Returns the condition on a divisor with which no operand traps (Core 1.0, 4.3.2).
 pub fn division_premise(division: Division) -> Premise
     ensures { result ≡ division_premise division }
 {

@@ -2,7 +2,7 @@
 
 ghost use Rattle.std.specs.Prelude.{◌≡◌, ◌∷◌, [], OnOk};
 ghost use Rattle.std.specs.List.{AllByRecursion};
-ghost use Rattle.bounded_profile.specs.inside.ConstantsFaults.{Says, Settles};
+ghost use Rattle.bounded_profile.specs.inside.ConstantsFaults.{Says, SettlesConstants};
 ghost use Rattle.bounded_profile.specs.inside.Tracking.{operands_of, labels_of, check, StepsOver, Passes};
 
 use crate::constants::fault::ConstantsFault;
@@ -10,10 +10,10 @@ use crate::constants::instructions::{check_branch, check_call, check_call_indire
 use crate::constants::operands::Operands;
 use crate::constants::setting::ModuleSetting;
 use std::alloc::Global;
-use validate::{Nesting, Place, first_of};
+use validate::{Labels, Place, first_of};
 use wasm_ast::{BlockType, Body, Function, Instr};
 
-// A sequence that begins with no operands.
+// Checks a sequence that begins with no operands.
 #[cycle(inside)]
 fn check_inside(
     alloc: Global,
@@ -21,17 +21,17 @@ fn check_inside(
     body: &Body,
     function: Option<u32>,
     setting: &ModuleSetting,
-    nesting: &mut Nesting,
+    scope: &mut Labels,
 ) -> Result<(), ConstantsFault>
-    ensures kept { OnOk result (nesting.new.labels.items ≡ nesting.old.labels.items) }
-    ensures says { Says (check body.now setting.now (label ∷ labels_of nesting.old) []) result }
+    ensures kept { OnOk result (scope.new.labels.items ≡ scope.old.labels.items) }
+    ensures says { Says (check body.now setting.now (label ∷ labels_of scope.old) []) result }
 {
-    nesting.enter(label)?;
+    scope.enter(label)?;
     let mut operands = Operands::new(alloc);
     for instr in body.as_slice() {
-        check_instr(alloc, instr, function, setting, nesting, &mut operands)?;
+        check_instr(alloc, instr, function, setting, scope, &mut operands)?;
     }
-    nesting.leave();
+    scope.leave();
     Ok(())
 }
 
@@ -41,48 +41,48 @@ fn check_instr(
     instr: &Instr,
     function: Option<u32>,
     setting: &ModuleSetting,
-    nesting: &mut Nesting,
+    scope: &mut Labels,
     operands: &mut Operands,
 ) -> Result<(), ConstantsFault>
-    ensures kept { OnOk result (nesting.new.labels.items ≡ nesting.old.labels.items) }
-    ensures finds { StepsOver setting.now (labels_of nesting.old) instr.now
+    ensures kept { OnOk result (scope.new.labels.items ≡ scope.old.labels.items) }
+    ensures finds { StepsOver setting.now (labels_of scope.old) instr.now
         (operands_of operands.old) (operands_of operands.new) result }
 {
     let place = Place {
         function,
-        instruction: Some(nesting.count()),
+        instruction: Some(scope.count()),
     };
     match instr {
         Instr::Plain(plain) => check_plain(*plain, setting, place, operands),
-        Instr::Branch(branch) => check_branch(branch, nesting, place, operands),
+        Instr::Branch(branch) => check_branch(branch, scope, place, operands),
         Instr::Call(number) => check_call(*number, setting, place, operands),
         Instr::CallIndirect(number) => check_call_indirect(*number, setting, place, operands),
         Instr::Unreachable => Ok(()),
-        // What the inner code gives is given first: it has operands of its own.
+        // The result is pushed first: the inner code has operands of its own.
         Instr::Block(gives, body) => {
             operands.give(*gives)?;
-            check_inside(alloc, *gives, body, function, setting, nesting)
+            check_inside(alloc, *gives, body, function, setting, scope)
         }
         Instr::Loop(gives, body) => {
             operands.give(*gives)?;
-            check_inside(alloc, None, body, function, setting, nesting)
+            check_inside(alloc, None, body, function, setting, scope)
         }
         Instr::If(gives, body, other) => {
             let _condition = operands.pop();
             operands.give(*gives)?;
-            check_inside(alloc, *gives, body, function, setting, nesting)?;
-            check_inside(alloc, *gives, other, function, setting, nesting)
+            check_inside(alloc, *gives, body, function, setting, scope)?;
+            check_inside(alloc, *gives, other, function, setting, scope)
         }
     }
 }
 
-/// Whether each constant that is asked is known, in each of these functions, which the module defines.
+/// Checks that each selected constant is known in each of these functions, which the module defines.
 pub fn check_bodies(
     alloc: Global,
     functions: &[Function],
     setting: &ModuleSetting,
 ) -> Result<(), ConstantsFault>
-    ensures { Settles (AllByRecursion (Passes setting.now) functions.now) result }
+    ensures { SettlesConstants (AllByRecursion (Passes setting.now) functions.now) result }
 {
     let imported = setting.function_count().saturating_sub(functions.len());
     for (index, function) in functions.iter().enumerate() {
@@ -98,7 +98,7 @@ fn check_function(
     function: &Function,
     setting: &ModuleSetting,
 ) -> Result<(), ConstantsFault>
-    ensures { Settles (Passes setting.now function.now) result }
+    ensures { SettlesConstants (Passes setting.now function.now) result }
 {
     let Some(function_type) = setting.type_at(function.type_number) else {
         return Err(ConstantsFault::Breaks(Place {
@@ -107,13 +107,6 @@ fn check_function(
         }));
     };
     let outcome = first_of(function_type.results.as_slice());
-    let mut nesting = Nesting::new(alloc);
-    check_inside(
-        alloc,
-        outcome,
-        &function.body,
-        number,
-        setting,
-        &mut nesting,
-    )
+    let mut scope = Labels::new(alloc);
+    check_inside(alloc, outcome, &function.body, number, setting, &mut scope)
 }

@@ -1,13 +1,13 @@
-//! What is asked of one operand.
+//! The demand on one operand.
 
 ghost use Rattle.std.specs.Prelude.{◌≡◌};
 ghost use Rattle.bounded_profile.specs.inside.Tracking.{is_met};
 
-use crate::wants::Premise;
-use host_calls::SLOTS;
+use crate::requirements::Premise;
+use host_calls::AGGREGATORS;
 use wasm_ast::ValType;
 
-/// What is asked of an operand.
+/// The demand on an operand.
 #[derive(Clone, Copy)]
 pub enum Demand {
     /// Nothing.
@@ -16,7 +16,7 @@ pub enum Demand {
     Constant(ValType, Premise),
 }
 
-/// Whether the constant meets the premise, where the memory has so many bytes. Nothing wraps.
+/// Decides whether the constant meets the premise in a memory of this many bytes. Nothing wraps.
 pub fn is_met(bytes: u64, of: ValType, premise: Premise, constant: u64) -> bool
     ensures { result ≡ is_met bytes of premise constant }
 {
@@ -27,13 +27,13 @@ pub fn is_met(bytes: u64, of: ValType, premise: Premise, constant: u64) -> bool
         }
         Premise::Divides => constant != 0,
         Premise::DividesSigned => constant != 0 && constant != minus_one(of),
-        Premise::IsSlot => constant < u64::from(SLOTS),
+        Premise::IsSlot => constant < u64::from(AGGREGATORS),
     }
 }
 
 ghost use Rattle.bounded_profile.specs.Kinds.{minus_one};
 
-/// -1 of the type, read unsigned.
+/// Returns -1 of the type, read unsigned.
 fn minus_one(of: ValType) -> u64
     ensures { result ≡ minus_one of }
 {

@@ -11,7 +11,7 @@ use validate::Place;
 pub enum ConstantsFault {
     /// The instruction at this place lacks a constant.
     Breaks(Place),
-    /// Memory ran out.
+    /// An allocation failed.
     OutOfMemory,
 }
 

@@ -1,4 +1,5 @@
-//! Instructions that hold no others (Core 1.0, 3.3): what each asks of its operands, and what is known of what it gives.
+//! Instructions without inner code (Core 1.0, 3.3): the demands on their operands, and what is known of their
+//! results.
 
 ghost use Rattle.std.specs.Prelude.{◌≡◌, OnOk};
 ghost use Rattle.bounded_profile.specs.inside.Tracking.{Goes, operands_of, labels_of, plain_step, numeric_step, select_step, variable_step, memory_step, branch_step, call_step, call_indirect_step, take_parameters};
@@ -9,12 +10,12 @@ use crate::constants::fault::ConstantsFault;
 use crate::constants::operands::{Operand, Operands};
 use crate::constants::setting::ModuleSetting;
 use crate::memory_rules::number_of;
-use crate::wants::Premise;
+use crate::requirements::Premise;
 use std::alloc::AllocError;
-use validate::{Nesting, Place, first_of};
+use validate::{Labels, Place, first_of};
 use wasm_ast::{Branch, Memory, Numeric, Plain, ValType, Variable};
 
-/// Core 1.0, 3.3.1, 3.3.2 and `nop` of 3.3.5.
+/// Checks a plain instruction (Core 1.0, 3.3.1 to 3.3.4, and `nop` of 3.3.5).
 pub fn check_plain(
     plain: Plain,
     setting: &ModuleSetting,
@@ -55,7 +56,7 @@ fn select(operands: &mut Operands) -> Result<(), AllocError>
     operands.push(Operand::Unknown)
 }
 
-// Core 1.0, 3.3.1.
+// Checks a numeric instruction (Core 1.0, 3.3.1).
 fn check_numeric(
     op: Numeric,
     setting: &ModuleSetting,
@@ -80,7 +81,7 @@ fn check_numeric(
     }
 }
 
-// Core 1.0, 3.3.3.
+// Applies an access to a local or a global (Core 1.0, 3.3.3).
 fn move_variable(op: Variable, operands: &mut Operands) -> Result<(), AllocError>
     ensures { OnOk result (operands_of operands.new
         ≡ variable_step op (operands_of operands.old)) }
@@ -98,7 +99,7 @@ fn move_variable(op: Variable, operands: &mut Operands) -> Result<(), AllocError
     }
 }
 
-// Core 1.0, 3.3.4.
+// Checks a memory instruction (Core 1.0, 3.3.4).
 fn check_memory(
     op: Memory,
     setting: &ModuleSetting,
@@ -130,19 +131,19 @@ fn check_memory(
     }
 }
 
-/// Core 1.0, 3.3.5: `br`, `br_if`, `br_table` and `return`. After those that are always taken nothing comes.
+/// Checks a branch (Core 1.0, 3.3.5). Nothing comes after a branch that is always taken.
 pub fn check_branch(
     branch: &Branch,
-    nesting: &Nesting,
+    scope: &Labels,
     place: Place,
     operands: &mut Operands,
 ) -> Result<(), ConstantsFault>
-    ensures { Goes (branch_step (labels_of nesting.now) branch.now)
+    ensures { Goes (branch_step (labels_of scope.now) branch.now)
         operands.old operands.new result }
 {
     match branch {
         Branch::BrIf(label) => {
-            let Some(taken) = nesting.label_at(*label) else {
+            let Some(taken) = scope.label_at(*label) else {
                 return Err(ConstantsFault::Breaks(place));
             };
             let _condition = operands.pop();
@@ -154,7 +155,7 @@ pub fn check_branch(
     }
 }
 
-/// Core 1.0, 3.3.5: `call`.
+/// Checks a call (Core 1.0, 3.3.5). The number of an aggregator has to be a known constant.
 pub fn check_call(
     function: u32,
     setting: &ModuleSetting,
@@ -173,7 +174,7 @@ pub fn check_call(
     Ok(())
 }
 
-// Takes the parameters, of which the first may be a slot.
+// Takes the arguments, of which the first may be the number of an aggregator.
 fn pass_parameters(
     parameters: &[ValType],
     takes_slot: bool,
@@ -198,7 +199,7 @@ fn pass_parameters(
     }
 }
 
-/// Core 1.0, 3.3.5: `call_indirect`.
+/// Checks a `call_indirect` (Core 1.0, 3.3.5).
 pub fn check_call_indirect(
     type_number: u32,
     setting: &ModuleSetting,

@@ -20,7 +20,7 @@ pub enum Operand {
     Known(u64),
 }
 
-/// The operands, the topmost last.
+/// The operands; the last is the topmost.
 #[derive(Drop)]
 pub struct Operands {
     pub operands: Vec<Operand>,
@@ -39,7 +39,7 @@ fn fits(bytes: u64, demand: Demand, operand: Operand) -> bool
 }
 
 impl Operands {
-    /// No operands; it takes no memory.
+    /// Makes an empty stack. It allocates nothing.
     pub fn new(alloc: Global) -> Operands
         ensures { operands_of result ≡ [] }
     {
@@ -55,7 +55,7 @@ impl Operands {
         Ok(())
     }
 
-    /// Takes the topmost; of one that is not there nothing is known.
+    /// Takes the topmost operand. An operand that is not there is unknown.
     pub fn pop(&mut self) -> Operand
         ensures topmost { result ≡ top (operands_of self.old) }
         ensures left { operands_of self.new ≡ below (operands_of self.old) }
@@ -66,7 +66,7 @@ impl Operands {
         }
     }
 
-    /// The operand under so many others; of one that is not there nothing is known.
+    /// Returns the operand at this depth, where 0 is the topmost. An operand that is not there is unknown.
     pub fn at(&self, depth: usize) -> Operand
         ensures { result ≡ get_or (operands_of self.now) depth Unknown }
     {
@@ -78,7 +78,7 @@ impl Operands {
         }
     }
 
-    /// Takes and gives so many, of which nothing is known.
+    /// Takes and gives this many operands; those that it gives are unknown.
     pub fn pass(&mut self, arity: Arity) -> Result<(), AllocError>
         ensures { OnOk result (operands_of self.new ≡ known_after arity (operands_of self.old)) }
     {
@@ -91,7 +91,7 @@ impl Operands {
         Ok(())
     }
 
-    /// Takes one that is as demanded.
+    /// Takes the topmost operand and checks that it is as demanded.
     pub fn take(&mut self, demand: Demand, bytes: u64, place: Place) -> Result<(), ConstantsFault>
         ensures { Goes (take_one bytes demand) self.old self.new result }
     {
@@ -103,7 +103,7 @@ impl Operands {
         }
     }
 
-    /// Takes these, the first of which is topmost.
+    /// Takes operands that are as demanded, the topmost first.
     fn take_each(
         &mut self,
         demands: &[Demand],
@@ -127,7 +127,7 @@ impl Operands {
         }
     }
 
-    /// Takes these, the first of which is topmost, and gives one or none.
+    /// Takes operands that are as demanded, the topmost first. Then it gives one or none.
     pub fn change(
         &mut self,
         demands: &[Demand],
@@ -142,7 +142,7 @@ impl Operands {
         Ok(())
     }
 
-    /// Takes one for each of the types.
+    /// Takes one operand for each of the types, without a check.
     pub fn forget_each(&mut self, types: &[ValType])
         ensures { operands_of self.new ≡ forget_each types.now (operands_of self.old) }
     {
@@ -152,7 +152,7 @@ impl Operands {
         }
     }
 
-    /// Takes a result, where there is one.
+    /// Takes a result, if the type has one, without a check.
     pub fn forget_result(&mut self, taken: BlockType)
         ensures { operands_of self.new ≡ forget_result taken (operands_of self.old) }
     {
@@ -161,7 +161,7 @@ impl Operands {
         }
     }
 
-    /// Gives a result, where there is one, of which nothing is known.
+    /// Gives a result, if the type has one, which is unknown.
     pub fn give(&mut self, given: BlockType) -> Result<(), AllocError>
         ensures { OnOk result (operands_of self.new ≡ unknowns given ++ operands_of self.old) }
     {

@@ -1,4 +1,4 @@
-//! What instructions are looked at in, the same for all functions of a module.
+//! The context in which instructions are checked, the same for all functions of a module.
 
 ghost use Rattle.std.specs.Prelude.{◌≡◌, slice_get, IfOk};
 ghost use Rattle.std.specs.List.{filter_map};
@@ -14,15 +14,15 @@ use std::alloc::{AllocError, Global};
 use std::marker::Model;
 use wasm_ast::{FuncType, Function, Import, ImportDescription, Module};
 
-/// What instructions are looked at in.
+/// The context in which instructions are checked.
 #[derive(Drop)]
 pub struct ModuleSetting<'a> {
     pub types: &'a [FuncType],
-    // the type number of each function, the imports first
+    // The type number of each function, imports first.
     functions: Vec<u32>,
-    // what each imported function is by its name
+    // The host call of each imported function, by its name.
     host_calls: Vec<Option<HostCall>>,
-    /// How many bytes the memory begins with, and stays at.
+    /// The bytes of the memory. It never grows.
     pub bytes: u64,
     pub asks: Asks,
 }
@@ -42,7 +42,7 @@ impl<'a> Model for ModuleSetting<'a> {
 }
 
 impl<'a> ModuleSetting<'a> {
-    /// The setting of a module, in which these constants are asked.
+    /// Makes the setting of a module, for the constants that `asks` selects.
     pub fn new(
         alloc: Global,
         module: &'a Module,
@@ -60,7 +60,7 @@ impl<'a> ModuleSetting<'a> {
         })
     }
 
-    /// How many functions there are, imports counted.
+    /// Counts the functions, imports included.
     pub fn function_count(&self) -> usize {
         self.functions.len()
     }
@@ -71,7 +71,7 @@ impl<'a> ModuleSetting<'a> {
         self.types.get(number as usize)
     }
 
-    /// The type of the function with this number.
+    /// Returns the type of the function with this number.
     pub fn called(&self, number: u32) -> Option<&FuncType>
         ensures { option_copied result ≡ called self.now number }
     {
@@ -81,7 +81,7 @@ impl<'a> ModuleSetting<'a> {
         }
     }
 
-    /// Whether the first parameter of the function with this number is a slot.
+    /// Decides whether the first parameter of the function with this number is the number of an aggregator.
     pub fn takes_slot(&self, number: u32) -> bool
         ensures { result ≡ takes_slot (host_called self.now number) }
     {
@@ -92,7 +92,7 @@ impl<'a> ModuleSetting<'a> {
     }
 }
 
-// The type number of each function.
+// Lists the type number of each function, imports first.
 fn function_types(
     alloc: Global,
     imports: &[Import],
@@ -116,7 +116,7 @@ fn imported_function(description: ImportDescription) -> Option<u32>
     }
 }
 
-// What each imported function is by its name.
+// Lists the host call of each imported function, by its name.
 fn host_calls(alloc: Global, imports: &[Import]) -> Result<Vec<Option<HostCall>>, AllocError>
     ensures { IfOk result (λ v. v.items ≡ filter_map imported_call imports.now) }
 {
@@ -126,7 +126,7 @@ fn host_calls(alloc: Global, imports: &[Import]) -> Result<Vec<Option<HostCall>>
         .collect(alloc)
 }
 
-// What an import is by its name, if it is a function.
+// Returns the host call that an import names, if the import is a function.
 #[tactic(auto, unfolding(crate::specs::inside::Tracking::imported_call))]
 fn imported_call(import: &Import) -> Option<Option<HostCall>>
     ensures { result ≡ imported_call import.now }

@@ -1,4 +1,4 @@
--- How a call begins, and how it ends.
+-- The beginning and the end of a call.
 use Rattle.std.specs.Prelude.{◌≡◌, ◌+◌, ◌<◌, ◌≤◌, ℕ, List, [], ◌∷◌, length, map, nat_le, replicate, slice_get, Option, Some, None, if◌then◌else◌}
 use Rattle.std.specs.Option.{option_and_then}
 use Rattle.wasm_ast.specs.declared.types.Value.{Value}
@@ -18,9 +18,9 @@ use Rattle.interp.specs.Configuration.{State}
 use Rattle.interp.specs.Machine.{Machine, defined, functions_of, run}
 use Rattle.interp.specs.inside.Meaning.{room_of}
 use Rattle.interp.specs.inside.Place.{Place, Room, Standing, at}
-use Rattle.interp.specs.Room.{most_layers, most_locals}
+use Rattle.interp.specs.Room.{most_entries, most_locals}
 use Rattle.interp.specs.Start.{Begins, Starts, constant_value, initial_globals, initial_memory}
-use Rattle.interp.specs.declared.rooms.Rooms.{Rooms}
+use Rattle.interp.specs.declared.buffers.Buffers.{Buffers}
 use Rattle.interp.specs.inside.Cells.{cell_of, zero_cells}
 use Rattle.interp.specs.inside.Given.{HasGiven}
 use Rattle.interp.specs.inside.Fits.{AreFit}
@@ -54,7 +54,7 @@ pub record AreInitial (globals : List Global) (cells : List Value) : Type 0 wher
   pub are : map cell_of values ≡ cells
   pub fit : AreFit values
 
--- segments over the bytes that are kept, at the number of a cell
+-- writes segments over the kept bytes, at the number of a cell
 abbrev pub cell_laid_at : Option Value → List ℕ → List ℕ → Option (List ℕ)
 cell_laid_at None segment bytes = None
 cell_laid_at (Some v) segment bytes =
@@ -70,7 +70,7 @@ cells_laid_in cells (d ∷ ds) bytes = option_and_then (λ laid. cells_laid_in c
 abbrev pub cell_memory_laid : List Value → Module → Option (List ℕ)
 cell_memory_laid cells m = cells_laid_in cells m.data (masked (marks m) (replicate (memory_bytes m) 0))
 
--- what is kept of the memory that a call begins with
+-- the kept bytes of the initial memory
 pub record AreInitialBytes (m : Module) (globals : List Value) (kept : List ℕ) : Type 0 where
   pub whole : List ℕ
   pub initial : initial_memory globals m ≡ Some whole
@@ -90,22 +90,22 @@ pub record HasInitial (m : Module) : Type 0 where
   pub initial_values : initial_globals m.globals ≡ Some globals
   pub initial_bytes : initial_memory globals m ≡ Some bytes
 
--- the lists hold what a call of the function begins with
-pub record AreLaid (m : Module) (function : Function) (rooms : Rooms) : Type 0 where
-  pub layers : rooms.layers.items ≡ []
-  pub operands : rooms.operands.here ≡ []
-  pub operands_below : rooms.operands.below.values ≡ []
-  pub locals : rooms.locals.here ≡ zero_cells function.locals
-  pub locals_below : rooms.locals.below.values ≡ []
-  pub image : IsImage m rooms.globals.here rooms.memory
+-- the buffers hold what a call of the function begins with
+pub record AreReset (m : Module) (function : Function) (buffers : Buffers) : Type 0 where
+  pub entries : buffers.entries.items ≡ []
+  pub operands : buffers.operands.here ≡ []
+  pub operands_below : buffers.operands.below.values ≡ []
+  pub locals : buffers.locals.here ≡ zero_cells function.locals
+  pub locals_below : buffers.locals.below.values ≡ []
+  pub image : IsImage m buffers.globals.here buffers.memory
 
--- a call begins with this code where a run stands so
+-- a call begins with this code in this state
 pub record IsBeginning (m : Module) (code : Code) (input : CallInput) (s : Standing) : Type 0 where
   pub from : Machine
   pub starts : Starts m input from
   pub follows : Follows m from (at s code 0)
 
--- each call comes to its end within so many units
+-- each call ends within this many units
 abbrev pub EndsEachWithin : Module → CallInput → (most : ℕ) → Type 0
 EndsEachWithin m input most = (from : Machine) → Starts m input from → EndsWithin m from most
 
@@ -114,21 +114,22 @@ abbrev pub EndsInRoom : Module → CallInput → (most : ℕ) → Room → Type 
 EndsInRoom m input most room =
     (from : Machine) → Starts m input from → EndsWithin m from most × ((n : ℕ) → IsWithinRoom room (run m n from))
 
--- the room of the lists
-abbrev pub room_in : Rooms → Room
-room_in rooms = room_of rooms.layers rooms.operands rooms.locals rooms.globals rooms.memory
+-- the room of the buffers
+abbrev pub room_in : Buffers → Room
+room_in buffers = room_of buffers.entries buffers.operands buffers.locals buffers.globals buffers.memory
 
--- the globals begin with what the module says, there are as many bytes as it reaches, and room for the locals of a function
+-- the initial globals are those of the module, it reaches as many bytes, and there is room for the locals of a
+-- function
 pub record HasStartRoom (m : Module) (function : Function) (room : Room) : Type 0 where
   pub locals : length function.locals ≤ room.locals
   pub globals : AreInitial m.globals room.globals
   pub bytes : room.bytes ≡ marked_before (marks m) (memory_bytes m)
 
--- there is room for all that may stand at a time
+-- there is room for the most that a call has at a time
 pub record HasRoom (m : Module) (room : Room) : Type 0 where
   pub frames : ℕ
   pub told : (compute : HasCompute m) → IsDepthAt m compute.number frames
-  pub few_layers : most_layers frames < room.layers
+  pub few_entries : most_entries frames < room.entries
   pub height : ℕ
   pub told_height : (compute : HasCompute m) → IsHeightAt m compute.number height
   pub few_operands : height < room.operands
@@ -136,7 +137,7 @@ pub record HasRoom (m : Module) (room : Room) : Type 0 where
   pub globals : AreInitial m.globals room.globals
   pub bytes : room.bytes ≡ marked_before (marks m) (memory_bytes m)
 
--- the call sends something, or gives something to a slot
+-- the call sends something, or contributes to an aggregator
 abbrev pub Sends : Module → CallInput → Type 0
 Sends m input = (from : Machine) × Starts m input from × ((n : ℕ) × HasGiven (run m n from))
 
@@ -144,6 +145,6 @@ Sends m input = (from : Machine) × Starts m input from × ((n : ℕ) × HasGive
 abbrev pub EndsWith : Module → Machine → CallOutcome → Type 0
 EndsWith m from outcome = (final : State) × Finishes m from final × Leaves outcome final.host final.count
 
--- each run over values that comes by here does, where it ends within so many units
+-- each run over values that passes here ends so, if it ends within this many units
 abbrev pub EndsFrom : Module → Place → (most : ℕ) → CallOutcome → Type 0
 EndsFrom m here most outcome = (from : Machine) → Follows m from here → EndsWithin m from most → EndsWith m from outcome

@@ -1,7 +1,7 @@
--- The machine over cells, which know no type: a cell stands here as the i64 of its number. An instruction sees the operands
--- that it takes as it wants them, an i32 in the lowest 32 bits, and its result is a cell. There is no step to a result that a
--- test refuses: a step is asked for with results of any width, and told with those within theirs. The memory stands as it is
--- kept, and a load or a store of bytes that are not kept traps.
+-- The machine over cells, which have no type: a cell is the i64 of its number. An instruction reads its operands as
+-- the types that it takes, an i32 from the lowest 32 bits, and its result is a cell. There is no step to a result
+-- that the test `may` refuses. A proof requires a step with results of any width, and yields one with results within
+-- their width. The memory is the list of its kept bytes, and a load or a store of other bytes traps.
 use Rattle.std.specs.Prelude.{List, [], ◌∷◌, ◌+◌, ◌%◌, ◌^◌, ℕ, map, slice_get, nat_lt, Bool, true, Option, Some, None, false, if◌then◌else◌}
 use Rattle.wasm_ast.specs.declared.types.ValType.{ValType}
 use Rattle.wasm_ast.specs.declared.types.ValType.TheVariants as val_type
@@ -28,7 +28,7 @@ use Rattle.interp.specs.Configuration.{State, Effect, Gives, Traps, Misses, tick
 use Rattle.interp.specs.Effects.{value, effect, load_effect, numeric_effect, popped, store_effect, variable_effect, memory_effect, call_effect}
 use Rattle.interp.specs.inside.Kept.{kept_read, kept_write, masked}
 use Rattle.interp.specs.inside.Place.{Place}
-use Rattle.interp.specs.Machine.{Machine, Running, Done, Trapped, Stuck, Layer, Label, Frame, Callee, host, defined, functions_of, after_effect, arm, enter, has_result, leave, next_units, take_branch, taking}
+use Rattle.interp.specs.Machine.{Machine, Running, Done, Trapped, Stuck, ControlEntry, Label, Frame, Callee, host, defined, functions_of, after_effect, arm, enter, has_result, leave, next_units, take_branch, taking}
 
 -- ---- values as cells
 
@@ -36,39 +36,39 @@ abbrev pub cell_of : Value → Value
 cell_of (I32 n) = I64 n
 cell_of (I64 n) = I64 n
 
--- the memory of which these bytes are kept
+-- a state over cells; its memory has only the marked bytes
 abbrev pub cells_state : List Bool → State → State
 cells_state ms st =
     record st { locals = map cell_of st.locals; globals = map cell_of st.globals; memory = masked ms st.memory }
 
-abbrev pub cells_layer : Layer → Layer
-cells_layer (Label keeps vs target after) = Label keeps (map cell_of vs) target after
-cells_layer (Frame keeps locals vs after) = Frame keeps (map cell_of locals) (map cell_of vs) after
+abbrev pub cells_entry : ControlEntry → ControlEntry
+cells_entry (Label keeps vs target after) = Label keeps (map cell_of vs) target after
+cells_entry (Frame keeps locals vs after) = Frame keeps (map cell_of locals) (map cell_of vs) after
 
 abbrev pub cells : List Bool → Machine → Machine
-cells ms (Running vs is ls st) = Running (map cell_of vs) is (map cells_layer ls) (cells_state ms st)
+cells ms (Running vs is ls st) = Running (map cell_of vs) is (map cells_entry ls) (cells_state ms st)
 cells ms (Done st) = Done (cells_state ms st)
 cells ms (Trapped count) = Trapped count
 cells ms (Stuck count) = Stuck count
 
 abbrev pub cells_place : List Bool → Place → Place
 cells_place ms p =
-    record { values = map cell_of p.values; code = p.code; layers = map cells_layer p.layers; state = cells_state ms p.state }
+    record { values = map cell_of p.values; code = p.code; entries = map cells_entry p.entries; state = cells_state ms p.state }
 
 -- ---- what instructions do to cells
 
--- the number of a cell as one of a type
+-- the number of a cell, read as a type
 abbrev pub narrowed : ValType → ℕ → ℕ
 narrowed val_type.I32 n = n % 2 ^ 32
 narrowed val_type.I64 n = n
 
--- the topmost operands as values of these types
+-- the topmost operands, read as these types
 abbrev pub seen : List ValType → List Value → List Value
 seen [] vs = vs
 seen (t ∷ ts) [] = []
 seen (t ∷ ts) (v ∷ vs) = value t (narrowed t (number_of v)) ∷ seen ts vs
 
--- the two tests of a result: that it is any at all, and that its cell is no wider than its type
+-- the two tests of a result: one accepts any, the other those within the width of their type
 abbrev pub of_any_width : Value → Bool
 of_any_width v = true
 
@@ -76,7 +76,7 @@ abbrev pub in_width : Value → Bool
 in_width (I32 n) = nat_lt n (2 ^ 32)
 in_width (I64 n) = true
 
--- the operand on top becomes a cell, if there may be such a result
+-- the topmost operand becomes a cell, if the test accepts it
 abbrev pub topped : (Value → Bool) → Effect → Effect
 topped may (Gives [] st) = Gives [] st
 topped may (Gives (v ∷ vs) st) = if may v then Gives (cell_of v ∷ vs) st else Misses
@@ -86,7 +86,7 @@ topped may Misses = Misses
 abbrev pub cell_numeric : (Value → Bool) → Numeric → List Value → State → Effect
 cell_numeric may op vs st = topped may (numeric_effect op (seen (numeric_takes op) vs) st)
 
--- on a memory as it is kept
+-- the effect on a memory with kept bytes
 abbrev pub kept_effect : Memory → List Value → State → Effect
 kept_effect (memory.Load op a) vs st =
     popped val_type.I32 vs (λ i us. load_effect op (kept_read (i + a.offset) (load_width op) st.memory) us st)
@@ -110,7 +110,7 @@ cell_effect may (plain.Numeric op) vs st = cell_numeric may op vs st
 cell_effect may (plain.Variable op) vs st = variable_effect op vs st
 cell_effect may (plain.Memory op) vs st = cell_memory may op vs st
 
--- what a call of the host takes, the topmost first
+-- the types of the arguments of a host call, the topmost first
 abbrev pub call_takes : HostCall → List ValType
 call_takes call.SetValue = val_type.I64 ∷ []
 call_takes call.Send = val_type.I64 ∷ val_type.I64 ∷ []
@@ -132,10 +132,10 @@ branch_takes (branch.BrIf l) = val_type.I32 ∷ []
 branch_takes (branch.BrTable labels other) = val_type.I32 ∷ []
 branch_takes branch.Return = []
 
-abbrev pub cell_branch : Branch → List Value → Code → List Layer → State → Machine
+abbrev pub cell_branch : Branch → List Value → Code → List ControlEntry → State → Machine
 cell_branch b vs is ls st = take_branch b (seen (branch_takes b) vs) is ls st
 
--- a function whose locals all begin as the cell 0
+-- the locals of a function all begin as the cell 0
 abbrev pub as_cells : List ValType → List ValType
 as_cells ts = map (λ _. val_type.I64) ts
 
@@ -149,12 +149,12 @@ abbrev pub cell_host : (Value → Bool) → Option HostCall → List Value → S
 cell_host may None vs st = Misses
 cell_host may (Some c) vs st = cell_call may c vs st
 
-abbrev pub cell_take_call : (Value → Bool) → Module → Option Callee → List Value → Code → List Layer → State → Machine
+abbrev pub cell_take_call : (Value → Bool) → Module → Option Callee → List Value → Code → List ControlEntry → State → Machine
 cell_take_call may m None vs is ls st = Stuck st.count
 cell_take_call may m (Some (host c)) vs is ls st = after_effect (cell_host may c vs st) is ls st.count
 cell_take_call may m (Some (defined f)) vs is ls st = enter (celled f) (slice_get m.types f.type_number) vs is ls st
 
-abbrev pub cell_next : (Value → Bool) → Module → List Value → Code → List Layer → State → Machine
+abbrev pub cell_next : (Value → Bool) → Module → List Value → Code → List ControlEntry → State → Machine
 cell_next may m vs code.end ls st = leave vs ls st
 cell_next may m vs (code.plain p is) ls st = after_effect (cell_effect may p vs st) is ls st.count
 cell_next may m vs (code.branch b is) ls st = cell_branch b vs is ls st

@@ -1,9 +1,9 @@
--- Values that fit their type: an i32 is below 2 ^ 32, so that it is its cell.
+-- Values that fit their type: an i32 is below 2 ^ 32, so it equals its cell.
 use Rattle.std.specs.Prelude.{◌^◌, ◌<◌, List, [], ◌∷◌}
 use Rattle.wasm_ast.specs.declared.types.Value.{Value}
 use Rattle.wasm_ast.specs.declared.types.Value.TheVariants.{I32, I64}
 use Rattle.interp.specs.Configuration.{State}
-use Rattle.interp.specs.Machine.{Machine, Running, Done, Trapped, Stuck, Layer, Label, Frame}
+use Rattle.interp.specs.Machine.{Machine, Running, Done, Trapped, Stuck, ControlEntry, Label, Frame}
 
 abbrev pub IsFit : Value → Type 0
 IsFit (I32 n) = n < 2 ^ 32
@@ -16,14 +16,14 @@ AreFit (v ∷ vs) = IsFit v × AreFit vs
 abbrev pub StateFits : State → Type 0
 StateFits st = AreFit st.locals × AreFit st.globals
 
-abbrev pub LayersFit : List Layer → Type 0
-LayersFit [] = Unit {0}
-LayersFit (Label keeps vs target after ∷ ls) = AreFit vs × LayersFit ls
-LayersFit (Frame keeps locals vs after ∷ ls) = AreFit locals × (AreFit vs × LayersFit ls)
+abbrev pub EntriesFit : List ControlEntry → Type 0
+EntriesFit [] = Unit {0}
+EntriesFit (Label keeps vs target after ∷ ls) = AreFit vs × EntriesFit ls
+EntriesFit (Frame keeps locals vs after ∷ ls) = AreFit locals × (AreFit vs × EntriesFit ls)
 
 -- all values of a machine that runs fit
 abbrev pub MachineFits : Machine → Type 0
-MachineFits (Running vs is ls st) = AreFit vs × (LayersFit ls × StateFits st)
+MachineFits (Running vs is ls st) = AreFit vs × (EntriesFit ls × StateFits st)
 MachineFits (Done st) = Unit {0}
 MachineFits (Trapped count) = Unit {0}
 MachineFits (Stuck count) = Unit {0}

@@ -1,4 +1,4 @@
--- What a call has sent and given to slots so far.
+-- What a call has sent and contributed to aggregators so far.
 use Rattle.std.specs.Prelude.{ℕ, ◌+◌, ◌≤◌, length, Bool, true, false}
 use Rattle.host_calls.specs.declared.imports.HostCall.{HostCall}
 use Rattle.host_calls.specs.declared.imports.HostCall.TheVariants as call
@@ -8,7 +8,7 @@ use Rattle.interp.specs.Machine.{Machine, Running, Done, Trapped, Stuck}
 abbrev pub given : Host → ℕ
 given h = length h.sends + length h.contributions
 
--- there is something
+-- there is at least one message or contribution
 abbrev pub HostHasGiven : Host → Type 0
 HostHasGiven h = 1 ≤ given h
 
@@ -18,7 +18,7 @@ HasGiven (Done st) = HostHasGiven st.host
 HasGiven (Trapped count) = ⊥
 HasGiven (Stuck count) = ⊥
 
--- the calls that send something, or give something to a slot
+-- the host calls that send something, or contribute to an aggregator
 abbrev pub gives : HostCall → Bool
 gives call.Send = true
 gives call.Aggregate = true

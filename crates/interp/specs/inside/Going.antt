@@ -1,4 +1,4 @@
--- That a step is there and does not trap, and what its parts ask for that.
+-- That there is a step that does not trap, and what its parts require.
 use Rattle.std.specs.Prelude.{ℕ, zero, suc, ◌+◌, List, [], ◌∷◌, length, Bool, true, false, ◌&&◌, not, nat_lt, slice_get}
 use Rattle.std.specs.Option.{is_some}
 use Rattle.wasm_ast.specs.declared.types.ValType.{ValType}
@@ -16,12 +16,12 @@ use Rattle.wasm_ast.specs.declared.plain.Plain.TheVariants as plain
 use Rattle.wasm_ast.specs.Code.{Code}
 use Rattle.wasm_ast.specs.Numeric.{bits_of, division_traps}
 use Rattle.wasm_ast.specs.Widths.{load_width, store_width}
-use Rattle.host_calls.specs.declared.call.TheConstants.{SLOTS}
+use Rattle.host_calls.specs.declared.call.TheConstants.{AGGREGATORS}
 use Rattle.host_calls.specs.declared.imports.HostCall.{HostCall}
 use Rattle.host_calls.specs.declared.imports.HostCall.TheVariants as call
 use Rattle.bounded_profile.specs.Memory.{number_of}
 use Rattle.interp.specs.Configuration.{State}
-use Rattle.interp.specs.Machine.{Machine, Running, Done, Trapped, Stuck, Layer, Label, Frame}
+use Rattle.interp.specs.Machine.{Machine, Running, Done, Trapped, Stuck, ControlEntry, Label, Frame}
 use Rattle.interp.specs.inside.Cells.{narrowed}
 use Rattle.interp.specs.inside.Kept.{is_kept}
 use Rattle.interp.specs.inside.Place.{Standing, state_of}
@@ -34,11 +34,11 @@ is_going (Trapped count) = false
 is_going (Stuck count) = false
 
 -- a part of the walk goes on from this place
-abbrev pub goes_on : (List Value → Code → List Layer → State → Machine) → Code → (count : ℕ) → Standing → Bool
-goes_on step code count s = is_going (step s.values code s.layers (state_of s count))
+abbrev pub goes_on : (List Value → Code → List ControlEntry → State → Machine) → Code → (count : ℕ) → Standing → Bool
+goes_on step code count s = is_going (step s.values code s.entries (state_of s count))
 
--- so many labels are innermost
-abbrev pub has_labels : ℕ → List Layer → Bool
+-- this many labels are innermost
+abbrev pub has_labels : ℕ → List ControlEntry → Bool
 has_labels zero ls = true
 has_labels (suc l) [] = false
 has_labels (suc l) (Label keeps values target after ∷ ls) = has_labels l ls
@@ -46,13 +46,13 @@ has_labels (suc l) (Frame keeps locals values after ∷ ls) = false
 
 -- ---- operands, the topmost first
 
--- there are so many
+-- there are this many operands
 abbrev pub has_tops : ℕ → List Value → Bool
 has_tops zero vs = true
 has_tops (suc n) [] = false
 has_tops (suc n) (v ∷ vs) = has_tops n vs
 
--- this holds of the number on top, seen as one of a type, and of the one below it
+-- this holds of the topmost number, read as a type, or of the one below it
 abbrev pub of_top : ValType → (ℕ → Bool) → List Value → Bool
 of_top t p [] = true
 of_top t p (v ∷ vs) = p (narrowed t (number_of v))
@@ -61,7 +61,7 @@ abbrev pub of_next : ValType → (ℕ → Bool) → List Value → Bool
 of_next t p [] = true
 of_next t p (v ∷ vs) = of_top t p vs
 
--- the number on top divides the one below it
+-- the topmost number divides the one below it without a trap
 abbrev pub divides : ValType → Division → List Value → Bool
 divides t op [] = true
 divides t op (v ∷ vs) = of_top t (λ n. not (division_traps (bits_of t) op n (narrowed t (number_of v)))) vs
@@ -83,7 +83,7 @@ variable_asks (variable.LocalTee x) vs locals globals = nat_lt 0 (length vs) && 
 variable_asks (variable.GlobalGet x) vs locals globals = is_some (slice_get globals x)
 variable_asks (variable.GlobalSet x) vs locals globals = nat_lt 0 (length vs) && nat_lt x (length globals)
 
--- the bytes of an access are there and kept, at an address
+-- the bytes of an access exist and are kept, at an address
 abbrev pub reaches : (offset width : ℕ) → (bytes : List ℕ) → ℕ → Bool
 reaches offset width bytes i = is_kept (i + offset) width bytes
 
@@ -104,10 +104,10 @@ plain_asks (plain.Numeric op) vs locals globals bytes = numeric_asks op vs
 plain_asks (plain.Variable op) vs locals globals bytes = variable_asks op vs locals globals
 plain_asks (plain.Memory op) vs locals globals bytes = memory_asks op vs bytes
 
--- a call of the host asks its arguments, and that a slot among them is none past the last
+-- a host call requires its arguments, and that the number of an aggregator is in range
 abbrev pub call_asks : HostCall → List Value → Bool
 call_asks call.SetValue vs = has_tops 1 vs
 call_asks call.Send vs = has_tops 2 vs
-call_asks call.Aggregate vs = has_tops 2 vs && of_next val_type.I32 (λ slot. nat_lt slot SLOTS) vs
-call_asks call.Aggregated vs = has_tops 1 vs && of_top val_type.I32 (λ slot. nat_lt slot SLOTS) vs
+call_asks call.Aggregate vs = has_tops 2 vs && of_next val_type.I32 (λ slot. nat_lt slot AGGREGATORS) vs
+call_asks call.Aggregated vs = has_tops 1 vs && of_top val_type.I32 (λ slot. nat_lt slot AGGREGATORS) vs
 call_asks _ vs = true

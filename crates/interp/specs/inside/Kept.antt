@@ -1,5 +1,5 @@
--- What the walk keeps of a memory: the bytes that some load or store of the module reaches. A memory so kept stands here as
--- a number for each byte, 0 where the byte is not kept, and else one more than the byte.
+-- The bytes of a memory that a walk keeps: those that some load or store of the module reaches. Its model is a list
+-- with a number for each byte: 0 where the byte is not kept, else one more than the byte.
 use Rattle.std.specs.Prelude.{◌≡◌, ℕ, zero, suc, ◌+◌, ◌<◌, List, [], ◌∷◌, length, map, take, drop, get_or, nat_le, Bool, true, false, ◌&&◌, Option, Some, None, if◌then◌else◌}
 use Rattle.wasm_ast.specs.declared.types.Value.{Value}
 use Rattle.wasm_ast.specs.declared.plain.Memory.{Memory}
@@ -16,7 +16,7 @@ use Rattle.interp.specs.Memory.{bytes_of_number, number_of_bytes}
 
 -- ---- which bytes are kept
 
--- whether each of so many bytes is reached, from one on
+-- whether each of `count` bytes is reached, from `byte` on
 abbrev pub marks_from : Module → (byte count : ℕ) → List Bool
 marks_from m byte zero = []
 marks_from m byte (suc count) = is_reached m byte ∷ marks_from m (suc byte) count
@@ -24,11 +24,11 @@ marks_from m byte (suc count) = is_reached m byte ∷ marks_from m (suc byte) co
 abbrev pub marks : Module → List Bool
 marks m = marks_from m 0 (memory_bytes m)
 
--- so many bytes from a place on are all marked
+-- all bytes from a place on, this many, are marked
 abbrev pub AreMarked : List Bool → (place width : ℕ) → Type 0
 AreMarked ms place width = (k : ℕ) → k < width → get_or ms (place + k) false ≡ true
 
--- a rule holds of the place and the width that an instruction loads or stores
+-- a rule holds of the place and the width of a load or a store
 abbrev pub MemoryTouches : ((place width : ℕ) → Type 0) → Memory → List Value → Type 0
 MemoryTouches R (memory.Load op a) (v ∷ vs) = R (number_of v + a.offset) (load_width op)
 MemoryTouches R (memory.Store op a) (n ∷ v ∷ vs) = R (number_of v + a.offset) (store_width op)
@@ -38,28 +38,28 @@ abbrev pub PlainTouches : ((place width : ℕ) → Type 0) → Plain → List Va
 PlainTouches R (plain.Memory op) vs = MemoryTouches R op vs
 PlainTouches R _ vs = Unit {0}
 
--- the next instruction
+-- the same for the next instruction
 abbrev pub Touches : ((place width : ℕ) → Type 0) → Machine → Type 0
 Touches R (Running vs (code.plain p is) ls st) = PlainTouches R p vs
 Touches R _ = Unit {0}
 
 -- ---- what is kept
 
--- how many of the marked bytes lie before this one
+-- the number of marked bytes before this one
 abbrev pub marked_before : List Bool → ℕ → ℕ
 marked_before ms zero = 0
 marked_before [] (suc byte) = 0
 marked_before (true ∷ ms) (suc byte) = suc (marked_before ms byte)
 marked_before (false ∷ ms) (suc byte) = marked_before ms byte
 
--- what is kept of a whole memory
+-- the kept bytes of a whole memory
 abbrev pub masked : List Bool → List ℕ → List ℕ
 masked ms [] = []
 masked [] (b ∷ bs) = 0 ∷ masked [] bs
 masked (true ∷ ms) (b ∷ bs) = suc b ∷ masked ms bs
 masked (false ∷ ms) (b ∷ bs) = 0 ∷ masked ms bs
 
--- bytes that lie together, each at the next place that is marked
+-- adjacent bytes, each at the next marked place
 abbrev pub spread : List Bool → List ℕ → List ℕ
 spread [] bs = []
 spread (false ∷ ms) bs = 0 ∷ spread ms bs
@@ -71,13 +71,13 @@ are_kept [] = true
 are_kept (zero ∷ bs) = false
 are_kept (suc b ∷ bs) = are_kept bs
 
--- how many are kept
+-- the number of kept bytes
 abbrev pub count_kept : List ℕ → ℕ
 count_kept [] = 0
 count_kept (zero ∷ bs) = count_kept bs
 count_kept (suc b ∷ bs) = suc (count_kept bs)
 
--- so many bytes from a place on are there, and all are kept
+-- all bytes from a place on, this many, exist and are kept
 abbrev pub is_kept : (place width : ℕ) → List ℕ → Bool
 is_kept place width bytes = nat_le (place + width) (length bytes) && are_kept (take width (drop place bytes))
 
@@ -85,12 +85,12 @@ abbrev pub byte_of : ℕ → ℕ
 byte_of zero = 0
 byte_of (suc b) = b
 
--- the number in so many bytes from a place on, if all of them are kept
+-- the number in `width` bytes from a place on, if all of them are kept
 abbrev pub kept_read : (place width : ℕ) → List ℕ → Option ℕ
 kept_read place width bytes =
     if is_kept place width bytes then Some (number_of_bytes (map byte_of (take width (drop place bytes)))) else None
 
--- others in the stead of the first bytes that are kept
+-- replaces the first kept bytes
 abbrev pub over : (others bytes : List ℕ) → List ℕ
 over [] bs = bs
 over (o ∷ os) [] = []
@@ -103,11 +103,11 @@ laid_over zero others bytes = over others bytes
 laid_over (suc place) others [] = []
 laid_over (suc place) others (b ∷ bytes) = b ∷ laid_over place others bytes
 
--- others in the stead of the bytes from a place on, if all of those are kept
+-- replaces the bytes from a place on, if all of those are kept
 abbrev pub kept_laid : (place : ℕ) (others bytes : List ℕ) → Option (List ℕ)
 kept_laid place others bytes =
     if is_kept place (length others) bytes then Some (laid_over place others bytes) else None
 
--- the lowest bytes of a number in the stead of so many
+-- replaces `width` bytes from a place on by the lowest bytes of a number
 abbrev pub kept_write : (place width n : ℕ) → List ℕ → Option (List ℕ)
 kept_write place width n bytes = kept_laid place (bytes_of_number width n) bytes

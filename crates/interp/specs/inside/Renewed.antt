@@ -3,12 +3,12 @@ use Rattle.std.specs.Prelude.{◌≡◌, ◌<◌, ◌≤◌, ℕ, List, [], ◌�
 use Rattle.wasm_ast.specs.declared.types.Value.{Value}
 use Rattle.wasm_ast.specs.declared.types.Value.TheVariants.{I64}
 
--- the globals, and what they begin with
+-- the globals, and their initial values
 pub record Renewed : Type 0 where
   pub here : List Value
   pub initial : List Value
 
--- the initial value in the stead of one, and of those with these numbers
+-- sets one global, or those with these numbers, to the initial value
 abbrev pub put_one : (number : ℕ) (initial here : List Value) → List Value
 put_one number initial here = slice_set here number (get_or initial number (I64 0))
 
@@ -16,7 +16,7 @@ abbrev pub put_back : (numbers : List ℕ) (initial here : List Value) → List 
 put_back [] initial here = here
 put_back (n ∷ ns) initial here = put_back ns initial (put_one n initial here)
 
--- There is room for as many numbers as there are globals. While fewer are noted, those are all that were set.
+-- There is room for as many numbers as there are globals. While fewer are noted, they are all that were set.
 pub record AreRenewed (initial here : List Value) (numbers : List ℕ) (room : ℕ) : Type 0 where
   pub long : length here ≡ length initial
   pub spare : length here ≤ room

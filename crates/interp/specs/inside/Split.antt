@@ -1,5 +1,5 @@
--- Operands and locals in two parts: those of the innermost layer or frame, and what lies below, with the room for all of
--- them. Operands stand with the topmost first, locals in order.
+-- Operands and locals in two parts: those of the innermost entry or frame, and those below, with the room for all of
+-- them. Operands are in order with the topmost first, locals with the first one first.
 use Rattle.std.specs.Prelude.{ℕ, ◌+◌, ◌-◌, ◌<◌, List, length}
 use Rattle.wasm_ast.specs.declared.types.Value.{Value}
 
@@ -11,11 +11,11 @@ pub record Split : Type 0 where
   pub here : List Value
   pub below : Below
 
--- how many there are
+-- the number of all
 abbrev pub all_of : Split → ℕ
 all_of s = length s.here + length s.below.values
 
--- how many more the innermost layer may have than none
+-- the room above those below
 abbrev pub free_of : Split → ℕ
 free_of s = s.below.room - length s.below.values
 

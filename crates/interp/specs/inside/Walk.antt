@@ -1,4 +1,4 @@
--- What the answers of the walk say of the machine's run.
+-- What the results of the walk say of the machine's run.
 use Rattle.std.specs.Prelude.{◌≡◌, ◌≢◌, ℕ, ◌+◌, ◌-◌, ◌*◌, ◌^◌, ◌<◌, ◌≤◌, List, [], ◌∷◌, length, slice_get, Bool, Option}
 use Rattle.wasm_ast.specs.declared.types.ValType.TheVariants.{I32}
 use Rattle.wasm_ast.specs.declared.types.Value.{Value}
@@ -10,70 +10,70 @@ use Rattle.interp.specs.declared.walk.Turn.{Turn}
 use Rattle.interp.specs.declared.walk.Turn.TheVariants as turn
 use Rattle.interp.specs.Configuration.{State}
 use Rattle.wasm_ast.specs.Limits.{max_locals}
-use Rattle.interp.specs.Heights.{layers, locals, operands}
-use Rattle.interp.specs.Machine.{Machine, Running, Done, Layer, Label, arm, arrive, back, enter, functions_of, jump, next_units, run, taking}
+use Rattle.interp.specs.Heights.{entries, locals, operands}
+use Rattle.interp.specs.Machine.{Machine, Running, Done, ControlEntry, Label, arm, arrive, back, enter, functions_of, jump, next_units, run, taking}
 use Rattle.interp.specs.inside.Cells.{cell_next, cell_take_call, celled, cells_place, cells_state, seen}
 use Rattle.interp.specs.inside.Given.{HasGiven}
 use Rattle.interp.specs.inside.Fits.{MachineFits}
 use Rattle.interp.specs.inside.Kept.{AreMarked, Touches, marks}
 use Rattle.interp.specs.inside.Place.{Place, Room, Standing, at, running, state_of}
 
--- the machine is this: it runs at the place that is answered, or is done
+-- the machine is this: it runs at the returned place, or is done
 abbrev pub Turned : Turn → Machine → Standing → Type 0
 Turned (turn.Next code count) x s = x ≡ running (at s (code_of code.now) count)
 Turned (turn.Finished count) x s = x ≡ Done (state_of s count)
 
--- ---- what the parts of a walk do, by the operands, the code, the layers and the state
+-- ---- what the parts of a walk do, by the operands, the code, the entries and the state
 
--- the walk was turned so from one place to another
-abbrev pub Turns : Turn → (List Value → Code → List Layer → State → Machine) → Code → (count : ℕ) → (old new : Standing) → Type 0
-Turns t step code count old new = Turned t (step old.values code old.layers (state_of old count)) new
+-- the walk turned from one place to another by this step
+abbrev pub Turns : Turn → (List Value → Code → List ControlEntry → State → Machine) → Code → (count : ℕ) → (old new : Standing) → Type 0
+Turns t step code count old new = Turned t (step old.values code old.entries (state_of old count)) new
 
--- an instruction taken off a whole sequence, of which the rest is the code
-abbrev pub taken : (Value → Bool) → Module → (whole : Code) → List Value → Code → List Layer → State → Machine
+-- takes an instruction off a whole sequence, of which the rest is the code
+abbrev pub taken : (Value → Bool) → Module → (whole : Code) → List Value → Code → List ControlEntry → State → Machine
 taken may m whole vs is ls st = cell_next may m vs whole ls st
 
--- a sequence in a label
-abbrev pub opened : (keeps : Bool) (target body : Code) → List Value → Code → List Layer → State → Machine
+-- enters a sequence in a label
+abbrev pub opened : (keeps : Bool) (target body : Code) → List Value → Code → List ControlEntry → State → Machine
 opened keeps target body vs is ls st = Running [] body (Label keeps vs target is ∷ ls) st
 
--- one of two sequences in a label
-abbrev pub chosen : (keeps : Bool) (then_body else_body : Code) → List Value → Code → List Layer → State → Machine
+-- enters one of two sequences in a label
+abbrev pub chosen : (keeps : Bool) (then_body else_body : Code) → List Value → Code → List ControlEntry → State → Machine
 chosen keeps then_body else_body vs is ls st =
     taking (seen (I32 ∷ []) vs) st.count (λ n us. Running [] (arm n then_body else_body) (Label keeps us is is ∷ ls) st)
 
-abbrev pub called : (Value → Bool) → Module → (number : ℕ) → List Value → Code → List Layer → State → Machine
+abbrev pub called : (Value → Bool) → Module → (number : ℕ) → List Value → Code → List ControlEntry → State → Machine
 called may m number vs is ls st = cell_take_call may m (slice_get (functions_of m) number) vs is ls st
 
-abbrev pub entered : Module → Function → List Value → Code → List Layer → State → Machine
+abbrev pub entered : Module → Function → List Value → Code → List ControlEntry → State → Machine
 entered m f vs is ls st = enter (celled f) (slice_get m.types f.type_number) vs is ls st
 
--- layers without so many labels
-abbrev pub Unwinds : (labels : ℕ) (old new : List Layer) → Type 0
+-- entries without this many labels
+abbrev pub Unwinds : (labels : ℕ) (old new : List ControlEntry) → Type 0
 Unwinds labels old new = (top : Option Value) (st : State) → jump labels top old st ≡ arrive top new st
 
--- layers without the labels of the innermost frame
-abbrev pub UnwindsFrame : (old new : List Layer) → Type 0
+-- entries without the labels of the innermost frame
+abbrev pub UnwindsFrame : (old new : List ControlEntry) → Type 0
 UnwindsFrame old new = (top : Option Value) (st : State) → back top old st ≡ arrive top new st
 
 -- the count has room for the next instruction
-abbrev pub HasRoom : Module → Place → Type 0
-HasRoom m p = p.state.count + next_units m p.code < 2 ^ 128
+abbrev pub HasCountRoom : Module → Place → Type 0
+HasCountRoom m p = p.state.count + next_units m p.code < 2 ^ 128
 
 -- ---- runs
 
--- the run is done after so many steps and no fewer
+-- the run is done after this many steps and no fewer
 pub record Finishes (m : Module) (from : Machine) (final : State) : Type 0 where
   pub steps : ℕ
   pub done : run m steps from ≡ Done final
   pub least : (n : ℕ) → n < steps → (st : State) → run m n from ≢ Done st
 
--- the machine comes to this one
+-- the machine reaches this one
 pub record Comes (m : Module) (from to : Machine) : Type 0 where
   pub steps : ℕ
   pub there : run m steps from ≡ to
 
--- The run from here comes to its end within so many units, and loads and stores only what is reached.
+-- The run from here ends within this many units, and loads and stores only reached bytes.
 pub record EndsWithin (m : Module) (from : Machine) (most : ℕ) : Type 0 where
   pub steps : ℕ
   pub final : State
@@ -83,26 +83,26 @@ pub record EndsWithin (m : Module) (from : Machine) (most : ℕ) : Type 0 where
 
 -- ---- runs over values
 
--- the run from this machine over values comes to a place that fits, which is this one over cells
+-- the run from this machine over values reaches a place that fits, which is this place over cells
 pub record Follows (m : Module) (from : Machine) (here : Place) : Type 0 where
   pub place : Place
   pub comes : Comes m from (running place)
   pub fits : MachineFits (running place)
   pub is : cells_place (marks m) place ≡ here
 
--- a run over values that begins here comes to its end within so many units
+-- a run over values that begins here ends within this many units
 pub record Leads (m : Module) (here : Place) (most : ℕ) : Type 0 where
   pub from : Machine
   pub follows : Follows m from here
   pub ends : EndsWithin m from most
 
--- each run over values that comes by the one place comes by the other, where it ends within so many units
+-- each run over values that passes the one place passes the other, if it ends within this many units
 abbrev pub Arrives : Module → (most : ℕ) → (here there : Place) → Type 0
 Arrives m most here there = (from : Machine) → Follows m from here → EndsWithin m from most → Follows m from there
 
--- there is room for another operand and another frame beside those of the machine
+-- there is room for one more operand and one more frame besides those of the machine
 pub record IsWithinRoom (room : Room) (x : Machine) : Type 0 where
-  pub few_layers : layers x < room.layers
+  pub few_entries : entries x < room.entries
   pub few_operands : operands x < room.operands
   pub few_locals : locals x + max_locals ≤ room.locals
 
@@ -111,16 +111,16 @@ pub record LeadsWithin (m : Module) (room : Room) (here : Place) (most : ℕ) : 
   pub leads : Leads m here most
   pub low : (n : ℕ) → IsWithinRoom room (run m n leads.from)
 
--- each run over values that comes by here is done in this state, as cells
+-- each run over values that passes here is done in this state, as cells
 abbrev pub Concludes : Module → Place → (most : ℕ) → State → Type 0
 Concludes m here most final =
     (from : Machine) → Follows m from here → EndsWithin m from most → (st : State) × Finishes m from st × (cells_state (marks m) st ≡ final)
 
--- each run over values that comes by here sends something, or gives something to a slot
+-- each run over values that passes here sends something, or contributes to an aggregator
 abbrev pub SendsFrom : Module → Place → (most : ℕ) → Type 0
 SendsFrom m here most =
     (from : Machine) → Follows m from here → EndsWithin m from most → (n : ℕ) × HasGiven (run m n from)
 
--- how many steps may be left
+-- the number of steps that may remain
 abbrev pub left_of : ℕ → Place → ℕ
-left_of most p = 2 * (most - p.state.count) + length p.layers
+left_of most p = 2 * (most - p.state.count) + length p.entries

@@ -1,18 +1,18 @@
 //! What each call of a module begins with, made once.
 
 ghost use Rattle.std.specs.Prelude.{◌≡◌, IfOk};
-ghost use Rattle.interp.specs.inside.Begun.{AreInitial, AreLaid, HasStartRoom, room_in};
+ghost use Rattle.interp.specs.inside.Begun.{AreInitial, AreReset, HasStartRoom, room_in};
 
+use crate::buffers::Buffers;
 use crate::globals::Globals;
 use crate::memory::Memory;
-use crate::rooms::Rooms;
-use crate::start::initial::{initial_cells, lay_memory};
+use crate::start::initial::{initial_cells, write_memory};
 use bounded_profile::Verified;
 use std::alloc::{AllocError, Global};
 use std::marker::Model;
 use wasm_ast::Function;
 
-/// The globals and the kept bytes that each call of a module begins with. Contracts see it as the module.
+/// The globals and the kept bytes that each call of the module begins with. Its model is the module.
 #[derive(Drop)]
 pub struct Image<'a> {
     verified: &'a Verified,
@@ -35,8 +35,8 @@ impl<'a> Model for Image<'a> {
 }
 
 impl<'a> Image<'a> {
-    /// Evaluates the initial value of each global and lays the data segments, which takes time by how many there are and by
-    /// their bytes. The only refusal is that there is no memory.
+    /// Evaluates the initial globals and writes the data segments. It takes time by the number of globals and by the
+    /// bytes of the segments. The only error is that an allocation fails.
     pub fn new(alloc: Global, verified: &'a Verified) -> Result<Image<'a>, AllocError>
         ensures { IfOk result (λ image. image ≡ verified.now) }
     {
@@ -44,7 +44,7 @@ impl<'a> Image<'a> {
         let globals = initial_cells(alloc, module.globals.as_slice())?;
         let mut memory = Memory::new(alloc, verified);
         memory.extend(verified)?;
-        lay_memory(module, &globals, &mut memory);
+        write_memory(module, &globals, &mut memory);
         Ok(Image {
             verified,
             globals,
@@ -52,32 +52,32 @@ impl<'a> Image<'a> {
         })
     }
 
-    /// The module.
+    /// Returns the module.
     pub fn verified(&self) -> &'a Verified
         ensures { result.now ≡ self.now }
     {
         self.verified
     }
 
-    /// The globals that each call begins with.
+    /// Returns the globals that each call begins with.
     pub fn globals(&self) -> &Globals
         ensures { AreInitial self.now.globals result.now }
     {
         &self.globals
     }
 
-    /// Lays into the lists what a call of the function begins with. It takes time by the function's locals, by the globals
-    /// that the last call set and by the bytes that are kept.
-    pub fn lay(&self, function: &Function, rooms: &mut Rooms<'a>)
-        requires { HasStartRoom self.now function.now (room_in rooms.old) }
-        ensures laid { AreLaid self.now function.now rooms.new }
-        ensures room { room_in rooms.new ≡ room_in rooms.old }
+    /// Resets the buffers to what a call of the function begins with. It takes time by the locals of the function, by
+    /// the globals that the last call set, and by the kept bytes.
+    pub fn reset(&self, function: &Function, buffers: &mut Buffers<'a>)
+        requires { HasStartRoom self.now function.now (room_in buffers.old) }
+        ensures laid { AreReset self.now function.now buffers.new }
+        ensures room { room_in buffers.new ≡ room_in buffers.old }
     {
-        rooms.layers.clear();
-        rooms.operands.clear();
-        rooms.locals.clear();
-        rooms.locals.add(function.locals.as_slice());
-        rooms.globals.renew();
-        rooms.memory.copy_from(&self.memory);
+        buffers.entries.clear();
+        buffers.operands.clear();
+        buffers.locals.clear();
+        buffers.locals.add(function.locals.as_slice());
+        buffers.globals.renew();
+        buffers.memory.copy_from(&self.memory);
     }
 }

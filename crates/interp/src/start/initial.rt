@@ -12,7 +12,7 @@ use crate::memory::Memory;
 use std::alloc::{AllocError, Global};
 use wasm_ast::{Body, Data, Global as GlobalDefinition, Instr, Module, Plain, Value, Variable};
 
-/// The initial value of each global, as a cell. The only refusal is that there is no memory.
+/// Evaluates the initial value of each global, as a cell. The only error is that an allocation fails.
 pub fn initial_cells(alloc: Global, definitions: &[GlobalDefinition]) -> Result<Globals, AllocError>
     requires { IsSome (initial_globals definitions.now) }
     ensures initial { IfOk result (AreInitial definitions.now) }
@@ -20,11 +20,11 @@ pub fn initial_cells(alloc: Global, definitions: &[GlobalDefinition]) -> Result<
 {
     let mut globals = Globals::new(alloc);
     globals.extend(definitions.len())?;
-    lay_globals(alloc, definitions, &mut globals);
+    write_globals(alloc, definitions, &mut globals);
     Ok(globals)
 }
 
-fn lay_globals(alloc: Global, definitions: &[GlobalDefinition], globals: &mut Globals)
+fn write_globals(alloc: Global, definitions: &[GlobalDefinition], globals: &mut Globals)
     requires long { length definitions.now ≡ length globals.old }
     requires there { IsSome (initial_globals definitions.now) }
     ensures initial { AreInitial definitions.now globals.new }
@@ -34,46 +34,46 @@ fn lay_globals(alloc: Global, definitions: &[GlobalDefinition], globals: &mut Gl
     let mut place = 0;
     for definition in definitions {
         match constant_value(&none, &definition.initial) {
-            Some(value) => globals.lay(place, of_value(value)),
+            Some(value) => globals.set_at(place, of_value(value)),
             None => unreachable!(),
         }
         place += 1;
     }
 }
 
-/// The data segments in order over zeros, where they are kept.
-pub fn lay_memory(module: &Module, globals: &Globals, memory: &mut Memory)
+/// Writes the data segments over zeros in order, as far as their bytes are kept.
+pub fn write_memory(module: &Module, globals: &Globals, memory: &mut Memory)
     requires zeros { memory.old
         ≡ masked (marks «module».now) (replicate (memory_bytes «module».now) 0) }
     requires there { IsSome (cell_memory_laid globals.now «module».now) }
     ensures laid { cell_memory_laid globals.now «module».now ≡ Some memory.new }
     ensures kept { count_kept memory.new ≡ count_kept memory.old }
 {
-    lay_segments(module.data.as_slice(), globals, memory);
+    write_segments(module.data.as_slice(), globals, memory);
 }
 
-fn lay_segments(segments: &[Data], globals: &Globals, memory: &mut Memory)
+fn write_segments(segments: &[Data], globals: &Globals, memory: &mut Memory)
     requires { IsSome (cells_laid_in globals.now segments.now memory.old) }
     ensures laid { cells_laid_in globals.now segments.now memory.old ≡ Some memory.new }
     ensures kept { count_kept memory.new ≡ count_kept memory.old }
 {
     for segment in segments {
-        lay_segment(segment, globals, memory);
+        write_segment(segment, globals, memory);
     }
 }
 
-fn lay_segment(segment: &Data, globals: &Globals, memory: &mut Memory)
+fn write_segment(segment: &Data, globals: &Globals, memory: &mut Memory)
     requires { IsSome (cell_segment_laid globals.now segment.now memory.old) }
     ensures laid { cell_segment_laid globals.now segment.now memory.old ≡ Some memory.new }
     ensures kept { count_kept memory.new ≡ count_kept memory.old }
 {
     match constant_value(globals, &segment.offset) {
-        Some(place) => memory.lay(of_value(place), segment.bytes.as_slice()),
+        Some(place) => memory.write_kept(of_value(place), segment.bytes.as_slice()),
         None => unreachable!(),
     }
 }
 
-// The value of a constant expression (Core 1.0, 3.3.7), a global's as the i64 of its cell.
+// Evaluates a constant expression (Core 1.0, 3.3.7). The value of a global is the i64 of its cell.
 fn constant_value(globals: &Globals, body: &Body) -> Option<Value>
     ensures { result ≡ constant_value globals.now body.now }
 {

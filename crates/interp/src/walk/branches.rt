@@ -7,20 +7,20 @@ ghost use Rattle.wasm_ast.specs.View.{code_of};
 ghost use Rattle.interp.specs.Machine.{label_of};
 ghost use Rattle.interp.specs.inside.Cells.{cell_branch};
 ghost use Rattle.interp.specs.inside.Going.{goes_on, has_labels};
-ghost use Rattle.interp.specs.inside.Meaning.{AreNested, floor_of, layers_round};
+ghost use Rattle.interp.specs.inside.Meaning.{AreNested, floor_of, entries_round};
 ghost use Rattle.interp.specs.inside.Place.{HasOperandRoom};
 ghost use Rattle.interp.specs.inside.Split.{HasSpare};
 ghost use Rattle.interp.specs.inside.Walk.{Turns, Unwinds, UnwindsFrame};
 
 use crate::cell::as_i32;
-use crate::layers::{Layer, pop_layer};
+use crate::control_entry::{ControlEntry, pop_entry};
 use crate::locals::Locals;
 use crate::operands::Operands;
 use crate::walk::{Turn, Walk};
 use wasm_ast::{Branch, Instr};
 
 impl<'a, 'b> Walk<'a, 'b> {
-    /// An instruction that goes on elsewhere.
+    /// Takes a branch.
     #[inline]
     pub fn branch(&mut self, branch: &Branch, code: &'a [Instr], count: u128) -> Turn<'a>
         requires spare { HasOperandRoom self.old }
@@ -66,7 +66,7 @@ impl<'a, 'b> Walk<'a, 'b> {
         self.jump(label_at(labels, place, other), count)
     }
 
-    /// To a label, whatever code comes next.
+    /// Jumps to a label.
     fn jump(&mut self, label: u32, count: u128) -> Turn<'a>
         requires spare { HasOperandRoom self.old }
         requires goes { goes_on (cell_branch (branches.Br label)) end count self.old ≡ true }
@@ -75,11 +75,11 @@ impl<'a, 'b> Walk<'a, 'b> {
         ensures room { self.new.room ≡ self.old.room }
     {
         let top = self.operands.top();
-        unwind(&mut self.layers, &mut self.operands, &self.locals, label);
+        unwind(&mut self.entries, &mut self.operands, &self.locals, label);
         self.arrive(top, count)
     }
 
-    /// Out of the innermost frame.
+    /// Returns from the innermost frame.
     fn back(&mut self, count: u128) -> Turn<'a>
         requires spare { HasOperandRoom self.old }
         requires goes { goes_on (cell_branch branches.Return) end count self.old ≡ true }
@@ -87,12 +87,12 @@ impl<'a, 'b> Walk<'a, 'b> {
         ensures room { self.new.room ≡ self.old.room }
     {
         let top = self.operands.top();
-        unwind_all(&mut self.layers, &mut self.operands, &self.locals);
+        unwind_all(&mut self.entries, &mut self.operands, &self.locals);
         self.arrive(top, count)
     }
 }
 
-/// The label at a place of a table, or the one for all places past it.
+/// Finds the label at a place of a branch table, or the default for all places past its end.
 fn label_at(labels: &[u32], place: u32, other: u32) -> u32
     ensures { result ≡ label_of labels.now place other }
 {
@@ -102,52 +102,57 @@ fn label_at(labels: &[u32], place: u32, other: u32) -> u32
     }
 }
 
-/// Takes so many labels off.
-fn unwind<'a>(layers: &mut Vec<Layer<'a>>, operands: &mut Operands, locals: &Locals, labels: u32)
-    requires ordered { AreNested layers.old.items operands.old locals.now }
+/// Pops this many labels.
+fn unwind<'a>(
+    entries: &mut Vec<ControlEntry<'a>>,
+    operands: &mut Operands,
+    locals: &Locals,
+    labels: u32,
+)
+    requires ordered { AreNested entries.old.items operands.old locals.now }
     requires there { has_labels labels
-        (layers_round layers.old.items operands.old locals.now) ≡ true }
-    ensures ordered { AreNested layers.new.items operands.new locals.now }
+        (entries_round entries.old.items operands.old locals.now) ≡ true }
+    ensures ordered { AreNested entries.new.items operands.new locals.now }
     ensures jump { Unwinds labels
-        (layers_round layers.old.items operands.old locals.now)
-        (layers_round layers.new.items operands.new locals.now) }
-    ensures room { vec_capacity layers.new ≡ vec_capacity layers.old }
+        (entries_round entries.old.items operands.old locals.now)
+        (entries_round entries.new.items operands.new locals.now) }
+    ensures room { vec_capacity entries.new ≡ vec_capacity entries.old }
     ensures spare { HasSpare operands.old → HasSpare operands.new }
     ensures same { operands.new.below.room ≡ operands.old.below.room }
 {
     for _ in 0..labels {
-        match pop_layer(layers) {
-            Some(Layer::Label { floor, .. }) => operands.fall(floor),
-            Some(Layer::Frame { .. }) => unreachable!(),
+        match pop_entry(entries) {
+            Some(ControlEntry::Label { floor, .. }) => operands.fall(floor),
+            Some(ControlEntry::Frame { .. }) => unreachable!(),
             None => unreachable!(),
         }
     }
 }
 
-/// Where the operands beyond the innermost layer begin, if it is a label.
-fn innermost_label(layers: &[Layer]) -> Option<usize>
-    ensures { result ≡ floor_of (reverse layers.now) }
+/// Finds where the operands of the enclosing entry begin, if the innermost entry is a label.
+fn innermost_label(entries: &[ControlEntry]) -> Option<usize>
+    ensures { result ≡ floor_of (reverse entries.now) }
 {
-    match layers.last() {
-        Some(Layer::Label { floor, .. }) => Some(*floor),
-        Some(Layer::Frame { .. }) => None,
+    match entries.last() {
+        Some(ControlEntry::Label { floor, .. }) => Some(*floor),
+        Some(ControlEntry::Frame { .. }) => None,
         None => None,
     }
 }
 
-/// Takes all labels of the innermost frame off.
-fn unwind_all<'a>(layers: &mut Vec<Layer<'a>>, operands: &mut Operands, locals: &Locals)
-    requires { AreNested layers.old.items operands.old locals.now }
-    ensures ordered { AreNested layers.new.items operands.new locals.now }
+/// Pops all labels of the innermost frame.
+fn unwind_all<'a>(entries: &mut Vec<ControlEntry<'a>>, operands: &mut Operands, locals: &Locals)
+    requires { AreNested entries.old.items operands.old locals.now }
+    ensures ordered { AreNested entries.new.items operands.new locals.now }
     ensures back { UnwindsFrame
-        (layers_round layers.old.items operands.old locals.now)
-        (layers_round layers.new.items operands.new locals.now) }
-    ensures room { vec_capacity layers.new ≡ vec_capacity layers.old }
+        (entries_round entries.old.items operands.old locals.now)
+        (entries_round entries.new.items operands.new locals.now) }
+    ensures room { vec_capacity entries.new ≡ vec_capacity entries.old }
     ensures spare { HasSpare operands.old → HasSpare operands.new }
     ensures same { operands.new.below.room ≡ operands.old.below.room }
 {
-    while let Some(floor) = innermost_label(layers.as_slice()) {
+    while let Some(floor) = innermost_label(entries.as_slice()) {
         operands.fall(floor);
-        let _ = pop_layer(layers);
+        let _ = pop_entry(entries);
     }
 }

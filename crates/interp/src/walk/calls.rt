@@ -10,13 +10,13 @@ ghost use Rattle.interp.specs.inside.Meaning.{AreImports};
 ghost use Rattle.interp.specs.inside.Place.{HasFrameRoom};
 ghost use Rattle.interp.specs.inside.Walk.{Turns, called, entered};
 
-use crate::layers::{Layer, push_layer};
+use crate::control_entry::{ControlEntry, push_entry};
 use crate::program::{Callee, Program};
 use crate::walk::{Turn, Walk};
 use wasm_ast::{FuncType, Function, Instr};
 
 impl<'a, 'b> Walk<'a, 'b> {
-    /// A call of the function with this number, which is none of the host.
+    /// Calls the function with this number, which is not one of the host's.
     pub fn call(
         &mut self,
         program: Program<'a>,
@@ -86,13 +86,13 @@ impl<'a, 'b> Walk<'a, 'b> {
         self.locals.add(function.locals.as_slice());
         self.operands.shed(arguments);
         let floor = self.operands.floor();
-        let frame = Layer::Frame {
+        let frame = ControlEntry::Frame {
             keeps,
             floor,
             base,
             after: code,
         };
-        push_layer(&mut self.layers, frame);
+        push_entry(&mut self.entries, frame);
         self.operands.open();
         Turn::Next {
             code: function.body.as_slice(),

@@ -1,15 +1,15 @@
-//! Blocks (Core 1.0, 4.4.5), and what goes on after them.
+//! Blocks (Core 1.0, 4.4.5), and how the run goes on after them.
 
 ghost use Rattle.std.specs.Prelude.{◌≡◌, option_map, true};
 ghost use Rattle.wasm_ast.specs.declared.types.Value.TheVariants.{I64};
 ghost use Rattle.wasm_ast.specs.View.{code_of};
 ghost use Rattle.interp.specs.Machine.{arrive, leave};
 ghost use Rattle.interp.specs.inside.Going.{goes_on, is_going};
-ghost use Rattle.interp.specs.inside.Place.{HasLayerRoom, HasOperandRoom, state_of};
+ghost use Rattle.interp.specs.inside.Place.{HasEntryRoom, HasOperandRoom, state_of};
 ghost use Rattle.interp.specs.inside.Walk.{Turned, Turns, chosen, opened};
 
 use crate::cell::as_i32;
-use crate::layers::{Layer, pop_layer, push_layer};
+use crate::control_entry::{ControlEntry, pop_entry, push_entry};
 use crate::walk::{Turn, Walk};
 use wasm_ast::{Body, Instr};
 
@@ -18,16 +18,16 @@ impl<'a, 'b> Walk<'a, 'b> {
     #[inline(always)]
     pub fn arrive(&mut self, top: Option<u64>, count: u128) -> Turn<'a>
         requires spare { HasOperandRoom self.old }
-        requires goes { is_going (arrive (option_map I64 top) self.old.layers
+        requires goes { is_going (arrive (option_map I64 top) self.old.entries
             (state_of self.old count)) ≡ true }
-        ensures turned { Turned result (arrive (option_map I64 top) self.old.layers
+        ensures turned { Turned result (arrive (option_map I64 top) self.old.entries
             (state_of self.old count)) self.new }
         ensures room { self.new.room ≡ self.old.room }
     {
-        match pop_layer(&mut self.layers) {
+        match pop_entry(&mut self.entries) {
             None => Turn::Finished { count },
             Some(
-                Layer::Label {
+                ControlEntry::Label {
                     keeps,
                     floor,
                     target,
@@ -42,7 +42,7 @@ impl<'a, 'b> Walk<'a, 'b> {
                 }
             }
             Some(
-                Layer::Frame {
+                ControlEntry::Frame {
                     keeps,
                     floor,
                     base,
@@ -57,21 +57,21 @@ impl<'a, 'b> Walk<'a, 'b> {
         }
     }
 
-    /// Goes on after the innermost label or frame.
+    /// Goes on after the innermost label or frame, at the end of its sequence.
     #[inline]
     pub fn leave(&mut self, count: u128) -> Turn<'a>
         ensures turned { Turned result
-            (leave self.old.values self.old.layers (state_of self.old count)) self.new }
+            (leave self.old.values self.old.entries (state_of self.old count)) self.new }
         ensures room { self.new.room ≡ self.old.room }
     {
-        match pop_layer(&mut self.layers) {
+        match pop_entry(&mut self.entries) {
             None => Turn::Finished { count },
-            Some(Layer::Label { floor, after, .. }) => {
+            Some(ControlEntry::Label { floor, after, .. }) => {
                 self.operands.join(floor);
                 Turn::Next { code: after, count }
             }
             Some(
-                Layer::Frame {
+                ControlEntry::Frame {
                     floor,
                     base,
                     after,
@@ -85,7 +85,7 @@ impl<'a, 'b> Walk<'a, 'b> {
         }
     }
 
-    /// Begins a sequence in a label.
+    /// Enters a sequence in a label.
     #[inline]
     pub fn open(
         &mut self,
@@ -95,19 +95,19 @@ impl<'a, 'b> Walk<'a, 'b> {
         code: &'a [Instr],
         count: u128,
     ) -> Turn<'a>
-        requires { HasLayerRoom self.old }
+        requires { HasEntryRoom self.old }
         ensures turned { Turns result (opened keeps (code_of target.now) body.now)
             (code_of code.now) count self.old self.new }
         ensures room { self.new.room ≡ self.old.room }
     {
         let floor = self.operands.floor();
-        let label = Layer::Label {
+        let label = ControlEntry::Label {
             keeps,
             floor,
             target,
             after: code,
         };
-        push_layer(&mut self.layers, label);
+        push_entry(&mut self.entries, label);
         self.operands.open();
         Turn::Next {
             code: body.as_slice(),
@@ -115,7 +115,7 @@ impl<'a, 'b> Walk<'a, 'b> {
         }
     }
 
-    /// Begins one of two sequences.
+    /// Enters one of two sequences, by the topmost operand.
     #[inline]
     pub fn choose(
         &mut self,
@@ -125,7 +125,7 @@ impl<'a, 'b> Walk<'a, 'b> {
         code: &'a [Instr],
         count: u128,
     ) -> Turn<'a>
-        requires room { HasLayerRoom self.old }
+        requires room { HasEntryRoom self.old }
         requires goes { goes_on (chosen keeps then_body.now else_body.now) (code_of code.now) count
             self.old ≡ true }
         ensures turned { Turns result (chosen keeps then_body.now else_body.now)

@@ -3,8 +3,8 @@ use Rattle.wasm_ast.specs.Limits.{parameters_of}
 use Rattle.bounded_profile.specs.Arities.{arity_table}
 use Rattle.bounded_profile.specs.Cells.{no_heights, most_told}
 use Rattle.bounded_profile.specs.Heights.{peak}
-use Rattle.bounded_profile.specs.inside.Climbs.{most_along}
-use Rattle.bounded_profile.proofs.Climbing.{own_along}
+use Rattle.bounded_profile.specs.inside.StackHeights.{most_along}
+use Rattle.bounded_profile.proofs.StackHeights.{own_along}
 use Rattle.bounded_profile.proofs.cells.cells_of.Goals as goal
 
 pub returns : goal.returns

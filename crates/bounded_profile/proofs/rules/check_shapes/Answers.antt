@@ -4,7 +4,7 @@ use Rattle.bounded_profile.specs.Faults.{Refuses}
 use Rattle.bounded_profile.specs.Profile.{NoIndirectCalls, NoUnreachable, NoGrowth, NothingAfterBranches, EachBody}
 use Rattle.bounded_profile.specs.Hosts.{call_at}
 use Rattle.bounded_profile.specs.Shapes.{Keeps}
-use Rattle.bounded_profile.specs.declared.shapes.Shape.TheVariants.{Taking}
+use Rattle.bounded_profile.specs.declared.shapes.Shape.TheVariants as shape
 use Rattle.bounded_profile.proofs.HostTable.{by_table}
 use Rattle.bounded_profile.proofs.Refusals.{refused_rule}
 use Rattle.bounded_profile.proofs.rules.check_shapes.Goals as goal
@@ -43,7 +43,7 @@ returns-in_err-check_shape-5 c =
     let e = c.in_err-check_shape-5.field-0.0 in
     let table = c.deref-5.result.now in
     let same = by_table m table (c.deref-5.ensures.value ∙ c.in_ok-hosts.ensures) in
-    let refused : Refuses m e = refused_rule m P9 e (EachBody (Keeps (call_at table) Taking) m) (λ k. same.1 k) c.in_err-check_shape-5.ensures in
+    let refused : Refuses m e = refused_rule m P9 e (EachBody (Keeps (call_at table) shape.LoopsTakeItems) m) (λ k. same.1 k) c.in_err-check_shape-5.ensures in
     search rules
 
 pub returns : goal.returns

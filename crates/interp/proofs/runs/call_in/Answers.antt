@@ -9,7 +9,7 @@ pub finish-ended-requires-clause-ends : goal.finish-ended-requires-clause-ends
 finish-ended-requires-clause-ends c =
     let m = c.args.program.module.now in
     let begins = beginning_at m c.args.input.now c.begin-walk.result (code_of c.as_slice.result.now) c.args.function.now.body c.as_slice.ensures c.begin-walk.ensures.begins in
-    leads_in_room m c.args.input.now c.begin-walk.result (code_of c.as_slice.result.now) c.args.most (room_in c.args.rooms.now) (search rules) c.requires.ends begins
+    leads_in_room m c.args.input.now c.begin-walk.result (code_of c.as_slice.result.now) c.args.most (room_in c.args.buffers.now) (search rules) c.requires.ends begins
 
 pub returns-clause-outcome : goal.returns-clause-outcome
 returns-clause-outcome c =

@@ -11,8 +11,8 @@ decreases-check_instr l = goal.size-check_instr l
 
 abbrev pub invariant-check_inside-loop-instr : goal.invariant-check_inside-loop-instr
 invariant-check_inside-loop-instr l =
-    let labels = l.fn.label ∷ reverse l.fn.nesting.labels.items in
+    let labels = l.fn.label ∷ reverse l.fn.scope.labels.items in
     record {
-      kept : l.nesting.labels.items ≡ l.fn.nesting.labels.items ++ l.fn.label ∷ [];
+      kept : l.scope.labels.items ≡ l.fn.scope.labels.items ++ l.fn.label ∷ [];
       checks : check (code_of l.instr-items) l.setting labels [] ≡ check (code_of (drop l.instr-index l.instr-items)) l.setting labels (operands_of l.operands);
     }

@@ -7,4 +7,4 @@ pub returns : goal.returns
 returns c =
     let t = c.in-Some.function_type.now in
     let outcome : c.first_of-outcome.result ≡ first_type t.results = c.first_of-outcome.ensures ∙ ap first_type c.as_slice.ensures in
-    settled c.args.setting.now c.args.function.now t _ _ _ (sym c.in-Some.ensures) outcome c.new-nesting.ensures c.check_inside.ensures.says
+    settled c.args.setting.now c.args.function.now t _ _ _ (sym c.in-Some.ensures) outcome c.new-scope.ensures c.check_inside.ensures.says

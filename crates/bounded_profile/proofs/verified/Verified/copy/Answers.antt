@@ -15,5 +15,5 @@ invariant_of-result c =
     ap (λ (j : Judged). j.valid) c.deref.ensures ∙ c.self.view_is ∙ sym (c.in_ok-valid.ensures ∙ c.module.ensures.value) in
     let all = subst (λ (m : Module). IsBounded m × IsTyped m × AreTables m t) same here in
     let told = c.in_ok-tables.ensures in
-    let tables = same_tables c.in_ok-valid.valid t c.in_ok-tables.tables told.facts told.calls told.cells told.spans all.2 in
+    let tables = same_tables c.in_ok-valid.valid t c.in_ok-tables.tables told.facts told.calls told.cells told.extents all.2 in
     subst (λ (j : Judged). IsBounded j.valid × IsTyped j.valid × AreTables j.valid j.tables) (sym c.in_ok-judged.ensures.ok) (all.0, all.1, tables)

@@ -2,7 +2,7 @@ use Rattle.std.proofs.Common.{◌≡◌, [], length, replicate, sym, ap, ◌∙�
 use Rattle.std.proofs.lemmas.List.{length-replicate}
 use Rattle.interp.specs.inside.Kept.{count_kept, marks, spread}
 use Rattle.interp.proofs.Kept.{all_reached, fresh_bytes, kept-none, kept_fresh}
-use Rattle.interp.proofs.Laying.{at_either, on_ok}
+use Rattle.interp.proofs.Resetting.{at_either, on_ok}
 use Rattle.interp.proofs.memory.Memory.extend.Goals as goal
 
 pub returns-clause-zeros : goal.returns-clause-zeros

@@ -1,6 +1,6 @@
 use Rattle.std.proofs.Common.{length, arith}
 use Rattle.interp.proofs.Parts.{fall_below, fall_here, floor_below}
-use Rattle.interp.proofs.Piles.{floor_held, has_spare, held, held_cut, spare_of}
+use Rattle.interp.proofs.OperandStacks.{floor_held, has_spare, held, held_cut, spare_of}
 use Rattle.interp.proofs.operands.Operands.fall.Goals as goal
 
 pub invariant_of-self : goal.invariant_of-self

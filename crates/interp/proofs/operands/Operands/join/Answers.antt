@@ -1,6 +1,6 @@
 use Rattle.std.proofs.Common.{◌≤◌, length, arith}
 use Rattle.interp.proofs.Parts.{floor_below, join_below, join_here}
-use Rattle.interp.proofs.Piles.{floor_held, held}
+use Rattle.interp.proofs.OperandStacks.{floor_held, held}
 use Rattle.interp.proofs.operands.Operands.join.Goals as goal
 
 pub invariant_of-self : goal.invariant_of-self

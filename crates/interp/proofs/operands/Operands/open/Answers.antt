@@ -1,6 +1,6 @@
 use Rattle.std.proofs.Common.{length, sym}
 use Rattle.interp.proofs.Parts.{opened}
-use Rattle.interp.proofs.Piles.{held, held_long}
+use Rattle.interp.proofs.OperandStacks.{held, held_long}
 use Rattle.interp.proofs.operands.Operands.open.Goals as goal
 
 pub returns : goal.returns

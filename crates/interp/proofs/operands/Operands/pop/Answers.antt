@@ -1,7 +1,7 @@
 use Rattle.std.proofs.Common.{◌≡◌, ◌+◌, ◌-◌, ◌≤◌, get_or, length, ap, ◌∙◌, arith}
 use Rattle.wasm_ast.specs.declared.types.Value.TheVariants.{I64}
 use Rattle.interp.proofs.Parts.{here_long, popped_is}
-use Rattle.interp.proofs.Piles.{floor_held, has_spare, held, held_long, held_top}
+use Rattle.interp.proofs.OperandStacks.{floor_held, has_spare, held, held_long, held_top}
 use Rattle.interp.proofs.operands.Operands.pop.Goals as goal
 
 pub overflow_sub-below : goal.overflow_sub-below

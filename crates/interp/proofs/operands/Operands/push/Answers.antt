@@ -2,7 +2,7 @@ use Rattle.std.proofs.Common.{◌+◌, length, ap, ◌∙◌}
 use Rattle.std.specs.Prelude.{slice_set}
 use Rattle.std.proofs.lemmas.List.{length-set}
 use Rattle.interp.proofs.Parts.{below_of}
-use Rattle.interp.proofs.Piles.{held, pushed_below, pushed_here, spare_of}
+use Rattle.interp.proofs.OperandStacks.{held, pushed_below, pushed_here, spare_of}
 use Rattle.interp.proofs.operands.Operands.push.Goals as goal
 
 pub returns-clause-here : goal.returns-clause-here

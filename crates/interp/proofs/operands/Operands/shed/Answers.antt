@@ -1,6 +1,6 @@
 use Rattle.std.proofs.Common.{◌-◌, length, take, sym, ap, ◌∙◌, arith}
 use Rattle.interp.proofs.Parts.{shed_is, top_fits}
-use Rattle.interp.proofs.Piles.{floor_held, held, held_cut, held_long}
+use Rattle.interp.proofs.OperandStacks.{floor_held, held, held_cut, held_long}
 use Rattle.interp.proofs.operands.Operands.shed.Goals as goal
 
 pub returns : goal.returns

@@ -1,7 +1,7 @@
 use Rattle.std.proofs.Common.{◌-◌, ◌≤◌, map, length, take, drop, ap, ◌∙◌, arith}
 use Rattle.wasm_ast.specs.declared.types.Value.TheVariants.{I64}
 use Rattle.interp.proofs.Parts.{top_fits, topmost_is}
-use Rattle.interp.proofs.Piles.{floor_held, held, held_long, held_topmost}
+use Rattle.interp.proofs.OperandStacks.{floor_held, held, held_long, held_topmost}
 use Rattle.interp.proofs.operands.Operands.topmost.Goals as goal
 
 pub returns : goal.returns

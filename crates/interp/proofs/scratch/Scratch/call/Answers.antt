@@ -15,12 +15,12 @@ call_in-requires-clause-within c = subst IsWithinLimits (sym c.requires.same) c.
 
 pub call_in-requires-clause-room : goal.call_in-requires-clause-room
 call_in-requires-clause-room c =
-    let own = subst (λ (m : Module). HasRoom m (room_in c.self.inside.lists.value.rooms)) c.self.view_is c.self.invariant.1 in
-    let has = subst (λ (l : Lists). HasRoom c.args.self.now (room_in l.rooms)) (sym c.deref_mut-lists.ensures.value) own in
-    start_room c.args.self.now c.args.program.module.now (sym c.requires.same) c.args.function.now (room_in c.deref_mut-lists.result.now.rooms) has c.requires.few
+    let own = subst (λ (m : Module). HasRoom m (room_in c.self.inside.lists.value.buffers)) c.self.view_is c.self.invariant.1 in
+    let has = subst (λ (l : Lists). HasRoom c.args.self.now (room_in l.buffers)) (sym c.deref_mut-lists.ensures.value) own in
+    start_room c.args.self.now c.args.program.module.now (sym c.requires.same) c.args.function.now (room_in c.deref_mut-lists.result.now.buffers) has c.requires.few
 
 pub call_in-requires-clause-ends : goal.call_in-requires-clause-ends
 call_in-requires-clause-ends c =
-    let own = subst (λ (m : Module). HasRoom m (room_in c.self.inside.lists.value.rooms)) c.self.view_is c.self.invariant.1 in
-    let has = subst (λ (l : Lists). HasRoom c.args.self.now (room_in l.rooms)) (sym c.deref_mut-lists.ensures.value) own in
-    in_room c.args.self.now c.args.program.module.now (sym c.requires.same) c.requires.typed c.requires.bounded c.requires.within (room_in c.deref_mut-lists.result.now.rooms) has c.args.input.now c.args.most c.requires.ends
+    let own = subst (λ (m : Module). HasRoom m (room_in c.self.inside.lists.value.buffers)) c.self.view_is c.self.invariant.1 in
+    let has = subst (λ (l : Lists). HasRoom c.args.self.now (room_in l.buffers)) (sym c.deref_mut-lists.ensures.value) own in
+    in_room c.args.self.now c.args.program.module.now (sym c.requires.same) c.requires.typed c.requires.bounded c.requires.within (room_in c.deref_mut-lists.result.now.buffers) has c.args.input.now c.args.most c.requires.ends

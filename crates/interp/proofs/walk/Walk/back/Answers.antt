@@ -6,5 +6,5 @@ use Rattle.interp.proofs.walk.Walk.back.Goals as goal
 pub arrive-requires-clause-spare : goal.arrive-requires-clause-spare
 arrive-requires-clause-spare c =
     let i = c.self.inside in
-    let spare = spare_in (reverse i.layers.items) i.operands i.locals.below.values c.self.invariant (subst HasOperandRoom (sym c.self.view_is) c.requires.spare) in
-    spare_out (reverse c.unwind_all.new.layers.items) c.unwind_all.new.operands i.locals.below.values c.unwind_all.ensures.ordered (c.unwind_all.ensures.spare spare)
+    let spare = spare_in (reverse i.entries.items) i.operands i.locals.below.values c.self.invariant (subst HasOperandRoom (sym c.self.view_is) c.requires.spare) in
+    spare_out (reverse c.unwind_all.new.entries.items) c.unwind_all.new.operands i.locals.below.values c.unwind_all.ensures.ordered (c.unwind_all.ensures.spare spare)

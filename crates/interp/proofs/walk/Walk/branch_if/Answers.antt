@@ -17,5 +17,5 @@ pub jump-requires-clause-spare : goal.jump-requires-clause-spare
 jump-requires-clause-spare c =
     let i = c.self.inside in
     let same = ap (λ s. length s.below.values) c.pop.ensures.popped in
-    let ordered = subst (λ n. Ordered (reverse i.layers.items) n (length i.locals.below.values)) same c.self.invariant in
-    spare_out (reverse i.layers.items) c.pop.new.self i.locals.below.values ordered c.pop.ensures.spare
+    let ordered = subst (λ n. Ordered (reverse i.entries.items) n (length i.locals.below.values)) same c.self.invariant in
+    spare_out (reverse i.entries.items) c.pop.new.self i.locals.below.values ordered c.pop.ensures.spare

@@ -14,14 +14,14 @@ use Rattle.interp.proofs.walk.Walk.enter_typed.Goals as goal
 pub topmost-requires : goal.topmost-requires
 topmost-requires c =
     let s = standing_of c.self.inside in
-    let asked = enter_asks (celled c.args.function.now) c.args.func_type.now s.values (code_of c.args.code.now) s.layers (state_of s c.args.count) (ap (goes_on (enter (celled c.args.function.now) (Some c.args.func_type.now)) (code_of c.args.code.now) c.args.count) c.self.view_is ∙ c.requires.goes) in
+    let asked = enter_asks (celled c.args.function.now) c.args.func_type.now s.values (code_of c.args.code.now) s.entries (state_of s c.args.count) (ap (goes_on (enter (celled c.args.function.now) (Some c.args.func_type.now)) (code_of c.args.code.now) c.args.count) c.self.view_is ∙ c.requires.goes) in
     subst (λ n. n ≤ length s.values) (search rules) asked
 
 pub open-requires : goal.open-requires
 open-requires c =
     let i = c.self.inside in
     let h = subst HasFrameRoom (sym c.self.view_is) c.requires.room in
-    let held = held_is (reverse i.layers.items) i.operands.below.values i.locals.below.values c.self.invariant in
+    let held = held_is (reverse i.entries.items) i.operands.below.values i.locals.below.values c.self.invariant in
     let top = ap length c.topmost.ensures in
     let a = length-map c.topmost.result.now I64 in
     let n = length c.as_slice-arguments.result.now in
@@ -34,7 +34,7 @@ pub add-requires : goal.add-requires
 add-requires c =
     let i = c.self.inside in
     let h = subst HasFrameRoom (sym c.self.view_is) c.requires.room in
-    let held = held_is (reverse i.layers.items) i.operands.below.values i.locals.below.values c.self.invariant in
+    let held = held_is (reverse i.entries.items) i.operands.below.values i.locals.below.values c.self.invariant in
     let top = ap length c.topmost.ensures in
     let n = length c.as_slice-arguments.result.now in
     let a = length-map c.topmost.result.now I64 in
@@ -48,8 +48,8 @@ add-requires c =
     let types = ap length c.as_slice-2.ensures in
     omega (arith, h.locals, held, top, a, b, d, count, here, below, room, both, types, c.requires.few)
 
-pub push_layer-requires : goal.push_layer-requires
-push_layer-requires c =
+pub push_entry-requires : goal.push_entry-requires
+push_entry-requires c =
     let i = c.self.inside in
     let h = subst HasFrameRoom (sym c.self.view_is) c.requires.room in
-    room_for_one i.layers.items i.operands.below.values i.locals.below.values i.layers.len i.layers.cap (standing_of i) i.layers.ok.0 refl refl h.layers
+    room_for_one i.entries.items i.operands.below.values i.locals.below.values i.entries.len i.entries.cap (standing_of i) i.entries.ok.0 refl refl h.entries

@@ -13,10 +13,10 @@ use Rattle.interp.proofs.walk.Walk.jump.Goals as goal
 pub unwind-requires-clause-there : goal.unwind-requires-clause-there
 unwind-requires-clause-there c =
     let s = standing_of c.self.inside in
-    jump_asks c.args.label (first s.values) s.layers (state_of s c.args.count) (ap (goes_on (cell_branch (branch.Br c.args.label)) end c.args.count) c.self.view_is ∙ c.requires.goes)
+    jump_asks c.args.label (first s.values) s.entries (state_of s c.args.count) (ap (goes_on (cell_branch (branch.Br c.args.label)) end c.args.count) c.self.view_is ∙ c.requires.goes)
 
 pub arrive-requires-clause-spare : goal.arrive-requires-clause-spare
 arrive-requires-clause-spare c =
     let i = c.self.inside in
-    let spare = spare_in (reverse i.layers.items) i.operands i.locals.below.values c.self.invariant (subst HasOperandRoom (sym c.self.view_is) c.requires.spare) in
-    spare_out (reverse c.unwind.new.layers.items) c.unwind.new.operands i.locals.below.values c.unwind.ensures.ordered (c.unwind.ensures.spare spare)
+    let spare = spare_in (reverse i.entries.items) i.operands i.locals.below.values c.self.invariant (subst HasOperandRoom (sym c.self.view_is) c.requires.spare) in
+    spare_out (reverse c.unwind.new.entries.items) c.unwind.new.operands i.locals.below.values c.unwind.ensures.ordered (c.unwind.ensures.spare spare)

@@ -1,6 +1,6 @@
 use Rattle.std.proofs.Common.{arith, ◌<◌, length, ◌∙◌}
 use Rattle.bounded_profile.specs.inside.Tracking.{operands_of}
-use Rattle.bounded_profile.proofs.KnownPiles.{forget_more}
+use Rattle.bounded_profile.proofs.KnownStacks.{forget_more}
 use Rattle.bounded_profile.proofs.constants.operands.Operands.forget_each.Goals as goal
 
 pub loop-taken-preserved : goal.loop-taken-preserved

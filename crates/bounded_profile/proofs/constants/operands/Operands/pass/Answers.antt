@@ -1,4 +1,4 @@
-use Rattle.bounded_profile.proofs.KnownPiles.{taken_more, given_more}
+use Rattle.bounded_profile.proofs.KnownStacks.{taken_more, given_more}
 use Rattle.bounded_profile.proofs.constants.operands.Operands.pass.Goals as goal
 
 pub loop-taken-preserved : goal.loop-taken-preserved

@@ -1,4 +1,4 @@
-use Rattle.bounded_profile.proofs.KnownPiles.{topmost, left}
+use Rattle.bounded_profile.proofs.KnownStacks.{topmost, left}
 use Rattle.bounded_profile.proofs.constants.operands.Operands.pop.Goals as goal
 
 pub returns-in-Some : goal.returns-in-Some

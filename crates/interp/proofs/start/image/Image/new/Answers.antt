@@ -4,7 +4,7 @@ use Rattle.wasm_ast.specs.declared.module.Global.{Global}
 use Rattle.wasm_ast.specs.declared.module.Module.{Module}
 use Rattle.interp.specs.Start.{initial_globals}
 use Rattle.interp.specs.inside.Begun.{AreInitial, cell_memory_laid}
-use Rattle.interp.proofs.Laying.{memory_is, memory_there}
+use Rattle.interp.proofs.Resetting.{memory_is, memory_there}
 use Rattle.interp.proofs.Starting.{has_initial}
 use Rattle.interp.proofs.start.image.Image.new.Goals as goal
 
@@ -15,8 +15,8 @@ initial_cells-requires c =
     let same = c.as_slice.ensures ∙ ap (λ (k : Module). k.globals) told.value in
     subst (λ (o : Option (List Value)). IsSome o) (sym (ap initial_globals same ∙ has.initial_values)) refl
 
-pub lay_memory-requires-clause-there : goal.lay_memory-requires-clause-there
-lay_memory-requires-clause-there c =
+pub write_memory-requires-clause-there : goal.write_memory-requires-clause-there
+write_memory-requires-clause-there c =
     let m = c.args.verified.now in
     let told = c.module-module.ensures in
     let cells = c.in_ok-globals.globals in
@@ -29,13 +29,13 @@ invariant_of-result c =
     let m = c.args.verified.now in
     let told = c.module-module.ensures in
     let cells = c.in_ok-globals.globals in
-    let bytes = c.lay_memory.new.memory in
+    let bytes = c.write_memory.new.memory in
     let same = c.as_slice.ensures ∙ ap (λ (k : Module). k.globals) told.value in
     let a = subst (λ (gs : List Global). AreInitial gs cells) same c.in_ok-globals.ensures.initial in
-    let laid = subst (λ (k : Module). cell_memory_laid cells k ≡ Some bytes) told.value c.lay_memory.ensures.laid in
+    let laid = subst (λ (k : Module). cell_memory_laid cells k ≡ Some bytes) told.value c.write_memory.ensures.laid in
     record {
       globals = a;
       bytes = memory_is m (has_initial m told.typed told.bounded) cells a bytes laid;
       long = c.in_ok-globals.ensures.long ∙ ap length same;
-      count = c.lay_memory.ensures.kept ∙ c.in_ok-extend.ensures.kept;
+      count = c.write_memory.ensures.kept ∙ c.in_ok-extend.ensures.kept;
     }

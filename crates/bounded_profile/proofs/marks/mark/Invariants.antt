@@ -1,6 +1,0 @@
-use Rattle.std.proofs.Common.{◌≡◌, ◌+◌}
-use Rattle.bounded_profile.specs.inside.Marks.{marked_to}
-use Rattle.bounded_profile.proofs.marks.mark.Given as goal
-
-abbrev pub invariant-loop-step : goal.invariant-loop-step
-invariant-loop-step l = l.marks ≡ marked_to (l.address + l.offset) l.step l.fn.marks

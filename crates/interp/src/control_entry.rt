@@ -1,0 +1,43 @@
+//! The control entries round the running sequence.
+
+ghost use Rattle.std.specs.Prelude.{◌≡◌, ◌∷◌, ◌<◌, [], reverse, vec_capacity, vec_len, MatchOption};
+
+use wasm_ast::Instr;
+
+/// A label or a frame (Core 1.0, 4.2.12), with the code after it. `floor` is where the operands of the enclosing
+/// entry begin, and `base` where the locals of the calling function begin.
+#[derive(Clone, Copy)]
+pub enum ControlEntry<'a> {
+    Label {
+        keeps: bool,
+        floor: usize,
+        target: &'a [Instr],
+        after: &'a [Instr],
+    },
+    Frame {
+        keeps: bool,
+        floor: usize,
+        base: usize,
+        after: &'a [Instr],
+    },
+}
+
+/// Pushes an entry, for which there is capacity.
+#[inline]
+pub fn push_entry<'a>(entries: &mut Vec<ControlEntry<'a>>, control: ControlEntry<'a>)
+    requires { vec_len entries.old < vec_capacity entries.old }
+    ensures put { reverse entries.new.items ≡ control.entry ∷ reverse entries.old.items }
+    ensures room { vec_capacity entries.new ≡ vec_capacity entries.old }
+{
+    entries.push_reserved(control);
+}
+
+#[inline]
+pub fn pop_entry<'a>(entries: &mut Vec<ControlEntry<'a>>) -> Option<ControlEntry<'a>>
+    ensures taken { MatchOption result
+        ((reverse entries.old.items ≡ []) × (reverse entries.new.items ≡ []))
+        (λ control. reverse entries.old.items ≡ control ∷ reverse entries.new.items) }
+    ensures room { vec_capacity entries.new ≡ vec_capacity entries.old }
+{
+    entries.pop()
+}

@@ -12,7 +12,7 @@ use Rattle.graph.specs.declared.vertex.Edge.{Edge}
 use Rattle.graph.specs.Entry.{Entry, FitsLimits, edge_count, edges_from, head_of, heads, id_at}
 use Rattle.graph.specs.Graph.{AreWithinLimits, IsSaid}
 use Rattle.graph.specs.Said.{all_declared, all_edges}
-use Rattle.graph.specs.Rising.{Rises, rises_from}
+use Rattle.graph.specs.inside.Rising.{Rises, rises_from}
 
 -- how many of the vertices have this id
 abbrev having : ℕ → List Entry → ℕ

@@ -1,10 +1,8 @@
 pub mod Collecting
 pub mod Counting
-pub mod Cut
-pub mod Numbers
 pub mod Placing
+pub mod Printing
 pub mod Ranges
 pub mod Splitting
 pub mod Texts
 pub mod Vertices
-pub mod Writing

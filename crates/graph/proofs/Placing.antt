@@ -11,7 +11,7 @@ use Rattle.std.proofs.lemmas.List.Kept.{AllPairs-from_increasing}
 use Rattle.graph.specs.declared.vertex.Edge.{Edge}
 use Rattle.graph.specs.declared.vertex.Vertex.{Vertex}
 use Rattle.graph.specs.Entry.{Entry, edges_from, end_of, entries_of, entry_of, id_at, ids}
-use Rattle.graph.specs.Rising.{equal}
+use Rattle.graph.specs.inside.Rising.{equal}
 use Rattle.graph.specs.inside.Placed.{AreEndsAmong, none, push_end, set_edge, with_edges}
 
 edges_from-push : (edges : List Edge) (edge : Edge) (id : ℕ)

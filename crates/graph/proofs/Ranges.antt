@@ -12,10 +12,10 @@ use Rattle.graph.specs.declared.line.Line.{Line}
 use Rattle.graph.specs.declared.line.Line.TheVariants as line
 use Rattle.graph.specs.declared.vertex.Edge.{Edge}
 use Rattle.graph.specs.Entry.{Entry, IsProper, edges_from, end_of, heads, is_in_range}
-use Rattle.graph.specs.Fields.{fields, is_filled}
+use Rattle.line_text.specs.Fields.{fields, is_filled}
 use Rattle.graph.specs.Graph.{IsSaid}
 use Rattle.graph.specs.Line.{edge_line, line_of, line_of_fields, vertex_line}
-use Rattle.graph.specs.Number.{id_of, number_of, numeral}
+use Rattle.line_text.specs.Number.{id_of, number_of, numeral}
 use Rattle.graph.specs.Said.{all_declared, all_edges, lines_of}
 
 numeral_small : (most : ℕ) (digits : List ℕ) (n : ℕ) → numeral most digits ≡ Some n → n ≤ most

@@ -8,10 +8,11 @@ use Rattle.std.proofs.lemmas.List.FromFn.{length-map-range_with_len, map-range_w
 use Rattle.std.proofs.lemmas.List.Sorted.{IsPermutation-map}
 use Rattle.graph.specs.declared.parts.Part.{Part}
 use Rattle.graph.specs.declared.vertex.Vertex.{Vertex}
-use Rattle.graph.specs.Cutting.{part_by, parts_by, parts_by-map, parts_whole, parts-push}
+use Rattle.graph.specs.Partition.{part_by, parts_by}
+use Rattle.graph.specs.inside.Partitioned.{parts_by-map, parts_whole, parts-push}
 use Rattle.graph.specs.Entry.{Entry, IsProper, entries_of, entry_of, id_at, parts_of, vertex_id}
 use Rattle.graph.specs.Parts.{part_entries}
-use Rattle.graph.specs.Rising.{order_is}
+use Rattle.graph.specs.inside.Rising.{order_is}
 use Rattle.graph.proofs.Vertices.{ids_entries}
 
 -- a count of parts, all empty, and one more

@@ -15,7 +15,7 @@ use Rattle.graph.specs.Graph.{IsSaid}
 use Rattle.graph.specs.Line.{is_good}
 use Rattle.graph.specs.inside.Placed.{AreEndsAmong, with_edges}
 use Rattle.graph.specs.Said.{all_declared, all_edges}
-use Rattle.graph.specs.Rising.{rising_same, sorted_same}
+use Rattle.graph.specs.inside.Rising.{rising_same, sorted_same}
 use Rattle.graph.proofs.Vertices.{ids_entries}
 
 abbrev id_of_head : ℕ × ℤ → ℕ

@@ -1,4 +1,4 @@
--- A graph as a list: its vertices with their edges.
+-- A graph as a list of vertices with their edges.
 use Rattle.std.specs.Prelude.{◌<◌, ◌≤◌, ◌^◌, ◌==◌, ◌%◌, ℕ, ℤ, List, length, map, filter}
 use Rattle.std.specs.List.{All, range_with_len, sum_by}
 use Rattle.std.specs.List.Sorted.{IsStrictlyIncreasing}
@@ -6,7 +6,7 @@ use Rattle.graph.specs.declared.vertex.Edge.{Edge}
 use Rattle.graph.specs.declared.vertex.TheConstants.{MAX_VERTICES, MAX_EDGES}
 use Rattle.graph.specs.declared.vertex.Vertex.{Vertex}
 
--- a vertex with its value and its edges, each the target and the edge's value
+-- a vertex with its value and its edges, each of which is its target and its value
 pub record Entry : Type 0 where
   pub id : ℕ
   pub value : ℤ
@@ -41,26 +41,26 @@ end_of edge = (edge.target, edge.value)
 abbrev pub edges_from : List Edge → ℕ → List (ℕ × ℤ)
 edges_from edges id = map end_of (filter (λ edge. edge.from == id) edges)
 
--- numbers that a signed number of 64 bits can be
+-- the number is in the range of a signed number of 64 bits
 abbrev pub is_in_range : ℕ → Type 0
 is_in_range id = id < 2 ^ 63
 
--- how many edges the vertices have, together
+-- the number of edges of all vertices
 abbrev pub edge_count : List Entry → ℕ
 edge_count graph = sum_by (λ entry. length entry.edges) graph
 
--- There are no more vertices, and no more edges, than a graph may have.
+-- There are no more vertices and edges than a graph may have.
 pub record FitsLimits (graph : List Entry) : Type 0 where
   pub vertices : length graph ≤ MAX_VERTICES
   pub edges : edge_count graph ≤ MAX_EDGES
 
--- What is so of every graph: ids rise, and the ids of vertices and targets are in range.
+-- What holds for every graph: the ids rise, and the ids of vertices and targets are in range.
 pub record IsProper (graph : List Entry) : Type 0 where
   pub rising : IsStrictlyIncreasing (ids graph)
   pub ids_in_range : All (λ entry. is_in_range entry.id) graph
   pub targets_in_range : All (λ entry. All (λ edge. is_in_range edge.0) entry.edges) graph
 
--- the vertices of one part of so many: those whose id has this remainder
+-- the vertices of one part: those whose id has this remainder
 abbrev pub part_of_graph : ℕ → List Entry → ℕ → List Entry
 part_of_graph parts graph part = filter (λ entry. entry.id % parts == part) graph
 

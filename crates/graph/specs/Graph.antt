@@ -8,9 +8,11 @@ use Rattle.graph.specs.Line.{is_good}
 use Rattle.graph.specs.Said.{lines_of, all_declared, all_edges}
 use Rattle.graph.specs.Entry.{Entry, ids, heads, edges_from}
 
--- The lines say this graph: each line is blank, a vertex or an edge; the vertices stand by rising id, and are those
--- that the lines declare, so no id is declared twice; a vertex has the edges from it in the order of their lines; and
--- both ends of each edge are declared, before or after it.
+-- The lines declare this graph:
+-- * each line is blank, a vertex or an edge;
+-- * the vertices are those that the lines declare, by rising id, so no id is declared twice;
+-- * a vertex has the edges from it in the order of their lines;
+-- * both ends of each edge are declared, before or after it.
 pub record IsSaid (lines : List Line) (graph : List Entry) : Type 0 where
   pub good : All (λ line. is_good line ≡ true) lines
   pub rising : IsStrictlyIncreasing (ids graph)
@@ -19,7 +21,7 @@ pub record IsSaid (lines : List Line) (graph : List Entry) : Type 0 where
   pub from_declared : All (λ edge. Contains (ids graph) edge.from) (all_edges lines)
   pub target_declared : All (λ edge. Contains (ids graph) edge.target) (all_edges lines)
 
--- The lines declare no more vertices, and say no more edges, than a graph may have.
+-- The lines declare no more vertices and edges than a graph may have.
 pub record AreWithinLimits (lines : List Line) : Type 0 where
   pub vertices : length (all_declared lines) ≤ MAX_VERTICES
   pub edges : length (all_edges lines) ≤ MAX_EDGES

@@ -1,17 +1,12 @@
--- What a reader has to believe, in this order: what stands in a line, which numbers it writes, what it means, and which
--- graph the lines of a text say.
-pub mod Fields
-pub mod Number
+-- The definitions to read, in this order: the meaning of a line, what all lines declare, a graph as a list, and the graph that
+-- a text means. The fields and the numbers of a line are in crate line_text.
 pub mod Line
 pub mod Said
 pub mod Entry
 pub mod Graph
--- the parts of a graph, and what is printed
+-- the parts of a list and of a graph, and how values are printed
+pub mod Partition
 pub mod Parts
-pub mod Output
 pub mod Print
--- lists by rising keys, and lists cut into parts: facts for the proofs of this crate and of those above it
-pub mod Rising
-pub mod Cutting
--- what only mirrors the code, for its proofs
+-- for proofs only: definitions that follow the code, and facts on lists, which crates above use too
 pub mod inside

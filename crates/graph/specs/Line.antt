@@ -1,8 +1,8 @@
--- What one line means.
+-- The meaning of one line.
 use Rattle.std.specs.Prelude.{◌==◌, ℕ, ℤ, Bool, true, false, List, [], ◌∷◌, slice_index, Option, Some, codes, if◌then◌else◌}
 use Rattle.std.specs.Str.{bytes_eq}
-use Rattle.graph.specs.Fields.{fields}
-use Rattle.graph.specs.Number.{id_of, number_of}
+use Rattle.line_text.specs.Fields.{fields}
+use Rattle.line_text.specs.Number.{id_of, number_of}
 use Rattle.graph.specs.declared.line.Line.{Line}
 use Rattle.graph.specs.declared.line.Line.TheVariants.{Blank, Vertex, Edge, BadForm, BadNumber}
 
@@ -23,7 +23,7 @@ abbrev pub edge_fields : List ℕ → List ℕ → List ℕ → List ℕ → Lin
 edge_fields name from target value =
     if bytes_eq name (codes "e") then edge_line (id_of from) (id_of target) (number_of value) else BadForm
 
--- what fields say: nothing where there are none, `v ID VALUE`, or `e FROM TO VALUE`
+-- the meaning of fields: blank where there are none, `v ID VALUE`, or `e FROM TO VALUE`
 abbrev pub line_of_fields : List (List ℕ) → Line
 line_of_fields [] = Blank
 line_of_fields (name ∷ id ∷ value ∷ []) = vertex_fields name id value

@@ -12,7 +12,7 @@ part_entries part = entries_of part.vertices.items
 abbrev pub all_entries : List Part → List Entry
 all_entries parts = flat_map part_entries parts
 
--- the vertices of these parts are together those of a graph, and no more than it may have
+-- the vertices of these parts are together those of a graph within the limits
 abbrev pub AreParts : List Part → Type 0
 AreParts parts =
     (graph : List Entry) × IsProper graph × FitsLimits graph × IsPermutation (all_entries parts) graph

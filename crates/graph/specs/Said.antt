@@ -1,4 +1,4 @@
--- What lines say, one after another.
+-- The vertices and edges that lines declare.
 use Rattle.std.specs.Prelude.{ℕ, ℤ, List, [], ◌∷◌, map}
 use Rattle.std.specs.List.{flat_map}
 use Rattle.std.specs.Str.Lines.{lines}
@@ -7,17 +7,17 @@ use Rattle.graph.specs.declared.line.Line.{Line}
 use Rattle.graph.specs.declared.line.Line.TheVariants as line
 use Rattle.graph.specs.declared.vertex.Edge.{Edge}
 
--- what the lines of a text mean, from the top: a line ends with a line feed, and a carriage return before that belongs
--- to the end; the last line may have no end
+-- The meanings of the lines of a text, from the top. A line ends with a line feed, with or without a carriage return before
+-- it. The last line may have no end.
 abbrev pub lines_of : List ℕ → List Line
 lines_of text = map line_of (lines text)
 
--- the vertex that a line declares: its id and its value
+-- the vertex that a line declares, as its id and its value
 abbrev pub declared_by : Line → List (ℕ × ℤ)
 declared_by (line.Vertex id value) = (id, value) ∷ []
 declared_by _ = []
 
--- the edge that a line says
+-- the edge that a line declares
 abbrev pub said_by : Line → List Edge
 said_by (line.Edge from target value) = record { from = from; target = target; value = value } ∷ []
 said_by _ = []

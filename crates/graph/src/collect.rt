@@ -1,4 +1,4 @@
-//! What the lines of a text say, line by line.
+//! The vertices and edges that the lines of a text declare.
 
 ghost use Rattle.std.specs.Prelude.{◌≢◌, IfOk, IfErr, OnOk};
 ghost use Rattle.graph.specs.declared.fault.GraphFault.TheVariants.{OutOfMemory};
@@ -11,14 +11,16 @@ use crate::line::{Line, line_of};
 use crate::vertex::{Edge, MAX_EDGES, MAX_VERTICES, Vertex};
 use std::alloc::Global;
 
-/// The vertices and the edges that lines said, each in the order of the lines. The edges are not yet at their vertices.
+/// The vertices and edges of a text, each in the order of their lines. No vertex has its edges yet.
 #[derive(Drop)]
 pub struct Collected {
     pub vertices: Vec<Vertex>,
     pub edges: Vec<Edge>,
 }
 
-/// What a text says, or its first fault other than `DuplicateVertex` and `UnknownEnd`.
+/// Collects the vertices and edges of a text.
+///
+/// It fails at the first fault other than `DuplicateVertex` and `UnknownEnd`, which it does not look for.
 pub fn collect(alloc: Global, text: &str) -> Result<Collected, GraphFault>
     ensures says { IfOk result (λ collected. Says (lines_of text.now) collected) }
     ensures only { IfErr result (λ told. told ≢ OutOfMemory → ¬ CanBeSaid (lines_of text.now)) }
@@ -34,7 +36,7 @@ pub fn collect(alloc: Global, text: &str) -> Result<Collected, GraphFault>
 }
 
 impl Collected {
-    // Adds what the line of this number says.
+    // Adds the vertex or the edge of a line, which has this number.
     fn add(&mut self, alloc: Global, number: usize, line: Line) -> Result<(), GraphFault>
         ensures says { OnOk result (AddsLine line self.old self.new) }
         ensures only { IfErr result (λ told. told ≢ OutOfMemory → RefusesLine line self.old) }

@@ -1,4 +1,4 @@
-//! On which line a fault stands. The lines are read again, so that a graph without a fault keeps no numbers of lines.
+//! The line numbers of faults. The lines are read again, so that a graph without a fault keeps no line numbers.
 
 ghost use Rattle.std.specs.Prelude.{◌≡◌};
 ghost use Rattle.graph.specs.declared.fault.GraphFault.TheVariants.{OutOfMemory};
@@ -7,7 +7,7 @@ use crate::fault::GraphFault;
 use crate::line::{Line, line_of};
 use std::alloc::{AllocError, Global};
 
-/// The line of the edge before which so many edges stand, or 0 where there is none.
+/// Returns the line of the edge that has this many edges before it, or 0 where there is none.
 pub fn line_of_edge(text: &str, before: usize) -> usize {
     let mut left = before;
     for (index, line) in text.lines().enumerate() {
@@ -21,7 +21,7 @@ pub fn line_of_edge(text: &str, before: usize) -> usize {
     0
 }
 
-/// The first fault of a text whose first fault would be this one, if no vertex were declared twice before it.
+/// Returns the first fault of a text: this one, or a vertex that is declared twice before its line.
 pub fn first_fault(alloc: Global, text: &str, fault: GraphFault) -> GraphFault
     ensures { fault ≡ OutOfMemory → result ≡ OutOfMemory }
 {
@@ -36,7 +36,7 @@ pub fn first_fault(alloc: Global, text: &str, fault: GraphFault) -> GraphFault
     }
 }
 
-/// The first line before this one that declares a vertex again.
+/// Returns the first line before this one that declares a vertex again.
 pub fn first_duplicate(
     alloc: Global,
     text: &str,
@@ -53,7 +53,7 @@ pub fn first_duplicate(
     Ok(first)
 }
 
-// The ids that lines before this one declare, each with its line.
+// Lists the ids that earlier lines declare, each with its line.
 fn declared_before(
     alloc: Global,
     text: &str,

@@ -8,9 +8,9 @@ ghost use Rattle.graph.specs.Graph.{IsGraphText, IsWithinLimits, MeansNoGraph};
 ghost use Rattle.graph.specs.Said.{lines_of};
 
 use crate::collect::{Collected, collect};
-use crate::cutting::sort_by_id;
 use crate::fault::GraphFault;
 use crate::fault_lines::{first_duplicate, first_fault};
+use crate::partition::sort_by_id;
 use crate::place::place_edges;
 use crate::rising::are_rising;
 use crate::vertex::Vertex;
@@ -38,19 +38,19 @@ impl Model for Graph {
 }
 
 impl Graph {
-    /// The graph that a text means.
+    /// Reads a graph file.
     ///
-    /// Lines end with a line feed; a carriage return before it is dropped, and the last line may have no end. Blank lines
-    /// and lines that begin with `#` say nothing. `v ID VALUE` declares a vertex, and `e FROM TO VALUE` says an edge,
-    /// whose ends may be declared after it. Fields stand between spaces and tabs. Ids are decimal digits, to
-    /// 9,223,372,036,854,775,807; values are those of an `i64`, with a `-` before the digits or none.
+    /// Lines end with a line feed, with or without a carriage return before it; the last line may have no end. Blank lines
+    /// and lines that begin with `#` are skipped. `v ID VALUE` declares a vertex, and `e FROM TO VALUE` an edge, whose ends
+    /// may be declared after it. Spaces and tabs separate fields. Ids are decimal digits, up to 9,223,372,036,854,775,807.
+    /// Values are decimal digits in the range of an `i64`, with an optional `-`.
     ///
-    /// Lines are tried from the top, and in a line the faults in this order: `Line`, `Number`, `OverLimit` (more than
+    /// Lines are tried from the top, and the faults of a line in this order: `Line`, `Number`, `OverLimit` (more than
     /// 1,000,000 vertices or 10,000,000 edges), `DuplicateVertex`. `UnknownEnd` comes last, at its first line.
     pub fn read(alloc: Global, text: &str) -> Result<Graph, GraphFault>
         ensures found { IfOk result (λ graph. IsGraphText text.now graph
             × IsWithinLimits text.now) }
-        // The graph that the text means is read, unless memory runs out.
+        // A text that means a graph within the limits is read, unless memory runs out.
         ensures only { (graph : List Entry) → IsGraphText text.now graph → IsWithinLimits text.now
             → MatchResult result (λ read. read ≡ graph) (λ fault. fault ≡ OutOfMemory) }
     {
@@ -62,7 +62,7 @@ impl Graph {
         Ok(Graph { vertices })
     }
 
-    /// The vertices, by rising id.
+    /// Returns the vertices, by rising id.
     pub fn vertices(&self) -> &[Vertex]
         ensures same { entries_of result.now ≡ self.now }
         ensures proper { IsProper self.now }
@@ -71,7 +71,7 @@ impl Graph {
         &self.vertices
     }
 
-    /// The vertices, by rising id.
+    /// Turns the graph into its vertices, by rising id.
     pub fn into_vertices(self) -> Vec<Vertex>
         ensures same { entries_of result.items ≡ self }
         ensures proper { IsProper self }
@@ -80,8 +80,7 @@ impl Graph {
         self.vertices
     }
 
-    /// The graph that has these vertices, which stand by rising id, have all ids in range, and are no more, with no more
-    /// edges, than a graph may have.
+    /// Makes a graph of vertices. They have to be sorted by id, with all ids in range and within the limits of a graph.
     pub fn from_vertices(vertices: Vec<Vertex>) -> Graph
         requires proper { IsProper (entries_of vertices.items) }
         requires limits { FitsLimits (entries_of vertices.items) }
@@ -90,7 +89,7 @@ impl Graph {
         Graph { vertices }
     }
 
-    /// A graph that is equal to it.
+    /// Copies the graph.
     pub fn copy(&self, alloc: Global) -> Result<Graph, AllocError>
         ensures { IfOk result (λ copy. copy ≡ self.now) }
     {
@@ -99,7 +98,7 @@ impl Graph {
     }
 }
 
-// The vertices of the graph that the text means, by what its lines say.
+// Joins the vertices and the edges of a text.
 fn joined(alloc: Global, text: &str, collected: Collected) -> Result<Vec<Vertex>, GraphFault>
     requires { Says (lines_of text.now) collected }
     ensures found { IfOk result (λ vertices. IsGraphText text.now (entries_of vertices.items)) }

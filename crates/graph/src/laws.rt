@@ -1,11 +1,11 @@
-//! What holds of the definitions.
+//! Theorems on the definitions.
 
 ghost use Rattle.std.specs.Prelude.{◌≡◌, ℕ, List};
 ghost use Rattle.graph.specs.Entry.{Entry, FitsLimits, IsProper};
 ghost use Rattle.graph.specs.Graph.{IsGraphText, IsWithinLimits};
 
-/// A text means at most one graph, whose ids rise and are in range, as its targets are. Where the text is within the
-/// limits, so is the graph.
+/// Shows that a text means at most one graph. Its ids rise, and its ids and targets are in range. Where the text is
+/// within the limits, so is the graph.
 pub fn means_one_graph()
     ensures one { (text : List ℕ) (first second : List Entry)
         → IsGraphText text first → IsGraphText text second → first ≡ second }

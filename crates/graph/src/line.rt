@@ -1,27 +1,26 @@
-//! What one line means.
+//! One line of a graph file.
 
 ghost use Rattle.std.specs.Prelude.{◌≡◌};
 ghost use Rattle.graph.specs.Line.{edge_fields, line_of, vertex_fields};
 
-use crate::fields::Fields;
-use crate::number::{id_of, number_of};
+use line_text::{Fields, id_of, number_of};
 
-/// What a line means.
+/// The meaning of a line.
 #[derive(Clone, Copy)]
 pub enum Line {
-    /// It is blank, or a comment.
+    /// The line is blank, or a comment.
     Blank,
     /// `v ID VALUE`.
     Vertex(u64, i64),
     /// `e FROM TO VALUE`.
     Edge(u64, u64, i64),
-    /// It has no form of these.
+    /// The line has none of these forms.
     BadForm,
-    /// It has the form, and a field that is no number in its range.
+    /// The line is of the form of a vertex or an edge, and one of its numbers is none, or out of its range.
     BadNumber,
 }
 
-/// What a line means, without its end.
+/// Reads a line, given without its end.
 pub fn line_of(line: &str) -> Line
     ensures { result ≡ line_of line.now }
 {

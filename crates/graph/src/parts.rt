@@ -5,19 +5,19 @@ ghost use Rattle.std.specs.List.Sorted.{IsPermutation};
 ghost use Rattle.graph.specs.Entry.{Entry, IsProper, entries_of, parts_of};
 ghost use Rattle.graph.specs.Parts.{AreParts, all_entries, part_entries};
 
-use crate::cutting::{cut_by_id, sort_by_id};
 use crate::graph::Graph;
+use crate::partition::{cut_by_id, sort_by_id};
 use crate::vertex::Vertex;
 use std::alloc::{AllocError, Global};
 
-/// Some of a graph's vertices, with all edges from them.
+/// A part of a graph: some of its vertices, with all edges from them.
 #[derive(Drop)]
 pub struct Part {
     /// The vertices, by rising id.
     pub vertices: Vec<Vertex>,
 }
 
-/// The parts of a graph, of which there may be empty ones. The edges are moved, not copied.
+/// Splits a graph into parts, some of which may be empty. The edges are moved, not copied.
 pub fn split(alloc: Global, graph: Graph, parts: u32) -> Result<Vec<Part>, AllocError>
     requires { 0 < parts }
     ensures parts { IfOk result (λ split. map part_entries split.items ≡ parts_of parts graph) }
@@ -30,7 +30,7 @@ pub fn split(alloc: Global, graph: Graph, parts: u32) -> Result<Vec<Part>, Alloc
     Ok(split)
 }
 
-/// The graph whose parts these are, in any order. The edges are moved, not copied.
+/// Joins the parts of a graph, given in any order. The edges are moved, not copied.
 pub fn join(alloc: Global, parts: Vec<Part>) -> Result<Graph, AllocError>
     requires { AreParts parts.items }
     ensures { (graph : List Entry) → IsProper graph → IsPermutation (all_entries parts.items) graph
@@ -41,7 +41,7 @@ pub fn join(alloc: Global, parts: Vec<Part>) -> Result<Graph, AllocError>
     Ok(Graph::from_vertices(vertices))
 }
 
-// The vertices of all parts, one part after another.
+// Concatenates the vertices of all parts.
 fn together(alloc: Global, parts: Vec<Part>) -> Result<Vec<Vertex>, AllocError>
     ensures { IfOk result (λ vertices. entries_of vertices.items ≡ all_entries parts.items) }
 {

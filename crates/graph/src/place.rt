@@ -1,4 +1,4 @@
-//! The edges, at the vertices that they leave.
+//! Edges given to their source vertices.
 
 ghost use Rattle.std.specs.Prelude.{◌≡◌, ◌≢◌, ◌<◌, MatchOption, length, map, IfErr, IfOk, OnOk};
 ghost use Rattle.std.specs.List.{Contains};
@@ -12,10 +12,10 @@ use crate::fault_lines::line_of_edge;
 use crate::vertex::{Edge, Vertex};
 use std::alloc::{AllocError, Global};
 
-/// Gives each vertex the edges that leave it, in their order, behind those that it has.
+/// Appends to each vertex the edges that leave it, in their order.
 ///
-/// The ids rise. It fails with `UnknownEnd` at the first edge that has an end which is no vertex's id; the text is that
-/// of the edges, whose lines it counts.
+/// The ids rise. It fails with `UnknownEnd` at the first edge whose source or target is no vertex. The text is the one that
+/// has the edges; only its line numbers are looked up.
 pub fn place_edges(
     alloc: Global,
     text: &str,
@@ -33,7 +33,7 @@ pub fn place_edges(
     place_all(text, &ids, edges, vertices)
 }
 
-// The same, with the vertices' ids known.
+// Places the edges, given the vertices' ids.
 fn place_all(
     text: &str,
     known: &[u64],
@@ -59,7 +59,7 @@ fn place_all(
     Ok(())
 }
 
-// Room for the edges that leave each vertex, so that no list of edges grows while they are placed.
+// Makes room for the edges that leave each vertex, so that no list of edges grows while they are placed.
 fn make_room(
     alloc: Global,
     ids: &[u64],
@@ -77,7 +77,7 @@ fn make_room(
     Ok(())
 }
 
-// Room for so many edges more at the vertex in this place, if there is one.
+// Makes room for more edges at the vertex in this place, if there is one.
 fn give_room(vertices: &mut Vec<Vertex>, place: usize, edges: usize) -> Result<(), AllocError>
     ensures { entries_of vertices.new.items ≡ entries_of vertices.old.items }
 {
@@ -88,7 +88,7 @@ fn give_room(vertices: &mut Vec<Vertex>, place: usize, edges: usize) -> Result<(
     vertex.edges.reserve_exact(edges)
 }
 
-// How many edges leave the vertex of each id.
+// Counts the edges that leave the vertex of each id.
 fn counts_of(alloc: Global, ids: &[u64], edges: &[Edge]) -> Result<Vec<usize>, AllocError>
     requires { IsStrictlyIncreasing ids.now }
 {
@@ -105,15 +105,15 @@ fn counts_of(alloc: Global, ids: &[u64], edges: &[Edge]) -> Result<Vec<usize>, A
     Ok(counts)
 }
 
-// The ids of vertices, in their order.
+// Lists the ids of vertices, in their order.
 fn ids_of(alloc: Global, vertices: &[Vertex]) -> Result<Vec<u64>, AllocError>
     ensures { IfOk result (λ found. found.items ≡ map vertex_id vertices.now) }
 {
     vertices.iter().map(|vertex| vertex.id).collect(alloc)
 }
 
-// Where the vertex stands that an edge leaves, if both of its ends are among these ids, which rise. The source of the edge
-// before it stood in the place `last`.
+// Finds the place of an edge's source, if both ends are among these ids, which rise. The place of the last edge's source
+// is `last`.
 fn source_of(ids: &[u64], last: usize, edge: Edge) -> Option<usize>
     requires { IsStrictlyIncreasing ids.now }
     ensures { MatchOption result (Contains ids.now edge.from → ¬ Contains ids.now edge.target)
@@ -123,7 +123,8 @@ fn source_of(ids: &[u64], last: usize, edge: Edge) -> Option<usize>
     place_near(ids, last, edge.from)
 }
 
-// Where an id stands among ids that rise, looked for in the place `last` first: edges of one vertex mostly follow one another.
+// Finds the place of an id among ids that rise. It looks at `last` first, since edges of one vertex mostly follow one
+// another.
 fn place_near(ids: &[u64], last: usize, id: u64) -> Option<usize>
     requires { IsStrictlyIncreasing ids.now }
     ensures { MatchOption result (¬ Contains ids.now id) (StandsAt ids.now id) }
@@ -134,7 +135,7 @@ fn place_near(ids: &[u64], last: usize, id: u64) -> Option<usize>
     place_of(ids, id)
 }
 
-// Where an id stands among ids that rise. Where they have no gap it takes no search.
+// Finds the place of an id among ids that rise. Where they have no gap, it needs no search.
 fn place_of(ids: &[u64], id: u64) -> Option<usize>
     requires { IsStrictlyIncreasing ids.now }
     ensures { MatchOption result (¬ Contains ids.now id) (StandsAt ids.now id) }
@@ -146,7 +147,7 @@ fn place_of(ids: &[u64], id: u64) -> Option<usize>
     ids.binary_search(&id).ok()
 }
 
-// The place of an id where no id is missing between the first and it.
+// Returns the place that an id has where no id is missing before it.
 fn place_without_gaps(ids: &[u64], id: u64) -> usize {
     match ids.first() {
         Some(first) => id.wrapping_sub(*first) as usize,

@@ -1,19 +1,19 @@
-//! The values of vertices, printed.
+//! Printing of the values of vertices.
 
 ghost use Rattle.std.specs.Prelude.{◌≡◌, IfErr, IfOk, OnOk, OnErr, map, string_bytes};
 ghost use Rattle.std.specs.List.Sorted.{IsStrictlyIncreasing};
 ghost use Rattle.std.specs.Io.KnownBytes.{Appends};
-ghost use Rattle.graph.specs.Output.{HasBegun};
+ghost use Rattle.line_text.specs.Output.{HasBegun};
 ghost use Rattle.graph.specs.Print.{id_in, value_line, value_lines};
 
 use crate::fault::PrintFault;
-use crate::output::{Output, put};
+use line_text::{Output, write_all};
 use std::alloc::{AllocError, Global};
 
-/// Writes a line `v ID VALUE` for each vertex; the ids rise.
+/// Writes a line `v ID VALUE` for each vertex. The ids rise.
 ///
-/// It fails with `Device` where the writer failed, and then a beginning of the lines was written, which may be all or none
-/// of them; so it is after `OutOfMemory`. Each line is a write of its own, so a file or a terminal wants a buffer round it.
+/// It fails with `Device` where the writer fails, and with `OutOfMemory`. Either way some prefix of the lines was written,
+/// which may be none or all of them. Each line is a write of its own, so wrap a file or a terminal in a buffer.
 pub fn print_values<O: Output>(
     alloc: Global,
     values: &[(u64, i64)],
@@ -28,7 +28,7 @@ pub fn print_values<O: Output>(
 {
     for (id, value) in values {
         let line = value_line(alloc, *id, *value)?;
-        put(line.as_bytes(), out)?;
+        write_all(line.as_bytes(), out)?;
     }
     Ok(())
 }

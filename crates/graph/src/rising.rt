@@ -6,7 +6,7 @@ ghost use Rattle.graph.specs.Entry.{entries_of, ids};
 
 use crate::vertex::Vertex;
 
-/// Whether each id is below the next.
+/// Checks that each id is below the next.
 pub fn are_rising(vertices: &[Vertex]) -> bool
     ensures { IsTrue result ↔ IsStrictlyIncreasing (ids (entries_of vertices.now)) }
 {

@@ -1,17 +1,17 @@
-//! What a graph is made of.
+//! Vertices and edges.
 
-use crate::cutting::Identified;
+use crate::partition::Identified;
 
-/// How many vertices a graph may have.
+/// The greatest number of vertices of a graph.
 pub const MAX_VERTICES: usize = 1_000_000;
 
-/// How many edges a graph may have.
+/// The greatest number of edges of a graph.
 pub const MAX_EDGES: usize = 10_000_000;
 
 /// A vertex with its value and the edges from it.
 #[derive(Drop)]
 pub struct Vertex {
-    /// From 0 to 9,223,372,036,854,775,807.
+    /// The vertex's id. In a graph it is from 0 to 9,223,372,036,854,775,807.
     pub id: u64,
     /// The vertex's value.
     pub value: i64,
@@ -27,12 +27,12 @@ impl Identified for Vertex {
     }
 }
 
-/// An edge as a line says it.
+/// An edge, as a line declares it.
 #[derive(Clone, Copy)]
 pub struct Edge {
-    /// The vertex that it leaves.
+    /// The id of its source.
     pub from: u64,
-    /// The vertex that it leads to.
+    /// The id of its target.
     pub target: u64,
     /// The edge's value.
     pub value: i64,

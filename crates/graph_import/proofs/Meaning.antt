@@ -20,10 +20,10 @@ use Rattle.graph.specs.declared.line.Line.TheVariants.{Edge as EdgeLine, Vertex}
 use Rattle.graph.specs.declared.vertex.Edge.{Edge}
 use Rattle.graph.specs.declared.vertex.TheConstants.{MAX_EDGES, MAX_VERTICES}
 use Rattle.graph.specs.Entry.{Entry, edges_from, heads, ids}
-use Rattle.graph.specs.Fields.{fields, is_blank, is_filled}
+use Rattle.line_text.specs.Fields.{fields, is_blank, is_filled}
 use Rattle.graph.specs.Graph.{AreWithinLimits, IsGraphText, IsSaid, IsWithinLimits}
 use Rattle.graph.specs.Line.{edge_line as edge_numbers, is_good, line_of, line_of_fields, vertex_line as vertex_numbers}
-use Rattle.graph.specs.Number.{id_of, number_of, numeral}
+use Rattle.line_text.specs.Number.{id_of, number_of, numeral}
 use Rattle.graph.specs.Print.{id_in, value_line, value_lines}
 use Rattle.graph.specs.Said.{all_declared, all_edges, lines_of}
 use Rattle.graph_import.specs.Graph.{edge_line, edge_lines, graph_of, graph_text, vertex_of}

@@ -16,7 +16,7 @@ from_of edge = edge.from
 abbrev pub target_of : Edge → ℕ
 target_of edge = edge.target
 
--- where edges begin and where they lead, and the ids from 1 to `declared`
+-- the sources and the targets of edges, and the ids from 1 to `declared`
 abbrev pub ends : (declared : ℕ) → List Edge → List ℕ
 ends declared edges = map from_of edges ++ map target_of edges ++ range_with_len 1 declared
 
@@ -43,11 +43,11 @@ valued values id = (id, value_at values id)
 abbrev pub count_from : List Edge → ℕ → ℕ
 count_from edges id = count_by (λ edge. edge.from == id) edges
 
--- the share of 2^32 of each of so many edges; an edge is one of one or more
+-- the share of 2^32 of each of `count` edges, where at least one is counted
 abbrev pub share_of : ℕ → ℤ
 share_of count = pos (4294967296 / max count 1)
 
--- the edge with the share that falls to each edge from its source
+-- the edge with its share among the edges from its source
 abbrev pub shared : (all : List Edge) → Edge → Edge
 shared all edge = record { from = edge.from; target = edge.target; value = share_of (count_from all edge.from) }
 

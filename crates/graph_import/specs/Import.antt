@@ -1,10 +1,10 @@
--- What is made of a file.
+-- The graph file that an import makes.
 use denote.Bor.{Bor}
 use Rattle.std.specs.Prelude.{◌≡◌, ℕ, ℤ, pos, neg_ℤ, Bool, true, false, List, map, length, Option, Some, None, codes, nat_eq, string_bytes, if◌then◌else◌}
 use Rattle.std.specs.List.{All, Contains, ends_with, starts_with}
 use Rattle.graph.specs.declared.vertex.Edge.{Edge}
 use Rattle.graph.specs.Graph.{IsGraphText, IsWithinLimits}
-use Rattle.graph.specs.Number.{id_of, number_of}
+use Rattle.line_text.specs.Number.{id_of, number_of}
 use Rattle.graph_import.specs.declared.making.Imported.{Imported}
 use Rattle.graph_import.specs.declared.line.Form.{Form}
 use Rattle.graph_import.specs.declared.plan.Format.{Format}
@@ -14,16 +14,16 @@ use Rattle.graph_import.specs.declared.writing.Values.{Values}
 use Rattle.graph_import.specs.Graph.{AreIdsOf, ends, graph_of, graph_text, valued, weighed}
 use Rattle.graph_import.specs.Said.{all_edges, is_good, lines_of}
 
--- ---- what is read
+-- ---- the edges that are read
 
--- the format of a file by its name: the columns of a table stand between commas or tabs
+-- the format of a file by its name: commas or tabs separate the columns of a table
 abbrev pub format_in : (path : List ℕ) → Format
 format_in path =
     if ends_with nat_eq path (codes ".csv") then format.Table 44
     else if ends_with nat_eq path (codes ".tsv") then format.Table 9
     else format.Lines
 
--- the number that a word is, if there is a word and it is one
+-- the number of a word, if there is a word and it is a number
 abbrev pub number_in : Option (Bor (List ℕ)) → Option ℤ
 number_in None = None
 number_in (Some word) = number_of word.now
@@ -41,21 +41,21 @@ pub record IsNumbered (text : List ℕ) (plan : Plan) : Type 0 where
   pub no_matrix : starts_with nat_eq text (codes "%%MatrixMarket") ≡ false
   pub no_names : plan.names ≡ false
 
--- each line of an edge list whose ends are numbers is blank, a comment or an edge, and these are its edges; there are no other
--- vertices than their ends
+-- each line of an edge list whose ends are numbers is blank, a comment or an edge; these are its edges, and the vertices are
+-- their ends
 pub record SaysEdges (text : List ℕ) (plan : Plan) (declared : ℕ) (edges : List Edge) : Type 0 where
   pub good : All (λ line. is_good line ≡ true) (lines_of (list_form plan) text)
   pub said : edges ≡ all_edges plan.undirected (lines_of (list_form plan) text)
   pub none_declared : declared ≡ 0
 
--- of an edge list whose ends are numbers the edges are those that it says; of other files nothing is said here
+-- the edges of an edge list whose ends are numbers are those of its lines; the edges of other files are not specified
 abbrev pub IsRead : List ℕ → Format → Plan → (declared : ℕ) → List Edge → Type 0
 IsRead text (format.Table delimiter) plan declared edges = declared ≡ 0
 IsRead text format.Lines plan declared edges = IsNumbered text plan → SaysEdges text plan declared edges
 
 -- ---- the values of vertices
 
--- the source is a vertex; where vertices have no names it is the one whose id is written
+-- the source is a vertex; where vertices have no names, the word is its id
 abbrev pub GivesSource : (ids : List ℕ) → (names : Bool) → (word : Option (Bor (List ℕ))) → (source : Option ℕ) → Type 0
 GivesSource ids names None source = source ≡ None
 GivesSource ids names (Some word) source =
@@ -65,20 +65,20 @@ abbrev pub default_beside : (source : Option (Bor (List ℕ))) → ℤ
 default_beside None = pos 0
 default_beside (Some word) = neg_ℤ (pos 1)
 
--- the number that a word is, or another where there is no word
+-- the number of a word, or `otherwise` where there is no word
 abbrev pub GivesNumber : (otherwise : ℤ) → Option (Bor (List ℕ)) → ℤ → Type 0
 GivesNumber otherwise None value = value ≡ otherwise
 GivesNumber otherwise (Some word) value = number_of word.now ≡ Some value
 
--- the value of every vertex is the one that is given, or 0; where there is a source, which is a vertex, that has 0, and every
--- other vertex the value that is given, or -1
+-- The source is a vertex, and its value is 0. The value of every other vertex is the given one. Where none is given, it is 0
+-- without a source and -1 with one.
 pub record GivesValues (ids : List ℕ) (plan : Plan) (values : Values) : Type 0 where
   pub source : GivesSource ids plan.names plan.source values.source
   pub other : GivesNumber (default_beside plan.source) plan.value values.other
 
--- ---- what is made
+-- ---- the result
 
--- The text is that of the graph of the edges that were read: it means that graph, which is within the limits.
+-- The text is the print of the graph of the edges that were read. It means that graph, which is within the limits.
 pub record IsImport (text : List ℕ) (format : Format) (plan : Plan) (made : Imported) : Type 0 where
   pub declared : ℕ
   pub edges : List Edge

@@ -1,8 +1,8 @@
--- What a reader has to believe, in this order: what a line says, which edges a text says, the graph of edges and its text, and
--- what is made of a file.
+-- The definitions to read, in this order: the meaning of a line, the edges of a text, the graph of edges and its text, and the
+-- import of a file.
 pub mod Line
 pub mod Said
 pub mod Graph
 pub mod Import
--- what only mirrors the code, for its proofs
+-- for proofs only: definitions that follow the code
 pub mod inside

@@ -1,7 +1,7 @@
--- What one line of an edge list says.
+-- The meaning of one line of an edge list.
 use Rattle.std.specs.Prelude.{ℕ, ℤ, pos, Bool, ◌==◌, ◌||◌, List, [], ◌∷◌, slice_index, Option, Some, None, if◌then◌else◌, unwrap_or}
-use Rattle.graph.specs.Fields.{fields}
-use Rattle.graph.specs.Number.{id_of, number_of}
+use Rattle.line_text.specs.Fields.{fields}
+use Rattle.line_text.specs.Number.{id_of, number_of}
 use Rattle.graph.specs.declared.vertex.Edge.{Edge}
 use Rattle.graph_import.specs.declared.line.Form.{Form}
 use Rattle.graph_import.specs.declared.line.Line.{Line}
@@ -16,12 +16,12 @@ abbrev pub edge_between : Option ℕ → Option ℕ → Option ℤ → Line
 edge_between (Some from) (Some target) (Some value) = Said (record { from = from; target = target; value = value })
 edge_between _ _ _ = BadNumber
 
--- the value of every edge, or that which a field writes
+-- the value of every edge, or the field's number
 abbrev pub value_in : (weight : Option ℤ) → List ℕ → Option ℤ
 value_in (Some weight) field = Some weight
 value_in None field = number_of field
 
--- two ends alone: the edge counts 1 where no other value is given
+-- only two ends: the edge's value is 1 where no other value is given
 abbrev pub bare_edge : Form → (from target : List ℕ) → Line
 bare_edge form from target =
     if form.needs_value then BadForm else edge_between (id_of from) (id_of target) (Some (unwrap_or form.weight (pos 1)))

@@ -1,4 +1,4 @@
--- The edges that the lines of a text say.
+-- The edges of a text's lines.
 use Rattle.std.specs.Prelude.{◌≡◌, ℕ, Bool, true, false, List, [], ◌∷◌, ◌==◌, map, if◌then◌else◌}
 use Rattle.std.specs.List.{flat_map}
 use Rattle.std.specs.Str.Lines.{lines}
@@ -8,20 +8,20 @@ use Rattle.graph_import.specs.declared.line.Line.{Line}
 use Rattle.graph_import.specs.declared.line.Line.TheVariants.{BadForm, BadNumber, Blank, Said}
 use Rattle.graph_import.specs.Line.{line_of}
 
--- the edge back
+-- the reverse edge
 abbrev pub back : Edge → Edge
 back edge = record { from = edge.target; target = edge.from; value = edge.value }
 
--- an edge, and the edge back where each stands for both directions; one from a vertex to itself stands once
+-- an edge, and its reverse where each edge is for both directions; an edge from a vertex to itself is there once
 abbrev pub both_of : (both_ways : Bool) → Edge → List Edge
 both_of both_ways edge = if both_ways then (if edge.from == edge.target then edge ∷ [] else edge ∷ back edge ∷ []) else edge ∷ []
 
--- the edges of what a line says
+-- the edges of a line
 abbrev pub edges_of : (both_ways : Bool) → Line → List Edge
 edges_of both_ways (Said edge) = both_of both_ways edge
 edges_of both_ways _ = []
 
--- what a text says, line by line
+-- the meanings of a text's lines
 abbrev pub lines_of : Form → List ℕ → List Line
 lines_of form text = map (line_of form) (lines text)
 

@@ -1,3 +1,3 @@
--- Edges, as they are added one after another.
+-- Ranges of an edge's numbers, and the adding of edges.
 pub mod Ranges
 pub mod Adding

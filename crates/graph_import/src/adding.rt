@@ -1,4 +1,4 @@
-//! Edges, added one after another.
+//! Adding of edges, one after another.
 
 ghost use Rattle.std.specs.Prelude.{◌≡◌, ◌∷◌, [], true, OnOk};
 ghost use Rattle.graph_import.specs.Said.{both_of, edges_of, is_good};
@@ -11,7 +11,7 @@ use graph::{Edge, GraphFault};
 use std::alloc::Global;
 
 impl Edges {
-    /// No edges.
+    /// Makes an empty list of edges.
     pub fn new(alloc: Global, both_ways: bool, most: usize) -> Edges
         ensures items { result.items.items ≡ [] }
         ensures both_ways { result.both_ways ≡ both_ways }
@@ -24,7 +24,7 @@ impl Edges {
         }
     }
 
-    /// Adds what the line of this number says.
+    /// Adds the edge of a line, which has this number, if it has one.
     pub fn add_line(&mut self, number: usize, line: Line) -> Result<(), GraphFault>
         requires { SaysInRange line }
         ensures added { OnOk result (Adds (edges_of self.old.both_ways line) self.old self.new) }
@@ -38,8 +38,8 @@ impl Edges {
         }
     }
 
-    /// Adds the edge of a line, and behind it the edge back where each stands for both directions. An edge from a vertex to
-    /// itself is added once.
+    /// Adds the edge of a line, and then its reverse where each edge is for both directions. An edge from a vertex to itself is
+    /// added once.
     pub fn add(&mut self, line: usize, edge: Edge) -> Result<(), GraphFault>
         requires { IsInRange edge }
         ensures { OnOk result (Adds (both_of self.old.both_ways edge) self.old self.new) }

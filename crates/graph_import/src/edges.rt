@@ -1,4 +1,4 @@
-//! The edges of a file, as far as it was read.
+//! The edges read so far.
 
 ghost use Rattle.std.specs.Prelude.{◌≤◌, vec_len};
 ghost use Rattle.std.specs.List.{All};
@@ -11,9 +11,9 @@ use graph::Edge;
 pub struct Edges {
     /// The edges so far.
     pub items: Vec<Edge>,
-    /// Whether each edge stands for both directions.
+    /// Whether each edge is for both directions.
     pub both_ways: bool,
-    /// How many there may be.
+    /// The greatest number of edges.
     pub most: usize,
     ghost within: { vec_len items ≤ most },
     ghost in_range: { All IsInRange items.items },

@@ -1,4 +1,4 @@
-//! Graph files made of edge lists, tables and matrices.
+//! Import of edge lists, tables and matrices as graph files.
 #![tactic(auto)]
 
 mod adding;

@@ -1,37 +1,38 @@
-//! What one line of an edge list says.
+//! One line of an edge list.
 
 ghost use Rattle.std.specs.Prelude.{◌≡◌};
-ghost use Rattle.graph.specs.Number.{id_of};
+ghost use Rattle.line_text.specs.Number.{id_of};
 ghost use Rattle.graph_import.specs.Line.{bare_edge, edge_between, is_comment, line_of, value_in, valued_edge};
 ghost use Rattle.graph_import.specs.inside.Adding.{SaysInRange};
 
-use graph::{Edge, Fields, id_of, number_of};
+use graph::Edge;
+use line_text::{Fields, id_of, number_of};
 
-/// What the lines of a file have beside the two ends of an edge.
+/// The form of a file's lines, beside the two ends of an edge.
 #[derive(Clone, Copy)]
 pub struct Form {
-    /// Whether a third field may stand.
+    /// Whether a line may have a third field, the value.
     pub takes_value: bool,
-    /// Whether it has to.
+    /// Whether a line has to have a third field.
     pub needs_value: bool,
-    /// The value of every edge, whatever its line says.
+    /// The value of every edge, in place of its line's.
     pub weight: Option<i64>,
 }
 
-/// What a line says.
+/// The meaning of a line.
 #[derive(Clone, Copy)]
 pub enum Line {
-    /// It is blank, or a comment.
+    /// The line is blank, or a comment.
     Blank,
     /// An edge.
     Said(Edge),
-    /// It has no form that a line may have.
+    /// The line has the wrong number of fields.
     BadForm,
-    /// It has one, and a field that is no number in its range.
+    /// The line has the right number of fields, and one of them is no number in its range.
     BadNumber,
 }
 
-/// What a line says, without its end.
+/// Reads a line, given without its end.
 pub fn line_of(line: &str, form: Form) -> Line
     ensures said { result ≡ line_of form line.now }
     ensures in_range { SaysInRange result }
@@ -55,7 +56,7 @@ pub fn line_of(line: &str, form: Form) -> Line
     valued_edge(from, target, value, form)
 }
 
-/// Whether a line is a comment: it begins with `#` or `%`.
+/// Checks whether a line is a comment: it begins with `#` or `%`.
 pub fn is_comment(line: &str) -> bool
     ensures { result ≡ is_comment line.now }
 {
@@ -65,7 +66,7 @@ pub fn is_comment(line: &str) -> bool
     }
 }
 
-// An edge of a line with its two ends alone.
+// Reads the edge of a line that has only the two ends.
 fn bare_edge(from: &[u8], target: &[u8], form: Form) -> Line
     ensures said { result ≡ bare_edge form from.now target.now }
     ensures in_range { SaysInRange result }
@@ -76,7 +77,7 @@ fn bare_edge(from: &[u8], target: &[u8], form: Form) -> Line
     edge_between(from, target, Some(form.weight.unwrap_or(1)))
 }
 
-// An edge of a line that has its value.
+// Reads the edge of a line that has a value.
 fn valued_edge(from: &[u8], target: &[u8], value: &[u8], form: Form) -> Line
     ensures said { result ≡ valued_edge form from.now target.now value.now }
     ensures in_range { SaysInRange result }
@@ -87,7 +88,7 @@ fn valued_edge(from: &[u8], target: &[u8], value: &[u8], form: Form) -> Line
     edge_between(from, target, value_in(value, form.weight))
 }
 
-// The value of an edge, where a field writes one.
+// Returns the value of every edge, or else reads the field.
 fn value_in(value: &[u8], weight: Option<i64>) -> Option<i64>
     ensures { result ≡ value_in weight value.now }
 {
@@ -97,7 +98,7 @@ fn value_in(value: &[u8], weight: Option<i64>) -> Option<i64>
     }
 }
 
-/// What a line with these ends and this value says.
+/// Reads the ends of an edge that has this value.
 pub fn edge_between(from: &[u8], target: &[u8], value: Option<i64>) -> Line
     ensures said { result ≡ edge_between (id_of from.now) (id_of target.now) value }
     ensures in_range { SaysInRange result }

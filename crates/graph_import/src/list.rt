@@ -11,7 +11,7 @@ use crate::names::{Names, Row, row_of};
 use graph::GraphFault;
 use std::alloc::Global;
 
-/// Reads the edges of a text with one on each line, whose ends are numbers.
+/// Reads an edge list whose ends are numbers.
 pub fn read_list(text: &str, form: Form, edges: &mut Edges) -> Result<(), GraphFault>
     ensures added { OnOk result (Adds (all_edges edges.old.both_ways (lines_of form text.now))
         edges.old edges.new) }
@@ -23,7 +23,7 @@ pub fn read_list(text: &str, form: Form, edges: &mut Edges) -> Result<(), GraphF
     Ok(())
 }
 
-/// Reads the edges of a text with one on each line, whose ends are names.
+/// Reads an edge list whose ends are names.
 pub fn read_names(
     alloc: Global,
     text: &str,

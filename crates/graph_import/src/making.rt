@@ -1,8 +1,8 @@
-//! A file, made into a graph file.
+//! Import of one file.
 
 ghost use Rattle.std.specs.Prelude.{◌≡◌, ◌≤◌, false, None, [], FitsSigned, IfOk, IfSome, OnOk, map, string_bytes};
 ghost use Rattle.std.specs.Int.{w64};
-ghost use Rattle.graph.specs.Number.{id_of};
+ghost use Rattle.line_text.specs.Number.{id_of};
 ghost use Rattle.graph_import.specs.Graph.{graph_text, valued, weighed};
 ghost use Rattle.graph_import.specs.Import.{GivesSource, GivesValues, IsImport, IsNumbered, IsRead, SaysEdges, list_form};
 ghost use Rattle.graph_import.specs.declared.writing.Values.{Values};
@@ -17,30 +17,33 @@ use crate::reading::Reading;
 use crate::table::{Weight, read_table};
 use crate::vertices::{shares_of, vertices_of};
 use crate::writing::{Values, text_of};
-use graph::{Edge, GraphFault, MAX_EDGES, MAX_VERTICES, id_of, number_of};
+use graph::{Edge, GraphFault, MAX_EDGES, MAX_VERTICES};
+use line_text::{id_of, number_of};
 use std::alloc::{AllocError, Global};
 use std::collections::HashSet;
 
-/// A graph file.
+/// A graph file, made by an import.
 #[derive(Drop)]
 pub struct Imported {
     /// Its text.
     pub text: String,
     /// A line `ID NAME` for each name, by rising ids, where the ends are names.
     pub names: Option<String>,
-    /// How many vertices it has.
+    /// The number of its vertices.
     pub vertices: usize,
-    /// How many edges it has.
+    /// The number of its edges.
     pub edges: usize,
 }
 
-/// The graph file of a text.
+/// Makes a graph file of a text.
 ///
-/// A refusal tells a line, counted from 1. `Line`: it has no form of its format, or a table has no such heading, or a matrix
-/// is none of the kinds that are read, or has more or fewer entries than its size says. `Number`: a field is no number in its
-/// range. `UnknownEnd`: an entry of a matrix is outside of it. Line 0 tells of the plan: the
-/// value is no number, or the source is no vertex. `OverLimit`: an edge
-/// or a vertex more than a graph may have.
+/// Each error has a line, counted from 1. Line 0 is for the plan.
+///
+/// * `Line`: the line is not of its format; or a table lacks the heading; or a matrix is of no supported kind, or has more or
+///   fewer entries than its size.
+/// * `Number`: a field is no number in its range; with line 0, the plan's value is none.
+/// * `UnknownEnd`: an entry of a matrix is outside of it; with line 0, the plan's source is no vertex.
+/// * `OverLimit`: the line has one edge or vertex more than a graph may have.
 pub fn import(alloc: Global, text: &str, format: Format, plan: Plan) -> Result<Imported, GraphFault>
     ensures { IfOk result (IsImport text.now format plan.entry) }
 {
@@ -65,7 +68,7 @@ fn list_of(names: Option<Names>) -> Option<String> {
     }
 }
 
-// Reads a text, with so many edges at most.
+// Reads a text with at most `most` edges.
 fn read(
     alloc: Global,
     text: &str,
@@ -87,7 +90,7 @@ fn read(
     })
 }
 
-// Reads a text, and tells how many ids from 1 on are vertices whatever edges have them.
+// Reads a text. Returns how many ids from 1 on are vertices, whether an edge has them or not.
 fn read_by(
     alloc: Global,
     text: &str,
@@ -163,7 +166,7 @@ fn read_entries(text: &str, weight: Option<i64>, edges: &mut Edges) -> Result<u6
     read_matrix(text, head, weight, edges)
 }
 
-// What the lines of an edge list may have, unless the weight is the name of a column.
+// Returns the form of an edge list's lines, unless the weight is the name of a column.
 fn form_of(plan: Plan) -> Option<Form>
     ensures { IfSome result (λ form. form ≡ list_form plan.entry) }
 {
@@ -188,7 +191,7 @@ fn weight_of<'a>(plan: Plan<'a>) -> Weight<'a> {
     }
 }
 
-// The text of the graph with these vertices and the edges that were read.
+// Prints the graph of these vertices and the edges that were read.
 fn text_for(alloc: Global, ids: &[u64], reading: &Reading, plan: Plan) -> Result<String, GraphFault>
     ensures { IfOk result (λ text. (values : Values) × FitsSigned w64 values.other
         × GivesValues ids.now plan.entry values × (string_bytes text ≡ graph_text (map (valued values) ids.now)
@@ -216,7 +219,7 @@ fn text_by(
     text_of(alloc, ids, values, &shared)
 }
 
-// The values of the vertices, of which the source has to be one.
+// Finds the values of the vertices. The plan's source has to be one of them.
 fn values_of(ids: &[u64], names: &Option<Names>, plan: Plan) -> Result<Values, GraphFault>
     ensures gives { IfOk result (GivesValues ids.now plan.entry) }
     ensures fits { IfOk result (λ values. FitsSigned w64 values.other) }
@@ -232,7 +235,7 @@ fn values_of(ids: &[u64], names: &Option<Names>, plan: Plan) -> Result<Values, G
     }
 }
 
-// The source, which has to be a vertex, if one is wanted.
+// Finds the plan's source, if it has one. The source has to be a vertex.
 fn known_source(ids: &[u64], names: &Option<Names>, plan: Plan) -> Result<Option<u64>, GraphFault>
     ensures { IfOk result (GivesSource ids.now plan.entry.names plan.entry.source) }
 {
@@ -245,7 +248,7 @@ fn known_source(ids: &[u64], names: &Option<Names>, plan: Plan) -> Result<Option
     }
 }
 
-// The id of a source, if it has one.
+// Returns the id of a source, if it has one.
 fn source_of(names: &Option<Names>, has_names: bool, word: &str) -> Option<u64>
     ensures { has_names ≡ false → result ≡ id_of word.now }
 {
@@ -258,7 +261,7 @@ fn source_of(names: &Option<Names>, has_names: bool, word: &str) -> Option<u64>
     }
 }
 
-// The fault of the line on which an end is one vertex more than a graph may have.
+// Returns the fault of the line whose edge has one vertex more than a graph may have.
 fn line_past(alloc: Global, text: &str, format: Format, plan: Plan, edges: &[Edge]) -> GraphFault {
     let Ok(count) = edges_before(alloc, edges) else {
         return GraphFault::OutOfMemory;
@@ -269,7 +272,7 @@ fn line_past(alloc: Global, text: &str, format: Format, plan: Plan, edges: &[Edg
     }
 }
 
-// How many edges stand before the one with a vertex too many.
+// Counts the edges before the first one that has a vertex too many.
 fn edges_before(alloc: Global, edges: &[Edge]) -> Result<usize, AllocError> {
     let mut met = HashSet::new(alloc);
     for (index, edge) in edges.iter().enumerate() {

@@ -5,18 +5,19 @@ ghost use Rattle.std.specs.List.{starts_with};
 
 use crate::edges::Edges;
 use crate::line::{Form, Line, line_of};
-use graph::{Fields, GraphFault, MAX_VERTICES};
+use graph::{GraphFault, MAX_VERTICES};
+use line_text::Fields;
 
-/// What the first line of a matrix says.
+/// The first line of a matrix.
 #[derive(Clone, Copy)]
 pub struct Head {
-    /// Whether its entries have a value each.
+    /// Whether each entry has a value.
     pub has_values: bool,
-    /// Whether an entry stands for the one across the diagonal too.
+    /// Whether each entry is also the entry across the diagonal.
     pub is_symmetric: bool,
 }
 
-/// Whether a text is a Matrix Market file.
+/// Checks whether a text is a Matrix Market file.
 #[tactic(auto, using(std::proofs::lemmas::Str::Pattern::starts_text))]
 pub fn is_matrix(text: &str) -> bool
     ensures { result ≡ starts_with nat_eq text.now (codes "%%MatrixMarket") }
@@ -24,7 +25,7 @@ pub fn is_matrix(text: &str) -> bool
     text.starts_with("%%MatrixMarket")
 }
 
-/// What the first line says: `%%MatrixMarket matrix coordinate`, then `pattern` or `integer`, then `general` or `symmetric`.
+/// Reads the first line: `%%MatrixMarket matrix coordinate`, then `pattern` or `integer`, then `general` or `symmetric`.
 pub fn head_of(text: &str) -> Option<Head> {
     let first = text.lines().next()?;
     let mut fields = Fields::new(first);
@@ -41,7 +42,7 @@ pub fn head_of(text: &str) -> Option<Head> {
     })
 }
 
-// Whether a word is the first of two; it has to be one of them, in letters of any case.
+// Checks whether a word is the first or the second of two, in upper or lower case. Any other word gives `None`.
 fn either(word: &[u8], first: &[u8], second: &[u8]) -> Option<bool> {
     if word.eq_ignore_ascii_case(first) {
         return Some(true);
@@ -52,7 +53,7 @@ fn either(word: &[u8], first: &[u8], second: &[u8]) -> Option<bool> {
     None
 }
 
-// How many rows and columns there are, and how many entries are to come.
+// The size of a square matrix: its number of rows, and the number of entries still to come.
 #[derive(Clone, Copy)]
 struct Size {
     side: u64,
@@ -60,7 +61,7 @@ struct Size {
     ghost small: { side ≤ 1000000 },
 }
 
-/// Reads the entries of a matrix, of which each is an edge from its row to its column, and tells how many rows there are.
+/// Reads the entries of a square matrix. Each is an edge from its row to its column. Returns the number of rows.
 pub fn read_matrix(
     text: &str,
     head: Head,
@@ -90,7 +91,7 @@ pub fn read_matrix(
     }
 }
 
-// The size that a line says, unless it is blank or a comment.
+// Reads the line with the size, unless it is blank or a comment.
 fn size_in(line: &str, number: usize) -> Result<Option<Size>, GraphFault> {
     let form = Form {
         takes_value: true,
@@ -119,7 +120,7 @@ fn size_in(line: &str, number: usize) -> Result<Option<Size>, GraphFault> {
     }
 }
 
-// Reads the entry of a line, if it has one, and tells what is to come then.
+// Reads the entry of a line, if it has one. Returns the size with the entries still to come.
 fn read_entry(
     line: &str,
     number: usize,

@@ -1,14 +1,15 @@
-//! Names, numbered in the order in which they come.
+//! Names, numbered in the order in which they first occur.
 
 ghost use Rattle.std.specs.Prelude.{IfOk};
 ghost use Rattle.graph_import.specs.inside.Ranges.{IsInRange};
 
 use crate::line::{Form, is_comment};
-use graph::{Edge, Fields, GraphFault, MAX_VERTICES, number_of};
+use graph::{Edge, GraphFault, MAX_VERTICES};
+use line_text::{Fields, number_of};
 use std::alloc::Global;
 use std::collections::HashMap;
 
-/// The numbers of names, and the list of them.
+/// Names with their numbers.
 #[derive(Drop)]
 pub struct Names {
     numbers: HashMap<String, u32>,
@@ -17,7 +18,7 @@ pub struct Names {
 }
 
 impl Names {
-    /// No names.
+    /// Makes an empty list of names.
     pub fn new(alloc: Global) -> Names {
         Names {
             numbers: HashMap::new(alloc),
@@ -25,7 +26,7 @@ impl Names {
         }
     }
 
-    /// The number of a name on a line, which is the next one where the name is new.
+    /// Returns the number of a name on a line. A new name gets the next number.
     pub fn number(&mut self, alloc: Global, line: usize, name: &str) -> Result<u32, GraphFault> {
         if let Some(number) = self.find(name) {
             return Ok(number);
@@ -40,12 +41,12 @@ impl Names {
         Ok(next as u32)
     }
 
-    /// The number of a name, if it has one.
+    /// Finds the number of a name, if it has one.
     pub fn find(&self, name: &str) -> Option<u32> {
         self.numbers.get(name).copied()
     }
 
-    /// The edge between two names on a line.
+    /// Makes the edge between two names on a line.
     pub fn edge(
         &mut self,
         alloc: Global,
@@ -68,20 +69,20 @@ impl Names {
     }
 }
 
-/// What a line has whose ends are names.
+/// The meaning of a line whose ends are names.
 #[derive(Clone, Copy)]
 pub enum Row<'a> {
-    /// It is blank, or a comment.
+    /// The line is blank, or a comment.
     Blank,
     /// The two ends of an edge, and its value.
     Named(&'a [u8], &'a [u8], i64),
-    /// It has no form that a line may have.
+    /// The line has the wrong number of fields.
     BadForm,
-    /// Its value is no number.
+    /// The line's value is no number.
     BadNumber,
 }
 
-/// What a line has whose ends are names.
+/// Reads a line whose ends are names.
 pub fn row_of<'a>(line: &'a str, form: Form) -> Row<'a> {
     if is_comment(line) {
         return Row::Blank;

@@ -1,11 +1,11 @@
-//! What was read of a file.
+//! The result of reading a file.
 
 ghost use Rattle.std.specs.Prelude.{◌≤◌};
 
 use crate::edges::Edges;
 use crate::names::Names;
 
-/// The edges of a file, and the names of their ends where they have names.
+/// The edges of a file, and the names of their ends if the ends are names.
 #[derive(Drop)]
 pub struct Reading {
     pub edges: Edges,

@@ -6,26 +6,27 @@ use crate::edges::Edges;
 use crate::line::edge_between;
 use crate::names::Names;
 use csv::{ByteRecord, Error, ErrorKind, Reader, ReaderBuilder, Trim};
-use graph::{GraphFault, number_of};
+use graph::GraphFault;
+use line_text::number_of;
 use std::alloc::Global;
 
-/// What has the values of a table's edges.
+/// The source of the edges' values.
 #[derive(Clone, Copy)]
 pub enum Weight<'a> {
-    /// It is the same for each.
+    /// One value for all edges.
     Number(i64),
     /// The column with this heading.
     Column(&'a str),
 }
 
-// What has the values, as a place in each record.
+// The source of the edges' values, with a column's place in each record.
 #[derive(Clone, Copy)]
 enum Value {
     Number(i64),
     Place(usize),
 }
 
-/// Reads the edges of a table's records. Its first two columns are the ends.
+/// Reads the edges of a table. The first two columns are the ends.
 pub fn read_table(
     alloc: Global,
     text: &str,
@@ -49,7 +50,7 @@ pub fn read_table(
     read_records(alloc, &mut reader, &mut record, value, edges, names)
 }
 
-// Reads the records behind the heading.
+// Reads the records after the heading.
 fn read_records(
     alloc: Global,
     reader: &mut Reader<&[u8]>,
@@ -94,7 +95,7 @@ fn add_record(
     edges.add(line, edge)
 }
 
-// The value of a record's edge, where its field writes one.
+// Returns the value of a record's edge, or `None` where its field is no number.
 fn value_in(record: &ByteRecord, value: Value) -> Option<i64> {
     match value {
         Value::Number(value) => Some(value),
@@ -102,7 +103,7 @@ fn value_in(record: &ByteRecord, value: Value) -> Option<i64> {
     }
 }
 
-// What has the values, by the heading, which has two columns at least, of which the first is no number.
+// Finds the source of the values by the heading. It has at least two columns, of which the first is no number.
 fn heading_of(record: &ByteRecord, weight: Weight) -> Result<Value, GraphFault> {
     let line = line_of(record);
     let (Some(first), Some(_)) = (record.get(0), record.get(1)) else {
@@ -147,7 +148,7 @@ fn fault_of(error: &Error) -> GraphFault {
     }
 }
 
-// The line on which a record begins.
+// Returns the line on which a record begins.
 fn line_of(record: &ByteRecord) -> usize {
     match record.position() {
         Some(place) => place.line() as usize,

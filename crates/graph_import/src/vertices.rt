@@ -9,7 +9,7 @@ use graph::Edge;
 use std::alloc::{AllocError, Global};
 use std::collections::HashMap;
 
-/// The ids of all ends, and those from 1 to `declared`, in order, each once.
+/// Lists the ids of all ends and those from 1 to `declared`, in order, each once.
 pub fn vertices_of(alloc: Global, declared: u64, edges: &[Edge]) -> Result<Vec<u64>, AllocError>
     requires { declared < 2 ^ 63 }
     ensures { IfOk result (λ ids. AreIdsOf (ends declared edges.now) ids.items) }
@@ -55,7 +55,7 @@ fn add_declared(ids: &mut Vec<u64>, declared: u64) -> Result<(), AllocError>
     Ok(())
 }
 
-/// The edges with the share of 2^32 that falls to each edge from its source.
+/// Gives each edge its share of 2^32, which the edges from one source share equally.
 pub fn shares_of(alloc: Global, edges: &[Edge]) -> Result<Vec<Edge>, AllocError>
     ensures { IfOk result (λ shares. shares.items ≡ map (shared edges.now) edges.now) }
 {
@@ -72,7 +72,7 @@ pub fn shares_of(alloc: Global, edges: &[Edge]) -> Result<Vec<Edge>, AllocError>
     Ok(shares)
 }
 
-// How many edges leave each vertex.
+// Counts the edges that leave each vertex.
 fn counts_of(alloc: Global, edges: &[Edge]) -> Result<HashMap<u64, u64>, AllocError>
     ensures { IfOk result
         (λ counts. (id : ℕ) → unwrap_or (get nat_eq counts id) 0 ≡ count_from edges.now id) }
@@ -84,12 +84,12 @@ fn counts_of(alloc: Global, edges: &[Edge]) -> Result<HashMap<u64, u64>, AllocEr
     Ok(counts)
 }
 
-// The share of each of so many edges.
+// Returns the share of each of `count` edges.
 fn share_of(count: u64) -> i64
     ensures { result ≡ share_of count }
 {
     (WHOLE / count.max(1)) as i64
 }
 
-// What the edges from a vertex share.
+// The sum that the edges from a vertex share.
 const WHOLE: u64 = 4_294_967_296;

@@ -1,4 +1,4 @@
-//! The text of a graph.
+//! Printing of a graph.
 
 ghost use Rattle.std.specs.Prelude.{◌≡◌, ◌++◌, IfOk, OnOk, map, string_bytes};
 ghost use Rattle.graph.specs.Print.{value_lines};
@@ -17,7 +17,7 @@ pub struct Values {
 }
 
 impl Values {
-    /// The value of a vertex.
+    /// Returns the value of a vertex.
     pub fn at(self, id: u64) -> i64
         ensures { result ≡ value_at self id }
     {
@@ -28,7 +28,7 @@ impl Values {
     }
 }
 
-/// The text of a graph with these vertices and edges: a line for each vertex, and then one for each edge.
+/// Prints a graph: a line for each vertex, and then one for each edge.
 pub fn text_of(
     alloc: Global,
     ids: &[u64],

@@ -1,5 +1,5 @@
 -- Letters filed by block: an id finds among the messages of its block what goes to it of all letters.
-use Rattle.std.proofs.Common.{◌≡◌, ◌<◌, ◌≤◌, ◌+◌, ℕ, zero, suc, ℤ, pos, Bool, true, false, List, [], ◌∷◌, ◌++◌, map, length, get_or, take, arith, inl, inr, refl, sym, ap, subst, ◌∙◌, append-nil, append_assoc, Global}
+use Rattle.std.proofs.Common.{◌≡◌, ◌<◌, ◌≤◌, ◌+◌, ℕ, zero, suc, ℤ, pos, true, false, List, [], ◌∷◌, ◌++◌, map, length, get_or, take, arith, inl, inr, refl, sym, ap, subst, ◌∙◌, append-nil, append_assoc, Global}
 use Rattle.std.proofs.Math.ListN.{set}
 use Rattle.std.proofs.Math.Seq.{map-set_same}
 use Rattle.std.proofs.lemmas.Bool.{cases_Bool, cases_eq, cases_lt}
@@ -16,7 +16,7 @@ use Rattle.inbox.specs.declared.letters.Letter.{Letter}
 use Rattle.inbox.specs.Merging.{all_of, goes_to, inbox_of, inboxes_of}
 use Rattle.inbox.specs.inside.Blocks.{AreFiled, AreInPlace, IsInPlace, IsMade, ids_of, letter_of, none_in, slips_of}
 use Rattle.inbox.specs.inside.Grids.{block_for, block_of, stands_in}
-use Rattle.inbox.proofs.Concatenation.{each_append, each_weaker}
+use Rattle.inbox.proofs.Concatenation.{each_weaker}
 use Rattle.inbox.proofs.Delivery.{grows, stays}
 
 -- one message more, to this id and not to it

@@ -8,8 +8,8 @@ use Rattle.std.specs.List.Sorted.{IsStrictlySortedBy}
 use Rattle.std.specs.Prelude.{nat_eq}
 use Rattle.std.specs.declared.vec.Vec.{Vec}
 use Rattle.inbox.specs.declared.letters.Letter.{Letter}
-use Rattle.inbox.specs.declared.parts.Delivered.{Delivered}
-use Rattle.inbox.specs.declared.shares.Class.{Class}
+use Rattle.inbox.specs.declared.all_parts.Delivered.{Delivered}
+use Rattle.inbox.specs.declared.shares.TargetSet.{TargetSet}
 use Rattle.inbox.specs.declared.shares.Share.{Share}
 use Rattle.inbox.specs.Merging.{are_one, all_of, IsBySource, inboxes_of, dropped_of}
 use Rattle.inbox.specs.inside.Blocks.{IsOrderOf}
@@ -47,32 +47,32 @@ made sorted (id ∷ ids) (inbox ∷ inboxes) up zip =
     let others = made sorted ids inboxes up zip.1 in
     λ i. first i ∷ others i
 
--- an id finds the same among the letters of a class that has it and among all
-same_inboxes : (letters sorted ordered : List Letter) (class : Class) (ids : List ℕ) → IsByTarget (filter (goes_into class) letters) sorted → IsBySource letters ordered → AllByRecursion (λ id. has class id ≡ true) ids → inboxes_of sorted ids ≡ inboxes_of ordered ids
-same_inboxes letters sorted ordered class [] by by' all = refl
-same_inboxes letters sorted ordered class (id ∷ ids) by by' all =
-    let first = ap (map (λ (letter : Letter). letter.value)) (same_letters letters sorted ordered class id all.0 by by') in
-    let others = same_inboxes letters sorted ordered class ids by by' all.1 in
+-- an id finds the same among the letters of a set of targets that has it and among all
+same_inboxes : (letters sorted ordered : List Letter) (target_set : TargetSet) (ids : List ℕ) → IsByTarget (filter (goes_into target_set) letters) sorted → IsBySource letters ordered → AllByRecursion (λ id. has target_set id ≡ true) ids → inboxes_of sorted ids ≡ inboxes_of ordered ids
+same_inboxes letters sorted ordered target_set [] by by' all = refl
+same_inboxes letters sorted ordered target_set (id ∷ ids) by by' all =
+    let first = ap (map (λ (letter : Letter). letter.value)) (same_letters letters sorted ordered target_set id all.0 by by') in
+    let others = same_inboxes letters sorted ordered target_set ids by by' all.1 in
     λ i. first i ∷ others i
 
--- what was put into the inboxes of ids that the class has is what goes to them of all letters
-pub put_is_delivered : (letters sorted : List Letter) (class : Class) (ids : Vec ℕ Global) (delivered : Delivered) → IsByTarget (filter (goes_into class) letters) sorted → AllByRecursion (λ id. has class id ≡ true) ids.items → IsPutIn sorted ids.items delivered → IsDelivered letters ids delivered
-put_is_delivered letters sorted class ids delivered by all put = record {
-  inboxes = λ ordered by'. made sorted ids.items delivered.inboxes.items by.rising put.inboxes ∙ same_inboxes letters sorted ordered class ids.items by by' all;
+-- what was put into the inboxes of ids in the set of targets is what goes to them of all letters
+pub put_is_delivered : (letters sorted : List Letter) (target_set : TargetSet) (ids : Vec ℕ Global) (delivered : Delivered) → IsByTarget (filter (goes_into target_set) letters) sorted → AllByRecursion (λ id. has target_set id ≡ true) ids.items → IsPutIn sorted ids.items delivered → IsDelivered letters ids delivered
+put_is_delivered letters sorted target_set ids delivered by all put = record {
+  inboxes = λ ordered by'. made sorted ids.items delivered.inboxes.items by.rising put.inboxes ∙ same_inboxes letters sorted ordered target_set ids.items by by' all;
   count = put.count;
 }
 
--- an id finds the same among the letters of a class that has it, in order, and among all
-same_in_blocks : (letters some ordered : List Letter) (class : Class) (ids : List ℕ) → IsOrderOf letters class some → IsBySource letters ordered → AllByRecursion (λ id. has class id ≡ true) ids → inboxes_of some ids ≡ inboxes_of ordered ids
-same_in_blocks letters some ordered class [] order by all = refl
-same_in_blocks letters some ordered class (id ∷ ids) order by all =
-    let first = ap (map (λ (letter : Letter). letter.value)) (same_in_order letters some ordered class id all.0 order by) in
-    let others = same_in_blocks letters some ordered class ids order by all.1 in
+-- an id finds the same among the letters of a set of targets that has it, in order, and among all
+same_in_blocks : (letters some ordered : List Letter) (target_set : TargetSet) (ids : List ℕ) → IsOrderOf letters target_set some → IsBySource letters ordered → AllByRecursion (λ id. has target_set id ≡ true) ids → inboxes_of some ids ≡ inboxes_of ordered ids
+same_in_blocks letters some ordered target_set [] order by all = refl
+same_in_blocks letters some ordered target_set (id ∷ ids) order by all =
+    let first = ap (map (λ (letter : Letter). letter.value)) (same_in_order letters some ordered target_set id all.0 order by) in
+    let others = same_in_blocks letters some ordered target_set ids order by all.1 in
     λ i. first i ∷ others i
 
-pub filed_is_delivered : (letters some : List Letter) (class : Class) (ids : Vec ℕ Global) (delivered : Delivered) → IsOrderOf letters class some → AllByRecursion (λ id. has class id ≡ true) ids.items → delivered.inboxes.items ≡ inboxes_of some ids.items → delivered.count ≡ sum_by length delivered.inboxes.items → IsDelivered letters ids delivered
-filed_is_delivered letters some class ids delivered order all is count = record {
-  inboxes = λ ordered by. is ∙ same_in_blocks letters some ordered class ids.items order by all;
+pub filed_is_delivered : (letters some : List Letter) (target_set : TargetSet) (ids : Vec ℕ Global) (delivered : Delivered) → IsOrderOf letters target_set some → AllByRecursion (λ id. has target_set id ≡ true) ids.items → delivered.inboxes.items ≡ inboxes_of some ids.items → delivered.count ≡ sum_by length delivered.inboxes.items → IsDelivered letters ids delivered
+filed_is_delivered letters some target_set ids delivered order all is count = record {
+  inboxes = λ ordered by. is ∙ same_in_blocks letters some ordered target_set ids.items order by all;
   count = count;
 }
 

@@ -1,4 +1,4 @@
--- The letters to one id are the same ones, in the same order, among those of its class by target and among all by source.
+-- The letters to one id are the same ones, in the same order, among those of its set of targets by target and among all by source.
 use Rattle.std.proofs.Common.{◌≡◌, ℕ, pos, Bool, true, false, List, [], ◌∷◌, Contains, filter, arith, inl, inr, refl}
 use Rattle.std.proofs.lemmas.Bool.Decides.{Decides-int_eq, nat_tests}
 use Rattle.std.proofs.lemmas.Int.{ints}
@@ -9,7 +9,7 @@ use Rattle.std.specs.List.{AllByRecursion}
 use Rattle.std.specs.List.Sorted.{IsStrictlySortedBy}
 use Rattle.std.specs.declared.cmp.Ordering.TheVariants.{Less}
 use Rattle.inbox.specs.declared.letters.Letter.{Letter}
-use Rattle.inbox.specs.declared.shares.Class.{Class}
+use Rattle.inbox.specs.declared.shares.TargetSet.{TargetSet}
 use Rattle.inbox.specs.Merging.{IsBySource, goes_to, source_cmp}
 use Rattle.inbox.specs.inside.Blocks.{IsOrderOf}
 use Rattle.inbox.specs.inside.Shares.{has, goes_into}
@@ -35,9 +35,9 @@ module _ {X : Type 0} (p : X → Bool) where
       more true e inside = rw e (Contains-append_right (y ∷ []) (filter p ys) x inside)
       more false e inside = rw e inside
 
--- a letter to an id goes into a class that has the id
-goes_inside : (class : Class) (id : ℕ) (letter : Letter) → has class id ≡ true → goes_to letter id ≡ true → goes_into class letter ≡ true
-goes_inside class id letter inside goes =
+-- a letter to an id goes into a set of targets that has the id
+goes_inside : (target_set : TargetSet) (id : ℕ) (letter : Letter) → has target_set id ≡ true → goes_to letter id ≡ true → goes_into target_set letter ≡ true
+goes_inside target_set id letter inside goes =
     let to : letter.to ≡ pos id = (Decides-int_eq letter.to (pos id)).0 goes in
     rw to inside
 
@@ -54,43 +54,43 @@ unfolding IsStrictlySortedBy
 all_by_source id [] all up = tt
 all_by_source id (a ∷ letters) all up = (later_by_source id a letters all.0 all.1 up.0, all_by_source id letters all.1 up.1)
 
--- the letters to an id, in a class that has it and among all
-pub same_letters : (letters sorted ordered : List Letter) (class : Class) (id : ℕ) → has class id ≡ true → IsByTarget (filter (goes_into class) letters) sorted → IsBySource letters ordered → filter (λ letter. goes_to letter id) sorted ≡ filter (λ letter. goes_to letter id) ordered
-same_letters letters sorted ordered class id inside by by' =
+-- the letters to an id, in a set of targets that has it and among all
+pub same_letters : (letters sorted ordered : List Letter) (target_set : TargetSet) (id : ℕ) → has target_set id ≡ true → IsByTarget (filter (goes_into target_set) letters) sorted → IsBySource letters ordered → filter (λ letter. goes_to letter id) sorted ≡ filter (λ letter. goes_to letter id) ordered
+same_letters letters sorted ordered target_set id inside by by' =
     let mine = λ (letter : Letter). goes_to letter id in
-    let within = goes_into class in
+    let within = goes_into target_set in
     let rising : IsStrictlySortedBy source_cmp (filter mine sorted) = all_by_source id (filter mine sorted) (recursion_from_All _ _ (filter_passes mine sorted)) (IsStrictlySortedBy-filter target_cmp mine sorted by.rising) in
     let to = λ (z : Letter) (h : Contains (filter mine sorted) z).
     let here = Contains-permutation _ _ z (IsPermutation-sym _ _ by.same) (from_filter mine sorted z h) in
     into_filter mine ordered z (Contains-permutation _ _ z by'.same (from_filter within letters z here)) (passes mine sorted z h) in
     let from = λ (z : Letter) (h : Contains (filter mine ordered) z).
     let goes = passes mine ordered z h in
-    let here = into_filter within letters z (Contains-permutation _ _ z (IsPermutation-sym _ _ by'.same) (from_filter mine ordered z h)) (goes_inside class id z inside goes) in
+    let here = into_filter within letters z (Contains-permutation _ _ z (IsPermutation-sym _ _ by'.same) (from_filter mine ordered z h)) (goes_inside target_set id z inside goes) in
     into_filter mine sorted z (Contains-permutation _ _ z by.same here) goes in
     same_sorted source_total (filter mine sorted) (filter mine ordered) rising (IsStrictlySortedBy-filter source_cmp mine ordered by'.rising) to from
 
 -- letters that are in order
-pub order_itself : (letters : List Letter) (class : Class) → IsStrictlySortedBy source_cmp letters → IsOrderOf letters class letters
-order_itself letters class up = record { rising = up; among = λ z h. h; all = λ z h goes. h }
+pub order_itself : (letters : List Letter) (target_set : TargetSet) → IsStrictlySortedBy source_cmp letters → IsOrderOf letters target_set letters
+order_itself letters target_set up = record { rising = up; among = λ z h. h; all = λ z h goes. h }
 
--- those of a class, put in order
-pub order_sorted : (letters sorted : List Letter) (class : Class) → IsBySource (filter (goes_into class) letters) sorted → IsOrderOf letters class sorted
-order_sorted letters sorted class by =
-    let within = goes_into class in
+-- those of a set of targets, put in order
+pub order_sorted : (letters sorted : List Letter) (target_set : TargetSet) → IsBySource (filter (goes_into target_set) letters) sorted → IsOrderOf letters target_set sorted
+order_sorted letters sorted target_set by =
+    let within = goes_into target_set in
     record {
       rising = by.rising;
       among = λ z h. from_filter within letters z (Contains-permutation _ _ z (IsPermutation-sym _ _ by.same) h);
       all = λ z h goes. Contains-permutation _ _ z by.same (into_filter within letters z h goes);
     }
 
--- the letters to an id, among those of a class that has it and among all, each in order
-pub same_in_order : (letters some ordered : List Letter) (class : Class) (id : ℕ) → has class id ≡ true → IsOrderOf letters class some → IsBySource letters ordered → filter (λ letter. goes_to letter id) some ≡ filter (λ letter. goes_to letter id) ordered
-same_in_order letters some ordered class id inside order by =
+-- the letters to an id, among those of a set of targets that has it and among all, each in order
+pub same_in_order : (letters some ordered : List Letter) (target_set : TargetSet) (id : ℕ) → has target_set id ≡ true → IsOrderOf letters target_set some → IsBySource letters ordered → filter (λ letter. goes_to letter id) some ≡ filter (λ letter. goes_to letter id) ordered
+same_in_order letters some ordered target_set id inside order by =
     let mine = λ (letter : Letter). goes_to letter id in
     let to = λ (z : Letter) (h : Contains (filter mine some) z).
     into_filter mine ordered z (Contains-permutation _ _ z by.same (order.among z (from_filter mine some z h))) (passes mine some z h) in
     let from = λ (z : Letter) (h : Contains (filter mine ordered) z).
     let goes = passes mine ordered z h in
-    let here = order.all z (Contains-permutation _ _ z (IsPermutation-sym _ _ by.same) (from_filter mine ordered z h)) (goes_inside class id z inside goes) in
+    let here = order.all z (Contains-permutation _ _ z (IsPermutation-sym _ _ by.same) (from_filter mine ordered z h)) (goes_inside target_set id z inside goes) in
     into_filter mine some z here goes in
     same_sorted source_total (filter mine some) (filter mine ordered) (IsStrictlySortedBy-filter source_cmp mine some order.rising) (IsStrictlySortedBy-filter source_cmp mine ordered by.rising) to from

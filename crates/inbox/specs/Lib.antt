@@ -1,4 +1,4 @@
--- What a reader has to believe.
+-- The definitions to read: how letters become inboxes.
 pub mod Merging
--- what only mirrors the code, for its proofs
+-- for proofs only: definitions that follow the code
 pub mod inside

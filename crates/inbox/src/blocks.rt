@@ -13,27 +13,27 @@ use rayon::prelude::*;
 use std::alloc::{AllocError, Global};
 use std::thread::Threads;
 
-// So many ids are in a block: their inboxes and their messages lie together in a processor's caches.
+// The number of ids of a block. Their inboxes and messages fit together in a processor's caches.
 pub const BLOCK: usize = 4096;
 
-// A message and the id that it goes to.
+// A message and its target.
 #[derive(Clone, Copy)]
 pub struct Slip {
     to: i64,
     value: i64,
 }
 
-// Ids that follow one another in a part, and the messages to them in the order of the letters.
+// Consecutive ids of a part, and the messages to them in the order of the letters.
 #[derive(Drop)]
 pub struct Block<'a> {
     ids: &'a [u64],
     slips: Vec<Slip>,
 }
 
-// What stands in the inboxes of these ids, of letters by source, where the ids rise by the same gap; `None` where not.
+// Makes the inboxes of these ids from letters sorted by source. Returns `None` where the ids do not rise by one gap.
 //
-// The letters are filed by block, and then each block's inboxes are filled, so that what is written lies near what was
-// written before. There is room for so many letters from the start.
+// The letters are filed by block, and then each block's inboxes are filled, so that writes stay close together in memory.
+// Room for `room` letters is made at the start.
 pub fn by_blocks(
     rt: &(impl Threads + Sync),
     alloc: Global,
@@ -53,7 +53,7 @@ pub fn by_blocks(
     Ok(Some(inboxes))
 }
 
-// The ids in blocks with no messages, which have room for so many together.
+// Splits the ids into blocks with no messages, which together have room for `room` messages.
 fn blocks_of<'a>(alloc: Global, ids: &'a [u64], room: usize) -> Result<Vec<Block<'a>>, AllocError>
     ensures ids { IfOk result (λ blocks. flat_map ids_of blocks.items ≡ ids.now) }
     ensures none { IfOk result (λ blocks. AllByRecursion none_in (map slips_of blocks.items)) }
@@ -86,7 +86,7 @@ fn push_block<'a>(
     Ok(())
 }
 
-// Whether the ids of each block rise and have that block's number.
+// Checks that the ids of each block rise and have that block's number.
 fn are_in_place(grid: Grid, blocks: &[Block]) -> bool
     ensures { IsTrue result → AreInPlace grid (map ids_of blocks.now) }
 {
@@ -115,7 +115,7 @@ fn rise(ids: &[u64]) -> bool
     true
 }
 
-// What stands in the inboxes of the ids of all blocks, which have no messages yet.
+// Makes the inboxes of all blocks, which have no messages yet.
 fn filled(
     rt: &(impl Threads + Sync),
     alloc: Global,
@@ -157,7 +157,7 @@ fn file_list(letters: &[Letter], grid: Grid, blocks: &mut Vec<Block>) -> Result<
     Ok(())
 }
 
-// Puts the letter's message behind the others of the block in which its target would be.
+// Appends the letter's message to the block in which its target would be.
 fn file(letter: &Letter, grid: Grid, blocks: &mut Vec<Block>) -> Result<(), AllocError>
     ensures ids { OnOk result (map ids_of blocks.new.items ≡ map ids_of blocks.old.items) }
     ensures filed { OnOk result ((sent : List AnyLetter)
@@ -187,10 +187,10 @@ fn push_slip(blocks: &mut Vec<Block>, place: usize, slip: Slip) -> Result<(), Al
     Ok(())
 }
 
-// Fewer blocks are not worth a thread of their own, since parts have threads too.
+// The least number of blocks that is worth a thread, since parts have threads too.
 const LEAST_BLOCKS: usize = 4;
 
-// What stands in the inboxes of each block's ids.
+// Makes the inboxes of each block.
 fn made_of(
     rt: &(impl Threads + Sync),
     alloc: Global,
@@ -216,7 +216,7 @@ fn inboxes_of_block(alloc: Global, grid: Grid, block: &Block) -> Result<Vec<Inbo
     inboxes_at(alloc, grid, block.ids, &block.slips)
 }
 
-// What stands in the inboxes of these ids, which are sent these messages.
+// Makes the inboxes of these ids from these messages.
 fn inboxes_at(
     alloc: Global,
     grid: Grid,
@@ -233,7 +233,7 @@ fn inboxes_at(
     Ok(inboxes)
 }
 
-// Empty inboxes for these ids, with room for what they are sent.
+// Makes empty inboxes for these ids, with room for their messages.
 fn empty_with_room(
     alloc: Global,
     grid: Grid,
@@ -252,7 +252,7 @@ fn empty_with_room(
     Ok(inboxes)
 }
 
-// How many messages go to each of these ids.
+// Counts the messages to each of these ids.
 fn counts_of(
     alloc: Global,
     grid: Grid,
@@ -270,7 +270,7 @@ fn counts_of(
     Ok(counts)
 }
 
-// Puts a message into the inbox of its id, if there is one.
+// Puts a message into the inbox of its target, if there is one.
 fn put(slip: &Slip, grid: Grid, ids: &[u64], inboxes: &mut [Inbox]) -> Result<(), AllocError>
     requires one_each { length inboxes.old ≡ length ids.now }
     ensures one_each { length inboxes.new ≡ length ids.now }
@@ -287,7 +287,7 @@ fn put(slip: &Slip, grid: Grid, ids: &[u64], inboxes: &mut [Inbox]) -> Result<()
     }
 }
 
-// Where the id stands among those that rise.
+// Finds the place of an id among ids that rise.
 fn place_of(ids: &[u64], grid: Grid, id: i64) -> Option<usize>
     ensures inside { IfSome result (λ place. place < length ids.now) }
     ensures found { IfSome result (λ place. id ≡ pos (slice_index ids.now place)) }
@@ -300,7 +300,7 @@ fn place_of(ids: &[u64], grid: Grid, id: i64) -> Option<usize>
     }
 }
 
-// Where the id stands among those that rise, looked for in the place `near` first.
+// Finds the place of an id among ids that rise. It looks at `near` first.
 fn place_near(ids: &[u64], near: usize, id: u64) -> Option<usize>
     ensures inside { IfSome result (λ place. place < length ids.now) }
     ensures found { IfSome result (λ place. id ≡ slice_index ids.now place) }
@@ -313,7 +313,7 @@ fn place_near(ids: &[u64], near: usize, id: u64) -> Option<usize>
     ids.binary_search(&id).ok()
 }
 
-// The inboxes of all blocks, one after another.
+// Concatenates the inboxes of all blocks.
 fn together(alloc: Global, made: Vec<Vec<Inbox>>) -> Result<Vec<Inbox>, AllocError>
     ensures { IfOk result (λ inboxes. inboxes.items ≡ all_of made.items) }
 {

@@ -2,18 +2,18 @@ ghost use Rattle.std.specs.Prelude.{◌≡◌, ◌↔◌, ◌/◌, ◌%◌, max,
 ghost use Rattle.std.specs.List.{AllByRecursion};
 ghost use Rattle.inbox.specs.inside.Grids.{block_at, block_for, block_of, stands_in};
 
-// Ids that rise by the same gap, as those of a part whose graph has all ids.
+// Ids that rise by one gap, such as those of a part whose graph has every id.
 #[derive(Clone, Copy)]
 pub struct Grid {
     first: u64,
     gap: u64,
 }
 
-// No block has this number.
+// The block number of targets that are in no block.
 const NOWHERE: usize = usize::MAX;
 
 impl Grid {
-    // The grid that the first ids begin.
+    // Makes the grid of the first two ids.
     pub fn of(ids: &[u64]) -> Grid {
         match ids {
             [first, second, ..] => Grid {
@@ -28,13 +28,13 @@ impl Grid {
         }
     }
 
-    // Whether each of these ids is as far from the one before as the grid says.
+    // Checks that the gap between any two consecutive ids is the grid's.
     pub fn is_even(self, ids: &[u64]) -> bool {
         ids.windows(2)
             .all(|pair| pair[1].wrapping_sub(pair[0]) == self.gap)
     }
 
-    // The number of the block of 4,096 ids in which the target is, or one that is no block's.
+    // Returns the number of the block of 4,096 ids in which the target is, or `NOWHERE`.
     pub fn block_for(self, target: i64) -> usize
         ensures { result ≡ block_for self target }
     {
@@ -65,7 +65,7 @@ impl Grid {
         }
     }
 
-    // How many gaps lie between the first of these ids and this one.
+    // Returns the number of gaps between the first of these ids and this one.
     pub fn steps_between(self, ids: &[u64], id: u64) -> usize {
         match ids.first() {
             Some(first) => divided(id.wrapping_sub(*first), self.gap).0 as usize,
@@ -73,7 +73,7 @@ impl Grid {
         }
     }
 
-    // Whether each id is in the block of this number.
+    // Checks that each id is in the block of this number.
     pub fn has_each(self, number: usize, ids: &[u64]) -> bool
         ensures { IsTrue result ↔ AllByRecursion (λ id. stands_in self number id ≡ true) ids.now }
     {
@@ -87,7 +87,7 @@ impl Grid {
     }
 }
 
-// The quotient and the remainder. By few small powers of two it takes no division, which is slow.
+// Returns the quotient and the remainder. For small powers of two it avoids the division, which is slow.
 fn divided(far: u64, gap: u64) -> (u64, u64)
     ensures quotient { result.0 ≡ far / max gap 1 }
     ensures rest { result.1 ≡ far % max gap 1 }

@@ -1,25 +1,25 @@
 use std::alloc::{AllocError, Global};
 use std::marker::Model;
 
-// So many messages lie in the inbox itself. Most vertices are sent no more, and more would make all states larger.
+// The number of messages that fit in the inbox itself. Most vertices get no more, and more would make all states larger.
 const MOST_HERE: usize = 4;
 
-/// The messages to one vertex, in their order, which contracts see as their list.
+/// The messages to one vertex, in their order. In contracts its model is their list.
 ///
-/// Up to four lie in the inbox itself and take no memory, unless the inbox was made from a list.
+/// Up to four messages are in the inbox itself and allocate nothing, unless the inbox was made from a list.
 #[derive(Drop)]
 pub struct Inbox {
     held: Held,
 }
 
-// Where the messages lie.
+// The place of the messages.
 #[derive(Drop)]
 enum Held {
     Here(Here),
     Apart(Vec<i64>),
 }
 
-// Messages that lie in the inbox itself: the first `count` of these.
+// Messages in the inbox itself: the first `count` of these.
 #[derive(Clone, Copy)]
 struct Here {
     alloc: Global,
@@ -41,7 +41,7 @@ impl Model for Inbox {
 impl Inbox {
     ghost use Rattle.std.specs.Prelude.{◌≡◌, [], ◌∷◌, ◌++◌, IfOk, OnOk, OnErr};
 
-    /// An inbox that holds nothing; it takes no memory.
+    /// Makes an empty inbox. It allocates nothing.
     pub fn empty(alloc: Global) -> Inbox
         ensures { result ≡ [] }
     {
@@ -54,7 +54,7 @@ impl Inbox {
         }
     }
 
-    // An inbox that holds nothing, with room for so many messages.
+    // Makes an empty inbox with room for `count` messages.
     pub(crate) fn with_capacity(alloc: Global, count: usize) -> Result<Inbox, AllocError>
         ensures { IfOk result (λ inbox. inbox ≡ []) }
     {
@@ -64,6 +64,7 @@ impl Inbox {
         Ok(Inbox::from(Vec::with_capacity(alloc, count)?))
     }
 
+    /// Returns the messages.
     pub fn as_slice(&self) -> &[i64]
         ensures { result.now ≡ self.now }
     {
@@ -73,7 +74,7 @@ impl Inbox {
         }
     }
 
-    /// Puts a message after the others. An `Err` is want of memory.
+    /// Appends a message. It fails only where memory runs out.
     pub fn push(&mut self, message: i64) -> Result<(), AllocError>
         ensures ok { OnOk result (self.new ≡ self.old ++ message ∷ []) }
         ensures err { OnErr result (self.new ≡ self.old) }

@@ -5,21 +5,21 @@ ghost use Rattle.std.specs.Ordering.{nat_cmp};
 ghost use Rattle.inbox.specs.declared.letters.Letter.{Letter as AnyLetter};
 ghost use Rattle.inbox.specs.Merging.{are_one, source_cmp, IsBySource, dropped_of, inbox_of, inboxes_of, AreSent};
 
-/// Letters of which no two are one can be put in order.
+/// Shows that distinct letters can be sorted by source.
 pub fn letters_can_be_ordered()
     ensures { (letters : List AnyLetter) → IsDistinct are_one letters
         → (ordered : List AnyLetter) × IsBySource letters ordered }
 {}
 
-/// Letters follow one another in one way alone, however they lie.
+/// Shows that letters have only one order by source.
 pub fn letters_have_one_order()
     ensures { (letters shuffled ordered other : List AnyLetter) → IsPermutation letters shuffled
         → IsBySource letters ordered → IsBySource shuffled other
         → ordered ≡ other }
 {}
 
-/// An order of letters is one of the same letters however they lie, so inboxes do not depend on
-/// the lists over which letters are spread; and no two are one then either.
+/// Shows that the order by source does not depend on how letters are spread over lists, so neither do inboxes. Distinct
+/// letters stay distinct.
 pub fn letters_keep_their_order_in_any_lists()
     ensures order { (letters shuffled ordered : List AnyLetter) → IsPermutation letters shuffled
         → IsBySource letters ordered → IsBySource shuffled ordered }
@@ -27,8 +27,7 @@ pub fn letters_keep_their_order_in_any_lists()
         → IsDistinct are_one letters → IsDistinct are_one shuffled }
 {}
 
-/// Letters drop alike in any order: how many of them go to none of the ids does not depend on how
-/// they lie, nor on how the ids do.
+/// Shows that the number of dropped letters does not depend on the order of the letters, nor on that of the ids.
 pub fn letters_drop_alike_in_any_order()
     ensures letters { (letters shuffled : List AnyLetter) (ids : List ℕ)
         → IsPermutation letters shuffled
@@ -37,22 +36,22 @@ pub fn letters_drop_alike_in_any_order()
         → dropped_of letters ids ≡ dropped_of letters shuffled }
 {}
 
-/// Each letter goes into one inbox or drops, where no id stands twice.
+/// Shows that each letter goes into one inbox or is dropped, where the ids are distinct.
 pub fn letters_are_delivered_once_or_drop()
     ensures { (letters ordered : List AnyLetter) (ids : List ℕ) → IsBySource letters ordered
         → IsDistinct nat_eq ids
         → sum_by length (inboxes_of ordered ids) + dropped_of letters ids ≡ length letters }
 {}
 
-/// As many letters drop as drop of what each source sends.
+/// Shows that the number of dropped letters is the sum of those of each source.
 pub fn drops_add_up_over_sources()
     ensures { (sources : List ℕ) (sent_by : ℕ → List AnyLetter) (ids : List ℕ)
         → dropped_of (flat_map sent_by sources) ids
         ≡ sum_by (λ source. dropped_of (sent_by source) ids) sources }
 {}
 
-/// What sources send, each its own letters in the order of sending, lies in any order of sources:
-/// no two letters are one, and by source they are what the sources send as they rise.
+/// Shows that sources may send in any order, each its own letters in the order of sending. The letters are distinct. Sorted
+/// by source, they are what the sources send by rising id.
 pub fn sources_send_in_any_order()
     ensures distinct { (sources spread : List ℕ) (sent_by : ℕ → List AnyLetter) → AreSent sent_by
         → IsStrictlySortedBy nat_cmp sources → IsPermutation sources spread
@@ -61,13 +60,13 @@ pub fn sources_send_in_any_order()
         → IsStrictlySortedBy nat_cmp sources → IsPermutation sources spread
         → IsBySource (flat_map sent_by spread) (flat_map sent_by sources) }
 
-    // Parts of the sources send what all of these send, one part after the other.
+    // The sources may be split into parts, whose letters are sent one part after the other.
     ensures parts { (parts : List (List ℕ)) (sent_by : ℕ → List AnyLetter)
         → flat_map sent_by (flat_map (λ part. part) parts) ≡ flat_map (flat_map sent_by) parts }
 {}
 
-/// Where each source's letters are taken in the order of sending, and the sources as they rise, an
-/// inbox is the concatenation of what each source sent to it.
+/// Shows that an inbox is the concatenation of what each source sent to it. The sources rise, and each one's letters are in
+/// the order of sending.
 pub fn inboxes_are_concatenated_by_source()
     ensures ordered { (sources : List ℕ) (sent_by : ℕ → List AnyLetter)
         → IsStrictlySortedBy nat_cmp sources

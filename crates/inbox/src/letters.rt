@@ -1,11 +1,12 @@
-/// A message on its way. Letters compare by target, and those to one target by source.
+/// A message with its target and its source. Letters compare by target, then by source and by number.
 #[derive(Clone, Copy, PartialEq, Eq, PartialOrd, Ord)]
 pub struct Letter {
-    /// The id of the vertex to which it goes, or a number that is no vertex's.
+    /// The id of its target, which may be no vertex.
     pub to: i64,
-    /// The id of the vertex that sent it.
+    /// The id of its source, the vertex that sent it.
     pub from: u64,
-    /// Its number among the letters of that vertex, which are numbered in the order of sending.
+    /// Its number among the letters of its source, in the order of sending.
     pub seq: u64,
+    /// The message.
     pub value: i64,
 }

@@ -1,19 +1,19 @@
-//! What the vertices of a superstep find in their inboxes: the messages that were sent to each of them
-//! in the superstep before (Pregel 2010, 2).
+//! Inboxes: the messages that were sent to each vertex in the superstep before (Pregel 2010, 2).
 //!
-//! The order of messages, which Pregel leaves open, is settled here: those of the source with the
-//! lesser id come first, and those of one source in the order in which it sent them.
+//! Pregel leaves the order of messages open. Here they are sorted by source: those of the lesser id come first, and those of
+//! one source are in the order of sending.
 #![tactic(auto)]
 
+mod all_parts;
 mod blocks;
 mod grid;
 mod inboxes;
 mod laws;
 mod letters;
 mod merging;
-mod parts;
 mod shares;
 
+pub use all_parts::merge_parts;
 pub use inboxes::Inbox;
 pub use laws::{
     drops_add_up_over_sources, inboxes_are_concatenated_by_source,
@@ -22,4 +22,3 @@ pub use laws::{
 };
 pub use letters::Letter;
 pub use merging::merge;
-pub use parts::merge_parts;

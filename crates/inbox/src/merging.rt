@@ -9,10 +9,10 @@ use crate::inboxes::Inbox;
 use crate::letters::Letter;
 use std::alloc::{AllocError, Global};
 
-/// The inboxes of these ids, one for each and in their order, and how many letters go to none of them.
+/// Makes an inbox for each of these ids, and counts the letters that go to none of them.
 ///
-/// An inbox holds the values of the letters to its id, by source and in the order of sending, however
-/// the letters lie. It takes time in the order of n log n. An `Err` is want of memory.
+/// An inbox has the values of the letters to its id, by source and in the order of sending. The order of `letters` makes no
+/// difference. It takes O(n log n) time, and fails only where memory runs out.
 pub fn merge(
     alloc: Global,
     letters: &[Letter],
@@ -36,7 +36,7 @@ pub fn merge(
     Ok((inboxes, dropped))
 }
 
-// The letters by source, and those of one source in the order of sending.
+// Sorts the letters by source, and those of one source in the order of sending.
 fn by_source(alloc: Global, letters: &[Letter]) -> Result<Vec<&Letter>, AllocError>
     requires { IsDistinct are_one letters.now }
     ensures { IfOk result (λ ordered.
@@ -57,7 +57,7 @@ fn empty_inboxes(alloc: Global, count: usize) -> Result<Vec<Inbox>, AllocError>
     Ok(inboxes)
 }
 
-// Puts the letter's value into the inbox of its id, and answers whether there is one.
+// Puts the letter's value into the inbox of its target, and returns whether there is one.
 fn deliver(letter: &Letter, ids: &[u64], inboxes: &mut [Inbox]) -> Result<bool, AllocError>
     requires rising { IsStrictlyIncreasing ids.now }
     requires one_each { length inboxes.old ≡ length ids.now }
@@ -75,7 +75,7 @@ fn deliver(letter: &Letter, ids: &[u64], inboxes: &mut [Inbox]) -> Result<bool, 
     }
 }
 
-// Where the id stands among those that rise.
+// Finds the place of an id among ids that rise.
 fn place_of(ids: &[u64], id: i64) -> Option<usize>
     requires { IsStrictlyIncreasing ids.now }
     ensures inside { IfSome result (λ place. place < length ids.now) }

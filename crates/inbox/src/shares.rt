@@ -5,20 +5,20 @@ ghost use Rattle.inbox.specs.inside.Shares.{goes_into, has, key_of, parts_of};
 use crate::letters::Letter;
 use std::alloc::{AllocError, Global};
 
-// Each share's letters are looked for among all, so more shares than threads, or more than these, would cost more than they save.
+// The greatest number of shares. Each share reads all letters, so more shares would cost more than they save.
 const MOST_SHARES: usize = 16;
 
-// What parts are told apart by.
+// The key of a target, by which parts differ.
 #[derive(Clone, Copy)]
 pub enum Key {
-    // The bits of a target that this mask has: its remainder by one more, where that is a power of two.
+    // The bits of a target that are in this mask. Where the mask is one less than a power of two, it is the remainder by that.
     Bits(u64),
     // A target's remainder by this number, or by 1 where it is 0. It takes a division.
     Remainder(u64),
 }
 
 impl Key {
-    // That by which the parts of a job are told apart, where there are so many.
+    // Returns the key of a job's parts, given their number.
     fn by(parts: u64) -> Key {
         if parts.is_power_of_two() {
             Key::Bits(parts - 1)
@@ -37,20 +37,20 @@ impl Key {
     }
 }
 
-// The targets whose keys are from `start` to `last`.
+// A set of targets: those whose keys are from `start` to `last`.
 #[derive(Clone, Copy)]
-pub struct Class {
+pub struct TargetSet {
     key: Key,
     start: u64,
     last: u64,
 }
 
-impl Class {
-    // All targets.
-    fn all() -> Class
+impl TargetSet {
+    // Returns the set of all targets.
+    fn all() -> TargetSet
         ensures { (target : ℕ) → has result target ≡ true }
     {
-        Class {
+        TargetSet {
             key: Key::Remainder(1),
             start: 0,
             last: 0,
@@ -64,7 +64,7 @@ impl Class {
         self.start <= key && key <= self.last
     }
 
-    // Whether the letter goes to one of the targets.
+    // Checks whether the letter goes to one of the targets.
     pub fn takes(self, letter: &Letter) -> bool
         ensures { result ≡ goes_into self letter.now }
     {
@@ -74,7 +74,7 @@ impl Class {
         }
     }
 
-    // Whether all ids of these parts are among the targets.
+    // Checks that all ids of these parts are among the targets.
     fn has_all(self, parts: &[Vec<u64>]) -> bool
         ensures { IsTrue result
             ↔ AllByRecursion (λ ids. AllByRecursion (λ id. has self id ≡ true) ids.items) parts.now }
@@ -89,29 +89,29 @@ impl Class {
     }
 }
 
-// Parts that follow one another, whose inboxes are made by one thread, and the targets that their ids are if each part has the ids
-// of its own remainder, as the parts of a job have.
+// Consecutive parts, whose inboxes one thread makes. The target set has their ids if each part has the ids of its own
+// remainder, as in a job.
 #[derive(Clone, Copy)]
 pub struct Share<'a> {
     pub parts: &'a [Vec<u64>],
-    class: Class,
+    target_set: TargetSet,
 }
 
 impl<'a> Share<'a> {
-    // Targets among which all ids of the parts are: where these are not those that they should be, all.
-    pub fn targets(&self) -> Class
+    // Returns a set of targets that has all ids of the parts: the share's own, or all targets if that lacks one.
+    pub fn targets(&self) -> TargetSet
         ensures { AllByRecursion (λ ids. AllByRecursion (λ id. has result id ≡ true) ids.items)
             self.now.parts.now }
     {
-        if self.class.has_all(self.parts) {
-            self.class
+        if self.target_set.has_all(self.parts) {
+            self.target_set
         } else {
-            Class::all()
+            TargetSet::all()
         }
     }
 }
 
-// The parts in shares, as many as there are parts, but so many at most, and no more than are worth it.
+// Splits the parts into shares: one for each part, but at most `most`, and at most 16.
 pub fn shares<'a>(
     alloc: Global,
     ids: &'a [Vec<u64>],
@@ -128,12 +128,12 @@ pub fn shares<'a>(
         let size = (rest.len() / left.max(1)).max(1).min(rest.len());
         let (parts, others) = rest.split_at(size);
         let next = start.saturating_add(parts.len() as u64);
-        let class = Class {
+        let target_set = TargetSet {
             key,
             start,
             last: next.saturating_sub(1),
         };
-        shares.push(Share { parts, class })?;
+        shares.push(Share { parts, target_set })?;
         start = next;
         rest = others;
         left = left.saturating_sub(1);

@@ -13,7 +13,7 @@ use Rattle.std.proofs.lemmas.List.Sorted.{IsPermutation-append_comm, IsPermutati
 use Rattle.std.proofs.lemmas.List.Sums.{fold-append}
 use borrow.Author.Tests.{eqb-false, eqb-true}
 use Rattle.interp.specs.Call.{Outcome}
-use Rattle.host_calls.specs.Slots.{slot_starts}
+use Rattle.host_calls.specs.Aggregators.{aggregator_starts}
 use Rattle.superstep.specs.Folds.{aggregated, combined, give}
 use Rattle.superstep.specs.Superstep.{contributions_of}
 use Rattle.superstep.specs.inside.Uniting.{given_at, united}
@@ -105,7 +105,7 @@ given_permuted slots a b same =
     (λ l i j first second before. before ∙ sym (given_exchanged slots l i j first second)) b same
 
 pub aggregated_permuted : (a b : List (ℕ × ℤ)) → IsPermutation a b → aggregated a ≡ aggregated b
-aggregated_permuted a b same = given_permuted slot_starts a b same
+aggregated_permuted a b same = given_permuted aggregator_starts a b same
 
 -- ---- how many slots, and their ranges
 
@@ -114,7 +114,7 @@ length_given slots [] = refl
 length_given slots (given ∷ contributions) = length_given (give slots given) contributions ∙ length_give slots given
 
 pub length_aggregated : (contributions : List (ℕ × ℤ)) → length (aggregated contributions) ≡ 8
-length_aggregated contributions = length_given slot_starts contributions
+length_aggregated contributions = length_given aggregator_starts contributions
 
 slot_fits : (slots : List ℤ) (slot : ℕ) → All (FitsSigned w64) slots → FitsSigned w64 (get_or slots slot (pos 0))
 slot_fits [] slot fits = omega (arith, ints)
@@ -132,10 +132,10 @@ given_fits slots (given ∷ contributions) each fits =
     given_fits (give slots given) contributions (All-tail (λ (one : ℕ × ℤ). FitsSigned w64 one.1) given contributions each)
     (give_fits slots given (All-head (λ (one : ℕ × ℤ). FitsSigned w64 one.1) given contributions each) fits)
 
-pub starts_fit : All (FitsSigned w64) slot_starts
+pub starts_fit : All (FitsSigned w64) aggregator_starts
 starts_fit = λ k d below. slot_at k d below
   where
-    slot_at : (k : ℕ) (d : ℤ) → k < 8 → FitsSigned w64 (get_or slot_starts k d)
+    slot_at : (k : ℕ) (d : ℤ) → k < 8 → FitsSigned w64 (get_or aggregator_starts k d)
     slot_at zero d below = omega (arith, ints)
     slot_at (suc zero) d below = omega (arith, ints)
     slot_at (suc (suc zero)) d below = omega (arith, ints)
@@ -149,7 +149,7 @@ starts_fit = λ k d below. slot_at k d below
 -- where each number that is given fits 64 bits, each slot does
 pub aggregated_fits : (contributions : List (ℕ × ℤ)) → All (λ (given : ℕ × ℤ). FitsSigned w64 given.1) contributions
     → All (FitsSigned w64) (aggregated contributions)
-aggregated_fits contributions each = given_fits slot_starts contributions each starts_fit
+aggregated_fits contributions each = given_fits aggregator_starts contributions each starts_fit
 
 -- ---- parts
 
@@ -221,32 +221,32 @@ united_given one other (given ∷ contributions) long =
     ∙ united_given (give one given) other contributions (length_give one given ∙ long)
 
 -- to unite with slots that nobody gave anything to changes nothing
-starts_united : united slot_starts slot_starts ≡ slot_starts
+starts_united : united aggregator_starts aggregator_starts ≡ aggregator_starts
 unfolding united
 starts_united = refl
 
-pub united_with_starts : (contributions : List (ℕ × ℤ)) → united (aggregated contributions) slot_starts ≡ aggregated contributions
+pub united_with_starts : (contributions : List (ℕ × ℤ)) → united (aggregated contributions) aggregator_starts ≡ aggregated contributions
 united_with_starts contributions =
-    sym (united_given slot_starts slot_starts contributions refl) ∙ ap (λ l. fold give l contributions) starts_united
+    sym (united_given aggregator_starts aggregator_starts contributions refl) ∙ ap (λ l. fold give l contributions) starts_united
 
 -- what two parts give is aggregated as each is, and then united
 pub aggregated_joined : (a b : List (ℕ × ℤ)) → aggregated (a ++ b) ≡ united (aggregated a) (aggregated b)
 aggregated_joined a b =
-    fold-append give slot_starts a b
-    ∙ ap (λ l. fold give l b) (sym (united_with_starts a) ∙ united_comm (aggregated a) slot_starts)
-    ∙ united_given slot_starts (aggregated a) b refl
+    fold-append give aggregator_starts a b
+    ∙ ap (λ l. fold give l b) (sym (united_with_starts a) ∙ united_comm (aggregated a) aggregator_starts)
+    ∙ united_given aggregator_starts (aggregated a) b refl
     ∙ united_comm (aggregated b) (aggregated a)
 
 -- slots of 64 bits, united with slots that nobody gave anything to, and numbers given to them
-pub united_starts : (slots : List ℤ) → length slots ≡ 8 → All (FitsSigned w64) slots → united slots slot_starts ≡ slots
+pub united_starts : (slots : List ℤ) → length slots ≡ 8 → All (FitsSigned w64) slots → united slots aggregator_starts ≡ slots
 united_starts slots long fits =
-    sym (united_is slots slot_starts slots long (λ slot below. sym (combined_start slot (get_or slots slot (pos 0)) below (slot_fits slots slot fits))))
+    sym (united_is slots aggregator_starts slots long (λ slot below. sym (combined_start slot (get_or slots slot (pos 0)) below (slot_fits slots slot fits))))
 
 pub given_united : (slots : List ℤ) (contributions : List (ℕ × ℤ)) → length slots ≡ 8 → All (FitsSigned w64) slots
     → fold give slots contributions ≡ united slots (aggregated contributions)
 given_united slots contributions long fits =
-    ap (λ l. fold give l contributions) (sym (united_starts slots long fits) ∙ united_comm slots slot_starts)
-    ∙ united_given slot_starts slots contributions refl
+    ap (λ l. fold give l contributions) (sym (united_starts slots long fits) ∙ united_comm slots aggregator_starts)
+    ∙ united_given aggregator_starts slots contributions refl
     ∙ united_comm (aggregated contributions) slots
 
 -- what many parts give is aggregated as each is, and then united, part after part
@@ -259,7 +259,7 @@ module _ {X : Type 0} (gives : X → List (ℕ × ℤ)) where
       ∙ parts_onward (before ++ gives part) parts
       ∙ ap (λ slots. fold (λ old one. united old (aggregated (gives one))) slots parts) (aggregated_joined before (gives part))
 
-  pub aggregated_parts : (parts : List X) → aggregated (flat_map gives parts) ≡ fold (λ slots part. united slots (aggregated (gives part))) slot_starts parts
+  pub aggregated_parts : (parts : List X) → aggregated (flat_map gives parts) ≡ fold (λ slots part. united slots (aggregated (gives part))) aggregator_starts parts
   aggregated_parts parts = parts_onward [] parts
 
 -- ---- a slot alone
@@ -280,8 +280,8 @@ given_slot slots (given ∷ contributions) slot below = given_slot (give slots g
 
 -- each slot folds the numbers that were given to it, in order
 pub aggregated_at : (contributions : List (ℕ × ℤ)) (slot : ℕ) → slot < 8
-    → get_or (aggregated contributions) slot (pos 0) ≡ fold (combined slot) (get_or slot_starts slot (pos 0)) (given_at slot contributions)
-aggregated_at contributions slot below = given_slot slot_starts contributions slot below
+    → get_or (aggregated contributions) slot (pos 0) ≡ fold (combined slot) (get_or aggregator_starts slot (pos 0)) (given_at slot contributions)
+aggregated_at contributions slot below = given_slot aggregator_starts contributions slot below
 
 -- ---- what vertices leave, in any order
 

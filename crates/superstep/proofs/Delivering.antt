@@ -14,8 +14,8 @@ use Rattle.std.proofs.lemmas.Simd.{map-map}
 use Rattle.interp.specs.Call.{Outcome}
 use Rattle.inbox.proofs.Delivery.{other_id}
 use Rattle.superstep.specs.Snapshot.{Row, row_id}
-use Rattle.superstep.specs.Superstep.{dropped_by, inbox_of, is_sent_to, sent_to}
-use Rattle.superstep.specs.inside.Plain.{lost_in, messages_of, sent_among, with_messages}
+use Rattle.superstep.specs.Superstep.{dropped_by, messages_to, is_sent_to, sent_to}
+use Rattle.superstep.specs.inside.OneMachine.{lost_in, messages_of, sent_among, with_messages}
 
 abbrev pub Message : Type 0
 Message = ℤ × ℤ
@@ -116,7 +116,7 @@ missed message (row ∷ rows) none =
 
 -- ---- the messages that all vertices send
 
-pub all_sent : (left : List Outcome) (id : ℕ) → sent_among (messages_of left) id ≡ inbox_of left id
+pub all_sent : (left : List Outcome) (id : ℕ) → sent_among (messages_of left) id ≡ messages_to left id
 all_sent [] id = refl
 all_sent (outcome ∷ left) id = among_both outcome.sends (messages_of left) id ∙ ap (λ inbox. sent_to id outcome ++ inbox) (all_sent left id)
 

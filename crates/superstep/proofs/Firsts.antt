@@ -5,9 +5,9 @@ use Rattle.std.proofs.lemmas.List.Sorted.{IsPermutation-map}
 use Rattle.interp.specs.Call.{Outcome}
 use Rattle.interp.specs.Outcomes.{Given}
 use Rattle.graph.specs.Entry.{Entry, ids}
-use Rattle.graph.specs.Cutting.{joined}
+use Rattle.graph.specs.Partition.{joined}
 use Rattle.superstep.specs.Job.{IsGraphOf, Work}
-use Rattle.host_calls.specs.Slots.{slot_starts}
+use Rattle.host_calls.specs.Aggregators.{aggregator_starts}
 use Rattle.superstep.specs.Ordering.{by_key}
 use Rattle.superstep.specs.State.{IsState, ShowsAt, Standing, bare, in_order, state_id}
 use Rattle.superstep.specs.PlainRun.{first_row, state_at}
@@ -44,7 +44,7 @@ pub record IsFirst (graph : List Entry) (state : Standing) : Type 0 where
   pub by_superstep : state.by_superstep ≡ []
   pub units : state.units ≡ 0
   pub dropped : state.dropped ≡ 0
-  pub aggregates : state.aggregates ≡ slot_starts
+  pub aggregates : state.aggregates ≡ aggregator_starts
   pub vertices : state.vertices ≡ first_states graph
 
 pub first_is_state : (work : Work) (graph : List Entry) (state : Standing) → IsGraphOf work graph → IsFirst graph state → IsState state

@@ -7,17 +7,17 @@ use Rattle.std.proofs.lemmas.List.Concat.{flat_map-append}
 use Rattle.std.proofs.lemmas.List.Sorted.{IsPermutation-append, IsPermutation-refl}
 use Rattle.std.proofs.lemmas.List.Sums.{sum_by-append}
 use Rattle.interp.specs.Call.{Outcome}
-use Rattle.graph.specs.Cutting.{joined}
+use Rattle.graph.specs.Partition.{joined}
 use Rattle.inbox.specs.declared.letters.Letter.{Letter}
-use Rattle.superstep.specs.declared.closing.Gathered.{Gathered}
+use Rattle.superstep.specs.declared.barrier_step.Gathered.{Gathered}
 use Rattle.superstep.specs.declared.state.VertexState.{VertexState}
 use Rattle.superstep.specs.Folds.{aggregated, capped}
-use Rattle.host_calls.specs.Slots.{slot_starts}
+use Rattle.host_calls.specs.Aggregators.{aggregator_starts}
 use Rattle.superstep.specs.Superstep.{contributions_of, units_left}
 use Rattle.superstep.specs.Job.{Work}
 use Rattle.superstep.specs.State.{state_id}
-use Rattle.superstep.specs.Tasks.{DoneStamp, IsDone, Left, emptied, letters_from, letters_of, outcomes_in}
-use Rattle.superstep.specs.inside.Closing.{IsGathered, IsPartLeft, PartLeft, left_ids, spread}
+use Rattle.superstep.specs.Tasks.{DoneStamp, IsDone, VertexOutcome, emptied, letters_from, letters_of, outcomes_in}
+use Rattle.superstep.specs.inside.Barrier.{IsGathered, IsPartLeft, PartLeft, left_ids, spread}
 use Rattle.superstep.specs.inside.Uniting.{united}
 use Rattle.superstep.proofs.Aggregating.{contributions_joined}
 
@@ -25,7 +25,7 @@ each_append : {X : Type 0} (P : X → Type 0) (xs ys : List X) → AllByRecursio
 each_append P [] ys all all' = all'
 each_append P (x ∷ xs) ys all all' = (all.0, each_append P xs ys all.1 all')
 
-pub emptied_ids : (left : List Left) → map state_id (map emptied left) ≡ left_ids left
+pub emptied_ids : (left : List VertexOutcome) → map state_id (map emptied left) ≡ left_ids left
 emptied_ids [] = refl
 emptied_ids (one ∷ left) = ap (λ rest. one.0 ∷ rest) (emptied_ids left)
 
@@ -33,15 +33,15 @@ spread_more : (parts : List PartLeft) (part : PartLeft) → spread (parts ++ par
 spread_more parts part =
     flat_map-append (λ (one : PartLeft). one.1) parts (part ∷ []) ∙ ap (λ xs. spread parts ++ xs) (append-nil part.1)
 
-outcomes_more : (first second : List Left) → outcomes_in (first ++ second) ≡ outcomes_in first ++ outcomes_in second
-outcomes_more first second = map-append (λ (one : Left). one.1) first second
+outcomes_more : (first second : List VertexOutcome) → outcomes_in (first ++ second) ≡ outcomes_in first ++ outcomes_in second
+outcomes_more first second = map-append (λ (one : VertexOutcome). one.1) first second
 
-slots_more : (first second : List Left) → aggregated (contributions_of (outcomes_in (first ++ second)))
+slots_more : (first second : List VertexOutcome) → aggregated (contributions_of (outcomes_in (first ++ second)))
     ≡ united (aggregated (contributions_of (outcomes_in first))) (aggregated (contributions_of (outcomes_in second)))
 slots_more first second =
     ap (λ outcomes. aggregated (contributions_of outcomes)) (outcomes_more first second) ∙ contributions_joined (outcomes_in first) (outcomes_in second)
 
-units_more : (first second : List Left) → units_left (outcomes_in (first ++ second)) ≡ units_left (outcomes_in first) + units_left (outcomes_in second)
+units_more : (first second : List VertexOutcome) → units_left (outcomes_in (first ++ second)) ≡ units_left (outcomes_in first) + units_left (outcomes_in second)
 units_more first second =
     ap units_left (outcomes_more first second) ∙ sum_by-append (λ (outcome : Outcome). outcome.units) (outcomes_in first) (outcomes_in second)
 
@@ -54,7 +54,7 @@ letters_more parts part old own new before is more =
     (subst (λ (xs : List Letter). IsPermutation (letters_of (spread (parts ++ part ∷ []))) xs)
     (sym (flat_map-append (λ (list : List Letter). list) old (own ∷ []) ∙ ap (λ (xs : List Letter). joined old ++ xs) (append-nil own)))
     (subst (λ (xs : List Letter). IsPermutation xs (joined old ++ own))
-    (sym (ap letters_of (spread_more parts part) ∙ flat_map-append (λ (one : Left). letters_from one.0 one.1) (spread parts) part.1))
+    (sym (ap letters_of (spread_more parts part) ∙ flat_map-append (λ (one : VertexOutcome). letters_from one.0 one.1) (spread parts) part.1))
     (IsPermutation-append _ _ _ _ before is)))
 
 pub capped_sum : (a b : ℕ) → capped (capped a + capped b) ≡ capped (a + b)
@@ -97,7 +97,7 @@ gathered_more work honest dones done old new vertices letters given before is mo
 
 -- nothing is gathered yet
 pub gathered_none : (work : Work) (honest : Bool) (gathered : Gathered) → gathered.vertices.items ≡ []
-    → gathered.letters.items ≡ [] → gathered.slots ≡ slot_starts → gathered.units ≡ 0 → IsGathered work honest [] gathered
+    → gathered.letters.items ≡ [] → gathered.slots ≡ aggregator_starts → gathered.units ≡ 0 → IsGathered work honest [] gathered
 gathered_none work honest gathered no_vertices no_letters slots units = record {
   parts = [];
   stamps = refl;

@@ -7,8 +7,9 @@ use Rattle.graph.proofs.Vertices.{ids_entries}
 use Rattle.graph.specs.Entry.{Entry, FitsLimits, id_at, ids, vertex_id}
 use Rattle.graph.specs.Parts.{part_entries}
 use Rattle.graph.specs.declared.parts.Part.{Part}
-use Rattle.graph.specs.Cutting.{joined, parts_by, parts_by-map, parts_whole}
-use Rattle.graph.specs.Rising.{rising_same}
+use Rattle.graph.specs.Partition.{joined, parts_by}
+use Rattle.graph.specs.inside.Partitioned.{parts_by-map, parts_whole}
+use Rattle.graph.specs.inside.Rising.{rising_same}
 use Rattle.superstep.specs.Job.{IsGraphOf, Work}
 use Rattle.superstep.specs.Settings.{first_bad}
 use Rattle.superstep.specs.State.{in_order, state_id}

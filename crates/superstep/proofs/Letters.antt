@@ -10,18 +10,18 @@ use Rattle.std.proofs.lemmas.List.Elements.{All-from_recursion}
 use Rattle.std.proofs.lemmas.List.Folds.{flat_map-map, fold-map}
 use Rattle.std.proofs.lemmas.List.Sorted.{list_any-IsPermutation, sum_by-IsPermutation}
 use Rattle.interp.specs.Call.{Outcome}
-use Rattle.graph.specs.Cutting.{joined}
+use Rattle.graph.specs.Partition.{joined}
 use Rattle.inbox.specs.declared.letters.Letter.{Letter}
 use Rattle.inbox.specs.Merging.{AreSent, dropped_of, goes_to}
 use Rattle.inbox.specs.Merging.{inbox_of as letters_in}
-use Rattle.superstep.specs.Superstep.{dropped_by, inbox_of, is_sent_to, sent_to}
-use Rattle.superstep.specs.Tasks.{Left, letter_from, letters_from, letters_of, outcomes_in}
-use Rattle.superstep.specs.inside.Closing.{IsSpread, left_id, left_ids}
+use Rattle.superstep.specs.Superstep.{dropped_by, messages_to, is_sent_to, sent_to}
+use Rattle.superstep.specs.Tasks.{VertexOutcome, letter_from, letters_from, letters_of, outcomes_in}
+use Rattle.superstep.specs.inside.Barrier.{IsSpread, left_id, left_ids}
 use Rattle.superstep.proofs.PartStates.{either_way}
 use Rattle.superstep.proofs.Spreading.{all_found, at_id, distinct_ids, outcome_at}
 
 -- what the vertex with an id sent
-abbrev pub sent_by : List Left → ℕ → List Letter
+abbrev pub sent_by : List VertexOutcome → ℕ → List Letter
 sent_by left id = letters_from id (outcome_at left id)
 
 of_one : (id n : ℕ) (sends : List (ℤ × ℤ)) → AllByRecursion (λ letter. letter.from ≡ id) (map (letter_from id) (enumerate_from n sends))
@@ -40,16 +40,16 @@ unfolding IsStrictlySortedBy
 numbered id n [] = tt
 numbered id n (send ∷ sends) = (later id n (n + 1) sends (omega arith), numbered id (n + 1) sends)
 
-pub are_sent : (left : List Left) → AreSent (sent_by left)
+pub are_sent : (left : List VertexOutcome) → AreSent (sent_by left)
 are_sent left = record {
   own = λ source. All-from_recursion _ _ (of_one source 0 (outcome_at left source).sends);
   numbered = λ source. numbered source 0 (outcome_at left source).sends;
 }
 
 -- the letters of all are what each sent
-pub sent_by_all : (left : List Left) → IsDistinct eqb (left_ids left) → flat_map (sent_by left) (left_ids left) ≡ letters_of left
+pub sent_by_all : (left : List VertexOutcome) → IsDistinct eqb (left_ids left) → flat_map (sent_by left) (left_ids left) ≡ letters_of left
 sent_by_all left apart =
-    sym (flat_map-map (λ (one : Left). letters_from one.0 one.1) (at_id left) (left_ids left))
+    sym (flat_map-map (λ (one : VertexOutcome). letters_from one.0 one.1) (at_id left) (left_ids left))
     ∙ ap letters_of (all_found left apart)
 
 -- ---- inboxes
@@ -69,13 +69,13 @@ pub sent_values : (id source : ℕ) (outcome : Outcome) → letters_in (letters_
 sent_values id source outcome = values source id 0 outcome.sends
 
 -- an inbox holds what each vertex sent to it, by rising id
-pub inbox_found : (left ordered : List Left) (id : ℕ) → map (at_id left) (left_ids ordered) ≡ ordered
-    → flat_map (λ source. letters_in (sent_by left source) id) (left_ids ordered) ≡ inbox_of (outcomes_in ordered) id
+pub inbox_found : (left ordered : List VertexOutcome) (id : ℕ) → map (at_id left) (left_ids ordered) ≡ ordered
+    → flat_map (λ source. letters_in (sent_by left source) id) (left_ids ordered) ≡ messages_to (outcomes_in ordered) id
 inbox_found left ordered id found =
     (λ i. flat_map (λ source. sent_values id source (outcome_at left source) i) (left_ids ordered))
-    ∙ sym (flat_map-map (λ (one : Left). sent_to id one.1) (at_id left) (left_ids ordered))
-    ∙ ap (flat_map (λ (one : Left). sent_to id one.1)) found
-    ∙ sym (flat_map-map (sent_to id) (λ (one : Left). one.1) ordered)
+    ∙ sym (flat_map-map (λ (one : VertexOutcome). sent_to id one.1) (at_id left) (left_ids ordered))
+    ∙ ap (flat_map (λ (one : VertexOutcome). sent_to id one.1)) found
+    ∙ sym (flat_map-map (sent_to id) (λ (one : VertexOutcome). one.1) ordered)
 
 -- ---- drops
 
@@ -98,15 +98,15 @@ drops_alike ids moved outcome same =
     λ i. count_by (λ send. not (list_any-IsPermutation (λ id. is_sent_to id send) ids moved same i)) outcome.sends
 
 -- as many drop as drop of what each vertex sent
-pub drops_found : (left ordered : List Left) → IsDistinct eqb (left_ids left) → IsPermutation left ordered → IsPermutation (left_ids left) (left_ids ordered)
+pub drops_found : (left ordered : List VertexOutcome) → IsDistinct eqb (left_ids left) → IsPermutation left ordered → IsPermutation (left_ids left) (left_ids ordered)
     → sum_by (λ source. dropped_of (sent_by left source) (left_ids left)) (left_ids left) ≡ sum_by (dropped_by (left_ids ordered)) (outcomes_in ordered)
 drops_found left ordered apart same same_ids =
     (λ i. sum_by (λ source. dropped_values (left_ids left) source (outcome_at left source) i) (left_ids left))
-    ∙ sym (sum_by-map (λ (one : Left). dropped_by (left_ids left) one.1) (at_id left) (left_ids left))
-    ∙ ap (sum_by (λ (one : Left). dropped_by (left_ids left) one.1)) (all_found left apart)
-    ∙ sym (sum_by-IsPermutation (λ (one : Left). dropped_by (left_ids left) one.1) left ordered same)
-    ∙ (λ i. sum_by (λ (one : Left). drops_alike (left_ids left) (left_ids ordered) one.1 same_ids i) ordered)
-    ∙ sym (sum_by-map (dropped_by (left_ids ordered)) (λ (one : Left). one.1) ordered)
+    ∙ sym (sum_by-map (λ (one : VertexOutcome). dropped_by (left_ids left) one.1) (at_id left) (left_ids left))
+    ∙ ap (sum_by (λ (one : VertexOutcome). dropped_by (left_ids left) one.1)) (all_found left apart)
+    ∙ sym (sum_by-IsPermutation (λ (one : VertexOutcome). dropped_by (left_ids left) one.1) left ordered same)
+    ∙ (λ i. sum_by (λ (one : VertexOutcome). drops_alike (left_ids left) (left_ids ordered) one.1 same_ids i) ordered)
+    ∙ sym (sum_by-map (dropped_by (left_ids ordered)) (λ (one : VertexOutcome). one.1) ordered)
 
 -- ---- the lists of all parts
 
@@ -114,11 +114,11 @@ pub joined_map : {X Y : Type 0} (f : X → Y) (lists : List (List X)) → joined
 joined_map f [] = refl
 joined_map f (list ∷ lists) = ap (λ rest. map f list ++ rest) (joined_map f lists) ∙ sym (map-append f list (joined lists))
 
-pub spread_ids : (ids : List (List ℕ)) (letters : List (List Letter)) (lefts : List (List Left)) (ordered : List Left) → IsSpread ids letters lefts ordered
+pub spread_ids : (ids : List (List ℕ)) (letters : List (List Letter)) (lefts : List (List VertexOutcome)) (ordered : List VertexOutcome) → IsSpread ids letters lefts ordered
     → joined ids ≡ left_ids (joined lefts)
 spread_ids ids letters lefts ordered is = ap joined is.ids ∙ joined_map left_id lefts
 
-pub spread_letters : (ids : List (List ℕ)) (letters : List (List Letter)) (lefts : List (List Left)) (ordered : List Left) → IsSpread ids letters lefts ordered
+pub spread_letters : (ids : List (List ℕ)) (letters : List (List Letter)) (lefts : List (List VertexOutcome)) (ordered : List VertexOutcome) → IsSpread ids letters lefts ordered
     → IsPermutation (flat_map (sent_by (joined lefts)) (left_ids (joined lefts))) (joined letters)
 spread_letters ids letters lefts ordered is =
     subst (λ (xs : List Letter). IsPermutation xs (joined letters))

@@ -9,21 +9,21 @@ use Rattle.std.proofs.lemmas.List.Sums.{sum_by_push}
 use Rattle.std.proofs.lemmas.Simd.{map-map}
 use Rattle.interp.specs.Call.{Outcome}
 use Rattle.graph.specs.Entry.{ids}
-use Rattle.graph.specs.Cutting.{joined}
-use Rattle.superstep.specs.declared.closing.Gathered.{Gathered}
+use Rattle.graph.specs.Partition.{joined}
+use Rattle.superstep.specs.declared.barrier_step.Gathered.{Gathered}
 use Rattle.superstep.specs.declared.state.VertexState.{VertexState}
 use Rattle.superstep.specs.declared.totals.Totals.{Totals}
 use Rattle.superstep.specs.Folds.{aggregated, capped}
 use Rattle.superstep.specs.Snapshot.{row_ids}
-use Rattle.superstep.specs.Superstep.{all_left, contributions_of, dropped_by, inbox_of, left_by, row_after, units_left}
+use Rattle.superstep.specs.Superstep.{all_left, contributions_of, dropped_by, messages_to, left_by, row_after, units_left}
 use Rattle.superstep.specs.PlainRun.{state_at, units_at}
 use Rattle.superstep.specs.Job.{HasGraph, IsGraphOf, Meaning, Work}
 use Rattle.superstep.specs.Settings.{first_bad}
 use Rattle.superstep.specs.Ordering.{by_key}
 use Rattle.superstep.specs.State.{HasIdsOf, IsState, ShowsAt, bare, in_order, state_id}
-use Rattle.superstep.specs.Tasks.{DoneStamp, IsRow, Left, emptied, outcomes_in}
+use Rattle.superstep.specs.Tasks.{DoneStamp, IsRow, VertexOutcome, emptied, outcomes_in}
 use Rattle.superstep.specs.Totals.{AreTotals, SumsAt, standing_of}
-use Rattle.superstep.specs.inside.Closing.{Follows, IsGathered, IsSpread, all_filled, filled, left_id, left_ids}
+use Rattle.superstep.specs.inside.Barrier.{Follows, IsGathered, IsSpread, all_filled, filled, left_id, left_ids}
 use Rattle.superstep.specs.inside.Rows.{IsKept}
 use Rattle.superstep.proofs.Aggregating.{contributions_permuted}
 use Rattle.superstep.proofs.Graphs.{few_states, lie_in_parts, one_graph, some_parts}
@@ -35,14 +35,14 @@ use Rattle.superstep.proofs.Spreading.{ids_found}
 -- ---- vertices
 
 -- a vertex as it left itself, with its inbox
-abbrev pub closed : (ℕ → List ℤ) → Left → VertexState
+abbrev pub closed : (ℕ → List ℤ) → VertexOutcome → VertexState
 closed inbox one = record { id = one.0; value = one.1.value; active = not one.1.halted; inbox = inbox one.0 }
 
-part_filled : (inbox : ℕ → List ℤ) (left : List Left) → filled (map emptied left, map inbox (left_ids left)) ≡ map (closed inbox) left
+part_filled : (inbox : ℕ → List ℤ) (left : List VertexOutcome) → filled (map emptied left, map inbox (left_ids left)) ≡ map (closed inbox) left
 part_filled inbox [] = refl
 part_filled inbox (one ∷ left) = ap (λ rest. closed inbox one ∷ rest) (part_filled inbox left)
 
-parts_filled : (inbox : ℕ → List ℤ) (lefts : List (List Left))
+parts_filled : (inbox : ℕ → List ℤ) (lefts : List (List VertexOutcome))
     → all_filled (map (map emptied) lefts) (map (λ left. map inbox (left_ids left)) lefts) ≡ map (map (closed inbox)) lefts
 parts_filled inbox [] = refl
 parts_filled inbox (left ∷ lefts) =
@@ -50,24 +50,24 @@ parts_filled inbox (left ∷ lefts) =
     ∙ ap (λ rest. map (closed inbox) left ∷ rest) (parts_filled inbox lefts)
 
 -- there is an inbox for each vertex
-along : (inbox : ℕ → List ℤ) (lefts : List (List Left)) → map length (map (map emptied) lefts) ≡ map length (map (λ left. map inbox (left_ids left)) lefts)
+along : (inbox : ℕ → List ℤ) (lefts : List (List VertexOutcome)) → map length (map (map emptied) lefts) ≡ map length (map (λ left. map inbox (left_ids left)) lefts)
 along inbox [] = refl
 along inbox (left ∷ lefts) =
     let own : length (map emptied left) ≡ length (map inbox (left_ids left)) =
     length-map left emptied ∙ sym (length-map left left_id) ∙ sym (length-map (left_ids left) inbox) in
     (λ i. own i ∷ along inbox lefts i)
 
-pub closed_ids : (inbox : ℕ → List ℤ) (left : List Left) → map state_id (map (closed inbox) left) ≡ left_ids left
+pub closed_ids : (inbox : ℕ → List ℤ) (left : List VertexOutcome) → map state_id (map (closed inbox) left) ≡ left_ids left
 closed_ids inbox left = map-map state_id (closed inbox) left
 
-parts_closed_ids : (inbox : ℕ → List ℤ) (lefts : List (List Left)) → map (map state_id) (map (map (closed inbox)) lefts) ≡ map left_ids lefts
+parts_closed_ids : (inbox : ℕ → List ℤ) (lefts : List (List VertexOutcome)) → map (map state_id) (map (map (closed inbox)) lefts) ≡ map left_ids lefts
 parts_closed_ids inbox [] = refl
 parts_closed_ids inbox (left ∷ lefts) =
     ap (λ own. own ∷ map (map state_id) (map (map (closed inbox)) lefts)) (closed_ids inbox left)
     ∙ ap (λ rest. left_ids left ∷ rest) (parts_closed_ids inbox lefts)
 
 -- the vertices of all parts, by rising id
-closed_in_order : (inbox : ℕ → List ℤ) (lefts : List (List Left)) (ordered : List Left) → IsPermutation (joined lefts) ordered
+closed_in_order : (inbox : ℕ → List ℤ) (lefts : List (List VertexOutcome)) (ordered : List VertexOutcome) → IsPermutation (joined lefts) ordered
     → IsStrictlyIncreasing (left_ids ordered) → in_order (map (map (closed inbox)) lefts) ≡ map (closed inbox) ordered
 closed_in_order inbox lefts ordered same rising =
     ap (by_key state_id) (joined_map (closed inbox) lefts)
@@ -112,24 +112,24 @@ units_more f since s up =
 
 -- ---- where each state is the job's
 
-slots_moved : (left moved : List Left) → IsPermutation left moved → aggregated (contributions_of (outcomes_in left)) ≡ aggregated (contributions_of (outcomes_in moved))
+slots_moved : (left moved : List VertexOutcome) → IsPermutation left moved → aggregated (contributions_of (outcomes_in left)) ≡ aggregated (contributions_of (outcomes_in moved))
 slots_moved left moved same =
-    contributions_permuted (outcomes_in left) (outcomes_in moved) (IsPermutation-map (λ (one : Left). one.1) left moved same)
+    contributions_permuted (outcomes_in left) (outcomes_in moved) (IsPermutation-map (λ (one : VertexOutcome). one.1) left moved same)
 
-units_moved : (left moved : List Left) → IsPermutation left moved → units_left (outcomes_in left) ≡ units_left (outcomes_in moved)
+units_moved : (left moved : List VertexOutcome) → IsPermutation left moved → units_left (outcomes_in left) ≡ units_left (outcomes_in moved)
 units_moved left moved same =
-    sym (sum_by-IsPermutation (λ (outcome : Outcome). outcome.units) (outcomes_in left) (outcomes_in moved) (IsPermutation-map (λ (one : Left). one.1) left moved same))
+    sym (sum_by-IsPermutation (λ (outcome : Outcome). outcome.units) (outcomes_in left) (outcomes_in moved) (IsPermutation-map (λ (one : VertexOutcome). one.1) left moved same))
 
 -- What the code makes of what all vertices left by rising id.
-pub record IsNext (left : List Left) (old new : Totals) (took lost : ℕ) (aggregates : List ℤ) (vertices : List VertexState) : Type 0 where
+pub record IsNext (left : List VertexOutcome) (old new : Totals) (took lost : ℕ) (aggregates : List ℤ) (vertices : List VertexState) : Type 0 where
   pub took_all : took ≡ capped (units_left (outcomes_in left))
   pub lost_all : lost ≡ sum_by (dropped_by (left_ids left)) (outcomes_in left)
   pub given_all : aggregates ≡ aggregated (contributions_of (outcomes_in left))
-  pub vertices_all : vertices ≡ map (closed (inbox_of (outcomes_in left))) left
+  pub vertices_all : vertices ≡ map (closed (messages_to (outcomes_in left))) left
   pub later : Follows took lost old new
   pub sums : AreTotals old
 
-pub next_shows : (work : Work) (meaning : Meaning work) (left : List Left) (old new : Totals) (took lost : ℕ) (aggregates : List ℤ) (vertices : List VertexState)
+pub next_shows : (work : Work) (meaning : Meaning work) (left : List VertexOutcome) (old new : Totals) (took lost : ℕ) (aggregates : List ℤ) (vertices : List VertexState)
     → left ≡ map (leaving meaning old.superstep) (state_at meaning.outcomes meaning.graph old.superstep).rows
     → IsNext left old new took lost aggregates vertices → SumsAt work meaning old
     → ShowsAt meaning.outcomes meaning.graph (suc old.superstep) (standing_of new aggregates vertices)
@@ -138,13 +138,13 @@ next_shows work meaning left old new took lost aggregates vertices from is at =
     let s = old.superstep in
     let before = state_at meaning.outcomes meaning.graph s in
     let outcomes : outcomes_in left ≡ all_left meaning.outcomes s before =
-    ap outcomes_in from ∙ map-map (λ (one : Left). one.1) (leaving meaning s) before.rows in
+    ap outcomes_in from ∙ map-map (λ (one : VertexOutcome). one.1) (leaving meaning s) before.rows in
     let numbers : left_ids left ≡ row_ids before = ap left_ids from ∙ map-map left_id (leaving meaning s) before.rows in
     record {
       superstep = is.later.superstep ∙ omega arith;
       vertices = is.vertices_all
-          ∙ (λ i. map (closed (inbox_of (outcomes i))) (from i))
-          ∙ map-map (closed (inbox_of (all_left meaning.outcomes s before))) (leaving meaning s) before.rows
+          ∙ (λ i. map (closed (messages_to (outcomes i))) (from i))
+          ∙ map-map (closed (messages_to (all_left meaning.outcomes s before))) (leaving meaning s) before.rows
           ∙ sym (map-map bare (λ row. row_after (all_left meaning.outcomes s before) row (left_by meaning.outcomes s before row)) before.rows);
       aggregates = is.given_all ∙ ap (λ all. aggregated (contributions_of all)) outcomes;
       units = is.later.units ∙ (λ i. capped (at.units i + is.took_all i))
@@ -180,10 +180,10 @@ module _ (work now : Work) (honest : Bool) (totals : Totals) (dones : List DoneS
   own_some = subst (λ (of : Work). 0 < of.settings.parts) (sym ready.job) (some_parts now.settings ready.good)
 
   -- what the vertices of each part left, and all of them by rising id
-  abbrev pub lefts : List (List Left)
+  abbrev pub lefts : List (List VertexOutcome)
   lefts = map part_left ready.parts.parts
 
-  abbrev pub all : List Left
+  abbrev pub all : List VertexOutcome
   all = ordered ready.parts.parts ready.graph.0
 
   pub spreads : (numbers : List (List ℕ)) → numbers ≡ map ids now.parts → IsSpread numbers (map vec_items gathered.letters.items) lefts all
@@ -196,18 +196,18 @@ module _ (work now : Work) (honest : Bool) (totals : Totals) (dones : List DoneS
 
   -- What is made of it.
   pub record IsMade (found : List (List (List ℤ))) (lost : ℕ) (parts : List (List VertexState)) (later : Totals) : Type 0 where
-    pub inboxes : found ≡ map (λ left. map (inbox_of (outcomes_in all)) (left_ids left)) lefts
+    pub inboxes : found ≡ map (λ left. map (messages_to (outcomes_in all)) (left_ids left)) lefts
     pub dropped : lost ≡ sum_by (dropped_by (left_ids all)) (outcomes_in all)
     pub fills : map length (map vec_items gathered.vertices.items) ≡ map length found → parts ≡ all_filled (map vec_items gathered.vertices.items) found
     pub follows : Follows gathered.units lost totals later
 
   module _ (found : List (List (List ℤ))) (lost : ℕ) (parts : List (List VertexState)) (later : Totals) (made : IsMade found lost parts later) where
     -- the vertices of each part, each with its inbox
-    are_closed : parts ≡ map (map (closed (inbox_of (outcomes_in all)))) lefts
+    are_closed : parts ≡ map (map (closed (messages_to (outcomes_in all)))) lefts
     are_closed =
         let left : map vec_items gathered.vertices.items ≡ map (map emptied) lefts = ready.parts.vertices ∙ sym (map-map (map emptied) part_left ready.parts.parts) in
-        let each = ap (map length) left ∙ along (inbox_of (outcomes_in all)) lefts ∙ sym (ap (map length) made.inboxes) in
-        made.fills each ∙ (λ i. all_filled (left i) (made.inboxes i)) ∙ parts_filled (inbox_of (outcomes_in all)) lefts
+        let each = ap (map length) left ∙ along (messages_to (outcomes_in all)) lefts ∙ sym (ap (map length) made.inboxes) in
+        made.fills each ∙ (λ i. all_filled (left i) (made.inboxes i)) ∙ parts_filled (messages_to (outcomes_in all)) lefts
 
     pub next : IsNext all totals later gathered.units lost gathered.slots (in_order parts)
     next =
@@ -217,14 +217,14 @@ module _ (work now : Work) (honest : Bool) (totals : Totals) (dones : List DoneS
           took_all = is.units ∙ ap (λ left. capped (units_left (outcomes_in left))) rejoined ∙ ap capped (units_moved (joined lefts) all lies.same);
           lost_all = made.dropped;
           given_all = is.slots ∙ ap (λ left. aggregated (contributions_of (outcomes_in left))) rejoined ∙ slots_moved (joined lefts) all lies.same;
-          vertices_all = ap in_order are_closed ∙ closed_in_order (inbox_of (outcomes_in all)) lefts all lies.same lies.rising;
+          vertices_all = ap in_order are_closed ∙ closed_in_order (messages_to (outcomes_in all)) lefts all lies.same lies.rising;
           later = made.follows;
           sums = ready.sums;
         }
 
     next_ids : map state_id (in_order parts) ≡ ids ready.graph.0
     next_ids =
-        ap (map state_id) next.vertices_all ∙ closed_ids (inbox_of (outcomes_in all)) all ∙ ids_found (joined lefts) (ids ready.graph.0)
+        ap (map state_id) next.vertices_all ∙ closed_ids (messages_to (outcomes_in all)) all ∙ ids_found (joined lefts) (ids ready.graph.0)
 
     pub next_is_kept : IsKept (standing_of later gathered.slots (in_order parts)) parts
     next_is_kept = record {
@@ -232,7 +232,7 @@ module _ (work now : Work) (honest : Bool) (totals : Totals) (dones : List DoneS
           (subst (λ numbers. IsStrictlyIncreasing numbers) (sym next_ids) ready.graph.1.proper.rising)
           (few_states ready.graph.0 (in_order parts) ready.graph.1.limits next_ids);
       parts = lie_in_parts work ready.graph.0 parts own_graph
-          (ap (map (map state_id)) are_closed ∙ parts_closed_ids (inbox_of (outcomes_in all)) lefts ∙ map-map left_ids part_left ready.parts.parts
+          (ap (map (map state_id)) are_closed ∙ parts_closed_ids (messages_to (outcomes_in all)) lefts ∙ map-map left_ids part_left ready.parts.parts
           ∙ parts_ids work honest totals.superstep dones gathered ready.graph.0 own_graph ready.parts own_row);
     }
 

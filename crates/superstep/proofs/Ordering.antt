@@ -7,8 +7,9 @@ use Rattle.std.proofs.lemmas.List.{append-nil, length-map, map-id, same_lists}
 use Rattle.std.proofs.lemmas.List.Elements.{filter-append}
 use Rattle.std.proofs.lemmas.List.FromFn.{length-map-range_with_len}
 use Rattle.std.proofs.lemmas.List.Sorted.{IsPermutation-append_comm, IsPermutation-append_left, IsPermutation-cons, IsPermutation-refl, IsPermutation-trans, list_any-IsPermutation}
-use Rattle.graph.specs.Cutting.{joined, part_at, part_by, parts_by}
-use Rattle.graph.specs.Rising.{Rises, order_is, rises_from}
+use Rattle.graph.specs.Partition.{joined, part_by, parts_by}
+use Rattle.graph.specs.inside.Partitioned.{part_at}
+use Rattle.graph.specs.inside.Rising.{Rises, order_is, rises_from}
 use Rattle.superstep.specs.Ordering.{by_key, put_in}
 
 -- ---- the same elements

@@ -10,16 +10,17 @@ use Rattle.interp.specs.Call.{Outcome}
 use Rattle.graph.specs.declared.vertex.Vertex.{Vertex}
 use Rattle.graph.specs.Entry.{Entry, entries_of, entry_of, id_at, ids, vertex_id}
 use Rattle.inbox.specs.declared.letters.Letter.{Letter}
-use Rattle.superstep.specs.declared.left.Left.{Left}
+use Rattle.superstep.specs.declared.part_output.PartOutput.{PartOutput}
 use Rattle.superstep.specs.declared.state.VertexState.{VertexState}
 use Rattle.superstep.specs.declared.task.Shared.{Shared}
 use Rattle.superstep.specs.Folds.{aggregated, capped, give}
-use Rattle.host_calls.specs.Slots.{slot_starts}
+use Rattle.host_calls.specs.Aggregators.{aggregator_starts}
 use Rattle.superstep.specs.Snapshot.{Row}
 use Rattle.superstep.specs.Superstep.{contributions_of, idle, units_left}
 use Rattle.superstep.specs.State.{state_id}
-use Rattle.superstep.specs.Tasks.{ComesBack, Left as OneLeft, emptied, letters_from, letters_of, outcomes_in}
-use Rattle.superstep.specs.inside.Leaving.{Adds, CallsPart, CallsVertex, HasProperIds, IsNothing, left_id, left_in, row_of, rows_of}
+use Rattle.superstep.specs.Tasks.{ComesBack, VertexOutcome, emptied, letters_from, letters_of, outcomes_in}
+use Rattle.superstep.specs.inside.Barrier.{left_id}
+use Rattle.superstep.specs.inside.PartOutput.{Adds, CallsPart, CallsVertex, HasProperIds, IsNothing, left_in, row_of, rows_of}
 
 -- a total that stopped, and one more
 stopped : (most total more : ℕ) → min (min total most + more) most ≡ min (total + more) most
@@ -32,14 +33,14 @@ pub units_added : (old new total more : ℕ) → old ≡ capped total → new �
 units_added old new total more was added = added ∙ ap (λ n. capped (n + more)) was ∙ capped_more total more
 
 -- a vertex that is not called adds nothing
-pub adds_idle : (row : Row) (id : ℕ) (left : Left) → Adds id (idle row) left left
+pub adds_idle : (row : Row) (id : ℕ) (left : PartOutput) → Adds id (idle row) left left
 adds_idle row id left = record {
   letters = sym (append-nil left.letters.items);
   slots = refl;
   units = λ total was. was ∙ ap capped (omega arith);
 }
 
-pub none_called : (shared : Shared) (left : Left) → IsNothing left → CallsPart shared [] [] [] left
+pub none_called : (shared : Shared) (left : PartOutput) → IsNothing left → CallsPart shared [] [] [] left
 none_called shared left is = record {
   left = [];
   comes = record {
@@ -52,15 +53,15 @@ none_called shared left is = record {
   is = λ outcomes tells. refl;
 }
 
-one_outcome_more : (left : List OneLeft) (one : OneLeft) → outcomes_in (left ++ one ∷ []) ≡ outcomes_in left ++ one.1 ∷ []
-one_outcome_more left one = map-append (λ (o : OneLeft). o.1) left (one ∷ [])
+one_outcome_more : (left : List VertexOutcome) (one : VertexOutcome) → outcomes_in (left ++ one ∷ []) ≡ outcomes_in left ++ one.1 ∷ []
+one_outcome_more left one = map-append (λ (o : VertexOutcome). o.1) left (one ∷ [])
 
-one_letters_more : (left : List OneLeft) (one : OneLeft) → letters_of (left ++ one ∷ []) ≡ letters_of left ++ letters_from one.0 one.1
+one_letters_more : (left : List VertexOutcome) (one : VertexOutcome) → letters_of (left ++ one ∷ []) ≡ letters_of left ++ letters_from one.0 one.1
 one_letters_more left one =
-    flat_map-append (λ (o : OneLeft). letters_from o.0 o.1) left (one ∷ [])
+    flat_map-append (λ (o : VertexOutcome). letters_from o.0 o.1) left (one ∷ [])
     ∙ ap (λ (xs : List Letter). letters_of left ++ xs) (append-nil (letters_from one.0 one.1))
 
-one_more_back : (left : List OneLeft) (one : OneLeft) (states : List VertexState) (state : VertexState) (old new : Left)
+one_more_back : (left : List VertexOutcome) (one : VertexOutcome) (states : List VertexState) (state : VertexState) (old new : PartOutput)
     → ComesBack left states old.letters.items old.slots old.units → state ≡ emptied one → Adds one.0 one.1 old new
     → ComesBack (left ++ one ∷ []) (states ++ state ∷ []) new.letters.items new.slots new.units
 one_more_back left one states state old new back is adds = record {
@@ -77,7 +78,7 @@ one_more_back left one states state old new back is adds = record {
       ∙ ap (λ (slots : List ℤ). fold give slots one.1.contributions) back.slots
       ∙ sym (ap (λ (os : List Outcome). aggregated (contributions_of os)) (one_outcome_more left one)
       ∙ ap aggregated (flat_map-append (λ (o : Outcome). o.contributions) (outcomes_in left) (one.1 ∷ []))
-      ∙ fold-append give slot_starts (contributions_of (outcomes_in left)) (one.1.contributions ++ [])
+      ∙ fold-append give aggregator_starts (contributions_of (outcomes_in left)) (one.1.contributions ++ [])
       ∙ ap (λ (given : List (ℕ × ℤ)). fold give (aggregated (contributions_of (outcomes_in left))) given) (append-nil one.1.contributions));
   units =
       adds.units (units_left (outcomes_in left)) back.units
@@ -129,7 +130,7 @@ proper_at entries i entry inside is all =
     rw (entry_at entries i entry inside is) (all i (entry_of entry) (omega arith))
 
 -- one vertex more
-pub one_more_called : (shared : Shared) (entries : List Entry) (before after : List VertexState) (entry : Entry) (vertex changed : VertexState) (old new : Left)
+pub one_more_called : (shared : Shared) (entries : List Entry) (before after : List VertexState) (entry : Entry) (vertex changed : VertexState) (old new : PartOutput)
     → length entries ≡ length before → CallsPart shared entries before after old → CallsVertex shared entry vertex changed old new
     → CallsPart shared (entries ++ entry ∷ []) (before ++ vertex ∷ []) (after ++ changed ∷ []) new
 one_more_called shared entries before after entry vertex changed old new same part one = record {
@@ -140,15 +141,15 @@ one_more_called shared entries before after entry vertex changed old new same pa
       ∙ ap (λ (numbers : List ℕ). numbers ++ vertex.id ∷ []) part.ids
       ∙ sym (map-append state_id before (vertex ∷ []));
   is = λ outcomes tells.
-      let leave : Row → OneLeft = λ (row : Row). (row.id, left_in outcomes shared row) in
-      ap (λ (xs : List OneLeft). xs ++ (vertex.id, one.outcome) ∷ []) (part.is outcomes tells)
+      let leave : Row → VertexOutcome = λ (row : Row). (row.id, left_in outcomes shared row) in
+      ap (λ (xs : List VertexOutcome). xs ++ (vertex.id, one.outcome) ∷ []) (part.is outcomes tells)
       ∙ ap (λ (o : Outcome). map leave (rows_of entries before) ++ (vertex.id, o) ∷ []) (one.is outcomes tells)
       ∙ sym (ap (λ (rows : List Row). map leave rows) (rows-push entries before entry vertex same)
       ∙ map-append leave (rows_of entries before) (row_of entry vertex ∷ []));
 }
 
 -- the next vertex of a part
-pub part_step : (shared : Shared) (entries : List Entry) (before now : List VertexState) (i : ℕ) (entry : Entry) (e : VertexState) (changed : VertexState) (old new : Left)
+pub part_step : (shared : Shared) (entries : List Entry) (before now : List VertexState) (i : ℕ) (entry : Entry) (e : VertexState) (changed : VertexState) (old new : PartOutput)
     → length entries ≡ length before → length now ≡ length before → i < length now → drop i now ≡ drop i before → entry ≡ get_or entries i entry
     → CallsPart shared (take i entries) (take i before) (take i now) old → CallsVertex shared entry (get_or now i e) changed old new
     → CallsPart shared (take (i + 1) entries) (take (i + 1) before) (take (i + 1) (set now i changed)) new
@@ -170,7 +171,7 @@ rest_step before now i changed rest =
     drop-set-lt (i + 1) now i changed (omega arith)
     ∙ sym (drop-drop 1 i now) ∙ ap (λ (xs : List VertexState). drop 1 xs) rest ∙ drop-drop 1 i before
 
-pub part_end : (shared : Shared) (entries : List Entry) (before now : List VertexState) (i : ℕ) (left : Left)
+pub part_end : (shared : Shared) (entries : List Entry) (before now : List VertexState) (i : ℕ) (left : PartOutput)
     → length entries ≡ length before → length now ≡ length before → length now ≤ i
     → CallsPart shared (take i entries) (take i before) (take i now) left → CallsPart shared entries before now left
 part_end shared entries before now i left same long over part =

@@ -12,9 +12,9 @@ use Rattle.graph.specs.declared.parts.Part.{Part}
 use Rattle.graph.specs.Parts.{part_entries}
 use Rattle.graph.specs.declared.vertex.Vertex.{Vertex}
 use Rattle.graph.specs.Entry.{Entry, entries_of, id_at, ids, part_of_graph}
-use Rattle.graph.specs.Cutting.{part_at}
+use Rattle.graph.specs.inside.Partitioned.{part_at}
 use Rattle.inbox.specs.declared.letters.Letter.{Letter}
-use Rattle.superstep.specs.declared.left.Left.{Left}
+use Rattle.superstep.specs.declared.part_output.PartOutput.{PartOutput}
 use Rattle.superstep.specs.declared.state.VertexState.{VertexState}
 use Rattle.superstep.specs.declared.task.Shared.{Shared}
 use Rattle.superstep.specs.Snapshot.{Row, Snapshot}
@@ -23,8 +23,9 @@ use Rattle.superstep.specs.Superstep.{all_left, left_by, row_after, units_left}
 use Rattle.superstep.specs.PlainRun.{first_row, state_at}
 use Rattle.superstep.specs.Job.{HasGraph, IsCount, IsGraphOf, Meaning, Work}
 use Rattle.superstep.specs.State.{bare, state_id}
-use Rattle.superstep.specs.Tasks.{AreAggregatesAt, AreUnitsAt, DoneStamp, FitsPart, IsDone, IsLeftAt, IsPartAt, Left as OneLeft, emptied, outcomes_in, part_rows}
-use Rattle.superstep.specs.inside.Leaving.{CallsPart, HasProperIds, Tells, left_id, left_in, row_of, rows_of}
+use Rattle.superstep.specs.Tasks.{AreAggregatesAt, AreUnitsAt, DoneStamp, FitsPart, IsDone, IsLeftAt, IsPartAt, VertexOutcome, emptied, outcomes_in, part_rows}
+use Rattle.superstep.specs.inside.Barrier.{left_id}
+use Rattle.superstep.specs.inside.PartOutput.{CallsPart, HasProperIds, Tells, left_in, row_of, rows_of}
 
 -- the rows have the ids and the edges of these entries
 abbrev pub Follows : List Entry → List Row → Type 0
@@ -98,11 +99,11 @@ rows_here work meaning s part vertices below at =
 
 same_left : (outcomes : Given → Outcome) (shared : Shared) (before : Snapshot) (rows : List Row) → shared.count ≡ length before.rows
     → shared.aggregated ≡ before.aggregates
-    → map {B = OneLeft} (λ (row : Row). (row.id, left_in outcomes shared row)) rows
-    ≡ map {B = OneLeft} (λ (row : Row). (row.id, left_by outcomes shared.superstep before row)) rows
+    → map {B = VertexOutcome} (λ (row : Row). (row.id, left_in outcomes shared row)) rows
+    ≡ map {B = VertexOutcome} (λ (row : Row). (row.id, left_by outcomes shared.superstep before row)) rows
 same_left outcomes shared before rows counted same = rw (counted, same) refl
 
-pub left_here : (work : Work) (part : ℕ) (shared : Shared) (vertices : List VertexState) (left : List OneLeft) → part < length work.parts
+pub left_here : (work : Work) (part : ℕ) (shared : Shared) (vertices : List VertexState) (left : List VertexOutcome) → part < length work.parts
     → IsCount work shared.count → AreAggregatesAt work shared.superstep shared.aggregated → IsPartAt work shared.superstep part vertices
     → ((outcomes : Given → Outcome) → AreOutcomes work.«module» outcomes → Tells shared.verified.now outcomes)
     → ((outcomes : Given → Outcome) → Tells shared.verified.now outcomes
@@ -149,11 +150,11 @@ proper_here work part graph below =
     rw (entries_at work graph.0 part graph.1 below) (All-filter (λ (entry : Entry). eqb (entry.id % count) part) HasProperIds graph.0 all)
 
 -- what the vertices leave has their ids
-emptied_ids : (left : List OneLeft) → map state_id (map emptied left) ≡ map left_id left
+emptied_ids : (left : List VertexOutcome) → map state_id (map emptied left) ≡ map left_id left
 emptied_ids [] = refl
 emptied_ids (one ∷ left) = ap (λ numbers. one.0 ∷ numbers) (emptied_ids left)
 
-pub fits_after : (work : Work) (part : ℕ) (before after : List VertexState) (left : List OneLeft) → FitsPart work part before → after ≡ map emptied left
+pub fits_after : (work : Work) (part : ℕ) (before after : List VertexState) (left : List VertexOutcome) → FitsPart work part before → after ≡ map emptied left
     → map left_id left ≡ map state_id before → FitsPart work part after
 fits_after work part before after left fits is same =
     fits ∙ ap Some (sym (ap (λ (states : List VertexState). map state_id states) is ∙ emptied_ids left ∙ same))
@@ -166,7 +167,7 @@ whole_slice {X} old new len same long =
     ∙ take_all len new (omega arith)
 
 -- What is kept of a part whose calls were run.
-pub done_here : (work : Work) (honest : Bool) (epoch part : ℕ) (shared : Shared) (before after : List VertexState) (all : Left) → FitsPart work part before
+pub done_here : (work : Work) (honest : Bool) (epoch part : ℕ) (shared : Shared) (before after : List VertexState) (all : PartOutput) → FitsPart work part before
     → CallsPart shared (get_or work.parts part []) before after all → (honest ≡ true → IsPartAt work shared.superstep part before)
     → (honest ≡ true → AreAggregatesAt work shared.superstep shared.aggregated) → IsCount work shared.count
     → ((outcomes : Given → Outcome) → AreOutcomes work.«module» outcomes → Tells shared.verified.now outcomes)
@@ -184,6 +185,6 @@ pub units_here : (work : Work) (honest : Bool) (stamp : DoneStamp) (vertices : L
 units_here work honest stamp vertices letters slots done sure = λ meaning.
     let before = state_at meaning.outcomes meaning.graph stamp.superstep in
     done.comes.units
-    ∙ ap (λ (left : List OneLeft). capped (units_left (outcomes_in left))) (done.at sure meaning)
+    ∙ ap (λ (left : List VertexOutcome). capped (units_left (outcomes_in left))) (done.at sure meaning)
     ∙ ap (λ (outcomes : List Outcome). capped (units_left outcomes))
-    (map-map (λ (one : OneLeft). one.1) (λ (row : Row). (row.id, left_by meaning.outcomes stamp.superstep before row)) (part_rows work.settings.parts before stamp.part))
+    (map-map (λ (one : VertexOutcome). one.1) (λ (row : Row). (row.id, left_by meaning.outcomes stamp.superstep before row)) (part_rows work.settings.parts before stamp.part))

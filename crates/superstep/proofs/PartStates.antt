@@ -5,7 +5,8 @@ use Rattle.std.specs.Option.{option_map}
 use Rattle.std.proofs.lemmas.List.FromFn.{length-map-range_with_len}
 use Rattle.std.proofs.lemmas.Option.{slice_get-get_or, slice_get-map}
 use Rattle.graph.specs.Entry.{Entry, id_at, ids, part_of_graph, parts_of}
-use Rattle.graph.specs.Cutting.{part_at, part_by, part_by-map}
+use Rattle.graph.specs.Partition.{part_by}
+use Rattle.graph.specs.inside.Partitioned.{part_at, part_by-map}
 use Rattle.superstep.specs.declared.state.VertexState.{VertexState}
 use Rattle.superstep.specs.PlainRun.{state_at}
 use Rattle.superstep.specs.Job.{IsGraphOf, Work}

@@ -10,15 +10,15 @@ use Rattle.std.proofs.lemmas.List.Sums.{fold-append, sum_by_push}
 use Rattle.interp.specs.Call.{Outcome}
 use Rattle.interp.specs.Outcomes.{Given}
 use Rattle.graph.specs.Entry.{Entry}
-use Rattle.host_calls.specs.Slots.{slot_starts}
-use Rattle.superstep.specs.declared.plain.Held.{Held}
-use Rattle.superstep.specs.declared.plain.Sent.{Sent}
+use Rattle.host_calls.specs.Aggregators.{aggregator_starts}
+use Rattle.superstep.specs.declared.plain_run.Held.{Held}
+use Rattle.superstep.specs.declared.plain_run.Sent.{Sent}
 use Rattle.superstep.specs.declared.task.Shared.{Shared}
 use Rattle.superstep.specs.Folds.{aggregated, capped, give}
 use Rattle.superstep.specs.Snapshot.{Row, is_called}
 use Rattle.superstep.specs.Superstep.{contributions_of, idle, units_left}
-use Rattle.superstep.specs.inside.Leaving.{HasProperIds, left_in}
-use Rattle.superstep.specs.inside.Plain.{AreLeft, Calls, Leaves, called_row, entries_in, entry_in, messages_of, row_in, rows_in}
+use Rattle.superstep.specs.inside.PartOutput.{HasProperIds, left_in}
+use Rattle.superstep.specs.inside.OneMachine.{AreLeft, Calls, Leaves, called_row, entries_in, entry_in, messages_of, row_in, rows_in}
 
 -- ---- vertices in their list
 
@@ -112,7 +112,7 @@ one_more_called left_by rows now i d after old new below inside are one =
           leaves.slots ∙ ap (λ (slots : List ℤ). fold give slots (left_by row).contributions) are.slots
           ∙ sym (ap (λ (os : List Outcome). aggregated (contributions_of os)) more
           ∙ ap aggregated (flat_map-append (λ (o : Outcome). o.contributions) before (left_by row ∷ []))
-          ∙ fold-append give slot_starts (contributions_of before) ((left_by row).contributions ++ [])
+          ∙ fold-append give aggregator_starts (contributions_of before) ((left_by row).contributions ++ [])
           ∙ ap (λ (given : List (ℕ × ℤ)). fold give (aggregated (contributions_of before)) given) (append-nil (left_by row).contributions));
       units =
           leaves.units (units_left before) are.units
@@ -134,7 +134,7 @@ all_called left_by rows now i sent past are =
     }
 
 -- before the first call
-pub none_called_yet : (left_by : Row → Outcome) (rows : List Row) (sent : Sent) → sent.messages.items ≡ [] → sent.slots ≡ slot_starts → sent.units ≡ 0
+pub none_called_yet : (left_by : Row → Outcome) (rows : List Row) (sent : Sent) → sent.messages.items ≡ [] → sent.slots ≡ aggregator_starts → sent.units ≡ 0
     → AreCalled left_by rows rows 0 sent
 none_called_yet left_by rows sent messages slots units = record { rows_now = refl; messages = messages; slots = slots; units = units }
 

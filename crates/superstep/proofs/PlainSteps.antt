@@ -12,10 +12,10 @@ use Rattle.interp.specs.Outcomes.{AreOutcomes, Given}
 use Rattle.graph.specs.declared.parts.Part.{Part}
 use Rattle.graph.specs.declared.vertex.Vertex.{Vertex}
 use Rattle.graph.specs.Entry.{Entry, IsProper, ids}
-use Rattle.superstep.specs.declared.plain.Held.{Held}
-use Rattle.superstep.specs.declared.plain.Plain.{Plain}
-use Rattle.superstep.specs.declared.plain.Sent.{Sent}
-use Rattle.superstep.specs.declared.run.Ended.{Ended}
+use Rattle.superstep.specs.declared.plain_run.Held.{Held}
+use Rattle.superstep.specs.declared.plain_run.OneMachine.{OneMachine}
+use Rattle.superstep.specs.declared.plain_run.Sent.{Sent}
+use Rattle.superstep.specs.declared.ending.JobEnd.{JobEnd}
 use Rattle.superstep.specs.declared.task.Shared.{Shared}
 use Rattle.superstep.specs.Ending.{Ends, IsEndOf}
 use Rattle.superstep.specs.Folds.{aggregated, capped}
@@ -23,8 +23,8 @@ use Rattle.superstep.specs.Job.{IsGraphOf, Meaning, Work}
 use Rattle.superstep.specs.PlainRun.{state_at, units_at}
 use Rattle.superstep.specs.Snapshot.{Row, Snapshot, is_called, is_quiet, row_id, row_ids, values_of}
 use Rattle.superstep.specs.Superstep.{all_left, contributions_of, dropped_by, left_by, row_after, superstep, units_left}
-use Rattle.superstep.specs.inside.Leaving.{HasProperIds, left_in}
-use Rattle.superstep.specs.inside.Plain.{AreLeft, GivesAnswer, IsAt, IsBegun, IsNext, called_row, entries_in, is_called_in, is_over, lost_in, messages_of, row_in, rows_in, sent_among, snapshot_of, value_in, with_messages}
+use Rattle.superstep.specs.inside.PartOutput.{HasProperIds, left_in}
+use Rattle.superstep.specs.inside.OneMachine.{AreLeft, GivesAnswer, IsAt, IsBegun, IsNext, called_row, entries_in, is_called_in, is_over, lost_in, messages_of, row_in, rows_in, sent_among, snapshot_of, value_in, with_messages}
 use Rattle.superstep.proofs.Delivering.{Message, all_lost, all_sent, delivered, holding}
 use Rattle.superstep.proofs.Graphs.{one_graph}
 
@@ -74,7 +74,7 @@ capped_inside : (before took : ℕ) → capped (before + capped took) ≡ capped
 capped_inside before took = omega arith
 
 -- What the code makes of the vertices.
-pub record IsClosed (shared : Shared) (numbers : List ℕ) (old new : Plain) (between : List Held) (sent : Sent) (lost : ℕ) : Type 0 where
+pub record IsClosed (shared : Shared) (numbers : List ℕ) (old new : OneMachine) (between : List Held) (sent : Sent) (lost : ℕ) : Type 0 where
   pub superstep : shared.superstep ≡ old.superstep
   pub count : shared.count ≡ length (rows_in old.vertices.items)
   pub aggregated : shared.aggregated ≡ old.aggregates
@@ -86,14 +86,14 @@ pub record IsClosed (shared : Shared) (numbers : List ℕ) (old new : Plain) (be
   pub units : new.units ≡ capped (old.units + sent.units)
   pub dropped : new.dropped ≡ capped (old.dropped + lost)
 
-same_left : (outcomes : Given → Outcome) (shared : Shared) (numbers : List ℕ) (old new : Plain) (between : List Held) (sent : Sent) (lost : ℕ)
+same_left : (outcomes : Given → Outcome) (shared : Shared) (numbers : List ℕ) (old new : OneMachine) (between : List Held) (sent : Sent) (lost : ℕ)
     → IsClosed shared numbers old new between sent lost → left_in outcomes shared ≡ left_by outcomes old.superstep (snapshot_of old)
 same_left outcomes shared numbers old new between sent lost is = λ i row. same row i
   where
     same : (row : Row) → left_in outcomes shared row ≡ left_by outcomes old.superstep (snapshot_of old) row
     same row = rw (is.superstep, is.count, is.aggregated) refl
 
-pub closed : (outcomes : Given → Outcome) (shared : Shared) (numbers : List ℕ) (old new : Plain) (between : List Held) (sent : Sent) (lost : ℕ)
+pub closed : (outcomes : Given → Outcome) (shared : Shared) (numbers : List ℕ) (old new : OneMachine) (between : List Held) (sent : Sent) (lost : ℕ)
     → IsClosed shared numbers old new between sent lost → AreLeft (left_in outcomes shared) (rows_in old.vertices.items) (rows_in between) sent → IsNext outcomes old new
 closed outcomes shared numbers old new between sent lost is calls =
     let rows = rows_in old.vertices.items in
@@ -122,7 +122,7 @@ closed outcomes shared numbers old new between sent lost is calls =
 
 -- ---- the run
 
-pub begun : (outcomes : Given → Outcome) (graph : List Entry) (plain : Plain) → IsBegun graph plain → IsAt outcomes graph plain
+pub begun : (outcomes : Given → Outcome) (graph : List Entry) (plain : OneMachine) → IsBegun graph plain → IsAt outcomes graph plain
 unfolding state_at
 begun outcomes graph plain is = record {
   shows = is.shows ∙ sym (ap (state_at outcomes graph) is.superstep);
@@ -130,7 +130,7 @@ begun outcomes graph plain is = record {
   busy = λ t before. absurd (omega (arith, is.superstep, before));
 }
 
-pub next_at : (outcomes : Given → Outcome) (graph : List Entry) (old new : Plain) → IsAt outcomes graph old → IsNext outcomes old new
+pub next_at : (outcomes : Given → Outcome) (graph : List Entry) (old new : OneMachine) → IsAt outcomes graph old → IsNext outcomes old new
     → new.superstep ≡ old.superstep + 1 → is_quiet (snapshot_of old) ≡ false → IsAt outcomes graph new
 unfolding state_at
 next_at outcomes graph old new at next later due =
@@ -151,17 +151,17 @@ next_at outcomes graph old new at next later due =
     }
 
 -- a run that is not over has something to call, and comes before the limit
-pub not_over : (limit : ℕ) (plain : Plain) → is_over limit plain ≡ false → (is_quiet (snapshot_of plain) ≡ false) × (plain.superstep < limit)
+pub not_over : (limit : ℕ) (plain : OneMachine) → is_over limit plain ≡ false → (is_quiet (snapshot_of plain) ≡ false) × (plain.superstep < limit)
 not_over limit plain is = search rules
 
 -- one that is over has nothing to call, or has come to the limit
-pub over : (limit : ℕ) (plain : Plain) → is_over limit plain ≡ true → plain.superstep ≤ limit → is_quiet (snapshot_of plain) ≡ false → plain.superstep ≡ limit
+pub over : (limit : ℕ) (plain : OneMachine) → is_over limit plain ≡ true → plain.superstep ≤ limit → is_quiet (snapshot_of plain) ≡ false → plain.superstep ≡ limit
 over limit plain is within due = search rules
 
 from_zero : (n : ℕ) → n ≡ n - 0
 from_zero n = omega arith
 
-ends_over : (work : Work) (meaning : Meaning work) (plain : Plain) (ended : Ended) → IsAt meaning.outcomes meaning.graph plain → plain.superstep ≤ work.settings.limit
+ends_over : (work : Work) (meaning : Meaning work) (plain : OneMachine) (ended : JobEnd) → IsAt meaning.outcomes meaning.graph plain → plain.superstep ≤ work.settings.limit
     → is_over work.settings.limit plain ≡ true → GivesAnswer plain ended → Ends work meaning ended
 ends_over work meaning plain ended at within stops is =
     let here : state_at meaning.outcomes meaning.graph ended.superstep ≡ snapshot_of plain = ap (state_at meaning.outcomes meaning.graph) is.superstep ∙ sym at.shows in
@@ -182,7 +182,7 @@ ends_over work meaning plain ended at within stops is =
     }
 
 -- where the run stops, it has what the job ends with
-pub run_ended : (work : Work) (graph : List Entry) (plain : Plain) (ended : Ended) → 0 < work.settings.parts → IsGraphOf work graph
+pub run_ended : (work : Work) (graph : List Entry) (plain : OneMachine) (ended : JobEnd) → 0 < work.settings.parts → IsGraphOf work graph
     → ((outcomes : Given → Outcome) → AreOutcomes work.«module» outcomes → IsAt outcomes graph plain) → plain.superstep ≤ work.settings.limit
     → is_over work.settings.limit plain ≡ true → GivesAnswer plain ended → IsEndOf work ended
 run_ended work graph plain ended some own at within stops is = λ meaning.

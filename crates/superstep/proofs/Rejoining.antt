@@ -11,22 +11,23 @@ use Rattle.std.proofs.lemmas.Simd.{map-map}
 use Rattle.interp.specs.Call.{Outcome}
 use Rattle.interp.specs.Outcomes.{Given}
 use Rattle.graph.specs.Entry.{Entry, id_at, ids, part_of_graph}
-use Rattle.graph.specs.Cutting.{joined, part_by, parts_by, parts_whole}
-use Rattle.graph.specs.Rising.{rising_same}
-use Rattle.superstep.specs.declared.closing.Gathered.{Gathered}
+use Rattle.graph.specs.Partition.{joined, part_by, parts_by}
+use Rattle.graph.specs.inside.Partitioned.{parts_whole}
+use Rattle.graph.specs.inside.Rising.{rising_same}
+use Rattle.superstep.specs.declared.barrier_step.Gathered.{Gathered}
 use Rattle.superstep.specs.Snapshot.{Row, row_id, row_ids}
 use Rattle.superstep.specs.Superstep.{all_left, left_by, row_after}
 use Rattle.superstep.specs.PlainRun.{first_row, state_at}
 use Rattle.superstep.specs.Job.{IsGraphOf, Meaning, Work}
-use Rattle.superstep.specs.Tasks.{DoneStamp, IsRow, Left, letters_of, part_rows}
-use Rattle.superstep.specs.inside.Closing.{IsGathered, IsPartLeft, IsSpread, PartLeft, left_id, left_ids, spread}
+use Rattle.superstep.specs.Tasks.{DoneStamp, IsRow, VertexOutcome, letters_of, part_rows}
+use Rattle.superstep.specs.inside.Barrier.{IsGathered, IsPartLeft, IsSpread, PartLeft, left_id, left_ids, spread}
 use Rattle.superstep.proofs.Graphs.{whole}
 use Rattle.superstep.proofs.Letters.{joined_map}
 use Rattle.superstep.proofs.Spreading.{at_id, found_moved, ids_found}
 
 -- ---- by the number of the part
 
-abbrev pub part_left : PartLeft → List Left
+abbrev pub part_left : PartLeft → List VertexOutcome
 part_left part = part.1
 
 abbrev part_number : PartLeft → ℕ
@@ -72,7 +73,7 @@ parts_ids work honest s dones gathered graph is_graph is row =
     ∙ in_places (map ids work.parts) work.settings.parts [] (many_parts work graph is_graph)
 
 pub joined_spread : (parts : List PartLeft) → joined (map part_left parts) ≡ spread parts
-joined_spread parts = flat_map-map (λ (left : List Left). left) part_left parts
+joined_spread parts = flat_map-map (λ (left : List VertexOutcome). left) part_left parts
 
 -- all of them have the ids of the graph
 pub all_ids : (work : Work) (honest : Bool) (s : ℕ) (dones : List DoneStamp) (gathered : Gathered) (graph : List Entry) → 0 < work.settings.parts
@@ -87,7 +88,7 @@ all_ids work honest s dones gathered graph some is_graph is row =
     (IsPermutation-map id_at (joined work.parts) graph (whole work graph some is_graph))
 
 -- what all left, by rising id
-abbrev pub ordered : List PartLeft → List Entry → List Left
+abbrev pub ordered : List PartLeft → List Entry → List VertexOutcome
 ordered parts graph = map (at_id (joined (map part_left parts))) (ids graph)
 
 pub is_spread : (work : Work) (honest : Bool) (s : ℕ) (dones : List DoneStamp) (gathered : Gathered) (numbers : List (List ℕ)) (graph : List Entry) → 0 < work.settings.parts
@@ -112,13 +113,13 @@ state_ids outcomes graph (suc s) =
     map-map row_id (λ row. row_after (all_left outcomes s before) row (left_by outcomes s before row)) before.rows ∙ state_ids outcomes graph s
 
 -- what the vertex of a row leaves
-abbrev pub leaving : {work : Work} → Meaning work → ℕ → Row → Left
+abbrev pub leaving : {work : Work} → Meaning work → ℕ → Row → VertexOutcome
 leaving meaning s row = (row.id, left_by meaning.outcomes s (state_at meaning.outcomes meaning.graph s) row)
 
 abbrev rows_at : {work : Work} → Meaning work → ℕ → List Row
 rows_at meaning s = (state_at meaning.outcomes meaning.graph s).rows
 
-abbrev left_at : (work : Work) → Meaning work → ℕ → ℕ → List Left
+abbrev left_at : (work : Work) → Meaning work → ℕ → ℕ → List VertexOutcome
 left_at work meaning s part = map (leaving meaning s) (part_rows work.settings.parts (state_at meaning.outcomes meaning.graph s) part)
 
 each_left : (work : Work) (honest : Bool) (meaning : Meaning work) (s : ℕ) (parts : List PartLeft) → honest ≡ true

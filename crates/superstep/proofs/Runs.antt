@@ -4,7 +4,7 @@ use Rattle.std.specs.Prelude.{◌||◌}
 use Rattle.std.specs.List.{list_any, range_with_len}
 use Rattle.std.proofs.lemmas.List.{get_or-map, length-map}
 use Rattle.std.proofs.lemmas.List.FromFn.{get_or-map-range_with_len, length-map-range_with_len}
-use Rattle.superstep.specs.declared.run.Ended.{Ended}
+use Rattle.superstep.specs.declared.ending.JobEnd.{JobEnd}
 use Rattle.superstep.specs.declared.state.VertexState.{VertexState}
 use Rattle.superstep.specs.Snapshot.{Row, Snapshot, is_called, is_quiet, values_of}
 use Rattle.superstep.specs.PlainRun.{state_at}
@@ -71,7 +71,7 @@ values_shown [] = refl
 values_shown (row ∷ rows) = ap (λ xs. (row.id, row.value) ∷ xs) (values_shown rows)
 
 -- where the run stops, it has what the job ends with
-pub has_ended : (work : Work) (state : Standing) (ended : Ended) → IsEndIn state ended → HasStopped work state → IsEndOf work ended
+pub has_ended : (work : Work) (state : Standing) (ended : JobEnd) → IsEndIn state ended → HasStopped work state → IsEndOf work ended
 has_ended work state ended is stops = λ meaning.
     let come = stops.come in
     let last = stops.last in

@@ -8,7 +8,7 @@ use Rattle.std.proofs.lemmas.Nat.Bits.{bit_at_or, same_from_bits}
 use Rattle.std.proofs.lemmas.Bool.{cases_lt}
 use borrow.Author.Differences.{fits_in, read_fits}
 use Rattle.superstep.specs.Folds.{combined}
-use Rattle.host_calls.specs.Slots.{slot_starts}
+use Rattle.host_calls.specs.Aggregators.{aggregator_starts}
 
 -- ---- numbers of 64 bits, and their bits
 
@@ -132,7 +132,7 @@ pub combined_fits : (slot : ℕ) (x y : ℤ) → FitsSigned w64 x → FitsSigned
 combined_fits = each_way KeepsFit (λ x y f g. read_fits_signed _) (λ x y f g. omega (arith, ints, clamps)) (λ x y f g. omega (arith, ints, clamps)) (λ x y f g. read_fits_signed _)
 
 -- a number of 64 bits, combined with what its slot starts with
-pub combined_start : (slot : ℕ) (x : ℤ) → slot < 8 → FitsSigned w64 x → combined slot x (get_or slot_starts slot (pos 0)) ≡ x
+pub combined_start : (slot : ℕ) (x : ℤ) → slot < 8 → FitsSigned w64 x → combined slot x (get_or aggregator_starts slot (pos 0)) ≡ x
 combined_start zero x below fits = sum_start x fits
 combined_start (suc zero) x below fits = sum_start x fits
 combined_start (suc (suc zero)) x below fits = omega (arith, ints, clamps)

@@ -17,7 +17,7 @@ use Rattle.superstep.specs.declared.task.Shared.{Shared}
 use Rattle.superstep.specs.Snapshot.{Row, is_called}
 use Rattle.superstep.specs.Superstep.{idle}
 use Rattle.superstep.specs.Tasks.{emptied}
-use Rattle.superstep.specs.inside.Leaving.{Tells, given_in, left_in, row_of}
+use Rattle.superstep.specs.inside.PartOutput.{Tells, given_in, left_in, row_of}
 
 pub called_true : (row : Row) → (row.active ≡ true) ⊎ (0 < length row.inbox) → is_called row ≡ true
 called_true row (inl active) = rw active refl

@@ -1,11 +1,11 @@
--- How the numbers that calls give to slots are aggregated (Pregel 2010, 3.3), and where totals stop.
+-- Aggregation of contributions in slots (Pregel 2010, 3.3), and the greatest total.
 use Rattle.std.specs.Prelude.{ℕ, ℤ, pos, List, ◌-◌, ◌^◌, nat_lt, if◌then◌else◌, min, slice_index_or, slice_set}
 use Rattle.std.specs.List.{fold}
 use Rattle.std.specs.Int.{w64, int_wrapping_add, int_min, int_max, int_bit_or}
-use Rattle.host_calls.specs.Slots.{slot_starts}
+use Rattle.host_calls.specs.Aggregators.{aggregator_starts}
 
--- a slot's number and one that is given to it: slots 0 and 1 sum, 2 and 3 keep the least, 4 and 5 the greatest, 6 and 7
--- the union of bits
+-- A slot's value with a contribution. Slots 0 and 1 keep the wrapping sum, 2 and 3 the least, 4 and 5 the greatest, and 6 and 7
+-- the union of bits.
 abbrev pub combined : ℕ → ℤ → ℤ → ℤ
 combined slot old given =
     if nat_lt slot 2 then int_wrapping_add w64 old given
@@ -13,13 +13,13 @@ combined slot old given =
     else if nat_lt slot 6 then int_max old given
     else int_bit_or w64 old given
 
--- the slots after one of them was given a number
+-- the slots after one contribution
 abbrev pub give : List ℤ → ℕ × ℤ → List ℤ
 give slots given = slice_set slots given.0 (combined given.0 (slice_index_or slots given.0 (pos 0)) given.1)
 
--- the slots after all that was given to them, in order
+-- the slots after all contributions, in order
 abbrev pub aggregated : List (ℕ × ℤ) → List ℤ
-aggregated contributions = fold give slot_starts contributions
+aggregated contributions = fold give aggregator_starts contributions
 
 -- totals stop at the greatest number of 128 bits
 abbrev pub capped : ℕ → ℕ

@@ -1,4 +1,4 @@
--- A job, and what it means.
+-- A job, and its meaning.
 use Rattle.std.specs.Prelude.{◌≡◌, ℕ, List, length}
 use Rattle.wasm_ast.specs.declared.module.Module.{Module}
 use Rattle.interp.specs.Call.{Outcome}
@@ -6,29 +6,29 @@ use Rattle.interp.specs.Outcomes.{AreOutcomes, Given}
 use Rattle.graph.specs.Entry.{Entry, FitsLimits, IsProper, parts_of}
 use Rattle.superstep.specs.declared.settings.Settings.{Settings}
 
--- what a job shows: its module, its graph's parts, each as the list of its vertices, and its settings
+-- the model of a job: its module, its graph's parts, each as the list of its vertices, and its settings
 pub record Work : Type 0 where
   pub «module» : Module
   pub parts : List (List Entry)
   pub settings : Settings
 
--- the graph whose parts they are
+-- this is the job's graph
 pub record IsGraphOf (work : Work) (graph : List Entry) : Type 0 where
   pub proper : IsProper graph
   pub limits : FitsLimits graph
   pub parts : work.parts ≡ parts_of work.settings.parts graph
 
--- What a job means: its graph, and the one function that says what the calls of its module come to.
+-- The meaning of a job: its graph, and the one function that gives the outcomes of its module's calls.
 pub record Meaning (work : Work) : Type 0 where
   pub graph : List Entry
   pub is_graph : IsGraphOf work graph
   pub outcomes : Given → Outcome
   pub are : AreOutcomes work.«module» outcomes
 
--- there is such a graph
+-- the job has a graph
 abbrev pub HasGraph : Work → Type 0
 HasGraph work = (graph : List Entry) × IsGraphOf work graph
 
--- how many vertices it has
+-- this is the number of the graph's vertices
 abbrev pub IsCount : Work → ℕ → Type 0
 IsCount work count = (graph : List Entry) → IsGraphOf work graph → count ≡ length graph

@@ -1,20 +1,22 @@
--- What a reader has to believe, in this order: what stands between two supersteps, what a superstep makes of it, the plain
--- run, and what a job ends with.
+-- The definitions to read, in this order: a snapshot between two supersteps, how slots aggregate, a superstep, and the plain run
+-- with its answer.
 pub mod Snapshot
 pub mod Folds
 pub mod Superstep
 pub mod PlainRun
--- the settings of a job, and what a job means
+-- the settings of a job, and its meaning
 pub mod Settings
 pub mod Job
--- what is kept of a job between two supersteps
+-- the state of a job between two supersteps
 pub mod Ordering
 pub mod State
--- the parts of a state that move
+-- the parts of a state that move, and the results of their supersteps
 pub mod Tasks
--- what a job has summed up before a superstep
+-- the counts of what a task finds in its part
+pub mod Found
+-- the totals of a job before a superstep
 pub mod Totals
--- what a job ends with
+-- the end of a job
 pub mod Ending
--- what only mirrors the code, for its proofs
+-- for proofs only: definitions that follow the code
 pub mod inside

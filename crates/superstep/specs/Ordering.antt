@@ -1,7 +1,7 @@
--- A list put in the order of a key, by insertion.
+-- A list sorted by a key, by insertion.
 use Rattle.std.specs.Prelude.{ℕ, List, [], ◌∷◌, nat_lt, if◌then◌else◌}
 
--- the element before the first whose key is not lower
+-- the list with the element before the first whose key is not lower
 abbrev pub put_in : {X : Type 0} → (X → ℕ) → X → List X → List X
 put_in key x [] = x ∷ []
 put_in key x (y ∷ ys) = if nat_lt (key y) (key x) then y ∷ put_in key x ys else x ∷ y ∷ ys

@@ -1,31 +1,31 @@
--- The run of a job on one machine, superstep after superstep, and what it ends with.
+-- The plain run of a job, superstep after superstep on one machine, and its answer.
 use Rattle.std.specs.Prelude.{◌≡◌, ◌≤◌, ◌<◌, ℕ, ℤ, zero, suc, Bool, true, false, List, [], map}
 use Rattle.interp.specs.Call.{Outcome}
 use Rattle.interp.specs.Outcomes.{Given}
 use Rattle.graph.specs.Entry.{Entry}
-use Rattle.host_calls.specs.Slots.{slot_starts}
+use Rattle.host_calls.specs.Aggregators.{aggregator_starts}
 use Rattle.superstep.specs.Folds.{capped}
 use Rattle.superstep.specs.Snapshot.{Row, Snapshot, is_quiet, values_of}
 use Rattle.superstep.specs.Superstep.{superstep, all_left, units_left}
 
--- a vertex before superstep 0: it is active, and nothing was sent to it
+-- a vertex before superstep 0: it is active, and its inbox is empty
 abbrev pub first_row : Entry → Row
 first_row entry = record { id = entry.id; value = entry.value; edges = entry.edges; active = true; inbox = [] }
 
--- what stands before superstep 0
+-- the snapshot before superstep 0
 abbrev pub first : List Entry → Snapshot
-first graph = record { rows = map first_row graph; aggregates = slot_starts; units = 0; dropped = 0 }
+first graph = record { rows = map first_row graph; aggregates = aggregator_starts; units = 0; dropped = 0 }
 
--- what stands before this superstep
+-- the snapshot before this superstep
 unfoldable pub state_at : (Given → Outcome) → List Entry → ℕ → Snapshot
 state_at outcomes graph zero = first graph
 state_at outcomes graph (suc s) = superstep outcomes s (state_at outcomes graph s)
 
--- what the calls of this superstep take together
+-- the units of all calls of this superstep
 abbrev pub units_at : (Given → Outcome) → List Entry → ℕ → ℕ
 units_at outcomes graph s = capped (units_left (all_left outcomes s (state_at outcomes graph s)))
 
--- The superstep at which the job ends: the first one at which nothing is to be called, and then it is finished; or else
+-- The superstep at which the job ends: the first one at which no vertex is to be called, and then the job is finished; or else
 -- the limit.
 pub record IsEnd (outcomes : Given → Outcome) (graph : List Entry) (limit : ℕ) (finished : Bool) (s : ℕ) : Type 0 where
   pub within : s ≤ limit
@@ -33,7 +33,7 @@ pub record IsEnd (outcomes : Given → Outcome) (graph : List Entry) (limit : �
   pub busy : (t : ℕ) → t < s → is_quiet (state_at outcomes graph t) ≡ false
   pub last : finished ≡ false → s ≡ limit
 
--- what a job ends with
+-- the answer of a job
 pub record Answer : Type 0 where
   pub finished : Bool
   pub superstep : ℕ
@@ -41,7 +41,7 @@ pub record Answer : Type 0 where
   pub units : ℕ
   pub dropped : ℕ
 
--- this is what the job ends with
+-- this is the job's answer
 pub record IsAnswer (outcomes : Given → Outcome) (graph : List Entry) (limit : ℕ) (answer : Answer) : Type 0 where
   pub ends : IsEnd outcomes graph limit answer.finished answer.superstep
   pub values : answer.values ≡ values_of (state_at outcomes graph answer.superstep)

@@ -1,4 +1,4 @@
--- The settings of a job, and which of them is out of its range.
+-- The ranges of a job's settings.
 use Rattle.std.specs.Prelude.{◌≡◌, ℕ, Bool, ◌&&◌, nat_le, not, Option, Some, None, if◌then◌else◌}
 use Rattle.superstep.specs.declared.settings.Settings.{Settings}
 use Rattle.superstep.specs.declared.settings.Setting.{Setting}
@@ -7,7 +7,7 @@ use Rattle.superstep.specs.declared.fault.JobFault.{JobFault}
 use Rattle.superstep.specs.declared.fault.JobFault.TheVariants as fault
 use Rattle.superstep.specs.declared.fault.Place.TheVariants.{Open}
 
--- whether the number is 1 or more, and no more than this
+-- whether the number is from 1 to `most`
 abbrev pub is_up_to : ℕ → ℕ → Bool
 is_up_to most n = nat_le 1 n && nat_le n most
 
@@ -21,7 +21,7 @@ first_bad settings =
     else if not (is_up_to 1000000 settings.lease) then Some Lease
     else None
 
--- the fault tells the setting that is out of its range, and else that memory was wanted
+-- the fault reports the setting that is out of its range, or else that memory ran out
 abbrev pub Refuses : Option Setting → JobFault → Type 0
 Refuses (Some setting) told = told ≡ fault.Settings setting
 Refuses None told = told ≡ fault.OutOfMemory Open

@@ -1,4 +1,4 @@
--- What stands between two supersteps, in one list of all vertices.
+-- A snapshot between two supersteps, with one list of all vertices.
 use Rattle.std.specs.Prelude.{ℕ, ℤ, Bool, not, ◌||◌, nat_lt, List, map, length}
 use Rattle.std.specs.List.{list_any}
 
@@ -10,24 +10,24 @@ pub record Row : Type 0 where
   pub edges : List (ℕ × ℤ)
   -- whether it has not voted to halt
   pub active : Bool
-  -- what was sent to it in the superstep before
+  -- the messages sent to it in the superstep before
   pub inbox : List ℤ
 
--- All vertices, by rising id, and what a job sums up as it goes.
+-- All vertices, by rising id, and the totals of a job.
 pub record Snapshot : Type 0 where
   pub rows : List Row
-  -- what each slot was aggregated to in the superstep before
+  -- the aggregate of each slot in the superstep before
   pub aggregates : List ℤ
   -- the units of all calls so far
   pub units : ℕ
-  -- how many messages so far went to no vertex
+  -- the number of messages so far that went to no vertex
   pub dropped : ℕ
 
 -- the vertex is called in the next superstep: it is active or has messages
 abbrev pub is_called : Row → Bool
 is_called row = row.active || nat_lt 0 (length row.inbox)
 
--- no vertex is
+-- no vertex is called in the next superstep
 abbrev pub is_quiet : Snapshot → Bool
 is_quiet snapshot = not (list_any is_called snapshot.rows)
 

@@ -1,11 +1,11 @@
--- States: what is kept of a job between two supersteps.
+-- States of a job between two supersteps.
 use Rattle.std.specs.Prelude.{◌≡◌, ◌<◌, ◌≤◌, ◌+◌, ◌-◌, ◌^◌, ℕ, ℤ, List, length, map, Bool, not, nat_lt, ◌||◌}
 use Rattle.std.specs.List.{list_any, range_with_len, sum}
 use Rattle.std.specs.List.Sorted.{IsStrictlyIncreasing}
 use Rattle.interp.specs.Call.{Outcome}
 use Rattle.interp.specs.Outcomes.{Given}
 use Rattle.graph.specs.Entry.{Entry, ids}
-use Rattle.graph.specs.Cutting.{joined}
+use Rattle.graph.specs.Partition.{joined}
 use Rattle.superstep.specs.declared.state.VertexState.{VertexState}
 use Rattle.superstep.specs.Folds.{capped}
 use Rattle.superstep.specs.Ordering.{by_key}
@@ -13,11 +13,11 @@ use Rattle.superstep.specs.Snapshot.{Row}
 use Rattle.superstep.specs.PlainRun.{state_at, units_at}
 use Rattle.superstep.specs.Job.{IsGraphOf, Meaning, Work}
 
--- what a state shows
+-- the model of a state
 pub record Standing : Type 0 where
   -- the superstep that comes next
   pub superstep : ℕ
-  -- the first superstep whose units are told
+  -- the first superstep whose units are reported
   pub since : ℕ
   -- the units of each superstep from that one on
   pub by_superstep : List ℕ
@@ -34,8 +34,8 @@ state_id vertex = vertex.id
 abbrev pub in_order : List (List VertexState) → List VertexState
 in_order parts = by_key state_id (joined parts)
 
--- What is so of every state: ids rise, and a number of 32 bits counts them; the units of each superstep from `since` on are
--- told, and the total has those in it, and no others where they are all told.
+-- What holds for every state: the ids rise, and there are fewer than 2^32 of them. The units of each superstep from `since` on
+-- are reported. The total is at least their sum, and is their sum where all supersteps are reported.
 pub record IsState (state : Standing) : Type 0 where
   pub rising : IsStrictlyIncreasing (map state_id state.vertices)
   pub few : length state.vertices < 2 ^ 32
@@ -51,7 +51,7 @@ HasIdsOf work state = (graph : List Entry) → IsGraphOf work graph → map stat
 abbrev pub bare : Row → VertexState
 bare row = record { id = row.id; value = row.value; active = row.active; inbox = row.inbox }
 
--- It shows what stands before this superstep.
+-- The state is the snapshot before this superstep, without edges.
 pub record ShowsAt (outcomes : Given → Outcome) (graph : List Entry) (s : ℕ) (state : Standing) : Type 0 where
   pub superstep : state.superstep ≡ s
   pub vertices : state.vertices ≡ map bare (state_at outcomes graph s).rows
@@ -68,6 +68,6 @@ IsStateAt work s state = (meaning : Meaning work) → ShowsAt meaning.outcomes m
 abbrev pub is_due : VertexState → Bool
 is_due vertex = vertex.active || nat_lt 0 (length vertex.inbox)
 
--- none is
+-- no vertex is called in the next superstep
 abbrev pub is_settled : Standing → Bool
 is_settled state = not (list_any is_due state.vertices)

@@ -1,4 +1,4 @@
--- Slices, tasks and what comes back of them: the parts of a state that move. Each says by its type of which job it is.
+-- Slices, tasks and results: the parts of a state that move. Each has its job in its type.
 use Rattle.std.specs.Prelude.{◌≡◌, ◌%◌, ◌==◌, ℕ, ℤ, Bool, true, not, List, [], map, filter, slice_get, Some}
 use Rattle.std.specs.List.{All, enumerate_from, flat_map, range_with_len}
 use Rattle.std.specs.List.Sorted.{IsPermutation}
@@ -13,7 +13,7 @@ use Rattle.superstep.specs.PlainRun.{state_at}
 use Rattle.superstep.specs.Job.{Meaning, Work}
 use Rattle.superstep.specs.State.{bare, state_id}
 
--- the rows of one part of so many: those whose id has this remainder
+-- the rows of one part: those whose id has this remainder
 abbrev pub part_rows : ℕ → Snapshot → ℕ → List Row
 part_rows parts snapshot part = filter (λ (row : Row). row.id % parts == part) snapshot.rows
 
@@ -21,18 +21,18 @@ part_rows parts snapshot part = filter (λ (row : Row). row.id % parts == part) 
 abbrev pub FitsPart : Work → ℕ → List VertexState → Type 0
 FitsPart work part vertices = slice_get (map ids work.parts) part ≡ Some (map state_id vertices)
 
--- they are this part of what stands before this superstep
+-- the vertices are this part of the snapshot before this superstep
 abbrev pub IsPartAt : Work → ℕ → ℕ → List VertexState → Type 0
 IsPartAt work s part vertices =
     (meaning : Meaning work)
     → vertices ≡ map bare (part_rows work.settings.parts (state_at meaning.outcomes meaning.graph s) part)
 
--- these are what the slots were aggregated to in the superstep before this one
+-- these are the aggregates of the superstep before this one
 abbrev pub AreAggregatesAt : Work → ℕ → List ℤ → Type 0
 AreAggregatesAt work s aggregates =
     (meaning : Meaning work) → aggregates ≡ (state_at meaning.outcomes meaning.graph s).aggregates
 
--- what a slice shows
+-- the model of a slice
 pub record SliceStamp : Type 0 where
   pub superstep : ℕ
   pub part : ℕ
@@ -41,32 +41,32 @@ pub record SliceStamp : Type 0 where
 abbrev pub stamps_of : ℕ → ℕ → List SliceStamp
 stamps_of s parts = map (λ part. record { superstep = s; part = part }) (range_with_len 0 parts)
 
--- what a slice keeps
+-- what always holds for a slice
 pub record IsSlice (work : Work) (honest : Bool) (stamp : SliceStamp) (vertices : List VertexState) : Type 0 where
   pub fits : FitsPart work stamp.part vertices
   pub at : honest ≡ true → IsPartAt work stamp.superstep stamp.part vertices
 
--- what a task shows
+-- the model of a task
 pub record TaskStamp : Type 0 where
   pub epoch : ℕ
   pub superstep : ℕ
   pub part : ℕ
 
--- what comes back of a task shows
+-- the model of a result
 pub record DoneStamp : Type 0 where
   pub epoch : ℕ
   pub superstep : ℕ
   pub part : ℕ
   pub units : ℕ
 
--- a vertex's id, and what it leaves
-abbrev pub Left : Type 0
-Left = ℕ × Outcome
+-- a vertex's id, and the outcome of its call
+abbrev pub VertexOutcome : Type 0
+VertexOutcome = ℕ × Outcome
 
-abbrev pub outcomes_in : List Left → List Outcome
-outcomes_in left = map (λ (one : Left). one.1) left
+abbrev pub outcomes_in : List VertexOutcome → List Outcome
+outcomes_in left = map (λ (one : VertexOutcome). one.1) left
 
--- the letter of a message, which is that number of the vertex
+-- the letter of a message, with its number among those of the vertex
 abbrev pub letter_from : ℕ → ℕ × (ℤ × ℤ) → Letter
 letter_from id sent = record { to = sent.1.0; from = id; seq = sent.0; value = sent.1.1 }
 
@@ -74,40 +74,40 @@ letter_from id sent = record { to = sent.1.0; from = id; seq = sent.0; value = s
 abbrev pub letters_from : ℕ → Outcome → List Letter
 letters_from id outcome = map (letter_from id) (enumerate_from 0 outcome.sends)
 
--- those of several vertices, one vertex after another
-abbrev pub letters_of : List Left → List Letter
-letters_of left = flat_map (λ (one : Left). letters_from one.0 one.1) left
+-- the letters of several vertices, one vertex after another
+abbrev pub letters_of : List VertexOutcome → List Letter
+letters_of left = flat_map (λ (one : VertexOutcome). letters_from one.0 one.1) left
 
--- a vertex as it left itself, before anything was sent to it
-abbrev pub emptied : Left → VertexState
+-- a vertex after its call, with an empty inbox
+abbrev pub emptied : VertexOutcome → VertexState
 emptied one = record { id = one.0; value = one.1.value; active = not one.1.halted; inbox = [] }
 
--- What comes back of a part is what its vertices left.
-pub record ComesBack (left : List Left) (after : List VertexState) (sent : List Letter) (folded : List ℤ) (total : ℕ) : Type 0 where
+-- The result of a part has the outcomes of its vertices.
+pub record ComesBack (left : List VertexOutcome) (after : List VertexState) (sent : List Letter) (folded : List ℤ) (total : ℕ) : Type 0 where
   pub vertices : after ≡ map emptied left
   -- in any order
   pub letters : IsPermutation (letters_of left) sent
   pub slots : folded ≡ aggregated (contributions_of (outcomes_in left))
   pub units : total ≡ capped (units_left (outcomes_in left))
 
--- this is what the vertices of a part leave in this superstep
-abbrev pub IsLeftAt : Work → ℕ → ℕ → List Left → Type 0
+-- these are the outcomes of a part's vertices in this superstep
+abbrev pub IsLeftAt : Work → ℕ → ℕ → List VertexOutcome → Type 0
 IsLeftAt work s part left =
     (meaning : Meaning work)
     → left ≡ map (λ (row : Row). (row.id, left_by meaning.outcomes s (state_at meaning.outcomes meaning.graph s) row))
     (part_rows work.settings.parts (state_at meaning.outcomes meaning.graph s) part)
 
--- the calls of this part take so many units in this superstep
+-- these are the units of this part's calls in this superstep
 abbrev pub AreUnitsAt : Work → ℕ → ℕ → ℕ → Type 0
 AreUnitsAt work s part units =
     (meaning : Meaning work)
     → units ≡ capped (units_left (map (left_by meaning.outcomes s (state_at meaning.outcomes meaning.graph s))
     (part_rows work.settings.parts (state_at meaning.outcomes meaning.graph s) part)))
 
--- what is kept of a part
+-- what always holds for a result
 pub record IsDone (work : Work) (honest : Bool) (stamp : DoneStamp) (vertices : List VertexState) (letters : List Letter) (slots : List ℤ) : Type 0 where
   pub fits : FitsPart work stamp.part vertices
-  pub left : List Left
+  pub left : List VertexOutcome
   pub comes : ComesBack left vertices letters slots stamp.units
   pub at : honest ≡ true → IsLeftAt work stamp.superstep stamp.part left
 

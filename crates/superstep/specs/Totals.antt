@@ -1,4 +1,4 @@
--- What a job has summed up before a superstep.
+-- The totals of a job before a superstep.
 use Rattle.std.specs.Prelude.{◌≡◌, ◌≤◌, ◌+◌, ◌-◌, ℤ, List, length, map}
 use Rattle.std.specs.List.{range_with_len, sum}
 use Rattle.superstep.specs.declared.state.VertexState.{VertexState}
@@ -8,7 +8,7 @@ use Rattle.superstep.specs.PlainRun.{state_at, units_at}
 use Rattle.superstep.specs.Job.{Meaning, Work}
 use Rattle.superstep.specs.State.{Standing}
 
--- the sums of a state
+-- these are the totals of this state
 pub record IsTotalsOf (state : Standing) (totals : Totals) : Type 0 where
   pub superstep : totals.superstep ≡ state.superstep
   pub since : totals.since ≡ state.since
@@ -16,7 +16,7 @@ pub record IsTotalsOf (state : Standing) (totals : Totals) : Type 0 where
   pub units : totals.units ≡ state.units
   pub dropped : totals.dropped ≡ state.dropped
 
--- what a state shows that has these sums, slots and vertices
+-- the model of a state with these totals, aggregates and vertices
 abbrev pub standing_of : Totals → List ℤ → List VertexState → Standing
 standing_of totals aggregates vertices = record {
   superstep = totals.superstep;
@@ -28,13 +28,14 @@ standing_of totals aggregates vertices = record {
   vertices = vertices;
 }
 
--- the units of each superstep from `since` on are told, and the total has those in it, and no others where they are all told
+-- The units of each superstep from `since` on are reported. The total is at least their sum, and is their sum where all
+-- supersteps are reported.
 pub record AreTotals (totals : Totals) : Type 0 where
   pub told : totals.since + length totals.by_superstep.items ≡ totals.superstep
   pub least : capped (sum totals.by_superstep.items) ≤ totals.units
   pub all : totals.since ≡ 0 → totals.units ≡ capped (sum totals.by_superstep.items)
 
--- they are those of the job before their superstep
+-- these are the totals of the job before their superstep
 pub record SumsAt (work : Work) (meaning : Meaning work) (totals : Totals) : Type 0 where
   pub units : totals.units ≡ (state_at meaning.outcomes meaning.graph totals.superstep).units
   pub dropped : totals.dropped ≡ (state_at meaning.outcomes meaning.graph totals.superstep).dropped

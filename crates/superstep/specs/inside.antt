@@ -1,8 +1,8 @@
-pub mod Closing
+pub mod Barrier
 pub mod Codes
-pub mod Leaving
+pub mod PartOutput
 pub mod Opening
-pub mod Plain
+pub mod OneMachine
 pub mod Rows
 pub mod Running
 pub mod Uniting

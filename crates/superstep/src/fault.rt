@@ -1,19 +1,19 @@
-//! Why a job has no answer.
+//! The errors of a job.
 
 use crate::settings::Setting;
 use std::alloc::AllocError;
 use thiserror::Error;
 
-/// The work that memory was wanted for.
+/// The work during which memory ran out.
 #[derive(Clone, Copy, Debug)]
 pub enum Place {
-    /// A job, a book or a hub was opened.
+    /// The graph was split into parts, or a job, a book or a hub was opened.
     Open,
-    /// A compute call, or what calls of a module have in common.
+    /// A compute call was run, or the room for a module's calls was made.
     Call,
-    /// The graph was split or slices were made, or the state of superstep 0.
+    /// A state was taken apart into slices, or the state of superstep 0 was made again.
     Slice,
-    /// Letters became inboxes, and totals were taken, at a barrier.
+    /// A barrier made inboxes of letters, or added to the totals.
     Merge,
     /// A state was written and saved.
     Save,
@@ -21,20 +21,20 @@ pub enum Place {
     Load,
     /// Channels were made.
     Channel,
-    /// What a job ends with was put together.
+    /// The report of a job's end was made.
     Report,
 }
 
-/// Why a job has no answer.
+/// An error of a job, which then has no answer.
 #[derive(Clone, Copy, Debug, Error)]
 pub enum JobFault {
-    /// There is no memory, for this work.
+    /// Memory ran out during this work.
     #[error("OutOfMemory")]
     OutOfMemory(Place),
-    /// No worker is left.
+    /// All workers are lost.
     #[error("NoWorkers")]
     NoWorkers,
-    /// This setting is the first that is out of its range.
+    /// A setting is out of its range. This is the first one, in the order of `Settings`.
     #[error("Settings")]
     Settings(Setting),
     /// A thread could not be started.

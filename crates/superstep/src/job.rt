@@ -19,14 +19,14 @@ use std::marker::Model;
 
 /// A module's calls over a graph, superstep after superstep (Pregel 2010, 2).
 ///
-/// It keeps the graph's parts, and the ids of each one's vertices, which every barrier looks at. Contracts see it as its module,
-/// those parts and its settings.
+/// It has the graph's parts, and the ids of each part's vertices, which every barrier needs. In contracts its model is the
+/// module, those parts and the settings.
 #[derive(Drop)]
 pub struct Job {
     kept: Box<Kept>,
 }
 
-// What a job keeps. It lies in a box, so that each owner drops it by one call.
+// The contents of a job. They are in a box, so that each owner drops them by one call.
 #[derive(Drop)]
 struct Kept {
     verified: Verified,
@@ -36,7 +36,16 @@ struct Kept {
     settings: Settings,
 }
 
-// A graph in parts, the ids of each one's vertices, and how many vertices there are.
+// How many edges these vertices have.
+fn edges_in(vertices: &[Vertex]) -> u64 {
+    let mut count = 0u64;
+    for vertex in vertices {
+        count = count.saturating_add(vertex.edges.len() as u64);
+    }
+    count
+}
+
+// A graph in parts, the ids of each part's vertices, and the number of all vertices.
 #[derive(Drop)]
 struct Cut {
     parts: Vec<Part>,
@@ -67,9 +76,9 @@ impl Model for Job {
 }
 
 impl Job {
-    /// The job of a module's calls over a graph. The edges are moved, not copied.
+    /// Makes the job of a module over a graph. The edges are moved, not copied.
     ///
-    /// `Settings` names the first setting that is out of its range; memory may be wanted to `Open` it.
+    /// It fails with `Settings` and the first setting that is out of its range, or with `OutOfMemory(Open)`.
     pub fn new(
         alloc: Global,
         verified: Verified,
@@ -111,14 +120,14 @@ impl Job {
         }
     }
 
-    /// The module.
+    /// Returns the module.
     pub fn verified(&self) -> &Verified
         ensures { result.now ≡ self.now.«module» }
     {
         &self.kept.verified
     }
 
-    /// How it is run. Each setting is in its range.
+    /// Returns the settings, each of which is in its range.
     pub fn settings(&self) -> Settings
         ensures settings { result ≡ self.now.settings }
         ensures good { first_bad self.now.settings ≡ None }
@@ -127,14 +136,23 @@ impl Job {
         self.kept.settings
     }
 
-    /// How many vertices the graph has.
+    /// Returns the number of the graph's vertices.
     pub fn count(&self) -> u32
         ensures { IsCount self.now result }
     {
         self.kept.count
     }
 
-    // There is the plain run of the job: its graph, and one function that says what the calls of its module come to.
+    /// How many edges the graph has. It looks at each vertex, and nothing is claimed of it.
+    pub fn edge_count(&self) -> u64 {
+        let mut count = 0u64;
+        for part in &self.kept.parts {
+            count = count.saturating_add(edges_in(&part.vertices));
+        }
+        count
+    }
+
+    // Shows that the job's plain run exists: there is a graph, and one function that gives the outcome of each call.
     pub(crate) fn has_meaning(&self)
         ensures { Meaning self.now }
     {
@@ -143,7 +161,7 @@ impl Job {
         let _module = self.verified().module();
     }
 
-    // The graph's parts, each with its vertices by rising id.
+    // Returns the graph's parts, each with its vertices by rising id.
     pub(crate) fn parts(&self) -> &[Part]
         ensures parts { map part_entries result.now ≡ self.now.parts }
         ensures graph { HasGraph self.now }
@@ -152,7 +170,7 @@ impl Job {
         &self.kept.parts
     }
 
-    // The ids of each part's vertices.
+    // Returns the ids of each part's vertices.
     pub(crate) fn ids(&self) -> &[Vec<u64>]
         ensures { map vec_items result.now ≡ map ids self.now.parts }
     {
@@ -160,7 +178,7 @@ impl Job {
     }
 }
 
-// Puts what a job keeps into a box.
+// Puts the contents of a job into a box.
 fn boxed(alloc: Global, kept: Kept) -> Result<Box<Kept>, AllocError>
     ensures { IfOk result (λ boxed. boxed.value ≡ kept) }
 {
@@ -187,7 +205,7 @@ fn cut_graph(alloc: Global, graph: Graph, settings: Settings) -> Result<Cut, Job
     }
 }
 
-// The parts of the graph, of which there are so many, and the ids of each one's vertices.
+// Splits the graph into `count` parts, and lists the ids of each part's vertices.
 fn split_with_ids(
     alloc: Global,
     graph: Graph,
@@ -204,7 +222,7 @@ fn split_with_ids(
     Ok((parts, ids))
 }
 
-// The ids of each part's vertices.
+// Lists the ids of each part's vertices.
 fn ids_of_all(alloc: Global, parts: &[Part]) -> Result<Vec<Vec<u64>>, AllocError>
     ensures { IfOk result (λ all.
         map vec_items all.items ≡ map ids (map part_entries parts.now)) }

@@ -1,23 +1,31 @@
-//! Jobs over graphs, superstep after superstep, as one machine runs them (Pregel 2010, 2).
+//! Jobs over graphs, superstep after superstep (Pregel 2010, 2).
+//!
+//! `one_machine` runs a job by its definition. A job also runs part by part:
+//!
+//! * `take_apart` makes a `Slice` of each part of a `State`.
+//! * `run_task` runs the `Task` of each slice, which yields a `Done`.
+//! * `barrier` makes the next `State` of all `Done`s.
 #![tactic(auto)]
 
-mod closing;
+mod barrier_step;
+mod ending;
 mod fault;
+mod found;
 mod job;
-mod left;
-mod plain;
-mod run;
+mod part_output;
+mod plain_run;
 mod settings;
 mod slice;
 mod state;
 mod task;
 mod totals;
 
-pub use closing::barrier;
+pub use barrier_step::barrier;
+pub use ending::{EndReason, JobEnd, tell_end};
 pub use fault::{JobFault, Place};
+pub use found::Found;
 pub use job::Job;
-pub use plain::one_machine;
-pub use run::{Ended, How, tell_end};
+pub use plain_run::one_machine;
 pub use settings::{Setting, Settings};
 pub use slice::{Apart, Origin, Slice, slices, take_apart};
 pub use state::{State, VertexState};

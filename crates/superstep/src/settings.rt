@@ -1,20 +1,20 @@
-//! How a job is run.
+//! The settings of a job.
 
 ghost use Rattle.std.specs.Prelude.{◌≡◌};
 ghost use Rattle.superstep.specs.Settings.{first_bad, is_up_to};
 
-/// How a job is run: its graph's parts and its workers, how often a state is saved, and where it ends.
+/// The settings of a job: its parts and workers, how often it saves its state, and where it ends.
 #[derive(Clone, Copy)]
 pub struct Settings {
-    /// How many parts the graph has, from 1 to 256.
+    /// The number of the graph's parts, from 1 to 256.
     pub parts: u32,
-    /// How many workers there are, from 1 to 64.
+    /// The number of workers, from 1 to 64.
     pub workers: u32,
-    /// A state is saved before each superstep whose number is a multiple of it; from 1 to 1,000.
+    /// The state is saved before each superstep whose number is a multiple of this, from 1 to 1,000.
     pub every: u32,
-    /// The superstep at which the job ends where it has not finished, from 1 to 1,000,000.
+    /// The superstep at which the job ends if it has not finished before, from 1 to 1,000,000.
     pub limit: u32,
-    /// How many ticks a worker may take for a task, from 1 to 1,000,000.
+    /// The number of ticks that a worker may take for a task, from 1 to 1,000,000.
     pub lease: u32,
 }
 
@@ -29,7 +29,7 @@ pub enum Setting {
 }
 
 impl Settings {
-    /// The first setting that is out of its range, in the order in which they stand.
+    /// Finds the first setting that is out of its range, in the order of the fields.
     pub fn first_bad(&self) -> Option<Setting>
         ensures { result ≡ first_bad self.now }
     {

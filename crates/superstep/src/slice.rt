@@ -1,4 +1,4 @@
-//! Slices: the parts of a state, which move to workers and back.
+//! Slices: the parts of a state, which move to workers.
 
 ghost use Rattle.std.specs.Prelude.{◌≡◌, ◌≤◌, true, length, map, vec_items, IfOk};
 ghost use Rattle.superstep.specs.Job.{Work};
@@ -13,9 +13,10 @@ use crate::totals::Totals;
 use std::alloc::{AllocError, Global};
 use std::marker::{Brand, Model, PhantomData};
 
-/// Names the one job that slices, tasks and what comes back of them are of, and says whether each state of it that was
-/// loaded is one that was saved. A caller names a job by a generic function that asks `J.work ≡ job.now` and is called with
-/// `Brand`.
+/// A name of one job in the types of its slices, tasks and results. `work` is the job. `honest` says that each state that was
+/// loaded is one that was saved.
+///
+/// A caller names a job by a generic function that requires `J.work ≡ job.now` and is called with `Brand`.
 pub trait Origin {
     ghost use Rattle.std.specs.Prelude.{Bool};
     ghost use Rattle.superstep.specs.Job.{Work};
@@ -34,8 +35,10 @@ impl Origin for Brand {
     ghost honest = { false };
 }
 
-/// The vertices of one part before a superstep. Contracts see the superstep and the part, and its type says of which job
-/// it is.
+/// The vertices of one part before a superstep.
+///
+/// In contracts its model is the superstep and the part. The vertices are those of this part of the job's state, if the job
+/// is `honest`; their ids always fit the part.
 #[derive(Drop)]
 pub struct Slice<J: Origin> {
     pub(crate) part: u32,
@@ -56,14 +59,14 @@ impl<J: Origin> Model for Slice<J> {
 }
 
 impl<J: Origin> Slice<J> {
-    /// The part, from 0 on.
+    /// Returns the part's number, counted from 0.
     pub fn part(&self) -> u32
         ensures { result ≡ self.now.part }
     {
         self.part
     }
 
-    /// The superstep that comes next.
+    /// Returns the superstep that comes next.
     pub fn superstep(&self) -> u32
         ensures { result ≡ self.now.superstep }
     {
@@ -71,19 +74,19 @@ impl<J: Origin> Slice<J> {
     }
 }
 
-/// A state that was taken apart, for the superstep that comes next.
+/// A state taken apart for the superstep that comes next.
 #[derive(Drop)]
 pub struct Apart<J: Origin> {
-    /// What was summed up before that superstep.
+    /// The totals before that superstep.
     pub totals: Totals,
-    /// What each slot was aggregated to in the superstep before.
+    /// The aggregate of each slot in the superstep before.
     pub aggregates: [i64; 8],
-    /// One for each part and in order.
+    /// The slices, one for each part and in order.
     pub slices: Vec<Slice<J>>,
 }
 
-/// Takes a state apart. All of it is moved, not copied: the time does not depend on how many supersteps there were. The only
-/// refusal is that there is no memory.
+/// Takes a state apart. All of it is moved, not copied, so the time does not depend on the number of supersteps. It fails only
+/// where memory runs out.
 pub fn take_apart<J: Origin>(alloc: Global, job: &Job, state: State) -> Result<Apart<J>, AllocError>
     requires job { J.work ≡ job.now }
     requires fits { HasIdsOf job.now state }
@@ -106,7 +109,7 @@ pub fn take_apart<J: Origin>(alloc: Global, job: &Job, state: State) -> Result<A
     })
 }
 
-/// The slices of a state, one for each part and in order. The vertices are moved, not copied.
+/// Makes the slices of a state, one for each part and in order. The vertices are moved, not copied.
 pub fn slices<J: Origin>(
     alloc: Global,
     job: &Job,
@@ -122,7 +125,7 @@ pub fn slices<J: Origin>(
     Ok(apart.slices)
 }
 
-// Each part with its number.
+// Labels each part with its number.
 fn label<J: Origin>(
     alloc: Global,
     superstep: u32,

@@ -1,20 +1,20 @@
-//! States: what is kept of a job between two supersteps.
+//! States of a job between two supersteps.
 
 ghost use Rattle.std.specs.Prelude.{◌≡◌, ◌<◌, IfOk, length, map, not, vec_items};
 ghost use Rattle.std.specs.List.{list_any};
 ghost use Rattle.std.specs.List.Sorted.{IsStrictlyIncreasing};
-ghost use Rattle.graph.specs.Cutting.{joined, parts_by};
+ghost use Rattle.graph.specs.Partition.{joined, parts_by};
 ghost use Rattle.graph.specs.Entry.{entry_of};
 ghost use Rattle.superstep.specs.State.{HasIdsOf, IsState, IsStateAt, in_order, state_id};
 ghost use Rattle.superstep.specs.State.{is_due, is_settled};
 ghost use Rattle.superstep.specs.Totals.{AreTotals, IsTotalsOf, standing_of};
-ghost use Rattle.superstep.specs.inside.Closing.{with_inbox};
+ghost use Rattle.superstep.specs.inside.Barrier.{with_inbox};
 ghost use Rattle.superstep.specs.inside.Rows.{IsKept, first_state, first_states};
 
 use crate::job::Job;
 use crate::totals::Totals;
 use graph::{Identified, Part, Vertex, cut_by_id, merge_by_id};
-use host_calls::slot_starts;
+use host_calls::aggregator_starts;
 use inbox::Inbox;
 use std::alloc::{AllocError, Global};
 use std::marker::Model;
@@ -22,17 +22,17 @@ use std::marker::Model;
 /// A vertex between two supersteps. Its edges stay with the job.
 #[derive(Drop)]
 pub struct VertexState {
-    /// From 0 to 9,223,372,036,854,775,807.
+    /// The vertex's id. In a state of a job it is the id of a vertex of the graph.
     pub id: u64,
     pub value: i64,
     /// Whether it has not voted to halt.
     pub active: bool,
-    /// What was sent to it in the superstep before.
+    /// The messages sent to it in the superstep before.
     pub inbox: Inbox,
 }
 
 impl VertexState {
-    // Puts this inbox in the place of the one that it has.
+    // Replaces its inbox by this one.
     pub(crate) fn fill(&mut self, inbox: Inbox)
         ensures { self.new ≡ with_inbox (self.old, inbox) }
     {
@@ -48,9 +48,9 @@ impl Identified for VertexState {
     }
 }
 
-/// What is kept of a job between two supersteps: what a checkpoint saves. Edges are not in it.
+/// The state of a job between two supersteps, which a checkpoint saves. It has no edges.
 ///
-/// The vertices lie in parts, so that a superstep moves none of them. Contracts see them by rising id.
+/// The vertices are in parts, so that a superstep moves none of them. In contracts they are in one list, by rising id.
 #[derive(Drop)]
 pub struct State {
     superstep: u32,
@@ -91,7 +91,7 @@ impl Model for State {
 }
 
 impl State {
-    /// The state before superstep 0: every vertex is active and no inbox holds anything (Pregel 2010, 2).
+    /// Makes the state before superstep 0: every vertex is active and every inbox is empty (Pregel 2010, 2).
     pub fn first(alloc: Global, job: &Job) -> Result<State, AllocError>
         ensures first { IfOk result (IsStateAt job.now 0) }
         ensures superstep { IfOk result (λ state. state.superstep ≡ 0) }
@@ -108,13 +108,12 @@ impl State {
             by_superstep: Vec::new(alloc),
             units: 0,
             dropped: 0,
-            aggregates: slot_starts(),
+            aggregates: aggregator_starts(),
             parts,
         })
     }
 
-    /// The state of these vertices, by rising id, with what was summed up before it and what its slots hold. The only refusal
-    /// is that there is no memory.
+    /// Makes the state of these totals, aggregates and vertices, which are sorted by id. It fails only where memory runs out.
     pub fn of(
         alloc: Global,
         totals: Totals,
@@ -129,7 +128,7 @@ impl State {
         Ok(State::of_parts(totals, aggregates, parts))
     }
 
-    // The state of the vertices of these parts.
+    // Makes the state of these totals, aggregates and parts.
     pub(crate) fn of_parts(
         totals: Totals,
         aggregates: [i64; 8],
@@ -150,21 +149,21 @@ impl State {
         }
     }
 
-    /// The superstep that comes next.
+    /// Returns the superstep that comes next.
     pub fn superstep(&self) -> u32
         ensures { result ≡ self.now.superstep }
     {
         self.superstep
     }
 
-    /// The first superstep whose units are told.
+    /// Returns the first superstep whose units are reported.
     pub fn since(&self) -> u32
         ensures { result ≡ self.now.since }
     {
         self.since
     }
 
-    /// The units of each superstep from `since` on. Each stops at the greatest number of 128 bits.
+    /// Returns the units of each superstep from `since` on. Each stops at the greatest number of 128 bits.
     pub fn by_superstep(&self) -> &[u128]
         ensures told { result.now ≡ self.now.by_superstep }
         ensures state { IsState self.now }
@@ -172,28 +171,28 @@ impl State {
         &self.by_superstep
     }
 
-    /// The units of all calls so far, which stop at the greatest number of 128 bits.
+    /// Returns the units of all calls so far. They stop at the greatest number of 128 bits.
     pub fn units(&self) -> u128
         ensures { result ≡ self.now.units }
     {
         self.units
     }
 
-    /// How many messages so far went to no vertex. It stops at the greatest number of 128 bits.
+    /// Returns the number of messages so far that went to no vertex. It stops at the greatest number of 128 bits.
     pub fn dropped(&self) -> u128
         ensures { result ≡ self.now.dropped }
     {
         self.dropped
     }
 
-    /// What each slot was aggregated to in the superstep before.
+    /// Returns the aggregate of each slot in the superstep before.
     pub fn aggregates(&self) -> [i64; 8]
         ensures { result ≡ self.now.aggregates }
     {
         self.aggregates
     }
 
-    /// Whether no vertex is to be called: none is active, and no inbox holds anything.
+    /// Checks that no vertex will be called: none is active, and every inbox is empty.
     pub fn is_quiet(&self) -> bool
         ensures { result ≡ is_settled self.now }
     {
@@ -205,7 +204,7 @@ impl State {
         true
     }
 
-    // What is summed up in the state, and the vertices of each of so many parts. All of it is moved, not copied.
+    // Takes the totals out of the state, and its vertices in `parts` parts. All of it is moved, not copied.
     pub(crate) fn into_parts(
         self,
         alloc: Global,
@@ -237,7 +236,7 @@ impl State {
         Ok((totals, cut))
     }
 
-    /// The vertices, by rising id. The only refusal is that there is no memory.
+    /// Lists the vertices, by rising id. It fails only where memory runs out.
     pub fn in_order(&self, alloc: Global) -> Result<Vec<&VertexState>, AllocError>
         ensures state { IsState self.now }
         ensures same { IfOk result (λ vertices.
@@ -252,7 +251,7 @@ impl State {
     }
 }
 
-// The vertices of all parts, in so many parts. They are moved, not copied.
+// Cuts the vertices of all lists into `parts` parts. They are moved, not copied.
 fn cut_anew(
     alloc: Global,
     lists: Vec<Vec<VertexState>>,
@@ -273,7 +272,7 @@ fn cut_anew(
     cut_by_id(alloc, vertices, parts)
 }
 
-// The vertices of all parts, one part after another.
+// Concatenates the vertices of all parts.
 fn together(alloc: Global, parts: Vec<Vec<VertexState>>) -> Result<Vec<VertexState>, AllocError>
     ensures { IfOk result (λ vertices. vertices.items ≡ joined (map vec_items parts.items)) }
 {
@@ -285,7 +284,7 @@ fn together(alloc: Global, parts: Vec<Vec<VertexState>>) -> Result<Vec<VertexSta
     Ok(vertices)
 }
 
-// Whether none of the vertices is to be called.
+// Checks that none of the vertices will be called.
 fn are_settled(vertices: &[VertexState]) -> bool
     ensures { result ≡ not (list_any is_due vertices.now) }
 {
@@ -297,13 +296,14 @@ fn are_settled(vertices: &[VertexState]) -> bool
     true
 }
 
-fn is_due(vertex: &VertexState) -> bool
+// Whether the vertex is called in the next superstep.
+pub(crate) fn is_due(vertex: &VertexState) -> bool
     ensures { result ≡ is_due vertex.now }
 {
     vertex.active || !vertex.inbox.as_slice().is_empty()
 }
 
-// The part's vertices before superstep 0.
+// Makes the states of a part's vertices before superstep 0.
 fn first_states(alloc: Global, part: &Part) -> Result<Vec<VertexState>, AllocError>
     ensures { IfOk result (λ vertices.
         vertices.items ≡ first_states (map entry_of part.now.vertices.items)) }
@@ -326,7 +326,7 @@ fn first_state(alloc: Global, vertex: &Vertex) -> VertexState
     }
 }
 
-// Copies of these vertices, in their order.
+// Copies these vertices, in their order.
 pub(crate) fn copied(
     alloc: Global,
     vertices: &[VertexState],

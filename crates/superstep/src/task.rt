@@ -1,15 +1,16 @@
-//! Tasks: a superstep on one part.
+//! Tasks: one superstep on one part.
 
 ghost use Rattle.std.specs.Prelude.{◌≡◌, All, true, map, IfOk, IfErr, OnOk};
 ghost use Rattle.graph.specs.Entry.{entries_of, entry_of, ids};
 ghost use Rattle.superstep.specs.State.{state_id};
 ghost use Rattle.superstep.specs.Tasks.{AreAggregatesAt, AreUnitsAt};
 ghost use Rattle.superstep.specs.declared.fault.Place.TheVariants.{Call};
-ghost use Rattle.superstep.specs.inside.Leaving.{CallsPart, CallsVertex, HasProperIds};
+ghost use Rattle.superstep.specs.inside.PartOutput.{CallsPart, CallsVertex, HasProperIds};
 
 use crate::fault::Place;
+use crate::found::{Found, found_in};
 use crate::job::Job;
-use crate::left::Left;
+use crate::part_output::PartOutput;
 use crate::slice::{Origin, Slice};
 use crate::state::{VertexState, copied};
 use bounded_profile::Verified;
@@ -20,7 +21,7 @@ use interp::{Scratch, calls_are_a_function, run};
 use std::alloc::{AllocError, Global};
 use std::marker::{Model, PhantomData};
 
-/// A superstep on one part, for a worker. Contracts see its epoch, superstep and part.
+/// A superstep on one part, for a worker. In contracts its model is the epoch, the superstep and the part.
 #[derive(Drop)]
 pub struct Task<J: Origin> {
     epoch: u64,
@@ -45,8 +46,7 @@ impl<J: Origin> Model for Task<J> {
 }
 
 impl<J: Origin> Task<J> {
-    /// The superstep on this slice. `aggregated` is what the slots were aggregated to in the superstep before. It takes no
-    /// memory.
+    /// Makes the task of a slice. `aggregated` has the aggregates of the superstep before. It allocates nothing.
     pub fn new(epoch: u64, slice: Slice<J>, aggregated: [i64; 8]) -> Task<J>
         requires { J.honest ≡ true → AreAggregatesAt J.work slice.superstep aggregated }
         ensures epoch { result.epoch ≡ epoch }
@@ -60,29 +60,34 @@ impl<J: Origin> Task<J> {
         }
     }
 
-    /// The epoch in which it was handed out.
+    /// Returns the epoch in which it was assigned.
     pub fn epoch(&self) -> u64
         ensures { result ≡ self.now.epoch }
     {
         self.epoch
     }
 
-    /// The superstep that is worked on.
+    /// Returns the superstep to run.
     pub fn superstep(&self) -> u32
         ensures { result ≡ self.now.superstep }
     {
         self.slice.superstep()
     }
 
-    /// The part, from 0 on.
+    /// Returns the part's number, counted from 0.
     pub fn part(&self) -> u32
         ensures { result ≡ self.now.part }
     {
         self.slice.part()
     }
+
+    /// What it finds in its part. It looks at each vertex. Nothing is claimed of it: contracts do not see the vertices.
+    pub fn found(&self) -> Found {
+        found_in(&self.slice.vertices)
+    }
 }
 
-/// What comes back of a task. Contracts see its epoch, superstep and part, and its units.
+/// The result of a task. In contracts its model is the epoch, the superstep, the part and the units.
 #[derive(Drop)]
 pub struct Done<J: Origin> {
     pub(crate) epoch: u64,
@@ -118,35 +123,40 @@ impl<J: Origin> Model for Done<J> {
 }
 
 impl<J: Origin> Done<J> {
-    /// The epoch of its task.
+    /// Returns the epoch of its task.
     pub fn epoch(&self) -> u64
         ensures { result ≡ self.now.epoch }
     {
         self.epoch
     }
 
-    /// The superstep that was worked on.
+    /// Returns the superstep that was run.
     pub fn superstep(&self) -> u32
         ensures { result ≡ self.now.superstep }
     {
         self.superstep
     }
 
-    /// The part, from 0 on.
+    /// Returns the part's number, counted from 0.
     pub fn part(&self) -> u32
         ensures { result ≡ self.now.part }
     {
         self.part
     }
 
-    /// The units of the part's calls, which stop at the greatest number of 128 bits.
+    /// Returns the units of the part's calls. They stop at the greatest number of 128 bits.
     pub fn units(&self) -> u128
         ensures { result ≡ self.now.units }
     {
         self.units
     }
 
-    /// The same once more, as a result that comes twice. The only refusal is that there is no memory.
+    /// How many messages the part's vertices sent. Nothing is claimed of it: contracts do not see them.
+    pub fn sent(&self) -> usize {
+        self.letters.len()
+    }
+
+    /// Copies the result, as if it had arrived twice. It fails only where memory runs out.
     pub fn copy(&self, alloc: Global) -> Result<Done<J>, AllocError>
         ensures { IfOk result (λ copy. copy ≡ self.now) }
     {
@@ -165,14 +175,14 @@ impl<J: Origin> Done<J> {
     }
 }
 
-/// A task that has no result, and the work that met the refusal.
+/// A task that failed, and the work during which memory ran out.
 #[derive(Clone, Copy)]
 pub struct TaskLost {
     pub place: Place,
 }
 
-/// The superstep on the task's part: a compute call of each vertex that is active or has messages (Pregel 2010, 2). The only
-/// refusal is that there is no memory; the scratch fits afterwards too.
+/// Runs a task: a compute call of each vertex of the part that is active or has messages (Pregel 2010, 2). It fails only where
+/// memory runs out. Either way the scratch still fits the job.
 pub fn run_task<J: Origin>(
     alloc: Global,
     job: &Job,
@@ -212,7 +222,7 @@ pub fn run_task<J: Origin>(
     let Ok(left) = ran else {
         return Err(TaskLost { place: Place::Call });
     };
-    let Left {
+    let PartOutput {
         letters,
         slots,
         units,
@@ -229,7 +239,7 @@ pub fn run_task<J: Origin>(
     })
 }
 
-// What all calls of a superstep are given alike.
+// The input that all calls of a superstep share.
 #[derive(Clone, Copy)]
 pub(crate) struct Shared<'a> {
     pub verified: &'a Verified,
@@ -238,14 +248,14 @@ pub(crate) struct Shared<'a> {
     pub aggregated: [i64; 8],
 }
 
-// The calls of a part's vertices, one after another, and what they leave. Entries have their edges.
+// Calls a part's vertices, one after another. `entries` has their edges.
 fn run_part(
     alloc: Global,
     shared: &Shared,
     entries: &[Vertex],
     vertices: &mut [VertexState],
     scratch: &mut Scratch,
-) -> Result<Left, AllocError>
+) -> Result<PartOutput, AllocError>
     requires same { ids (entries_of entries.now) ≡ map state_id vertices.old }
     requires proper { All HasProperIds (entries_of entries.now) }
     requires fits { scratch.old ≡ shared.now.verified.now }
@@ -253,7 +263,7 @@ fn run_part(
     ensures calls { IfOk result
         (CallsPart shared.now (entries_of entries.now) vertices.old vertices.new) }
 {
-    let mut left = Left::nothing(alloc);
+    let mut left = PartOutput::nothing(alloc);
     for index in 0..vertices.len() {
         let vertex = &mut vertices[index];
         run_vertex(alloc, shared, &entries[index], vertex, scratch, &mut left)?;
@@ -261,14 +271,14 @@ fn run_part(
     Ok(left)
 }
 
-// The call of a vertex that is active or has messages; any other stays as it is.
+// Calls a vertex that is active or has messages. Any other stays as it is.
 fn run_vertex(
     alloc: Global,
     shared: &Shared,
     entry: &Vertex,
     vertex: &mut VertexState,
     scratch: &mut Scratch,
-    left: &mut Left,
+    left: &mut PartOutput,
 ) -> Result<(), AllocError>
     requires same { entry.now.id ≡ vertex.old.id }
     requires proper { HasProperIds (entry_of entry.now) }

@@ -1,4 +1,4 @@
--- What was collected of lines.
+-- The vertices and edges collected of lines.
 use Rattle.std.specs.Prelude.{◌≡◌, ◌<◌, ◌≤◌, ◌++◌, ◌∷◌, ℕ, ℤ, true, List, [], map, length}
 use Rattle.std.specs.List.{All}
 use Rattle.graph.specs.declared.collect.Collected.{Collected}
@@ -10,7 +10,7 @@ use Rattle.graph.specs.Said.{all_declared, all_edges}
 use Rattle.graph.specs.Entry.{Entry, entries_of}
 use Rattle.graph.specs.Graph.{AreWithinLimits}
 
--- each line is blank, a vertex or an edge, and there are no more than there may be
+-- each line is blank, a vertex or an edge, and there are no more of these than the limits allow
 pub record CanBeSaid (lines : List Line) : Type 0 where
   pub good : All (λ line. is_good line ≡ true) lines
   pub within : AreWithinLimits lines
@@ -19,21 +19,21 @@ pub record CanBeSaid (lines : List Line) : Type 0 where
 abbrev pub bare : ℕ × ℤ → Entry
 bare head = record { id = head.0; value = head.1; edges = [] }
 
--- the vertices and the edges are those that the lines say, in their order
+-- the vertices and the edges are those that the lines declare, in their order
 pub record Says (lines : List Line) (collected : Collected) : Type 0 where
   pub can : CanBeSaid lines
   pub vertices : entries_of collected.vertices.items ≡ map bare (all_declared lines)
   pub edges : collected.edges.items ≡ all_edges lines
 
--- whatever the lines were of which this was collected, behind them the line's saying is collected too
+-- if some lines were collected before, then these lines and this one are collected after
 abbrev pub AddsLine : Line → (old new : Collected) → Type 0
 AddsLine line old new = (before : List Line) → Says before old → Says (before ++ line ∷ []) new
 
--- and behind them it cannot be said
+-- if some lines were collected before, then these lines and this one are no graph's
 abbrev pub RefusesLine : Line → Collected → Type 0
 RefusesLine line old = (before : List Line) → Says before old → ¬ CanBeSaid (before ++ line ∷ [])
 
--- there are as many vertices, or edges, as there may be
+-- there are as many vertices, or edges, as the limits allow
 abbrev pub IsFullOfVertices : Collected → Type 0
 IsFullOfVertices collected = MAX_VERTICES ≤ length collected.vertices.items
 

@@ -1,11 +1,11 @@
--- Edges at the vertices that they leave.
+-- Edges placed at their source vertices.
 use Rattle.std.specs.Prelude.{◌≡◌, ◌<◌, ◌++◌, ◌∷◌, [], ℕ, pos, List, length, map, slice_index, slice_index_or, slice_set}
 use Rattle.std.specs.List.{All, Contains}
 use Rattle.graph.specs.declared.vertex.Edge.{Edge}
 use Rattle.graph.specs.declared.vertex.Vertex.{Vertex}
 use Rattle.graph.specs.Entry.{Entry, edges_from, end_of, entries_of, ids}
 
--- a vertex with the edges from it behind those that it has
+-- a vertex with the edges from it after those that it has
 abbrev pub with_edges : List Edge → Entry → Entry
 with_edges edges entry =
     record { id = entry.id; value = entry.value; edges = entry.edges ++ edges_from edges entry.id }
@@ -21,13 +21,13 @@ none = record { id = 0; value = pos 0; edges = [] }
 abbrev pub push_end : Edge → Entry → Entry
 push_end edge entry = record { id = entry.id; value = entry.value; edges = entry.edges ++ end_of edge ∷ [] }
 
--- one edge more at the vertex in this place
+-- one more edge at the vertex in this place
 abbrev pub set_edge : List Entry → ℕ → Edge → List Entry
 set_edge graph place edge = slice_set graph place (push_end edge (slice_index_or graph place none))
 
--- ---- the same of vertices as the code has them
+-- ---- the same for vertices as the code has them
 
--- each vertex has the edges from it behind those that it had
+-- each vertex has the edges from it after those that it had
 abbrev pub PlacesEdges : List Edge → (old new : List Vertex) → Type 0
 PlacesEdges edges old new = entries_of new ≡ map (with_edges edges) (entries_of old)
 
@@ -35,14 +35,14 @@ PlacesEdges edges old new = entries_of new ≡ map (with_edges edges) (entries_o
 abbrev pub HaveEnds : List Vertex → List Edge → Type 0
 HaveEnds vertices edges = AreEndsAmong (ids (entries_of vertices)) edges
 
--- one edge more at the vertex in this place
+-- one more edge at the vertex in this place
 abbrev pub PlacesEdge : ℕ → (old new : List Vertex) → Edge → Type 0
 PlacesEdge place old new edge = entries_of new ≡ set_edge (entries_of old) place edge
 
--- the id stands in this place
+-- the id is in this place
 abbrev pub StandsAt : List ℕ → ℕ → ℕ → Type 0
 StandsAt ids id place = (place < length ids) × (slice_index ids place ≡ id)
 
--- the edge leaves the vertex whose id stands in this place, and its target is among the ids
+-- the edge leaves the vertex whose id is in this place, and its target is among the ids
 abbrev pub LeavesAt : List ℕ → Edge → ℕ → Type 0
 LeavesAt ids edge place = (place < length ids) × (slice_index ids place ≡ edge.from) × Contains ids edge.target

@@ -1,4 +1,4 @@
--- Edges, as they are added one after another.
+-- Adding of edges, one after another.
 use Rattle.std.specs.Prelude.{◌≡◌, ◌++◌, List}
 use Rattle.graph.specs.declared.vertex.Edge.{Edge}
 use Rattle.graph_import.specs.declared.edges.Edges.{Edges}
@@ -6,13 +6,13 @@ use Rattle.graph_import.specs.declared.line.Line.{Line}
 use Rattle.graph_import.specs.declared.line.Line.TheVariants.{BadForm, BadNumber, Blank, Said}
 use Rattle.graph_import.specs.inside.Ranges.{IsInRange}
 
--- these edges were put behind the others, and nothing else was changed
+-- these edges were appended, and nothing else was changed
 pub record Adds (edges : List Edge) (old new : Edges) : Type 0 where
   pub items : new.items.items ≡ old.items.items ++ edges
   pub both_ways : new.both_ways ≡ old.both_ways
   pub most : new.most ≡ old.most
 
--- the ends of the edge that a line says are in their range
+-- the ends of a line's edge are in their range
 abbrev pub SaysInRange : Line → Type 0
 SaysInRange (Said edge) = IsInRange edge
 SaysInRange _ = Unit {0}

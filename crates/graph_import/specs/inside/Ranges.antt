@@ -3,7 +3,7 @@ use Rattle.std.specs.Prelude.{◌<◌, ◌^◌, FitsSigned}
 use Rattle.std.specs.Int.{w64}
 use Rattle.graph.specs.declared.vertex.Edge.{Edge}
 
--- the ends of an edge are in the range of a signed number of 64 bits, and its value is
+-- the ends and the value of an edge are in the range of a signed number of 64 bits
 pub record IsInRange (edge : Edge) : Type 0 where
   pub from : edge.from < 2 ^ 63
   pub target : edge.target < 2 ^ 63

@@ -8,7 +8,7 @@ use Rattle.inbox.specs.declared.blocks.Block.{Block}
 use Rattle.inbox.specs.declared.blocks.Slip.{Slip}
 use Rattle.inbox.specs.declared.grid.Grid.{Grid}
 use Rattle.inbox.specs.declared.letters.Letter.{Letter}
-use Rattle.inbox.specs.declared.shares.Class.{Class}
+use Rattle.inbox.specs.declared.shares.TargetSet.{TargetSet}
 use Rattle.inbox.specs.Merging.{inbox_of, inboxes_of, source_cmp}
 use Rattle.inbox.specs.inside.Grids.{block_of, stands_in}
 use Rattle.inbox.specs.inside.Shares.{goes_into}
@@ -26,7 +26,7 @@ slips_of block = block.slips.items
 abbrev pub none_in : List Slip → Type 0
 none_in slips = slips ≡ []
 
--- in the messages of its block an id finds what goes to it of these letters
+-- the messages to an id among those of its block are the messages to it of these letters
 abbrev pub AreFiled : Grid → List Letter → List (List Slip) → Type 0
 AreFiled grid sent blocks = (id : ℕ) → block_of grid id < length blocks
     → inbox_of (map letter_of (slice_index_or blocks (block_of grid id) [])) id ≡ inbox_of sent id
@@ -40,12 +40,12 @@ pub record IsInPlace (grid : Grid) (number : ℕ) (ids : List ℕ) : Type 0 wher
 abbrev pub AreInPlace : Grid → List (List ℕ) → Type 0
 AreInPlace grid blocks = (k : ℕ) → k < length blocks → IsInPlace grid k (slice_index_or blocks k [])
 
--- what a block's messages put into the inboxes of its ids
+-- these are the inboxes of a block's ids, made from its messages
 abbrev pub IsMade : Block → Vec (List ℤ) → Type 0
 IsMade block inboxes = IsStrictlyIncreasing (ids_of block) → inboxes.items ≡ inboxes_of (map letter_of (slips_of block)) (ids_of block)
 
--- Letters in the order of their sources, among them all of these that go to the class's targets.
-pub record IsOrderOf (letters : List Letter) (class : Class) (ordered : List Letter) : Type 0 where
+-- Some of the letters, sorted by source, with all that go to the set's targets.
+pub record IsOrderOf (letters : List Letter) (target_set : TargetSet) (ordered : List Letter) : Type 0 where
   pub rising : IsStrictlySortedBy source_cmp ordered
   pub among : (letter : Letter) → Contains ordered letter → Contains letters letter
-  pub all : (letter : Letter) → Contains letters letter → goes_into class letter ≡ true → Contains ordered letter
+  pub all : (letter : Letter) → Contains letters letter → goes_into target_set letter ≡ true → Contains ordered letter

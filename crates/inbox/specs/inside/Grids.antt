@@ -2,11 +2,11 @@
 use Rattle.std.specs.Prelude.{◌-◌, ◌/◌, ◌%◌, ◌==◌, max, cond, ℕ, ℤ, pos, negsuc, Bool, nat_le}
 use Rattle.inbox.specs.declared.grid.Grid.{Grid}
 
--- no block has this number
+-- the block number of targets that are in no block
 abbrev pub nowhere : ℕ
 nowhere = 18446744073709551615
 
--- the block in which an id so far behind the first is
+-- the block of the id at this distance from the first
 abbrev pub block_at : Grid → ℕ → ℕ
 block_at grid far = cond ((far % max grid.gap 1) == 0) (far / max grid.gap 1 / 4096) nowhere
 

@@ -1,4 +1,4 @@
--- Where the messages of an inbox lie.
+-- The messages of an inbox, in either place.
 use Rattle.std.specs.Prelude.{◌≤◌, ℤ, List, take}
 use Rattle.inbox.specs.declared.inboxes.Held.{Held}
 use Rattle.inbox.specs.declared.inboxes.Held.TheVariants.{Here, Apart}

@@ -9,7 +9,7 @@ use Rattle.inbox.specs.Merging.{source_cmp}
 abbrev pub target_cmp : Letter → Letter → Ordering
 target_cmp a b = ordering_then (int_cmp a.to b.to) (source_cmp a b)
 
--- the same letters, each before those that come later
+-- the letters sorted by target: the same letters, each below the next
 pub record IsByTarget (letters sorted : List Letter) : Type 0 where
   pub same : IsPermutation letters sorted
   pub rising : IsStrictlySortedBy target_cmp sorted

@@ -1,4 +1,4 @@
--- How the logic stores what a job shows.
+-- Codes of a job's model, for the logic.
 use Rattle.std.specs.Prelude.{ℕ, ℤ, List, [], refl}
 use Rattle.std.specs.Coded.{Coded, code_by, coded×, coded_ℕ, coded_ℤ, coded_list}
 use Rattle.wasm_ast.specs.declared.module.Module.{Module}
@@ -19,7 +19,7 @@ settings_code =
     (λ s. (s.parts, (s.workers, (s.every, (s.limit, s.lease)))))
     (λ p. record { parts = p.0; workers = p.1.0; every = p.1.1.0; limit = p.1.1.1.0; lease = p.1.1.1.1 }) (λ _. refl)
 
--- the work that nobody picked: an empty module over no graph
+-- the model of no job: an empty module over no graph
 abbrev pub no_work : Work
 no_work = record { «module» = empty_module; parts = []; settings = record { parts = 0; workers = 0; every = 0; limit = 0; lease = 0 } }
 

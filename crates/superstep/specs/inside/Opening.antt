@@ -1,4 +1,4 @@
--- What a job keeps.
+-- The contents of a job.
 use Rattle.std.specs.Prelude.{◌≡◌, ℕ, List, length, map, None}
 use Rattle.wasm_ast.specs.declared.module.Module.{Module}
 use Rattle.graph.specs.Entry.{Entry, ids}
@@ -6,7 +6,7 @@ use Rattle.superstep.specs.declared.settings.Settings.{Settings}
 use Rattle.superstep.specs.Job.{IsGraphOf}
 use Rattle.superstep.specs.Settings.{first_bad}
 
--- the parts are those of a graph with so many vertices, and these are the ids of each part's vertices
+-- the parts are those of a graph with `count` vertices, and `numbers` has the ids of each part's vertices
 pub record IsOpen (m : Module) (parts : List (List Entry)) (numbers : List (List ℕ)) (settings : Settings) (count : ℕ) : Type 0 where
   pub good : first_bad settings ≡ None
   pub graph : List Entry

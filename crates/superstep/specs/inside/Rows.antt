@@ -1,6 +1,6 @@
 -- Vertices in lists, as the code has them.
 use Rattle.std.specs.Prelude.{◌≡◌, ◌<◌, ℕ, Bool, List, [], true, length, map, slice_index_or}
-use Rattle.graph.specs.Cutting.{parts_by}
+use Rattle.graph.specs.Partition.{parts_by}
 use Rattle.graph.specs.Entry.{Entry}
 use Rattle.superstep.specs.declared.state.VertexState.{VertexState}
 use Rattle.superstep.specs.Job.{Work}
@@ -14,12 +14,12 @@ first_state entry = record { id = entry.id; value = entry.value; active = true; 
 abbrev pub first_states : List Entry → List VertexState
 first_states entries = map first_state entries
 
--- the vertices of each part are what the slice of its number has
+-- the vertices of each part fit the slice of its number
 abbrev pub AreSlices : Work → Bool → ℕ → List (List VertexState) → Type 0
 AreSlices work honest s parts =
     (part : ℕ) → part < length parts → IsSlice work honest (record { superstep = s; part = part }) (slice_index_or parts part [])
 
--- What a state keeps: the parts of its vertices.
+-- What always holds for a state's parts: they are the parts of its vertices.
 pub record IsKept (standing : Standing) (lists : List (List VertexState)) : Type 0 where
   pub state : IsState standing
   pub parts : lists ≡ parts_by state_id (length lists) standing.vertices

@@ -1,6 +1,6 @@
--- Tasks that are run one after another.
+-- Tasks, run one after another.
 use Rattle.superstep.specs.Tasks.{DoneStamp, SliceStamp}
 
--- the slice of which this came back
+-- the slice of this result
 abbrev pub slice_of : DoneStamp → SliceStamp
 slice_of done = record { superstep = done.superstep; part = done.part }

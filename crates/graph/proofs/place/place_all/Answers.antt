@@ -1,4 +1,4 @@
-use Rattle.std.proofs.Common.{◌≡◌, ℕ, List, ap, length, arith, subst}
+use Rattle.std.proofs.Common.{ℕ, List, ap, length, arith, subst}
 use Rattle.std.specs.List.Sorted.{IsStrictlyIncreasing}
 use Rattle.graph.specs.Entry.{entries_of, ids}
 use Rattle.graph.proofs.Placing.{ends_fail, no_edge, placed_next, placed_none, placed_room}

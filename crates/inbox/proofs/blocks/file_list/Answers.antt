@@ -1,4 +1,4 @@
-use Rattle.std.proofs.Common.{◌≡◌, ◌≤◌, ◌++◌, ap, append-nil, arith, length, map, pos, subst, sym, take, ◌∙◌}
+use Rattle.std.proofs.Common.{◌≤◌, ◌++◌, length, map, pos, subst, take, ◌∙◌}
 use Rattle.std.proofs.lemmas.List.{take_all}
 use Rattle.inbox.specs.declared.letters.Letter.{Letter as AnyLetter}
 use Rattle.inbox.specs.inside.Blocks.{AreFiled, slips_of}

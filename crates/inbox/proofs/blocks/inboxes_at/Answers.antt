@@ -1,4 +1,4 @@
-use Rattle.std.proofs.Common.{◌≡◌, ◌∙◌, ap, length, arith}
+use Rattle.std.proofs.Common.{◌∙◌, ap, length}
 use Rattle.std.proofs.lemmas.List.{length-replicate}
 use Rattle.inbox.proofs.Delivery.{replicate-empty}
 use Rattle.inbox.proofs.blocks.inboxes_at.Goals as goal

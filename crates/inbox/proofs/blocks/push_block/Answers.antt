@@ -1,4 +1,3 @@
-use Rattle.std.proofs.Common.{refl}
 use Rattle.inbox.proofs.Filed.{ids_more, none_more}
 use Rattle.inbox.proofs.blocks.push_block.Goals as goal
 

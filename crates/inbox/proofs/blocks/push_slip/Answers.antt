@@ -1,4 +1,4 @@
-use Rattle.std.proofs.Common.{◌≡◌, refl}
+use Rattle.std.proofs.Common.{refl}
 use Rattle.inbox.proofs.Filed.{ids_stay, slips_more}
 use Rattle.inbox.proofs.blocks.push_slip.Goals as goal
 

@@ -1,7 +1,8 @@
 use Rattle.std.proofs.Common.{◌≡◌, ◌<◌, ℕ, List, [], Global, Vec, length, get_or, map, vec_items, ap, sym, ◌∙◌, subst, arith, refl}
 use Rattle.std.proofs.lemmas.List.{length-map}
 use Rattle.std.proofs.lemmas.List.FromFn.{length-map-range_with_len}
-use Rattle.graph.specs.Cutting.{part_at, part_by, parts_by}
+use Rattle.graph.specs.Partition.{part_by, parts_by}
+use Rattle.graph.specs.inside.Partitioned.{part_at}
 use Rattle.superstep.specs.Job.{IsGraphOf, Work}
 use Rattle.superstep.specs.State.{state_id}
 use Rattle.superstep.specs.Tasks.{stamps_of}

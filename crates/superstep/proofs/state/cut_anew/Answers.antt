@@ -1,7 +1,7 @@
 use Rattle.std.proofs.Common.{◌≡◌, IfOk, List, ap, map, sym, subst, vec_items, ◌∙◌}
 use Rattle.std.specs.List.Sorted.{IsStrictlyIncreasing}
-use Rattle.graph.specs.Cutting.{parts_by}
-use Rattle.graph.specs.Rising.{order_is}
+use Rattle.graph.specs.Partition.{parts_by}
+use Rattle.graph.specs.inside.Rising.{order_is}
 use Rattle.superstep.specs.Ordering.{by_key}
 use Rattle.superstep.specs.State.{state_id}
 use Rattle.superstep.specs.declared.state.VertexState.{VertexState}

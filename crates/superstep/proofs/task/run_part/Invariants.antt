@@ -1,6 +1,6 @@
 use Rattle.std.proofs.Common.{◌≡◌, drop, take}
 use Rattle.graph.specs.Entry.{entries_of}
-use Rattle.superstep.specs.inside.Leaving.{CallsPart}
+use Rattle.superstep.specs.inside.PartOutput.{CallsPart}
 use Rattle.superstep.proofs.task.run_part.Given as goal
 
 abbrev pub invariant-loop-index : goal.invariant-loop-index

@@ -6,7 +6,7 @@ use Rattle.superstep.specs.declared.task.Shared.{Shared}
 use Rattle.superstep.specs.Job.{HasGraph, IsCount, Work}
 use Rattle.superstep.specs.State.{state_id}
 use Rattle.superstep.specs.Tasks.{AreAggregatesAt, AreUnitsAt, IsDone, SliceStamp, TaskStamp}
-use Rattle.superstep.specs.inside.Leaving.{CallsPart, HasProperIds, Tells}
+use Rattle.superstep.specs.inside.PartOutput.{CallsPart, HasProperIds, Tells}
 use Rattle.superstep.proofs.PartLeft.{done_here, entries_here, fits_below, fits_ids, proper_here, units_here, whole_slice}
 use Rattle.superstep.proofs.task.run_task.Goals as goal
 

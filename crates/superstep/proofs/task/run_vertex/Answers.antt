@@ -3,7 +3,7 @@ use Rattle.std.proofs.lemmas.Int.{ints}
 use Rattle.interp.specs.Call.{shown}
 use Rattle.graph.specs.Entry.{entry_of}
 use Rattle.superstep.specs.Superstep.{idle}
-use Rattle.superstep.specs.inside.Leaving.{row_of}
+use Rattle.superstep.specs.inside.PartOutput.{row_of}
 use Rattle.superstep.proofs.PartCalls.{adds_idle}
 use Rattle.superstep.proofs.VertexCalls.{call_keeps, call_told, called_true, idle_stays, idle_told, targets_small, test_false, test_true}
 use Rattle.superstep.proofs.task.run_vertex.Goals as goal

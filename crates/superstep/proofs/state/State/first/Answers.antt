@@ -11,21 +11,21 @@ use Rattle.superstep.proofs.Firsts.{IsFirst, first_ids, first_is_state, first_sh
 use Rattle.superstep.proofs.state.State.first.Goals as goal
 
 -- the vertices of each part
-parts : (c : goal.After-slot_starts) → map vec_items c.loop-part.parts.items ≡ map first_states c.args.job.now.parts
+parts : (c : goal.After-aggregator_starts) → map vec_items c.loop-part.parts.items ≡ map first_states c.args.job.now.parts
 parts c =
     c.loop-part.invariant
     ∙ ap (λ (parts : List Part). map first_states (map part_entries parts)) (take_all _ _ c.loop-part-test.false)
     ∙ ap (map first_states) c.parts-part-items.ensures.parts
 
-made : (c : goal.After-slot_starts) (graph : List Entry) → IsGraphOf c.args.job.now graph
-    → IsFirst graph (record { superstep = 0; since = 0; by_superstep = c.new.result.items; units = 0; dropped = 0; aggregates = c.slot_starts.result; vertices = in_order (map vec_items c.loop-part.parts.items) })
+made : (c : goal.After-aggregator_starts) (graph : List Entry) → IsGraphOf c.args.job.now graph
+    → IsFirst graph (record { superstep = 0; since = 0; by_superstep = c.new.result.items; units = 0; dropped = 0; aggregates = c.aggregator_starts.result; vertices = in_order (map vec_items c.loop-part.parts.items) })
 made c graph is = record {
   superstep = refl;
   since = refl;
   by_superstep = c.new.ensures.items;
   units = refl;
   dropped = refl;
-  aggregates = c.slot_starts.ensures;
+  aggregates = c.aggregator_starts.ensures;
   vertices = ap in_order (parts c) ∙ firsts_in_order c.args.job.now graph (some_parts c.args.job.now.settings c.parts-part-items.ensures.good) is;
 }
 

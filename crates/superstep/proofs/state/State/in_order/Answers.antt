@@ -8,8 +8,8 @@ use Rattle.std.proofs.lemmas.List.{append-nil, map-append, take_all, take_more}
 use Rattle.std.proofs.lemmas.List.Concat.{flat_map-append}
 use Rattle.std.proofs.lemmas.List.Sorted.{IsNonDecreasingBy-from_sort_by_key, IsPermutation-map}
 use Rattle.std.proofs.lemmas.Simd.{map-map}
-use Rattle.graph.specs.Cutting.{joined}
-use Rattle.graph.specs.Rising.{keys_sorted, order_is}
+use Rattle.graph.specs.Partition.{joined}
+use Rattle.graph.specs.inside.Rising.{keys_sorted, order_is}
 use Rattle.superstep.specs.Ordering.{by_key}
 use Rattle.superstep.specs.State.{Standing, state_id}
 use Rattle.superstep.specs.declared.state.VertexState.{VertexState}

@@ -1,5 +1,5 @@
 use Rattle.std.proofs.Common.{◌≡◌, map, take, vec_items}
-use Rattle.graph.specs.Cutting.{joined}
+use Rattle.graph.specs.Partition.{joined}
 use Rattle.superstep.proofs.state.State.in_order.Given as goal
 
 abbrev pub invariant-loop-part : goal.invariant-loop-part

@@ -1,5 +1,5 @@
 use Rattle.std.proofs.Common.{ap, ◌∙◌}
-use Rattle.graph.specs.Cutting.{parts_by}
+use Rattle.graph.specs.Partition.{parts_by}
 use Rattle.superstep.specs.State.{Standing, state_id}
 use Rattle.superstep.proofs.state.State.into_parts.Goals as goal
 

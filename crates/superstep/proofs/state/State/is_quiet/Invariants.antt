@@ -1,6 +1,6 @@
 use Rattle.std.proofs.Common.{◌≡◌, drop, map, vec_items}
 use Rattle.std.specs.List.{list_any}
-use Rattle.graph.specs.Cutting.{joined}
+use Rattle.graph.specs.Partition.{joined}
 use Rattle.superstep.specs.State.{is_due}
 use Rattle.superstep.proofs.state.State.is_quiet.Given as goal
 

@@ -1,0 +1,7 @@
+use Rattle.std.proofs.Common.{◌≡◌, map, [], vec_items}
+use Rattle.std.specs.List.{range_with_len}
+use Rattle.graph.specs.Partition.{part_by}
+use Rattle.graph.proofs.partition.empty_parts.Given as goal
+
+abbrev pub invariant-loop-part : goal.invariant-loop-part
+invariant-loop-part g l = map vec_items l.parts.items ≡ map (part_by g.T.Identified.id l.count []) (range_with_len 0 l.part)

@@ -1,6 +1,0 @@
-use Rattle.std.proofs.Common.{◌≡◌}
-use Rattle.inbox.specs.inside.Shares.{inboxes_in}
-use Rattle.inbox.proofs.parts.inboxes_in.Given as goal
-
-abbrev pub invariant-loop-part : goal.invariant-loop-part
-invariant-loop-part l = l.parts.items ≡ inboxes_in l.yielded

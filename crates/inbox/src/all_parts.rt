@@ -1,0 +1,488 @@
+ghost use Rattle.std.specs.Prelude.{◌≡◌, ◌≤◌, ◌<◌, ◌^◌, int_lt, pos, true, false, List, map, filter, length, nat_eq, sum_by, vec_items, vec_len, IfOk, IsTrue};
+ghost use Rattle.std.specs.List.{AllByRecursion, AllZip, IsDistinct};
+ghost use Rattle.std.specs.List.Sorted.{IsStrictlySortedBy, IsPartitionPoint};
+ghost use Rattle.inbox.specs.declared.letters.Letter.{Letter as AnyLetter};
+ghost use Rattle.std.specs.declared.cmp.Ordering.TheVariants.{Less};
+ghost use Rattle.inbox.specs.Merging.{are_one, goes_to, all_of, IsBySource, inboxes_of, dropped_of, source_cmp};
+ghost use Rattle.inbox.specs.inside.Blocks.{IsOrderOf};
+ghost use Rattle.inbox.specs.inside.Targets.{IsByTarget, target_cmp};
+ghost use Rattle.inbox.specs.inside.Shares.{goes_into, has, AreDelivered, IsDelivered, IsInboxIn, IsPutIn, inboxes_in};
+
+use crate::blocks::by_blocks;
+use crate::grid::Grid;
+use crate::inboxes::Inbox;
+use crate::letters::Letter;
+use crate::shares::{Share, TargetSet, shares};
+use rayon::current_num_threads;
+use rayon::prelude::*;
+use std::alloc::{AllocError, Global};
+use std::thread::Threads;
+
+/// Makes the inboxes of all parts in threads, and counts the letters that go to no id. For each part there is a list with one
+/// inbox for each of its ids, in their order.
+///
+/// The letters may be in any number of lists and in any order. An inbox has the messages that [`merge`](crate::merge) puts
+/// into it: the values of the letters to its id, by source and in the order of sending.
+///
+/// Consecutive parts form a share. There is one share a part, but no more shares than processors, and at most 16. Fewer than
+/// 10,000 letters and ids together are one share, which the calling thread merges. Else each share has a thread, which works
+/// in three steps:
+///
+/// 1. It reads all letters, copies those that may go to an id of its parts, and sorts them by source. If all letters are in
+///    one list that is sorted already, it copies none.
+/// 2. It files them by blocks of 4,096 ids.
+/// 3. It makes the inboxes of each block. An inbox of more than four messages has no room beyond them. Many ids of one part
+///    are shared among threads again.
+///
+/// Where the ids of a part do not rise by one gap, the letters of its share are sorted by target, and each id's letters are
+/// looked up.
+///
+/// In a job, each part has the ids of its own remainder. Then a share's thread copies the letters to its own targets, which it
+/// finds by their remainders. Otherwise it copies all letters. Each share takes O(n log n) time for n letters in all. It fails
+/// only where memory runs out.
+pub fn merge_parts(
+    rt: &(impl Threads + Sync),
+    alloc: Global,
+    lists: &[Vec<Letter>],
+    ids: &[Vec<u64>],
+) -> Result<(Vec<Vec<Inbox>>, u128), AllocError>
+    requires apart { IsDistinct nat_eq (all_of ids.now) }
+    requires distinct { IsDistinct are_one (all_of lists.now) }
+
+    // There is exactly one such order: see `letters_can_be_ordered` and `letters_have_one_order`.
+    ensures inboxes { IfOk result (λ merged. (ordered : List AnyLetter)
+        → IsBySource (all_of lists.now) ordered
+        → map vec_items merged.0.items ≡ map (λ part. inboxes_of ordered part.items) ids.now) }
+    ensures dropped { IfOk result (λ merged.
+        merged.1 ≡ dropped_of (all_of lists.now) (all_of ids.now)) }
+{
+    let shares = shares(alloc, ids, most_shares(rt, lists, ids))?;
+    let room = room_for(lists, shares.len());
+    let by_share = delivered_to_all(rt, alloc, lists, &shares, room)?;
+    let delivered = together(alloc, by_share)?;
+    let dropped = letter_count(lists) - delivered_count(&delivered);
+    let parts = inboxes_in(alloc, delivered)?;
+    Ok((parts, dropped))
+}
+
+// The inboxes of a part's ids, and the number of messages in them.
+#[derive(Drop)]
+struct Delivered {
+    inboxes: Vec<Inbox>,
+    count: u128,
+}
+
+// Counts the letters of all lists.
+fn letter_count(lists: &[Vec<Letter>]) -> u128
+    ensures { result ≡ sum_by (λ list. vec_len list) lists.now }
+{
+    lists.iter().map(|list| list.len() as u128).sum()
+}
+
+// Returns the length of all lists together. It stops at the greatest number.
+fn length_of_all<T>(lists: &[Vec<T>]) -> usize {
+    lists
+        .iter()
+        .fold(0usize, |count, list| count.saturating_add(list.len()))
+}
+
+// The least number of letters and ids together that is worth threads, or asking for the number of processors.
+const LEAST_WORK: usize = 10_000;
+
+// Returns the number of shares that is worth its threads.
+fn most_shares(rt: &impl Threads, lists: &[Vec<Letter>], ids: &[Vec<u64>]) -> usize {
+    let work = length_of_all(lists).saturating_add(length_of_all(ids));
+    if work < LEAST_WORK {
+        1
+    } else {
+        current_num_threads(rt)
+    }
+}
+
+// Returns the room for a share's letters: an equal share and a sixteenth more, so that most shares need not grow. It is at
+// most the number of letters.
+fn room_for(lists: &[Vec<Letter>], shares: usize) -> usize {
+    let letters = length_of_all(lists);
+    let share = letters / shares.max(1);
+    share.saturating_add(share / 16).min(letters)
+}
+
+// Makes the inboxes of each share.
+fn delivered_to_all(
+    rt: &(impl Threads + Sync),
+    alloc: Global,
+    lists: &[Vec<Letter>],
+    shares: &[Share],
+    room: usize,
+) -> Result<Vec<Vec<Delivered>>, AllocError>
+    requires { IsDistinct are_one (all_of lists.now) }
+    ensures { IfOk result (λ all. AllZip (AreDelivered (all_of lists.now)) shares.now all.items) }
+{
+    // Each share is worth a thread.
+    shares
+        .par_iter()
+        .with_min_len(1)
+        .map(
+            |share: &Share| -> Result<Vec<Delivered>, AllocError>
+                requires { IsDistinct are_one (all_of lists.now) }
+                ensures { IfOk result (AreDelivered (all_of lists.entry.now) share.now) }
+            { delivered_to_share(rt, alloc, lists, share, room) },
+        )
+        .collect::<Result<Vec<Vec<Delivered>>, AllocError>>(rt, alloc)?
+}
+
+// Makes the inboxes of one share's parts. Room for `room` letters is made at the start.
+fn delivered_to_share(
+    rt: &(impl Threads + Sync),
+    alloc: Global,
+    lists: &[Vec<Letter>],
+    share: &Share,
+    room: usize,
+) -> Result<Vec<Delivered>, AllocError>
+    requires { IsDistinct are_one (all_of lists.now) }
+    ensures { IfOk result (AreDelivered (all_of lists.now) share.now) }
+{
+    let targets = share.targets();
+    if !are_even(share.parts) {
+        return delivered_by_target(rt, alloc, lists, targets, room, share.parts);
+    }
+    if are_by_source(lists) {
+        return delivered_to_parts(rt, alloc, lists, lists, targets, room, share.parts);
+    }
+    let ordered = by_source(alloc, lists, targets, room)?;
+    delivered_to_parts(rt, alloc, lists, &ordered, targets, room, share.parts)
+}
+
+// Makes the inboxes of these parts, whose ids are among the targets. `lists` has the letters in any order, and `ordered` has
+// them by source.
+fn delivered_to_parts(
+    rt: &(impl Threads + Sync),
+    alloc: Global,
+    lists: &[Vec<Letter>],
+    ordered: &[Vec<Letter>],
+    targets: TargetSet,
+    room: usize,
+    parts: &[Vec<u64>],
+) -> Result<Vec<Delivered>, AllocError>
+    requires distinct { IsDistinct are_one (all_of lists.now) }
+    requires order { IsOrderOf (all_of lists.now) targets (all_of ordered.now) }
+    requires targets { AllByRecursion (λ ids. AllByRecursion (λ id. has targets id ≡ true) ids.items)
+        parts.now }
+    ensures { IfOk result (λ all. AllZip (IsDelivered (all_of lists.now)) parts.now all.items) }
+{
+    let mut all = Vec::with_capacity(alloc, parts.len())?;
+    for ids in parts {
+        let delivered = delivered_to(rt, alloc, lists, ordered, targets, room, ids)?;
+        all.push(delivered)?;
+    }
+    Ok(all)
+}
+
+// Makes the inboxes of a part, whose ids are among the targets.
+fn delivered_to(
+    rt: &(impl Threads + Sync),
+    alloc: Global,
+    lists: &[Vec<Letter>],
+    ordered: &[Vec<Letter>],
+    targets: TargetSet,
+    room: usize,
+    ids: &Vec<u64>,
+) -> Result<Delivered, AllocError>
+    requires distinct { IsDistinct are_one (all_of lists.now) }
+    requires order { IsOrderOf (all_of lists.now) targets (all_of ordered.now) }
+    requires targets { AllByRecursion (λ id. has targets id ≡ true) ids.now.items }
+    ensures { IfOk result (IsDelivered (all_of lists.now) ids.now) }
+{
+    match by_blocks(rt, alloc, ordered, ids, room)? {
+        Some(inboxes) => Ok(counted(inboxes)),
+        None => one_by_target(rt, alloc, lists, targets, room, ids),
+    }
+}
+
+fn counted(inboxes: Vec<Inbox>) -> Delivered
+    ensures inboxes { result.inboxes ≡ inboxes }
+    ensures count { result.count ≡ sum_by length inboxes.items }
+{
+    let count = message_count(&inboxes);
+    Delivered { inboxes, count }
+}
+
+// Checks that the ids of each part rise by one gap.
+fn are_even(parts: &[Vec<u64>]) -> bool {
+    parts.iter().all(|ids| Grid::of(ids).is_even(ids))
+}
+
+// Makes the inboxes of these parts, whose ids are among the targets. The letters are sorted by target, and each id's letters
+// are looked up.
+fn delivered_by_target(
+    rt: &(impl Threads + Sync),
+    alloc: Global,
+    lists: &[Vec<Letter>],
+    targets: TargetSet,
+    room: usize,
+    parts: &[Vec<u64>],
+) -> Result<Vec<Delivered>, AllocError>
+    requires distinct { IsDistinct are_one (all_of lists.now) }
+    requires targets { AllByRecursion (λ ids. AllByRecursion (λ id. has targets id ≡ true) ids.items)
+        parts.now }
+    ensures { IfOk result (λ all. AllZip (IsDelivered (all_of lists.now)) parts.now all.items) }
+{
+    let letters = by_target(alloc, lists, targets, room)?;
+    let mut all = Vec::with_capacity(alloc, parts.len())?;
+    for ids in parts {
+        let delivered = put_to(rt, alloc, &letters, ids)?;
+        all.push(delivered)?;
+    }
+    Ok(all)
+}
+
+// Makes the inboxes of one part in the same way.
+fn one_by_target(
+    rt: &(impl Threads + Sync),
+    alloc: Global,
+    lists: &[Vec<Letter>],
+    targets: TargetSet,
+    room: usize,
+    ids: &Vec<u64>,
+) -> Result<Delivered, AllocError>
+    requires distinct { IsDistinct are_one (all_of lists.now) }
+    requires targets { AllByRecursion (λ id. has targets id ≡ true) ids.now.items }
+    ensures { IfOk result (IsDelivered (all_of lists.now) ids.now) }
+{
+    let letters = by_target(alloc, lists, targets, room)?;
+    put_to(rt, alloc, &letters, ids)
+}
+
+// Makes the inboxes of a part from letters sorted by target.
+fn put_to(
+    rt: &(impl Threads + Sync),
+    alloc: Global,
+    letters: &[Letter],
+    ids: &Vec<u64>,
+) -> Result<Delivered, AllocError>
+    ensures { IfOk result (IsPutIn letters.now ids.now.items) }
+{
+    let inboxes = inboxes_at(rt, alloc, letters, ids)?;
+    let count = message_count(&inboxes);
+    Ok(Delivered { inboxes, count })
+}
+
+// Checks that the letters are in one list, sorted by source.
+fn are_by_source(lists: &[Vec<Letter>]) -> bool
+    ensures { IsTrue result → IsStrictlySortedBy source_cmp (all_of lists.now) }
+{
+    lists.len() == 1 && is_by_source(&lists[0])
+}
+
+fn is_by_source(letters: &[Letter]) -> bool
+    ensures { IsTrue result → IsStrictlySortedBy source_cmp letters.now }
+{
+    for index in 1..letters.len() {
+        if !comes_before(&letters[index - 1], &letters[index]) {
+            return false;
+        }
+    }
+    true
+}
+
+// Checks that the first letter's source is the lesser one, or sent the first letter earlier.
+fn comes_before(first: &Letter, second: &Letter) -> bool
+    ensures { IsTrue result → source_cmp first.now second.now ≡ Less }
+{
+    first.from < second.from || (first.from == second.from && first.seq < second.seq)
+}
+
+// Copies the letters to these targets into one list, sorted by source. Room for `room` letters is made at the start.
+fn by_source(
+    alloc: Global,
+    lists: &[Vec<Letter>],
+    targets: TargetSet,
+    room: usize,
+) -> Result<Vec<Vec<Letter>>, AllocError>
+    requires { IsDistinct are_one (all_of lists.now) }
+    ensures { IfOk result (λ ordered. IsOrderOf (all_of lists.now) targets (all_of ordered.items)) }
+{
+    let letters = sorted_by_source(alloc, lists, targets, room)?;
+    let mut ordered = Vec::with_capacity(alloc, 1)?;
+    ordered.push(letters)?;
+    Ok(ordered)
+}
+
+fn sorted_by_source(
+    alloc: Global,
+    lists: &[Vec<Letter>],
+    targets: TargetSet,
+    room: usize,
+) -> Result<Vec<Letter>, AllocError>
+    requires { IsDistinct are_one (all_of lists.now) }
+    ensures { IfOk result (λ ordered.
+        IsBySource (filter (goes_into targets) (all_of lists.now)) ordered.items) }
+{
+    let mut letters = letters_in(alloc, lists, targets, room)?;
+    letters.sort_by_key(|letter| (letter.from, letter.seq))?;
+    Ok(letters)
+}
+
+// Copies the letters to these targets, sorted by target and then by source. Room for `room` letters is made at the start.
+fn by_target(
+    alloc: Global,
+    lists: &[Vec<Letter>],
+    targets: TargetSet,
+    room: usize,
+) -> Result<Vec<Letter>, AllocError>
+    requires { IsDistinct are_one (all_of lists.now) }
+    ensures { IfOk result (λ letters.
+        IsByTarget (filter (goes_into targets) (all_of lists.now)) letters.items) }
+{
+    let mut letters = letters_in(alloc, lists, targets, room)?;
+    letters.sort()?;
+    Ok(letters)
+}
+
+// Copies the letters to these targets, one list after the other.
+fn letters_in(
+    alloc: Global,
+    lists: &[Vec<Letter>],
+    targets: TargetSet,
+    room: usize,
+) -> Result<Vec<Letter>, AllocError>
+    ensures { IfOk result (λ letters. letters.items ≡ filter (goes_into targets) (all_of lists.now)) }
+{
+    let mut letters = Vec::with_capacity(alloc, room)?;
+    for list in lists {
+        let within = |letter: &&Letter| targets.takes(letter);
+        letters.extend(list.iter().filter(within).copied())?;
+    }
+    Ok(letters)
+}
+
+// The least number of ids that is worth a thread, since parts have threads too.
+const LEAST_IDS: usize = 16_384;
+
+// Makes the inboxes of these ids.
+fn inboxes_at(
+    rt: &(impl Threads + Sync),
+    alloc: Global,
+    letters: &[Letter],
+    ids: &[u64],
+) -> Result<Vec<Inbox>, AllocError>
+    ensures { IfOk result (λ inboxes. AllZip (IsInboxIn letters.now) ids.now inboxes.items) }
+{
+    ids.par_iter()
+        .with_min_len(LEAST_IDS)
+        .map_init(
+            || 0usize,
+            |near: &mut usize, id: &u64| -> Result<Inbox, AllocError>
+                ensures { IfOk result (IsInboxIn letters.entry.now id.now) }
+            { inbox_at(alloc, letters, near, *id) },
+        )
+        .collect::<Result<Vec<Inbox>, AllocError>>(rt, alloc)?
+}
+
+// Makes the inbox of this id. The search begins at `near`, the end of the last id's letters.
+fn inbox_at(
+    alloc: Global,
+    letters: &[Letter],
+    near: &mut usize,
+    id: u64,
+) -> Result<Inbox, AllocError>
+    ensures { IfOk result (IsInboxIn letters.now id) }
+{
+    let mine = run_to(letters, near, id);
+    let mut inbox = Inbox::with_capacity(alloc, mine.len())?;
+    for letter in mine {
+        inbox.push(letter.value)?;
+    }
+    Ok(inbox)
+}
+
+// Finds the letters to this id among letters sorted by target, where they are next to each other.
+fn run_to<'a>(letters: &'a [Letter], near: &mut usize, id: u64) -> &'a [Letter]
+    ensures { IsStrictlySortedBy target_cmp letters.now
+        → result.now ≡ filter (λ letter. goes_to letter id) letters.now }
+{
+    let start = start_from(letters, *near, id);
+    let rest = &letters[start..];
+
+    // Few letters go to most ids, so looking at each costs less than a second search.
+    let count = rest
+        .iter()
+        .take_while(|letter| i128::from(letter.to) == i128::from(id))
+        .count();
+    *near = start + count;
+    &rest[..count]
+}
+
+// Checks whether a letter goes to a target below this id.
+fn goes_below(letter: &Letter, id: u64) -> bool
+    ensures { result ≡ int_lt letter.now.to (pos id) }
+{
+    i128::from(letter.to) < i128::from(id)
+}
+
+// The number of letters that are looked at one by one before a search.
+const FEW: usize = 32;
+
+// Finds the first letter to this id or a later one. It looks from `near` on if the letter before `near` goes to an earlier
+// id, and else among all letters.
+fn start_from(letters: &[Letter], near: usize, id: u64) -> usize
+    ensures bound { result ≤ length letters.now }
+    ensures found { IsStrictlySortedBy target_cmp letters.now
+        → IsPartitionPoint (λ letter. int_lt letter.to (pos id) ≡ true)
+        (λ letter. int_lt letter.to (pos id) ≡ false) letters.now result }
+{
+    if near == 0 || near > letters.len() || !goes_below(&letters[near - 1], id) {
+        return letters.partition_point(|letter| goes_below(letter, id));
+    }
+    let rest = &letters[near..];
+    let ahead = rest
+        .iter()
+        .take(FEW)
+        .take_while(|letter| goes_below(letter, id))
+        .count();
+    if ahead < FEW {
+        return near + ahead;
+    }
+    near + rest.partition_point(|letter| goes_below(letter, id))
+}
+
+// Concatenates the parts of all shares.
+fn together(alloc: Global, shares: Vec<Vec<Delivered>>) -> Result<Vec<Delivered>, AllocError>
+    ensures { IfOk result (λ all. all.items ≡ all_of shares.items) }
+{
+    let mut all = Vec::new(alloc);
+    for share in shares {
+        let mut parts = share;
+        all.append(&mut parts)?;
+    }
+    Ok(all)
+}
+
+// Returns the inboxes of each part.
+fn inboxes_in(alloc: Global, delivered: Vec<Delivered>) -> Result<Vec<Vec<Inbox>>, AllocError>
+    ensures { IfOk result (λ parts. parts.items ≡ inboxes_in delivered.items) }
+{
+    let mut parts = Vec::with_capacity(alloc, delivered.len())?;
+    for part in delivered {
+        parts.push(part.inboxes)?;
+    }
+    Ok(parts)
+}
+
+// Counts the messages to all parts.
+fn delivered_count(parts: &[Delivered]) -> u128
+    requires { sum_by (λ part. part.count) parts.now < 2 ^ 128 }
+    ensures { result ≡ sum_by (λ part. part.count) parts.now }
+{
+    parts.iter().map(|part| part.count).sum()
+}
+
+// Counts the messages in these inboxes.
+fn message_count(inboxes: &[Inbox]) -> u128
+    ensures { result ≡ sum_by (λ inbox. length inbox) inboxes.now }
+{
+    inboxes
+        .iter()
+        .map(|inbox| inbox.as_slice().len() as u128)
+        .sum()
+}

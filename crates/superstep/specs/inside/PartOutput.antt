@@ -1,0 +1,83 @@
+-- The output of a part's calls, as the code has it.
+use Rattle.std.specs.Prelude.{◌≡◌, ◌++◌, ◌∷◌, ◌+◌, ℕ, List, [], map, if◌then◌else◌}
+use Rattle.std.specs.List.{All, fold}
+use Rattle.wasm_ast.specs.declared.module.Module.{Module}
+use Rattle.host_calls.specs.declared.call.CallInput.{CallInput}
+use Rattle.host_calls.specs.declared.call.CallOutcome.{CallOutcome}
+use Rattle.interp.specs.Call.{IsOutcome, Outcome, shown}
+use Rattle.interp.specs.Outcomes.{Given, given_of}
+use Rattle.graph.specs.Entry.{Entry, is_in_range}
+use Rattle.superstep.specs.declared.part_output.PartOutput.{PartOutput}
+use Rattle.superstep.specs.declared.state.VertexState.{VertexState}
+use Rattle.superstep.specs.declared.task.Shared.{Shared}
+use Rattle.superstep.specs.Folds.{capped, give}
+use Rattle.host_calls.specs.Aggregators.{aggregator_starts}
+use Rattle.superstep.specs.Snapshot.{Row, is_called}
+use Rattle.superstep.specs.Superstep.{idle}
+use Rattle.superstep.specs.State.{state_id}
+use Rattle.superstep.specs.Tasks.{ComesBack, VertexOutcome, emptied, letters_from}
+use Rattle.superstep.specs.inside.Barrier.{left_id}
+
+-- this is the output before the first call
+pub record IsNothing (left : PartOutput) : Type 0 where
+  pub letters : left.letters.items ≡ []
+  pub slots : left.slots ≡ aggregator_starts
+  pub units : left.units ≡ 0
+
+-- The outcome of the vertex with this id is added to the output of others. If the total of their units was capped, the new
+-- total is capped too.
+pub record Adds (id : ℕ) (outcome : Outcome) (old new : PartOutput) : Type 0 where
+  pub letters : new.letters.items ≡ old.letters.items ++ letters_from id outcome
+  pub slots : new.slots ≡ fold give old.slots outcome.contributions
+  pub units : (total : ℕ) → old.units ≡ capped total → new.units ≡ capped (total + outcome.units)
+
+-- the id and the targets are in range
+pub record HasProperIds (entry : Entry) : Type 0 where
+  pub id : is_in_range entry.id
+  pub targets : All (λ edge. is_in_range edge.0) entry.edges
+
+-- a vertex with its edges
+abbrev pub row_of : Entry → VertexState → Row
+row_of entry vertex = record { id = vertex.id; value = vertex.value; edges = entry.edges; active = vertex.active; inbox = vertex.inbox }
+
+-- the input of its call
+abbrev pub given_in : Shared → Row → Given
+given_in shared row = record {
+  id = row.id;
+  superstep = shared.superstep;
+  count = shared.count;
+  value = row.value;
+  messages = row.inbox;
+  edges = row.edges;
+  aggregated = shared.aggregated;
+}
+
+-- the outcome of a vertex
+abbrev pub left_in : (Given → Outcome) → Shared → Row → Outcome
+left_in outcomes shared row = if is_called row then outcomes (given_in shared row) else idle row
+
+-- the function gives the outcome of each call
+abbrev pub Tells : Module → (Given → Outcome) → Type 0
+Tells m outcomes =
+    (input : CallInput) (outcome : CallOutcome) → IsOutcome m input outcome → shown outcome ≡ outcomes (given_of input)
+
+-- the vertex is called, or stays as it is
+pub record CallsVertex (shared : Shared) (entry : Entry) (before after : VertexState) (old new : PartOutput) : Type 0 where
+  pub outcome : Outcome
+  pub is : (outcomes : Given → Outcome) → Tells shared.verified.now outcomes → outcome ≡ left_in outcomes shared (row_of entry before)
+  pub vertex : after ≡ emptied (before.id, outcome)
+  pub adds : Adds before.id outcome old new
+
+-- the vertices of a part, each with its edges
+abbrev pub rows_of : List Entry → List VertexState → List Row
+rows_of [] vertices = []
+rows_of (entry ∷ entries) [] = []
+rows_of (entry ∷ entries) (vertex ∷ vertices) = row_of entry vertex ∷ rows_of entries vertices
+
+-- the vertices of a part are called, or stay as they are, and this is their output
+pub record CallsPart (shared : Shared) (entries : List Entry) (before after : List VertexState) (all : PartOutput) : Type 0 where
+  pub left : List VertexOutcome
+  pub comes : ComesBack left after all.letters.items all.slots all.units
+  pub ids : map left_id left ≡ map state_id before
+  pub is : (outcomes : Given → Outcome) → Tells shared.verified.now outcomes
+      → left ≡ map (λ (row : Row). (row.id, left_in outcomes shared row)) (rows_of entries before)

@@ -1,0 +1,106 @@
+//! The output of a part's vertices in a superstep.
+
+ghost use Rattle.std.specs.Prelude.{◌≡◌, ◌++◌, OnOk};
+ghost use Rattle.std.specs.List.{fold};
+ghost use Rattle.interp.specs.Call.{shown};
+ghost use Rattle.superstep.specs.Folds.{combined, give};
+ghost use Rattle.superstep.specs.Tasks.{letter_from, letters_from};
+ghost use Rattle.superstep.specs.inside.PartOutput.{Adds, IsNothing};
+
+use host_calls::{CallOutcome, aggregator_starts};
+use inbox::Letter;
+use std::alloc::{AllocError, Global};
+
+/// The output of the calls of a part so far.
+#[derive(Drop)]
+pub struct PartOutput {
+    /// Their messages, in the order of sending.
+    pub letters: Vec<Letter>,
+    /// Their contributions, aggregated.
+    pub slots: [i64; 8],
+    /// The units of the calls. They stop at the greatest number of 128 bits.
+    pub units: u128,
+}
+
+impl PartOutput {
+    /// Makes the output before the first call: nothing.
+    pub fn nothing(alloc: Global) -> PartOutput
+        ensures { IsNothing result }
+    {
+        PartOutput {
+            letters: Vec::new(alloc),
+            slots: aggregator_starts(),
+            units: 0,
+        }
+    }
+
+    /// Adds the outcome of the call of the vertex with this id.
+    pub fn add(&mut self, id: u64, outcome: &CallOutcome) -> Result<(), AllocError>
+        ensures { OnOk result (Adds id (shown outcome.now) self.old self.new) }
+    {
+        push_letters(&mut self.letters, id, outcome)?;
+        give_all(&mut self.slots, &outcome.contributions);
+        self.units = self.units.saturating_add(outcome.units);
+        Ok(())
+    }
+}
+
+// Makes a letter of each message, numbered in the order of sending.
+fn push_letters(letters: &mut Vec<Letter>, id: u64, outcome: &CallOutcome) -> Result<(), AllocError>
+    ensures { OnOk result (letters.new.items
+        ≡ letters.old.items ++ letters_from id (shown outcome.now)) }
+{
+    letters.reserve(outcome.sends.len())?;
+    for (seq, send) in outcome.sends.iter().enumerate() {
+        letters.push(letter_from(id, seq as u64, *send))?;
+    }
+    Ok(())
+}
+
+// Makes the letter of a message, which has this number among those of its vertex.
+fn letter_from(id: u64, seq: u64, send: (i64, i64)) -> Letter
+    ensures { result ≡ letter_from id (seq, send) }
+{
+    let (to, value) = send;
+    Letter {
+        to,
+        from: id,
+        seq,
+        value,
+    }
+}
+
+/// Adds contributions to the slots, in order (Pregel 2010, 3.3).
+pub fn give_all(slots: &mut [i64; 8], contributions: &[(u32, i64)])
+    ensures { slots.new ≡ fold give slots.old contributions.now }
+{
+    for given in contributions {
+        give(slots, *given);
+    }
+}
+
+// Adds a contribution to its slot.
+fn give(slots: &mut [i64; 8], given: (u32, i64))
+    ensures { slots.new ≡ give slots.old given }
+{
+    let (slot, value) = given;
+    let place = slot as usize;
+    if place < slots.len() {
+        slots[place] = combined(slot, slots[place], value);
+    }
+}
+
+/// Combines the value of a slot with a contribution.
+pub fn combined(slot: u32, old: i64, given: i64) -> i64
+    ensures { result ≡ combined slot old given }
+{
+    if slot < 2 {
+        old.wrapping_add(given)
+    } else if slot < 4 {
+        old.min(given)
+    } else if slot < 6 {
+        old.max(given)
+    } else {
+        old | given
+    }
+}

@@ -14,8 +14,8 @@ use Rattle.superstep.specs.State.{IsState, Standing}
 use Rattle.checkpoint.specs.Numbers.{number, signed}
 use Rattle.checkpoint.specs.Checkpoint.{Fits, HeadFits, IsCheckpointOf, VertexFits, checkpoint_bytes, digest, flag, head_bytes, magic, older_bytes, sealed, told_bytes, vertex_bytes, vertices_bytes}
 use Rattle.checkpoint.specs.Reading.{Gives, content_at, head_at, is_sound, items_at, number_at, sealed_at, signed_at, state_of, told_at, vertex_at, vertices_at}
-use Rattle.checkpoint.specs.declared.fault.CheckFault.{CheckFault}
-use Rattle.checkpoint.specs.declared.fault.CheckFault.TheVariants.{OutOfMemory}
+use Rattle.checkpoint.specs.declared.fault.CheckpointFault.{CheckpointFault}
+use Rattle.checkpoint.specs.declared.fault.CheckpointFault.TheVariants.{OutOfMemory}
 use Rattle.checkpoint.specs.declared.reading.Head.{Head}
 use Rattle.checkpoint.proofs.Fields.{items_complete, length_number, number_complete, signed_complete}
 use Rattle.checkpoint.proofs.Found.{FieldsFit, fields, head_of, head_then, rest_at}
@@ -214,11 +214,11 @@ checkpoint_is_read bytes state is =
       | inr older ↦ ap state_of older.0 ∙ older_is_read state is.is_state is.fits older.1
     ]
 
-read_is : (state : Standing) (result : Result State CheckFault) → Gives (λ s. s) result (Ok state) → MatchResult result (λ read. read ≡ state) (λ fault. fault ≡ OutOfMemory)
+read_is : (state : Standing) (result : Result State CheckpointFault) → Gives (λ s. s) result (Ok state) → MatchResult result (λ read. read ≡ state) (λ fault. fault ≡ OutOfMemory)
 read_is state (Ok s) e = cc
 read_is state (Err OutOfMemory) e = refl
 read_is state (Err _) e = absurd cc
 
-pub is_only : (bytes : List ℕ) (result : Result State CheckFault) → Gives (λ s. s) result (state_of bytes) → (state : Standing) → IsCheckpointOf bytes state
+pub is_only : (bytes : List ℕ) (result : Result State CheckpointFault) → Gives (λ s. s) result (state_of bytes) → (state : Standing) → IsCheckpointOf bytes state
     → MatchResult result (λ read. read ≡ state) (λ fault. fault ≡ OutOfMemory)
 is_only bytes result gives state is = read_is state result (subst (λ read. Gives (λ s. s) result read) (checkpoint_is_read bytes state is) gives)

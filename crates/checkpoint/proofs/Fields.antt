@@ -12,8 +12,8 @@ use Rattle.byteorder.specs.Endian.{little_bytes, little_number}
 use Rattle.byteorder.specs.Numbers.{length-bytes_low_first, little_from-cons, little_from-lt, little_from-take, little_number-reads_back}
 use Rattle.checkpoint.specs.Numbers.{number, signed}
 use Rattle.checkpoint.specs.Reading.{◌>>=◌, Reads, items_at, number_at, signed_at}
-use Rattle.checkpoint.specs.declared.fault.CheckFault.{CheckFault}
-use Rattle.checkpoint.specs.declared.fault.CheckFault.TheVariants.{Truncated}
+use Rattle.checkpoint.specs.declared.fault.CheckpointFault.{CheckpointFault}
+use Rattle.checkpoint.specs.declared.fault.CheckpointFault.TheVariants.{Truncated}
 use Rattle.checkpoint.proofs.Tools.{bind_ok, guard_ok, ok_is}
 
 -- ---- bytes
@@ -69,7 +69,7 @@ abbrev pub IsComplete : {A : Type 0} → Reads A → (A → List ℕ) → (A →
 IsComplete {A} reader spelling Fit = (x : A) (rest : List ℕ) → Fit x → reader (spelling x ++ rest) ≡ Ok (x, rest)
 
 -- a step took the front, and the others go on behind it
-pub by_step : {A B P : Type 0} {reader : Reads A} (spelling : A → List ℕ) {Fit : A → Type 0} (next : A × List ℕ → Result B CheckFault) (y : B) (bytes : List ℕ)
+pub by_step : {A B P : Type 0} {reader : Reads A} (spelling : A → List ℕ) {Fit : A → Type 0} (next : A × List ℕ → Result B CheckpointFault) (y : B) (bytes : List ℕ)
     → IsSound reader spelling Fit → IsBytes bytes → (reader bytes >>= next) ≡ Ok y
     → ((x : A) (rest : List ℕ) → bytes ≡ spelling x ++ rest → Fit x → IsBytes rest → next (x, rest) ≡ Ok y → P) → P
 by_step {reader = reader} spelling next y bytes sound fits e others =

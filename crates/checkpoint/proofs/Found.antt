@@ -12,8 +12,8 @@ use Rattle.superstep.specs.State.{IsState, Standing}
 use Rattle.checkpoint.specs.Numbers.{number, signed}
 use Rattle.checkpoint.specs.Checkpoint.{Fits, IsCheckpointOf, VertexFits, digest, flag, head_bytes, magic, sealed, told_bytes, vertex_bytes, vertices_bytes}
 use Rattle.checkpoint.specs.Reading.{◌>>=◌, Gives, content_at, head_at, in_order, is_sound, number_at, sealed_at, signed_at, state_of, told_at, vertex_at, vertices_at}
-use Rattle.checkpoint.specs.declared.fault.CheckFault.{CheckFault}
-use Rattle.checkpoint.specs.declared.fault.CheckFault.TheVariants.{Digest, Header, Order, Truncated, Version}
+use Rattle.checkpoint.specs.declared.fault.CheckpointFault.{CheckpointFault}
+use Rattle.checkpoint.specs.declared.fault.CheckpointFault.TheVariants.{Digest, Header, Order, Truncated, Version}
 use Rattle.checkpoint.specs.declared.reading.Head.{Head}
 use Rattle.checkpoint.proofs.Tools.{bind_ok, both_true, ok_is, unless}
 use Rattle.checkpoint.proofs.Sound.{is_state}
@@ -137,12 +137,12 @@ pub record Rest (make : List VertexState → Standing) (bytes : List ℕ) (state
   pub sound : is_sound (make vertices) ≡ true
   pub made : make vertices ≡ state
 
-ordered_ok : {A : Type 0} (b : Bool) (fault : CheckFault) (x y : A) → cond b (Ok x) (Err fault) ≡ Ok y → (b ≡ true) × (x ≡ y)
+ordered_ok : {A : Type 0} (b : Bool) (fault : CheckpointFault) (x y : A) → cond b (Ok x) (Err fault) ≡ Ok y → (b ≡ true) × (x ≡ y)
 ordered_ok true fault x y e = (refl, ok_is x y e)
 ordered_ok false fault x y e = absurd cc
 
 -- what reads the vertices, and wants nothing behind them
-abbrev pub rest_at : (List VertexState → Standing) → List ℕ → Result Standing CheckFault
+abbrev pub rest_at : (List VertexState → Standing) → List ℕ → Result Standing CheckpointFault
 rest_at make bytes =
     number_at 4 bytes >>= λ count. vertices_at count.0 count.1 >>= λ vertices. in_order (vertices.0.1 && (eqb (length vertices.1) 0)) (make vertices.0.0)
 
@@ -294,6 +294,6 @@ state_found bytes state fits e =
       ];
     }
 
-pub is_found : (bytes : List ℕ) (result : Result State CheckFault) → IsBytes bytes → Gives (λ state. state) result (state_of bytes) → IfOk result (IsCheckpointOf bytes)
+pub is_found : (bytes : List ℕ) (result : Result State CheckpointFault) → IsBytes bytes → Gives (λ state. state) result (state_of bytes) → IfOk result (IsCheckpointOf bytes)
 is_found bytes (Ok state) fits e = state_found bytes state fits e
 is_found bytes (Err fault) fits e = tt

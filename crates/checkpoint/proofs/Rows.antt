@@ -6,7 +6,7 @@ use Rattle.std.specs.List.Sorted.{IsStrictlyIncreasing}
 use Rattle.std.specs.Prelude.{slice_index}
 use Rattle.superstep.specs.declared.state.VertexState.{VertexState}
 use Rattle.superstep.specs.State.{state_id}
-use Rattle.checkpoint.specs.declared.fault.CheckFault.{CheckFault}
+use Rattle.checkpoint.specs.declared.fault.CheckpointFault.{CheckpointFault}
 use Rattle.checkpoint.specs.Reading.{Fails, is_rising, vertex_at, vertices_at}
 use Rattle.checkpoint.proofs.Tools.{Fails-continued, Fails-then, both_true, continued, goes_on, is_done}
 
@@ -29,7 +29,7 @@ vertices_more : (n : ℕ) (bytes : List ℕ) (v : VertexState) (told : Bool) (af
 unfolding vertices_at
 vertices_more n bytes v told after e = rw e refl
 
-pub vertices_go_on : (front : List VertexState) (told : Bool) (count i : ℕ) (bytes after : List ℕ) (v : VertexState) (own : Bool) (total : Result ((List VertexState × Bool) × List ℕ) CheckFault)
+pub vertices_go_on : (front : List VertexState) (told : Bool) (count i : ℕ) (bytes after : List ℕ) (v : VertexState) (own : Bool) (total : Result ((List VertexState × Bool) × List ℕ) CheckpointFault)
     → i < count → vertex_at bytes ≡ Ok ((v, own), after) → continued (onto front told) (vertices_at (count - i) bytes) ≡ total
     → continued (onto (front ++ v ∷ []) (told && own)) (vertices_at (count - (i + 1)) after) ≡ total
 vertices_go_on front told count i bytes after v own total lt e so_far =
@@ -37,14 +37,14 @@ vertices_go_on front told count i bytes after v own total lt e so_far =
     goes_on (onto front told) (λ y. (v ∷ y.0, own && y.1)) (onto (front ++ v ∷ []) (told && own)) (vertices_at (count - i) bytes) (vertices_at (count - (i + 1)) after) total
     (λ y j. (append_assoc front (v ∷ []) y.0 j, and_assoc told own y.1 j)) (rw k (vertices_more (count - (i + 1)) bytes v own after e)) so_far
 
-pub vertices_fail : (fault : CheckFault) (front : List VertexState) (told : Bool) (count i : ℕ) (bytes : List ℕ) (total : Result ((List VertexState × Bool) × List ℕ) CheckFault)
+pub vertices_fail : (fault : CheckpointFault) (front : List VertexState) (told : Bool) (count i : ℕ) (bytes : List ℕ) (total : Result ((List VertexState × Bool) × List ℕ) CheckpointFault)
     → i < count → Fails fault (vertex_at bytes) → continued (onto front told) (vertices_at (count - i) bytes) ≡ total → Fails fault total
 unfolding vertices_at
 vertices_fail fault front told count i bytes total lt e so_far =
     let k : count - i ≡ suc (count - (i + 1)) = omega arith in
     Fails-continued fault (onto front told) (vertices_at (count - i) bytes) total (rw k (Fails-then fault (vertex_at bytes) _ e)) so_far
 
-pub vertices_done : (front : List VertexState) (told : Bool) (count i : ℕ) (bytes : List ℕ) (total : Result ((List VertexState × Bool) × List ℕ) CheckFault)
+pub vertices_done : (front : List VertexState) (told : Bool) (count i : ℕ) (bytes : List ℕ) (total : Result ((List VertexState × Bool) × List ℕ) CheckpointFault)
     → count ≤ i → continued (onto front told) (vertices_at (count - i) bytes) ≡ total → total ≡ Ok ((front, told), bytes)
 unfolding vertices_at
 vertices_done front told count i bytes total le so_far =

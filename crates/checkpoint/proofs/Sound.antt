@@ -6,7 +6,7 @@ use Rattle.superstep.specs.declared.state.VertexState.{VertexState}
 use Rattle.superstep.specs.Folds.{capped}
 use Rattle.superstep.specs.State.{IsState, Standing, state_id}
 use Rattle.checkpoint.specs.Reading.{◌>>=◌, Reads, adds_up, is_rising, is_sound, items_at, number_at, told_at, vertex_at, vertices_at}
-use Rattle.checkpoint.specs.declared.fault.CheckFault.TheVariants.{Order, Truncated}
+use Rattle.checkpoint.specs.declared.fault.CheckpointFault.TheVariants.{Order, Truncated}
 use Rattle.checkpoint.proofs.Tools.{bind_ok, both_true, ok_is, unless}
 use Rattle.checkpoint.proofs.Rows.{is_rising_from, rising_from}
 

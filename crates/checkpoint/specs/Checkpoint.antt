@@ -1,5 +1,5 @@
--- How a state is spelled. A state has one spelling, of version 2; version 1, in which the units of single supersteps are not
--- told, is still read.
+-- How a state is spelled. A state has one spelling, of version 2. Version 1, without units of single supersteps, is
+-- still read.
 use Rattle.std.specs.Prelude.{◌≡◌, ◌<◌, ◌^◌, ◌⊎◌, ◌++◌, ◌∷◌, [], ℕ, Bool, FitsSigned, List, length, if◌then◌else◌}
 use Rattle.std.specs.Int.{w64}
 use Rattle.std.specs.List.{AllByRecursion, flat_map}
@@ -28,7 +28,7 @@ unfoldable pub head_bytes : ℕ → Standing → List ℕ
 head_bytes version state =
     magic ++ (number 4 version ++ (number 4 state.superstep ++ (number 16 state.dropped ++ (number 16 state.units ++ flat_map signed state.aggregates))))
 
--- the first superstep whose units are told, and the units of each from that one on
+-- the first superstep of units, and the units of each superstep from there on
 unfoldable pub told_bytes : Standing → List ℕ
 told_bytes state = number 4 state.since ++ flat_map (number 16) state.by_superstep
 
@@ -62,13 +62,13 @@ pub record HeadFits (state : Standing) : Type 0 where
   pub slots : length state.aggregates ≡ 8
   pub aggregates : AllByRecursion (FitsSigned w64) state.aggregates
 
--- each number is one of its width
+-- each number fits its width
 pub record Fits (state : Standing) : Type 0 where
   pub head : HeadFits state
   pub by_superstep : AllByRecursion (λ n. n < 2 ^ 128) state.by_superstep
   pub vertices : AllByRecursion VertexFits state.vertices
 
--- The bytes are those of the state: version 2, or version 1 where the units of no superstep are told.
+-- The bytes are those of the state, in version 2, or in version 1 if the state has no units of single supersteps.
 abbrev pub Spells : List ℕ → Standing → Type 0
 Spells bytes state = (bytes ≡ checkpoint_bytes state) ⊎ ((bytes ≡ older_bytes state) × (state.since ≡ state.superstep))
 

@@ -1,9 +1,9 @@
 -- What a reader has to believe, in this order: how numbers are spelled, and how a state is.
 pub mod Numbers
 pub mod Checkpoint
--- what reading comes to, with the fault that is told
+-- what reading returns, with the fault that is reported
 pub mod Reading
--- what a Keep's calls leave
+-- what a Keep's calls leave behind, in memory and on disk
 pub mod Keep
 pub mod Memory
 pub mod Files

@@ -3,7 +3,7 @@ use Rattle.std.specs.Prelude.{ℕ, ℤ, List}
 use Rattle.std.specs.Int.{cast_unsigned, w64}
 use Rattle.byteorder.specs.Endian.{little_bytes}
 
--- the number n in so many bytes
+-- the number n in `size` bytes
 unfoldable pub number : ℕ → ℕ → List ℕ
 number size n = little_bytes size n
 

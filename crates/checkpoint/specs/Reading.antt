@@ -1,6 +1,6 @@
--- What the bytes are read as, or the fault that is told. That less stands there than the counts say is told before anything
--- that is out of order, wherever both stand; but a first superstep of units that comes after the superstep is told as soon as
--- the fields of one size are there.
+-- What the bytes are read as, or the fault that is reported. Missing bytes are reported before anything that is out of
+-- order. One exception: if the first superstep of units is later than the superstep, that is reported as soon as the
+-- fields of fixed size are there.
 use Rattle.std.specs.Prelude.{◌≡◌, ℕ, zero, suc, ◌-◌, ℤ, Bool, true, not, ◌&&◌, ◌||◌, List, [], ◌∷◌, length, map, take, drop, nat_lt, nat_le, Result, Ok, Err, ◌==◌, if◌then◌else◌}
 use Rattle.std.specs.Int.{cast_signed, w64}
 use Rattle.std.specs.List.{sum}
@@ -10,28 +10,28 @@ use Rattle.superstep.specs.declared.state.VertexState.{VertexState}
 use Rattle.superstep.specs.Folds.{capped}
 use Rattle.superstep.specs.State.{Standing, state_id}
 use Rattle.checkpoint.specs.Checkpoint.{digest, magic}
-use Rattle.checkpoint.specs.declared.fault.CheckFault.{CheckFault}
+use Rattle.checkpoint.specs.declared.fault.CheckpointFault.{CheckpointFault}
 use Rattle.checkpoint.specs.declared.reading.Head.{Head}
-use Rattle.checkpoint.specs.declared.fault.CheckFault.TheVariants.{Header, Version, Truncated, Digest, Order, OutOfMemory}
+use Rattle.checkpoint.specs.declared.fault.CheckpointFault.TheVariants.{Header, Version, Truncated, Digest, Order, OutOfMemory}
 
 infixl 10 ◌>>=◌
-abbrev pub ◌>>=◌ : {A B : Type 0} → Result A CheckFault → (A → Result B CheckFault) → Result B CheckFault
+abbrev pub ◌>>=◌ : {A B : Type 0} → Result A CheckpointFault → (A → Result B CheckpointFault) → Result B CheckpointFault
 (Ok x) >>= f = f x
 (Err e) >>= f = Err e
 
--- A fault of the bytes is the one that is told, and want of memory says nothing.
-abbrev pub Fails : {Y : Type 0} → CheckFault → Result Y CheckFault → Type 0
+-- A fault of the bytes is the reported one. Out of memory says nothing of the bytes.
+abbrev pub Fails : {Y : Type 0} → CheckpointFault → Result Y CheckpointFault → Type 0
 Fails OutOfMemory read = Unit {0}
 Fails fault read = read ≡ Err fault
 
--- What a function returned, seen by view, is what reading gives, unless memory ran out.
-abbrev pub Gives : {X Y : Type 0} → (X → Y) → Result X CheckFault → Result Y CheckFault → Type 0
+-- What a function returned, as `view` shows it, is what reading gives, unless memory ran out.
+abbrev pub Gives : {X Y : Type 0} → (X → Y) → Result X CheckpointFault → Result Y CheckpointFault → Type 0
 Gives view (Ok x) read = read ≡ Ok (view x)
 Gives view (Err fault) read = Fails fault read
 
--- what stands at the front, and the bytes behind it
+-- the item at the front, and the bytes behind it
 abbrev pub Reads : Type 0 → Type 0
-Reads A = List ℕ → Result (A × List ℕ) CheckFault
+Reads A = List ℕ → Result (A × List ℕ) CheckpointFault
 
 -- ---- numbers
 
@@ -43,7 +43,7 @@ signed_at bytes = do
   n ← number_at 8 bytes
   Ok (cast_signed w64 n.0, n.1)
 
--- so many, one after another
+-- this many, one after another
 unfoldable pub items_at : {A : Type 0} → Reads A → ℕ → Reads (List A)
 items_at item zero bytes = Ok ([], bytes)
 items_at item (suc n) bytes = do
@@ -53,7 +53,7 @@ items_at item (suc n) bytes = do
 
 -- ---- vertices
 
--- a vertex, and whether 0 or 1 says that it is active
+-- a vertex, and whether its active byte is 0 or 1
 unfoldable pub vertex_at : Reads (VertexState × Bool)
 vertex_at bytes = do
   id ← number_at 8 bytes
@@ -63,7 +63,7 @@ vertex_at bytes = do
   inbox ← items_at signed_at count.0 count.1
   Ok ((record { id = id.0; value = value.0; active = active.0 == 1; inbox = inbox.0 }, nat_le active.0 1), inbox.1)
 
--- so many vertices, and whether 0 or 1 says so of each
+-- this many vertices, and whether each active byte is 0 or 1
 unfoldable pub vertices_at : ℕ → Reads (List VertexState × Bool)
 vertices_at zero bytes = Ok (([], true), bytes)
 vertices_at (suc n) bytes = do
@@ -73,7 +73,7 @@ vertices_at (suc n) bytes = do
 
 -- ---- states
 
--- what both versions have behind the version
+-- the fields that both versions have behind the version
 unfoldable pub head_at : Reads Head
 head_at bytes = do
   superstep ← number_at 4 bytes
@@ -82,8 +82,8 @@ head_at bytes = do
   aggregates ← items_at signed_at 8 units.1
   Ok (record { superstep = superstep.0; dropped = dropped.0; units = units.0; aggregates = aggregates.0 }, aggregates.1)
 
--- The first superstep whose units are told, and the units. Version 1 has none. In version 2 the count of vertices is
--- missed before that superstep is looked at.
+-- The first superstep of units, and the units. Version 1 has none. In version 2 four more bytes have to be there before
+-- that superstep is compared.
 unfoldable pub told_at : (version superstep : ℕ) → Reads (ℕ × List ℕ)
 told_at version superstep bytes =
     if version == 1 then Ok ((superstep, []), bytes)
@@ -98,21 +98,21 @@ is_rising [] = true
 is_rising (x ∷ []) = true
 is_rising (x ∷ y ∷ xs) = nat_lt x y && is_rising (y ∷ xs)
 
--- the total has the units that are told in it, and no others where they are all told
+-- the total is at least the sum of the units, and equal to it if they begin with superstep 0
 abbrev pub adds_up : (since : ℕ) → List ℕ → (units : ℕ) → Bool
 adds_up since by_superstep units =
     nat_le (capped (sum by_superstep)) units && (not (since == 0) || (units == capped (sum by_superstep)))
 
--- ids rise, and the total has the units that are told in it
+-- ids rise, and the units add up
 abbrev pub is_sound : Standing → Bool
 is_sound state = is_rising (map state_id state.vertices) && adds_up state.since state.by_superstep state.units
 
--- the state, where its bytes are in order and it is sound
-abbrev pub in_order : Bool → Standing → Result Standing CheckFault
+-- the state, if its bytes are in order and it is sound
+abbrev pub in_order : Bool → Standing → Result Standing CheckpointFault
 in_order ordered state = if ordered && is_sound state then Ok state else Err Order
 
--- what stands behind the version, all of the bytes
-unfoldable pub content_at : (version : ℕ) → List ℕ → Result Standing CheckFault
+-- everything behind the version
+unfoldable pub content_at : (version : ℕ) → List ℕ → Result Standing CheckpointFault
 content_at version bytes = do
   head ← head_at bytes
   told ← told_at version head.0.superstep head.1
@@ -129,7 +129,7 @@ content_at version bytes = do
   })
 
 -- what the bytes before the digest are read as
-unfoldable pub sealed_at : (body seal : List ℕ) → Result Standing CheckFault
+unfoldable pub sealed_at : (body seal : List ℕ) → Result Standing CheckpointFault
 sealed_at body seal =
     if not (bytes_eq (take 4 body) magic) then Err Header
     else (number_at 4 (drop 4 body) >>= λ version.
@@ -138,7 +138,7 @@ sealed_at body seal =
     else content_at version.0 version.1))
 
 -- The state whose checkpoint the bytes are. The digest is the last 32 of them.
-unfoldable pub state_of : List ℕ → Result Standing CheckFault
+unfoldable pub state_of : List ℕ → Result Standing CheckpointFault
 state_of bytes =
     if nat_lt (length bytes) 40 then Err Truncated
     else sealed_at (take (length bytes - 32) bytes) (drop (length bytes - 32) bytes)

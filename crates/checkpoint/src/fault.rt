@@ -1,32 +1,42 @@
-//! Why bytes are no checkpoint.
+//! The faults of bytes that are not a checkpoint.
 
 ghost use Rattle.std.specs.Prelude.{◌≡◌};
-ghost use Rattle.checkpoint.specs.declared.fault.CheckFault.TheVariants.{OutOfMemory};
+ghost use Rattle.checkpoint.specs.declared.fault.CheckpointFault.TheVariants.{OutOfMemory};
 
 use std::alloc::{AllocError, AllocFailed};
 use thiserror::Error;
 
-/// Why bytes are no checkpoint. Of several faults the first in the order `Truncated` (for fewer than
-/// 40 bytes), `Header`, `Version`, `Digest`, `Truncated`, `Order` is told.
+/// The reason why bytes are not a checkpoint. Of several faults one is reported, the first in this order:
+///
+/// 1. fewer than 40 bytes: `Truncated`;
+/// 2. the first four bytes, the version, the digest: `Header`, `Version`, `Digest`;
+/// 3. an end in the fields of fixed size, or fewer than four bytes behind them in version 2: `Truncated`;
+/// 4. the first superstep of units is later than the superstep, in version 2: `Order`;
+/// 5. an end in the units, in the count of vertices or in the vertices: `Truncated`;
+/// 6. everything else: `Order`.
+///
+/// The first superstep of units is one of the fields of fixed size. Version 1 does not have it.
 #[derive(Clone, Copy, Debug, Error)]
-pub enum CheckFault {
-    /// The bytes do not begin with `50 47 43 4B`.
+pub enum CheckpointFault {
+    /// The bytes do not begin with `50 47 43 4B` (`PGCK`).
     #[error("Header")]
     Header,
     /// The version is neither 1 nor 2.
     #[error("Version")]
     Version,
-    /// There are fewer than 40 bytes, which is told before all else, or, after `Digest`, less stands
-    /// there than the counts say.
+    /// There are fewer than 40 bytes, or fewer than the counts in them say.
     #[error("Truncated")]
     Truncated,
     /// The last 32 bytes are not the SHA-256 of the others.
     #[error("Digest")]
     Digest,
-    /// The first superstep whose units are told comes after the superstep, ids do not rise, a byte
-    /// other than 0 and 1 says whether a vertex is active, bytes are left over, or the total of
-    /// units is not what the units that are told allow. The first of these is told before bytes are
-    /// found to end in the units or behind them, and the others after.
+    /// The fields fit no state, for one of these reasons:
+    ///
+    /// - the first superstep of units is later than the superstep;
+    /// - ids do not rise;
+    /// - an active byte is neither 0 nor 1;
+    /// - bytes are left over;
+    /// - the total of units does not match the units of the supersteps.
     #[error("Order")]
     Order,
     /// Memory ran out.
@@ -34,18 +44,18 @@ pub enum CheckFault {
     OutOfMemory,
 }
 
-impl From<AllocError> for CheckFault {
+impl From<AllocError> for CheckpointFault {
     ghost from_gives = { λ _ fault. fault ≡ OutOfMemory };
 
-    fn from(_: AllocError) -> CheckFault {
-        CheckFault::OutOfMemory
+    fn from(_: AllocError) -> CheckpointFault {
+        CheckpointFault::OutOfMemory
     }
 }
 
-impl<T: Drop> From<AllocFailed<T>> for CheckFault {
+impl<T: Drop> From<AllocFailed<T>> for CheckpointFault {
     ghost from_gives = { λ _ fault. fault ≡ OutOfMemory };
 
-    fn from(_: AllocFailed<T>) -> CheckFault {
-        CheckFault::OutOfMemory
+    fn from(_: AllocFailed<T>) -> CheckpointFault {
+        CheckpointFault::OutOfMemory
     }
 }

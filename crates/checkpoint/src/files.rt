@@ -1,9 +1,12 @@
 //! A Keep on disk.
 
-ghost use Rattle.std.specs.Prelude.{◌≡◌, ◌≤◌, None, IfOk};
-ghost use Rattle.checkpoint.specs.Files.{IsSealedAs, seal_of};
+ghost use Rattle.std.specs.Prelude.{◌≡◌, ◌≤◌, None, IfOk, IfSome};
+ghost use Rattle.checkpoint.specs.Files.{IsOfCheckpoint, IsOfCheckpointAt, IsSealedAs, seal_of};
 
+use crate::fault::CheckpointFault;
 use crate::keep::{Keep, KeepFault};
+use crate::listing::supersteps_in;
+use crate::reading::read;
 use crate::replacing::replace;
 use std::alloc::{AllocError, Global};
 use std::fs::{File, OpenFile};
@@ -11,11 +14,12 @@ use std::io::Read;
 use std::rt::Files;
 use std::{fs, io};
 
-/// A Keep in a directory. The bytes that were saved last, before superstep `S`, are its file `ckpt-S.bin`; the file of the
-/// save before is removed.
+/// A Keep in a directory. The last save, of the state before superstep `S`, is the file `ckpt-S.bin`. The file of the
+/// save before it is removed.
 ///
-/// Nothing is claimed of what files hold: it is not honest. It remembers the length of what was saved and the last 32 bytes,
-/// the digest that a checkpoint ends with. A file that has others is the device's failure.
+/// Nothing is claimed of what files hold, so it is not honest. It remembers the length and the last 32 bytes of the
+/// save; a checkpoint ends with its digest. A file with another length or other last bytes counts as a failure of the
+/// device.
 #[derive(Drop)]
 pub struct FileKeep {
     alloc: Global,
@@ -24,7 +28,7 @@ pub struct FileKeep {
     failures: u64,
 }
 
-// What is remembered of the last good save.
+// The superstep, the length and the last 32 bytes of the last good save.
 #[derive(Drop)]
 struct Saved {
     superstep: u32,
@@ -33,10 +37,10 @@ struct Saved {
 }
 
 impl FileKeep {
-    ghost use Rattle.checkpoint.specs.Files.{failures_of, superstep_on};
+    ghost use Rattle.checkpoint.specs.Files.{HasCheckpoint, failures_of, superstep_on};
     ghost use Rattle.checkpoint.specs.Keep.{HasFailed};
 
-    /// A Keep in this directory, which has to be there, to which nothing was saved.
+    /// Makes a Keep without a save in this directory, which has to exist.
     pub fn new(alloc: Global, directory: &str) -> Result<FileKeep, AllocError>
         ensures saved { IfOk result (λ keep. superstep_on keep ≡ None) }
         ensures failures { IfOk result (λ keep. failures_of keep ≡ 0) }
@@ -50,7 +54,53 @@ impl FileKeep {
         })
     }
 
-    /// Makes a file in the directory and removes it: so this fails where the directory is not there, or no file can be made.
+    /// Finds what an earlier run has left in this directory, which has to be there: the Keep counts the newest checkpoint that
+    /// reads well as saved, and nothing where there is none. A file `ckpt-S.bin` that does not read, or is of another superstep
+    /// than S, is passed over. It fails where the directory cannot be listed, or memory runs out.
+    pub fn find<R: Files + AllocGlobal>(
+        rt: &R,
+        alloc: Global,
+        directory: &str,
+    ) -> io::Result<FileKeep>
+        // What is counted as saved was read as a checkpoint of that superstep.
+        ensures found { IfOk result HasCheckpoint }
+        ensures failures { IfOk result (λ keep. failures_of keep ≡ 0) }
+    {
+        let supersteps = supersteps_in(rt, alloc, directory)?;
+        let directory = String::from_str(alloc, directory)?;
+        let saved = newest(rt, alloc, directory.as_str(), supersteps.as_slice())?;
+        Ok(FileKeep {
+            alloc,
+            directory,
+            saved,
+            failures: 0,
+        })
+    }
+
+    /// Gives the superstep of the last good save.
+    pub fn newest(&self) -> Option<u32>
+        ensures { result ≡ superstep_on self.now }
+    {
+        match &self.saved {
+            Some(saved) => Some(saved.superstep),
+            None => None,
+        }
+    }
+
+    /// Renames each file `ckpt-S.bin` of the directory to `ckpt-S.old`, so that no later run takes it for a checkpoint of its own
+    /// job. Answers how many there were.
+    pub fn set_aside<R: Files + AllocGlobal>(&self, rt: &R) -> io::Result<usize> {
+        let supersteps = supersteps_in(rt, self.alloc, self.directory.as_str())?;
+        for superstep in &supersteps {
+            let whole = self.path(*superstep, "bin")?;
+            let aside = self.path(*superstep, "old")?;
+            fs::rename(rt, whole.as_str(), aside.as_str())?;
+        }
+        Ok(supersteps.len())
+    }
+
+    /// Creates a file in the directory and removes it. It fails if the directory does not exist or no file can be
+    /// created in it.
     pub fn try_directory<R: Files>(&self, rt: &R) -> io::Result<()> {
         fs::metadata(rt, self.directory.as_str())?;
         let path = format!(in self.alloc; "{}/ckpt.part", self.directory)?;
@@ -59,7 +109,7 @@ impl FileKeep {
         Ok(())
     }
 
-    // What a failed call means. A failure of the device is counted.
+    // Returns the fault for an error of a file call. A failure of the device is counted.
     fn fault_of(&mut self, error: &io::Error) -> KeepFault
         ensures saved { self.new.saved ≡ self.old.saved }
         ensures later { failures_of self.old ≤ failures_of self.new }
@@ -75,9 +125,9 @@ impl FileKeep {
         }
     }
 
-    // The path of the file with this ending that belongs to a superstep.
+    // Makes the path of a superstep's file with this ending.
     fn path(&self, superstep: u32, ending: &str) -> Result<String, AllocError> {
-        format!(in self.alloc; "{}/ckpt-{superstep}.{ending}", self.directory)
+        path_in(self.alloc, self.directory.as_str(), superstep, ending)
     }
 
     fn write<R: Files>(&self, rt: &R, superstep: u32, bytes: &[u8]) -> io::Result<()> {
@@ -87,7 +137,7 @@ impl FileKeep {
         replace(rt, &mut file, part.as_str(), whole.as_str(), bytes)
     }
 
-    // The bytes of the last good save, as the file has them.
+    // Reads the file of the last good save.
     fn read<R: Files>(&self, rt: &R, saved: &Saved) -> io::Result<Vec<u8>>
         ensures { IfOk result (λ bytes. IsSealedAs saved.now bytes.items) }
     {
@@ -96,7 +146,7 @@ impl FileKeep {
         read_saved(self.alloc, &mut file, saved)
     }
 
-    // Removes the file of the last good save, where that is of another superstep. One that cannot be removed stays.
+    // Removes the file of the last good save if it is of another superstep. A file that cannot be removed stays.
     fn remove_last<R: Files>(&self, rt: &R, superstep: u32) {
         let Some(saved) = &self.saved else {
             return;
@@ -110,14 +160,80 @@ impl FileKeep {
     }
 }
 
-// The last 32 bytes, or all where there are fewer.
+// The path of the file of a directory with this ending that belongs to a superstep.
+fn path_in(
+    alloc: Global,
+    directory: &str,
+    superstep: u32,
+    ending: &str,
+) -> Result<String, AllocError> {
+    format!(in alloc; "{directory}/ckpt-{superstep}.{ending}")
+}
+
+// What is remembered of the first of these supersteps whose file has its checkpoint.
+fn newest<R: Files + AllocGlobal>(
+    rt: &R,
+    alloc: Global,
+    directory: &str,
+    supersteps: &[u32],
+) -> io::Result<Option<Saved>>
+    ensures { IfOk result (λ found. IfSome found IsOfCheckpoint) }
+{
+    for superstep in supersteps {
+        let found = saved_in(rt, alloc, directory, *superstep)?;
+        if found.is_some() {
+            return Ok(found);
+        }
+    }
+    Ok(None)
+}
+
+// What is remembered of the checkpoint of a superstep, where its file has one.
+fn saved_in<R: Files + AllocGlobal>(
+    rt: &R,
+    alloc: Global,
+    directory: &str,
+    superstep: u32,
+) -> io::Result<Option<Saved>>
+    ensures { IfOk result (λ found. IfSome found IsOfCheckpoint) }
+{
+    let path = path_in(alloc, directory, superstep, "bin")?;
+    match fs::read(rt, path.as_str()) {
+        Ok(bytes) => Ok(saved_of(alloc, superstep, &bytes)?),
+        Err(error) if error.kind() == io::ErrorKind::OutOfMemory => Err(error),
+        Err(_) => Ok(None),
+    }
+}
+
+// What is remembered of these bytes, where they are a checkpoint of this superstep.
+fn saved_of(alloc: Global, superstep: u32, bytes: &[u8]) -> Result<Option<Saved>, AllocError>
+    ensures { IfOk result (λ found. IfSome found (IsOfCheckpointAt superstep bytes.now)) }
+{
+    match read(alloc, bytes) {
+        Ok(state) => {
+            if state.superstep() != superstep {
+                return Ok(None);
+            }
+            let seal = seal_of(bytes).to_vec(alloc)?;
+            Ok(Some(Saved {
+                superstep,
+                length: bytes.len(),
+                seal,
+            }))
+        }
+        Err(CheckpointFault::OutOfMemory) => Err(AllocError),
+        Err(_) => Ok(None),
+    }
+}
+
+// Returns the last 32 bytes, or all if there are fewer.
 fn seal_of(bytes: &[u8]) -> &[u8]
     ensures { result.now ≡ seal_of bytes.now }
 {
     &bytes[bytes.len().saturating_sub(32)..]
 }
 
-// All of a file, which has the length and the seal of what was saved. No other is read past that length.
+// Reads a whole file, which has to have the length and the seal of the save. Nothing is read past that length.
 fn read_saved<F: Read + OpenFile>(alloc: Global, file: &mut F, saved: &Saved) -> io::Result<Vec<u8>>
     ensures { IfOk result (λ bytes. IsSealedAs saved.now bytes.items) }
 {

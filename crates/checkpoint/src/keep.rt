@@ -1,4 +1,4 @@
-//! Where the last saved state of a job is kept.
+//! Keeps: the places where the last saved state of a job is kept.
 
 ghost use Rattle.std.specs.Prelude.{◌≡◌, ℕ, List, Bool, true, Option, Some, IfOk, OnErr, OnOk};
 ghost use Rattle.checkpoint.specs.Keep.{HasCause, IsKeptOrNone, Only};
@@ -6,7 +6,7 @@ ghost use Rattle.checkpoint.specs.Keep.{HasCause, IsKeptOrNone, Only};
 use std::rt::Files;
 use thiserror::Error;
 
-/// Why a state was not saved or loaded.
+/// The reason why a state was not saved or loaded.
 #[derive(Clone, Copy, Debug, Error)]
 pub enum KeepFault {
     /// The device failed.
@@ -17,23 +17,23 @@ pub enum KeepFault {
     OutOfMemory,
 }
 
-/// Where the last saved state of a job is kept, as the bytes of its checkpoint.
+/// A place that keeps the last saved state of a job, as the bytes of its checkpoint.
 pub trait Keep {
     /// The superstep of the last good save.
     ghost saved: { Self → Option ℕ };
 
-    /// Which bytes a load of it may answer.
+    /// The bytes that a load may return.
     ghost may_load: { Self → List ℕ → Type 0 };
 
-    /// Whether, of the bytes that a load answers, those that `read` accepts are those that were saved.
+    /// Whether every loaded checkpoint that `read` accepts is the saved one.
     ghost honest: { Self → Bool };
 
-    /// How often the device has failed, which stops at the greatest number of 64 bits.
+    /// How often the device has failed, up to 2^64 - 1.
     ghost faults: { Self → ℕ };
 
-    /// Keeps these bytes in place of all that was saved before.
+    /// Saves these bytes in place of everything that was saved before.
     ///
-    /// A save that fails leaves the last good one, or none where that has the same superstep.
+    /// A failed save leaves the last good one, or none if that one has the same superstep.
     fn save<R: Files + AllocGlobal>(
         &mut self,
         rt: &R,
@@ -51,7 +51,7 @@ pub trait Keep {
             → may_load self.new other → may_load self.old other) }
         ensures cause { HasCause (faults self.old) (faults self.new) result };
 
-    /// The bytes of the last good save, whose superstep is asked.
+    /// Loads the bytes of the last good save, which has to be of this superstep.
     fn load<R: Files + AllocGlobal>(&mut self, rt: &R, superstep: u32) -> Result<Vec<u8>, KeepFault>
         requires { saved self.old ≡ Some superstep }
         ensures honest { honest self.new ≡ honest self.old }
@@ -60,7 +60,7 @@ pub trait Keep {
         ensures bytes { IfOk result (λ bytes. may_load self.old bytes.items) }
         ensures cause { HasCause (faults self.old) (faults self.new) result };
 
-    /// How often the device has failed. It stops at the greatest number of 64 bits.
+    /// Returns how often the device has failed, up to 2^64 - 1.
     fn failures(&self) -> u64
         ensures { result ≡ faults self.now };
 }

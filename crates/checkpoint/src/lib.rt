@@ -1,4 +1,4 @@
-//! States as bytes, and where those bytes are kept.
+//! Checkpoints: states as bytes, and the places where those bytes are kept.
 #![tactic(auto)]
 
 mod digest;
@@ -6,6 +6,7 @@ mod fault;
 mod files;
 mod keep;
 mod laws;
+mod listing;
 mod memory;
 mod numbers;
 mod reading;
@@ -13,7 +14,7 @@ mod replacing;
 mod vertices;
 mod writing;
 
-pub use fault::CheckFault;
+pub use fault::CheckpointFault;
 pub use files::FileKeep;
 pub use keep::{Keep, KeepFault};
 pub use laws::{

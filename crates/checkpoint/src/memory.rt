@@ -6,7 +6,7 @@ use crate::keep::{Keep, KeepFault};
 use std::alloc::Global;
 use std::rt::Files;
 
-// The bytes that were saved before a superstep.
+// The last save: its superstep and its bytes.
 #[derive(Drop)]
 struct Saved {
     superstep: u32,
@@ -23,7 +23,7 @@ pub struct MemoryKeep {
 impl MemoryKeep {
     ghost use Rattle.checkpoint.specs.Memory.{superstep_in};
 
-    /// A Keep to which nothing was saved; it takes no memory.
+    /// Makes a Keep without a save. It allocates nothing.
     pub fn new(alloc: Global) -> MemoryKeep
         ensures { superstep_in result ≡ None }
     {

@@ -1,4 +1,4 @@
-//! States from their bytes.
+//! Reading a state from its checkpoint.
 
 ghost use Rattle.std.specs.Prelude.{◌≡◌, ◌+◌, ◌^◌, ◌<◌, ◌≤◌, length, IfOk, MatchResult};
 ghost use Rattle.checkpoint.specs.Checkpoint.{IsCheckpointOf};
@@ -9,16 +9,16 @@ ghost use Rattle.superstep.specs.State.{Standing};
 ghost use Rattle.superstep.specs.Totals.{standing_of};
 
 use crate::digest::digest_of;
-use crate::fault::CheckFault;
+use crate::fault::CheckpointFault;
 use crate::numbers::{Item, items, slots, u32_at};
 use crate::vertices::{are_rising, read_vertices};
 use std::alloc::Global;
 use superstep::{State, Totals, VertexState};
 
-// What a checkpoint begins with.
+// The first four bytes of each checkpoint.
 const MAGIC: [u8; 4] = *b"PGCK";
 
-// What both versions have behind the version.
+// The fields that both versions have behind the version.
 #[derive(Clone, Copy)]
 struct Head {
     superstep: u32,
@@ -28,7 +28,7 @@ struct Head {
 }
 
 #[tactic(auto, unfolding(crate::specs::Reading::head_at))]
-fn read_head(bytes: &[u8]) -> Result<(Head, &[u8]), CheckFault>
+fn read_head(bytes: &[u8]) -> Result<(Head, &[u8]), CheckpointFault>
     ensures { Gives (λ x. (x.0, x.1.now)) result (head_at bytes.now) }
 {
     let (superstep, rest) = u32_at(bytes)?;
@@ -44,14 +44,14 @@ fn read_head(bytes: &[u8]) -> Result<(Head, &[u8]), CheckFault>
     Ok((head, rest))
 }
 
-// The first superstep whose units are told, and the units.
+// Reads the first superstep of units, and the units of each superstep from there on.
 #[tactic(auto, unfolding(crate::specs::Reading::told_at))]
 fn read_told(
     alloc: Global,
     version: u32,
     superstep: u32,
     bytes: &[u8],
-) -> Result<((u32, Vec<u128>), &[u8]), CheckFault>
+) -> Result<((u32, Vec<u128>), &[u8]), CheckpointFault>
     ensures { Gives (λ x. ((x.0.0, x.0.1.items), x.1.now)) result
         (told_at version superstep bytes.now) }
 {
@@ -60,16 +60,16 @@ fn read_told(
     }
     let (since, rest) = u32_at(bytes)?;
     if rest.len() < 4 {
-        return Err(CheckFault::Truncated);
+        return Err(CheckpointFault::Truncated);
     }
     if superstep < since {
-        return Err(CheckFault::Order);
+        return Err(CheckpointFault::Order);
     }
     let (told, rest) = items::<u128>(alloc, u64::from(superstep - since), rest)?;
     Ok(((since, told), rest))
 }
 
-// The sum, which stops at the greatest number of 128 bits.
+// Adds up units. The sum stops at 2^128 - 1.
 fn capped_sum(units: &[u128]) -> u128
     ensures { result ≡ capped (sum units.now) }
 {
@@ -80,7 +80,7 @@ fn capped_sum(units: &[u128]) -> u128
     total
 }
 
-// Whether the total has the units that are told in it, and no others where they are all told.
+// Returns whether the total is at least the sum of the units, and equal to it if they begin with superstep 0.
 fn adds_up(totals: &Totals) -> bool
     ensures { result ≡ adds_up totals.now.since totals.now.by_superstep.items totals.now.units }
 {
@@ -88,14 +88,14 @@ fn adds_up(totals: &Totals) -> bool
     sum <= totals.units && (totals.since != 0 || totals.units == sum)
 }
 
-// The state, where its bytes are in order and it is one.
+// Makes the state, or refuses it with `Order`.
 fn state_in(
     alloc: Global,
     ordered: bool,
     totals: Totals,
     aggregates: [i64; 8],
     vertices: Vec<VertexState>,
-) -> Result<State, CheckFault>
+) -> Result<State, CheckpointFault>
     requires told { totals.since + length totals.by_superstep.items ≡ totals.superstep }
     requires few { length vertices.items < 2 ^ 32 }
     ensures { Gives (λ state. state) result
@@ -104,13 +104,13 @@ fn state_in(
     if ordered && are_rising(&vertices) && adds_up(&totals) {
         Ok(State::of(alloc, totals, aggregates, vertices)?)
     } else {
-        Err(CheckFault::Order)
+        Err(CheckpointFault::Order)
     }
 }
 
-// The state that stands behind the version, in all of the bytes.
+// Reads the state behind the version, which has to take up all of the bytes.
 #[tactic(auto, unfolding(crate::specs::Reading::content_at))]
-fn read_content(alloc: Global, version: u32, bytes: &[u8]) -> Result<State, CheckFault>
+fn read_content(alloc: Global, version: u32, bytes: &[u8]) -> Result<State, CheckpointFault>
     ensures { Gives (λ state. state) result (content_at version bytes.now) }
 {
     let (head, rest) = read_head(bytes)?;
@@ -128,47 +128,46 @@ fn read_content(alloc: Global, version: u32, bytes: &[u8]) -> Result<State, Chec
     state_in(alloc, ordered, totals, head.aggregates, vertices)
 }
 
-// The state whose bytes these are, with the digest that stands behind them.
+// Reads a state from the bytes before the digest, and compares the digest.
 #[tactic(auto, unfolding(crate::specs::Reading::sealed_at, crate::specs::Checkpoint::magic))]
-fn read_sealed(alloc: Global, body: &[u8], seal: &[u8]) -> Result<State, CheckFault>
+fn read_sealed(alloc: Global, body: &[u8], seal: &[u8]) -> Result<State, CheckpointFault>
     requires { 8 ≤ length body.now }
     ensures { Gives (λ state. state) result (sealed_at body.now seal.now) }
 {
     if body[..4] != MAGIC[..] {
-        return Err(CheckFault::Header);
+        return Err(CheckpointFault::Header);
     }
     let (version, rest) = u32_at(&body[4..])?;
     if version != 1 && version != 2 {
-        return Err(CheckFault::Version);
+        return Err(CheckpointFault::Version);
     }
     if seal != &digest_of(body)[..] {
-        return Err(CheckFault::Digest);
+        return Err(CheckpointFault::Digest);
     }
     read_content(alloc, version, rest)
 }
 
 #[tactic(auto, unfolding(crate::specs::Reading::state_of))]
-fn read_state(alloc: Global, bytes: &[u8]) -> Result<State, CheckFault>
+fn read_state(alloc: Global, bytes: &[u8]) -> Result<State, CheckpointFault>
     ensures { Gives (λ state. state) result (state_of bytes.now) }
 {
     if bytes.len() < 40 {
-        return Err(CheckFault::Truncated);
+        return Err(CheckpointFault::Truncated);
     }
     let (body, seal) = bytes.split_at(bytes.len() - 32);
     read_sealed(alloc, body, seal)
 }
 
-/// The state whose checkpoint the bytes are, of version 1 or 2.
+/// Reads a state from its checkpoint, of version 1 or 2.
 ///
-/// A state of version 1 tells the units of no superstep. Of several faults the first in their
-/// order is told.
-pub fn read(alloc: Global, bytes: &[u8]) -> Result<State, CheckFault>
+/// A state of version 1 has no units of single supersteps. `CheckpointFault` says which of several faults is reported.
+pub fn read(alloc: Global, bytes: &[u8]) -> Result<State, CheckpointFault>
     // What is read is a state, and the bytes are its checkpoint.
     ensures found { IfOk result (IsCheckpointOf bytes.now) }
-    // A state whose checkpoint the bytes are is read, unless memory runs out.
+    // If the bytes are the checkpoint of a state, that state is read, unless memory runs out.
     ensures only { (state : Standing) → IsCheckpointOf bytes.now state
-        → MatchResult result (λ read. read ≡ state) (λ fault. fault ≡ CheckFault.OutOfMemory) }
-    // Which fault is told.
+        → MatchResult result (λ read. read ≡ state) (λ fault. fault ≡ CheckpointFault.OutOfMemory) }
+    // The fault that is reported.
     ensures fault { Gives (λ state. state) result (state_of bytes.now) }
 {
     read_state(alloc, bytes)

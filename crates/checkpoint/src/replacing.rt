@@ -8,11 +8,11 @@ use std::io::Write;
 use std::rt::Files;
 use std::{fs, io};
 
-/// Makes these bytes the whole of a file, which may be there or not. They are written to `part`, an empty file of the same
-/// folder that is open as `file`; once the device has them it takes the place of `whole`. So `whole` holds all of them, or
-/// what it held before.
+/// Makes these bytes the whole content of a file, which may exist or not. They are written to `part`, an empty file of
+/// the same folder that is open as `file`. Once the device has them, `part` takes the place of `whole`. So `whole`
+/// holds all of them, or what it held before.
 ///
-/// Where it fails, `part` is removed. The folder is synced too, as far as its file system can do that.
+/// If it fails, `part` is removed. The folder is synced too, if its file system can do that.
 pub fn replace<R: Files>(
     rt: &R,
     file: &mut R::File,
@@ -51,7 +51,7 @@ fn fill_and_rename<R: Files>(
     fs::rename(rt, part, whole)
 }
 
-// Has the device keep which names the folder of a file has.
+// Syncs the folder of a file, so that the device keeps the names in it.
 fn sync_folder<R: Files>(rt: &R, path: &str) -> io::Result<()> {
     let folder = match path.rsplit_once('/') {
         Some(("", _)) => "/",

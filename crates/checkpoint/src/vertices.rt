@@ -1,20 +1,20 @@
-//! Vertices as they stand in a checkpoint.
+//! Reading the vertices of a checkpoint.
 
 ghost use Rattle.std.specs.Prelude.{◌≡◌, map};
 ghost use Rattle.checkpoint.specs.Reading.{Gives, is_rising, items_at, signed_at, vertex_at, vertices_at};
 ghost use Rattle.superstep.specs.State.{state_id};
 
-use crate::fault::CheckFault;
+use crate::fault::CheckpointFault;
 use crate::numbers::{Item, items, u8_at, u64_at};
 use inbox::Inbox;
 use std::alloc::Global;
 use superstep::VertexState;
 
-// So many messages lie in an inbox itself.
+// An inbox holds this many messages without an allocation.
 const FEW: u64 = 4;
 
-// So many messages, of which a few take no memory.
-fn read_inbox(alloc: Global, count: u64, bytes: &[u8]) -> Result<(Inbox, &[u8]), CheckFault>
+// Reads this many messages. Up to `FEW` of them need no allocation.
+fn read_inbox(alloc: Global, count: u64, bytes: &[u8]) -> Result<(Inbox, &[u8]), CheckpointFault>
     ensures { Gives (λ x. (x.0, x.1.now)) result (items_at signed_at count bytes.now) }
 {
     if count <= FEW {
@@ -24,7 +24,7 @@ fn read_inbox(alloc: Global, count: u64, bytes: &[u8]) -> Result<(Inbox, &[u8]),
     Ok((Inbox::from(messages), rest))
 }
 
-fn read_few(alloc: Global, count: u64, bytes: &[u8]) -> Result<(Inbox, &[u8]), CheckFault>
+fn read_few(alloc: Global, count: u64, bytes: &[u8]) -> Result<(Inbox, &[u8]), CheckpointFault>
     ensures { Gives (λ x. (x.0, x.1.now)) result (items_at signed_at count bytes.now) }
 {
     let mut inbox = Inbox::empty(alloc);
@@ -37,9 +37,9 @@ fn read_few(alloc: Global, count: u64, bytes: &[u8]) -> Result<(Inbox, &[u8]), C
     Ok((inbox, rest))
 }
 
-// A vertex, and whether 0 or 1 says that it is active.
+// Reads a vertex. Returns it with whether its active byte is 0 or 1.
 #[tactic(auto, unfolding(crate::specs::Reading::vertex_at))]
-fn read_vertex(alloc: Global, bytes: &[u8]) -> Result<((VertexState, bool), &[u8]), CheckFault>
+fn read_vertex(alloc: Global, bytes: &[u8]) -> Result<((VertexState, bool), &[u8]), CheckpointFault>
     ensures { Gives (λ x. (x.0, x.1.now)) result (vertex_at bytes.now) }
 {
     let (id, rest) = u64_at(bytes)?;
@@ -56,15 +56,15 @@ fn read_vertex(alloc: Global, bytes: &[u8]) -> Result<((VertexState, bool), &[u8
     Ok(((vertex, active <= 1), rest))
 }
 
-/// So many vertices, and whether 0 or 1 says of each that it is active.
+/// Reads this many vertices. Returns them with whether each active byte is 0 or 1.
 pub fn read_vertices(
     alloc: Global,
     count: u32,
     bytes: &[u8],
-) -> Result<((Vec<VertexState>, bool), &[u8]), CheckFault>
+) -> Result<((Vec<VertexState>, bool), &[u8]), CheckpointFault>
     ensures { Gives (λ x. ((x.0.0.items, x.0.1), x.1.now)) result (vertices_at count bytes.now) }
 {
-    // Each vertex has 25 bytes at least: no more room is made than there are vertices.
+    // A vertex has at least 25 bytes, so no more room is made than there are vertices.
     let room = (bytes.len() / 25).min(count as usize);
     let mut all = Vec::with_capacity(alloc, room)?;
     let mut told = true;
@@ -78,7 +78,7 @@ pub fn read_vertices(
     Ok(((all, told), rest))
 }
 
-/// Whether each id is below the next.
+/// Returns whether each id is below the next.
 pub fn are_rising(vertices: &[VertexState]) -> bool
     ensures { result ≡ is_rising (map state_id vertices.now) }
 {

@@ -1,4 +1,4 @@
-//! States as their bytes.
+//! Writing a state as its checkpoint.
 
 ghost use Rattle.std.specs.Prelude.{◌≡◌, ◌<◌, ◌^◌, ◌++◌, ℕ, List, length, map, FitsSigned, IfOk, OnOk};
 ghost use Rattle.std.specs.Int.{w64};
@@ -11,14 +11,14 @@ use byteorder::{ByteOrder, LittleEndian};
 use std::alloc::{AllocError, Global};
 use superstep::{State, VertexState};
 
-/// What has a spelling of its own.
+/// A value with a spelling in checkpoints.
 pub trait Spelled {
     ghost spelling: { Self → List ℕ };
 
-    /// Whether each number in it is one of its width.
+    /// Whether each number in it fits its width.
     ghost fits: { Self → Type 0 };
 
-    /// Appends the spelling. An `Err` is want of memory.
+    /// Appends the spelling. `Err` is out of memory.
     fn put(&self, out: &mut Vec<u8>) -> Result<(), AllocError>
         ensures appended { OnOk result (out.new.items ≡ out.old.items ++ spelling self.now) }
         ensures fits { OnOk result (fits self.now) };
@@ -145,7 +145,7 @@ fn put_vertices(out: &mut Vec<u8>, vertices: &[&VertexState]) -> Result<(), Allo
     Ok(())
 }
 
-// How many bytes the checkpoint has, or the greatest number where they are too many to count.
+// Returns the length of the checkpoint in bytes, up to the greatest `usize`.
 fn room(state: &State, vertices: &[&VertexState]) -> usize {
     let told = state.by_superstep().len().saturating_mul(16);
     let mut room = told.saturating_add(148);
@@ -156,7 +156,7 @@ fn room(state: &State, vertices: &[&VertexState]) -> usize {
     room
 }
 
-/// The checkpoint of a state, of version 2. An `Err` is want of memory.
+/// Writes the checkpoint of a state, of version 2. `Err` is out of memory.
 pub fn write(alloc: Global, state: &State) -> Result<Vec<u8>, AllocError>
     ensures bytes { IfOk result (λ bytes. bytes.items ≡ checkpoint_bytes state.now) }
     ensures checkpoint { IfOk result (λ bytes. IsCheckpointOf bytes.items state.now) }

@@ -7,11 +7,12 @@ use Rattle.superstep.specs.declared.fault.JobFault.TheVariants.{OutOfMemory}
 use Rattle.superstep.specs.declared.fault.Place.TheVariants.{Slice}
 use Rattle.superstep.specs.Job.{Work}
 use Rattle.superstep.specs.State.{HasIdsOf, Standing}
-use Rattle.rollback.specs.declared.ending.Told.{Told}
-use Rattle.rollback.specs.declared.ending.Told.TheVariants.{Failed, Good, NoMemory}
+use Rattle.rollback.specs.declared.job_status.DeviceResult.{DeviceResult}
+use Rattle.rollback.specs.declared.job_status.DeviceResult.TheVariants.{Failed, Good, NoMemory}
 use Rattle.rollback.specs.Machine.{Machine, count_set, ended_by, is_running, is_saved_now, joined, saved_or_first, welcomed}
 use Rattle.rollback.specs.Events.{after_load, after_save, loading, saving, slicing}
-use Rattle.rollback.specs.Keeping.{IsFullStateAt, IsLoadTold, IsSaveTold, IsSavedOrLeft, KeepsFor, LoadsNoMore, MayLoadAfter, MayLoadMade, MayLoadOther}
+use Rattle.rollback.specs.Saving.{IsFullStateAt, IsLoadResult, IsSavedOrLeft, KeepsFor, LoadsNoMore, MayLoadAfter, MayLoadMade, MayLoadOther}
+use Rattle.rollback.specs.inside.DeviceResults.{IsSaveResult}
 
 pub keeps_same : (work : Work) (trusted honest : Bool) (kept : Option ℕ) (may_load : List ℕ → Type 0) (m m' : Machine) → m'.saved ≡ m.saved → KeepsFor work trusted honest kept may_load m → KeepsFor work trusted honest kept may_load m'
 keeps_same work trusted honest kept may_load m m' e k = record { trusts = k.trusts; saved = λ s is. k.saved s (sym e ∙ is); bytes = λ t s is. k.bytes t s (sym e ∙ is) }
@@ -59,7 +60,7 @@ same_both a b c x y = record { saved = y.saved ∙ x.saved; missed = y.missed �
 -- ---- saves
 
 -- a save that was not good leaves what the book counts on
-keeps_left : (work : Work) (trusted : Bool) (m m' : Machine) (state : Standing) (h h' : Bool) (k k' : Option ℕ) (ml ml' : List ℕ → Type 0) (f f' : ℕ) (told : Told) → (told ≡ Good → ⊥) → saved_or_first m.saved < state.superstep → m'.saved ≡ m.saved → IsSaveTold state h h' k k' ml ml' f f' told → KeepsFor work trusted h k ml m → KeepsFor work trusted h' k' ml' m'
+keeps_left : (work : Work) (trusted : Bool) (m m' : Machine) (state : Standing) (h h' : Bool) (k k' : Option ℕ) (ml ml' : List ℕ → Type 0) (f f' : ℕ) (told : DeviceResult) → (told ≡ Good → ⊥) → saved_or_first m.saved < state.superstep → m'.saved ≡ m.saved → IsSaveResult state h h' k k' ml ml' f f' told → KeepsFor work trusted h k ml m → KeepsFor work trusted h' k' ml' m'
 keeps_left work trusted m m' state h h' k k' ml ml' f f' told bad past same s old = record {
   trusts = λ t. s.honest_is ∙ old.trusts t;
   saved = λ n e.
@@ -74,7 +75,7 @@ keeps_left work trusted m m' state h h' k k' ml ml' f f' told bad past same s ol
 some_is : (a b : ℕ) → Some a ≡ Some b → a ≡ b
 some_is a b e = cc
 
-keeps_after : (work : Work) (trusted : Bool) (m : Machine) (state : Standing) (h h' : Bool) (k k' : Option ℕ) (ml ml' : List ℕ → Type 0) (f f' : ℕ) (told : Told) → (trusted ≡ true → IsFullStateAt work state.superstep state) → HasIdsOf work state → state.superstep ≡ m.superstep → saved_or_first m.saved < state.superstep → IsSaveTold state h h' k k' ml ml' f f' told → KeepsFor work trusted h k ml m → KeepsFor work trusted h' k' ml' (after_save told m)
+keeps_after : (work : Work) (trusted : Bool) (m : Machine) (state : Standing) (h h' : Bool) (k k' : Option ℕ) (ml ml' : List ℕ → Type 0) (f f' : ℕ) (told : DeviceResult) → (trusted ≡ true → IsFullStateAt work state.superstep state) → HasIdsOf work state → state.superstep ≡ m.superstep → saved_or_first m.saved < state.superstep → IsSaveResult state h h' k k' ml ml' f f' told → KeepsFor work trusted h k ml m → KeepsFor work trusted h' k' ml' (after_save told m)
 keeps_after work trusted m state h h' k k' ml ml' f f' Good at has same past s old = record {
   trusts = λ t. s.honest_is ∙ old.trusts t;
   saved = λ n e. s.saved_is refl ∙ ap Some same ∙ e;
@@ -95,7 +96,7 @@ abbrev MayLoadNow : Work → Machine → Machine → (ml ml' : List ℕ → Type
 MayLoadNow work m m' ml ml' =
     (LoadsNoMore ml ml' × (m'.saved ≡ m.saved)) ⊎ ((m'.saved ≡ Some m'.superstep) × MayLoadMade work m'.superstep ml')
 
-made : (work : Work) (state : Standing) (s : ℕ) (h h' : Bool) (k k' : Option ℕ) (ml ml' : List ℕ → Type 0) (f f' : ℕ) → HasIdsOf work state → state.superstep ≡ s → IsSaveTold state h h' k k' ml ml' f f' Good → MayLoadMade work s ml'
+made : (work : Work) (state : Standing) (s : ℕ) (h h' : Bool) (k k' : Option ℕ) (ml ml' : List ℕ → Type 0) (f f' : ℕ) → HasIdsOf work state → state.superstep ≡ s → IsSaveResult state h h' k k' ml ml' f f' Good → MayLoadMade work s ml'
 made work state s h h' k k' ml ml' f f' has same t = record {
   bytes = checkpoint_bytes state;
   may = (t.held refl).0;
@@ -111,7 +112,7 @@ pub record Saves (work : Work) (trusted : Bool) (m m' : Machine) (h h' : Bool) (
   pub left : IsSavedNow m' k k'
   pub loads : MayLoadNow work m m' ml ml'
 
-saves_told : (work : Work) (trusted : Bool) (m : Machine) (state : Standing) (h h' : Bool) (k k' : Option ℕ) (ml ml' : List ℕ → Type 0) (f f' : ℕ) (told : Told) → (trusted ≡ true → IsFullStateAt work state.superstep state) → HasIdsOf work state → state.superstep ≡ m.superstep → saved_or_first m.saved < state.superstep → IsSaveTold state h h' k k' ml ml' f f' told → KeepsFor work trusted h k ml m → Saves work trusted m (after_save told m) h h' k k' ml ml' f f'
+saves_told : (work : Work) (trusted : Bool) (m : Machine) (state : Standing) (h h' : Bool) (k k' : Option ℕ) (ml ml' : List ℕ → Type 0) (f f' : ℕ) (told : DeviceResult) → (trusted ≡ true → IsFullStateAt work state.superstep state) → HasIdsOf work state → state.superstep ≡ m.superstep → saved_or_first m.saved < state.superstep → IsSaveResult state h h' k k' ml ml' f f' told → KeepsFor work trusted h k ml m → Saves work trusted m (after_save told m) h h' k k' ml ml' f f'
 saves_told work trusted m state h h' k k' ml ml' f f' Good at has same past s old = record {
   keeps = keeps_after work trusted m state h h' k k' ml ml' f f' Good at has same past s old;
   missed = inl refl;
@@ -137,11 +138,11 @@ saves_told work trusted m state h h' k k' ml ml' f f' NoMemory at has same past 
   loads = inl (s.left_bytes (λ e. cc), refl);
 }
 
-saves_if : (work : Work) (trusted : Bool) (m : Machine) (state : Standing) (h h' : Bool) (k k' : Option ℕ) (ml ml' : List ℕ → Type 0) (f f' : ℕ) (told : Told) (c : Bool) → (trusted ≡ true → IsFullStateAt work state.superstep state) → HasIdsOf work state → state.superstep ≡ m.superstep → saved_or_first m.saved < state.superstep → (c ≡ true → IsSaveTold state h h' k k' ml ml' f f' told) → (c ≡ false → KeepsFor work trusted h' k' ml' m × (k' ≡ k) × LoadsNoMore ml ml') → KeepsFor work trusted h k ml m → Saves work trusted m (cond c (after_save told m) m) h h' k k' ml ml' f f'
+saves_if : (work : Work) (trusted : Bool) (m : Machine) (state : Standing) (h h' : Bool) (k k' : Option ℕ) (ml ml' : List ℕ → Type 0) (f f' : ℕ) (told : DeviceResult) (c : Bool) → (trusted ≡ true → IsFullStateAt work state.superstep state) → HasIdsOf work state → state.superstep ≡ m.superstep → saved_or_first m.saved < state.superstep → (c ≡ true → IsSaveResult state h h' k k' ml ml' f f' told) → (c ≡ false → KeepsFor work trusted h' k' ml' m × (k' ≡ k) × LoadsNoMore ml ml') → KeepsFor work trusted h k ml m → Saves work trusted m (cond c (after_save told m) m) h h' k k' ml ml' f f'
 saves_if work trusted m state h h' k k' ml ml' f f' told true at has same past s other old = saves_told work trusted m state h h' k k' ml ml' f f' told at has same past (s refl) old
 saves_if work trusted m state h h' k k' ml ml' f f' told false at has same past s other old = record { keeps = (other refl).0; missed = inl refl; restarts = refl; superstep = refl; left = inr (inl (other refl).1); loads = inl ((other refl).2, refl) }
 
-pub saves : (work : Work) (trusted : Bool) (m : Machine) (state : Standing) (h h' : Bool) (k k' : Option ℕ) (ml ml' : List ℕ → Type 0) (f f' : ℕ) (told : Told) → (trusted ≡ true → IsFullStateAt work state.superstep state) → HasIdsOf work state → state.superstep ≡ m.superstep → saved_or_first m.saved < state.superstep → (is_saved_now m ≡ true → IsSaveTold state h h' k k' ml ml' f f' told) → (is_saved_now m ≡ false → KeepsFor work trusted h' k' ml' m × (k' ≡ k) × LoadsNoMore ml ml') → KeepsFor work trusted h k ml m → Saves work trusted m (saving told m) h h' k k' ml ml' f f'
+pub saves : (work : Work) (trusted : Bool) (m : Machine) (state : Standing) (h h' : Bool) (k k' : Option ℕ) (ml ml' : List ℕ → Type 0) (f f' : ℕ) (told : DeviceResult) → (trusted ≡ true → IsFullStateAt work state.superstep state) → HasIdsOf work state → state.superstep ≡ m.superstep → saved_or_first m.saved < state.superstep → (is_saved_now m ≡ true → IsSaveResult state h h' k k' ml ml' f f' told) → (is_saved_now m ≡ false → KeepsFor work trusted h' k' ml' m × (k' ≡ k) × LoadsNoMore ml ml') → KeepsFor work trusted h k ml m → Saves work trusted m (saving told m) h h' k k' ml ml' f f'
 saves work trusted m state h h' k k' ml ml' f f' told at has same past s other old = saves_if work trusted m state h h' k k' ml ml' f f' told (is_saved_now m) at has same past s other old
 
 -- numbers that a Keep does not know
@@ -182,7 +183,7 @@ saves_loads work trusted before m m' h h' k k' ml ml' f f' next same s =
 abbrev MayLoadStill : Machine → Machine → (ml ml' : List ℕ → Type 0) → Type 0
 MayLoadStill m m' ml ml' = LoadsNoMore ml ml' × ((m'.saved ≡ m.saved) ⊎ (m'.saved ≡ None))
 
-loads_keeps : (work : Work) (trusted : Bool) (m m' : Machine) (h h' : Bool) (k k' : Option ℕ) (ml ml' : List ℕ → Type 0) (f f' : ℕ) (asked : Option ℕ) (told : Told) → m'.saved ≡ m.saved → IsLoadTold work h h' k k' ml ml' f f' asked told → KeepsFor work trusted h k ml m → KeepsFor work trusted h' k' ml' m'
+loads_keeps : (work : Work) (trusted : Bool) (m m' : Machine) (h h' : Bool) (k k' : Option ℕ) (ml ml' : List ℕ → Type 0) (f f' : ℕ) (asked : Option ℕ) (told : DeviceResult) → m'.saved ≡ m.saved → IsLoadResult work h h' k k' ml ml' f f' asked told → KeepsFor work trusted h k ml m → KeepsFor work trusted h' k' ml' m'
 loads_keeps work trusted m m' h h' k k' ml ml' f f' asked told same l old = record {
   trusts = λ t. l.honest_is ∙ old.trusts t;
   saved = λ s e. l.saved_is ∙ old.saved s (sym same ∙ e);
@@ -197,7 +198,7 @@ pub record Loads (work : Work) (trusted : Bool) (m m' : Machine) (h h' : Bool) (
   pub left : k' ≡ k
   pub loads : MayLoadStill m m' ml ml'
 
-loads_if : (work : Work) (trusted : Bool) (m : Machine) (h h' : Bool) (k k' : Option ℕ) (ml ml' : List ℕ → Type 0) (f f' : ℕ) (asked : Option ℕ) (told : Told) → asked ≡ m.saved → IsLoadTold work h h' k k' ml ml' f f' asked told → KeepsFor work trusted h k ml m → Loads work trusted m (loading asked told m) h h' k k' ml ml' f f'
+loads_if : (work : Work) (trusted : Bool) (m : Machine) (h h' : Bool) (k k' : Option ℕ) (ml ml' : List ℕ → Type 0) (f f' : ℕ) (asked : Option ℕ) (told : DeviceResult) → asked ≡ m.saved → IsLoadResult work h h' k k' ml ml' f f' asked told → KeepsFor work trusted h k ml m → Loads work trusted m (loading asked told m) h h' k k' ml ml' f f'
 loads_if work trusted m h h' k k' ml ml' f f' None told e l old = record { keeps = loads_keeps work trusted m m h h' k k' ml ml' f f' None told refl l old; missed = refl; restarts = inl refl; left = l.saved_is; loads = (l.bytes_are, inl refl) }
 loads_if work trusted m h h' k k' ml ml' f f' (Some s) Good e l old = record { keeps = loads_keeps work trusted m m h h' k k' ml ml' f f' (Some s) Good refl l old; missed = refl; restarts = inl refl; left = l.saved_is; loads = (l.bytes_are, inl refl) }
 loads_if work trusted m h h' k k' ml ml' f f' (Some s) Failed e l old = record {
@@ -209,7 +210,7 @@ loads_if work trusted m h h' k k' ml ml' f f' (Some s) Failed e l old = record {
 }
 loads_if work trusted m h h' k k' ml ml' f f' (Some s) NoMemory e l old = record { keeps = loads_keeps work trusted m (after_load NoMemory m) h h' k k' ml ml' f f' (Some s) NoMemory refl l old; missed = refl; restarts = inl refl; left = l.saved_is; loads = (l.bytes_are, inl refl) }
 
-pub loads : (work : Work) (trusted : Bool) (m m1 : Machine) (h h' : Bool) (k k' : Option ℕ) (ml ml' : List ℕ → Type 0) (f f' : ℕ) (told : Told) → m1.saved ≡ m.saved → m1.missed ≡ m.missed → m1.restarts ≡ m.restarts → IsLoadTold work h h' k k' ml ml' f f' m1.saved told → KeepsFor work trusted h k ml m → Loads work trusted m (loading m1.saved told m1) h h' k k' ml ml' f f'
+pub loads : (work : Work) (trusted : Bool) (m m1 : Machine) (h h' : Bool) (k k' : Option ℕ) (ml ml' : List ℕ → Type 0) (f f' : ℕ) (told : DeviceResult) → m1.saved ≡ m.saved → m1.missed ≡ m.missed → m1.restarts ≡ m.restarts → IsLoadResult work h h' k k' ml ml' f f' m1.saved told → KeepsFor work trusted h k ml m → Loads work trusted m (loading m1.saved told m1) h h' k k' ml ml' f f'
 loads work trusted m m1 h h' k k' ml ml' f f' told saved missed restarts l old =
     let x = loads_if work trusted m1 h h' k k' ml ml' f f' m1.saved told refl l (keeps_same work trusted h k ml m m1 saved old) in
     record {

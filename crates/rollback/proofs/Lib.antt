@@ -1,10 +1,11 @@
+pub mod Beginning
 pub mod ByPlace
 pub mod Keeps
 pub mod Kept
 pub mod Least
 pub mod Opening
 pub mod Reports
-pub mod Seated
+pub mod InSlots
 pub mod Simulated
 pub mod Slices
 pub mod Sound

@@ -4,7 +4,7 @@ use Rattle.superstep.specs.declared.settings.Settings.{Settings}
 use Rattle.superstep.specs.Settings.{first_bad}
 use Rattle.superstep.specs.Job.{HasGraph, Work}
 use Rattle.superstep.specs.State.{HasIdsOf, IsStateAt, Standing, state_id}
-use Rattle.rollback.specs.Keeping.{IsFullStateAt}
+use Rattle.rollback.specs.Saving.{IsFullStateAt}
 use Rattle.rollback.specs.inside.Book.{AreIdsOf}
 
 most_parts : (settings : Settings) → first_bad settings ≡ None → settings.parts ≤ 256

@@ -4,41 +4,41 @@ use Rattle.superstep.specs.Ending.{HasStopped}
 use Rattle.superstep.specs.Job.{Work}
 use Rattle.superstep.specs.State.{Standing}
 use Rattle.superstep.specs.Ending.{WasBusy}
-use Rattle.rollback.specs.declared.ending.End.{End}
-use Rattle.rollback.specs.declared.ending.End.TheVariants.{Fault, Finished, Limit, Running}
-use Rattle.rollback.specs.declared.holding.Holding.{Holding}
-use Rattle.rollback.specs.declared.holding.Holding.TheVariants.{Nothing, Parts, Whole}
+use Rattle.rollback.specs.declared.job_status.JobStatus.{JobStatus}
+use Rattle.rollback.specs.declared.job_status.JobStatus.TheVariants.{Fault, Finished, Limit, Running}
+use Rattle.rollback.specs.declared.job_data.JobData.{JobData}
+use Rattle.rollback.specs.declared.job_data.JobData.TheVariants.{Nothing, Parts, Whole}
 use Rattle.rollback.specs.declared.report.Report.{Report}
 use Rattle.rollback.specs.Machine.{Machine, has_answer, is_running}
 use Rattle.rollback.specs.Book.{IsReport, has_finished}
-use Rattle.rollback.specs.inside.Book.{HasWhole, IsHeld, IsReached, IsWhole, StandsAt, is_fault}
+use Rattle.rollback.specs.inside.Book.{HasWhole, HoldsData, IsReached, IsWhole, StandsAt, is_fault}
 use Rattle.rollback.specs.inside.Reporting.{IsReportIn}
 
-running_no_answer : (e : End) → is_running e ≡ true → has_answer e ≡ true → ⊥
+running_no_answer : (e : JobStatus) → is_running e ≡ true → has_answer e ≡ true → ⊥
 running_no_answer Running h a = cc
 running_no_answer Finished h a = cc
 running_no_answer Limit h a = cc
 running_no_answer (Fault fault) h a = cc
 
-fault_no_answer : (e : End) → is_fault e ≡ true → has_answer e ≡ true → ⊥
+fault_no_answer : (e : JobStatus) → is_fault e ≡ true → has_answer e ≡ true → ⊥
 fault_no_answer Running h a = cc
 fault_no_answer Finished h a = cc
 fault_no_answer Limit h a = cc
 fault_no_answer (Fault fault) h a = cc
 
 -- a job that has an answer has the state that it ended with
-pub has_whole : (work : Work) (honest : Bool) (m : Machine) {J : _} (holding : Holding J) → IsHeld work honest m holding → has_answer m.ending ≡ true → HasWhole holding
-has_whole work honest m (Parts seating) h a = absurd (running_no_answer m.ending h.running a)
+pub has_whole : (work : Work) (honest : Bool) (m : Machine) {J : _} (job_data : JobData J) → HoldsData work honest m job_data → has_answer m.ending ≡ true → HasWhole job_data
+has_whole work honest m (Parts placement) h a = absurd (running_no_answer m.ending h.running a)
 has_whole work honest m (Whole state) h a = tt
 has_whole work honest m Nothing h a = absurd (fault_no_answer m.ending h a)
 
-within : (work : Work) (e : End) (s : ℕ) → has_answer e ≡ true → StandsAt work e s → s ≤ work.settings.limit
+within : (work : Work) (e : JobStatus) (s : ℕ) → has_answer e ≡ true → StandsAt work e s → s ≤ work.settings.limit
 within work Running s h at = absurd (cc)
 within work Finished s h at = at.1
 within work Limit s h at = let e = at.1 in omega (arith, e)
 within work (Fault fault) s h at = absurd (cc)
 
-last : (work : Work) (e : End) (s : ℕ) → has_answer e ≡ true → StandsAt work e s → has_finished e ≡ false → s ≡ work.settings.limit
+last : (work : Work) (e : JobStatus) (s : ℕ) → has_answer e ≡ true → StandsAt work e s → has_finished e ≡ false → s ≡ work.settings.limit
 last work Running s h at n = absurd (cc)
 last work Finished s h at n = absurd (cc)
 last work Limit s h at n = at.1

@@ -13,25 +13,25 @@ use Rattle.superstep.specs.Tasks.{AreUnitsAt, DoneStamp, TaskStamp}
 use Rattle.rollback.specs.declared.control.Out.{Out}
 use Rattle.rollback.specs.declared.event.Answer.{Answer}
 use Rattle.rollback.specs.declared.event.Answer.TheVariants.{Ended, Stale}
-use Rattle.rollback.specs.declared.ending.Told.TheVariants.{Good}
+use Rattle.rollback.specs.declared.job_status.DeviceResult.TheVariants.{Good}
 use Rattle.rollback.specs.declared.simulation.Step.{Step}
 use Rattle.rollback.specs.declared.simulation.Step.TheVariants.{Join, Lose, Take, Tick, Work}
 use Rattle.rollback.specs.declared.simulation.StepAnswer.{StepAnswer}
 use Rattle.rollback.specs.declared.simulation.StepAnswer.TheVariants.{Handed, Idle, Said}
-use Rattle.rollback.specs.declared.ending.End.{End}
-use Rattle.rollback.specs.declared.ending.End.TheVariants.{Fault, Finished, Limit, Running}
+use Rattle.rollback.specs.declared.job_status.JobStatus.{JobStatus}
+use Rattle.rollback.specs.declared.job_status.JobStatus.TheVariants.{Fault, Finished, Limit, Running}
 use Rattle.rollback.specs.declared.report.Report.{Report}
 use Rattle.rollback.specs.declared.simulation.Outcome.{Outcome}
 use Rattle.rollback.specs.declared.simulation.Outcome.TheVariants.{Ended as Over, Open}
 use Rattle.rollback.specs.declared.simulation.Trace.{Trace}
-use Rattle.rollback.specs.Keeping.{IsCaused, IsKeptStep, IsMadeAt, KeepsFor, MayLoadOther}
+use Rattle.rollback.specs.Saving.{IsCaused, IsKeptStep, IsMadeAt, KeepsFor, MayLoadOther}
 use Rattle.rollback.specs.Machine.{Machine, hand, handed, has_answer, is_free, is_running, opened, task_of}
 use Rattle.rollback.specs.Events.{Heard, Stamp, accepted, reply_of}
 use Rattle.rollback.specs.Events.Stamp.{JoinedBy, LostBy, Ticked}
 use Rattle.rollback.specs.Book.{IsQuietAt, IsReport, IsStep, done_out, task_out}
 use Rattle.rollback.proofs.Keeps.{keeps_same}
-use Rattle.rollback.specs.inside.Simulating.{HasSameCounts, LoadsMade, with_none_held}
-use Rattle.rollback.specs.Simulation.{IsCalm, IsCalmAt, IsEnded, IsOutcomeAt, IsSimStep, IsSimulated, IsSimulatedOver, IsTrace, NeverFails, Ran, RanOver, Sim, Told, brought, does, dropped, emptied, held_or_new, holds, in_time, new_task, said, sim_opened, sim_step, stamps, taken, takes, work_on, worked}
+use Rattle.rollback.specs.Simulation.{IsCalm, IsCalmAt, IsEnded, IsOutcomeAt, IsSimStep, IsSimulated, IsSimulatedOver, IsTrace, NeverFails, Ran, RanOver, Sim, StepInput, brought, does, without_task, emptied, held_or_new, holds, while_running, new_task, said, sim_opened, sim_step, taken, takes, work_on, worked}
+use Rattle.rollback.specs.inside.Simulating.{HasSameCounts, LoadsMade, stamps, with_none_held}
 
 -- of any relation of steps and Keeps
 module _ {K : Type 0} (over : Machine → Machine → K → K → Type 0) (work : AnyWork) (honest : Bool) where
@@ -86,11 +86,11 @@ done_same done task e f g = rw (e, f, g) refl
 
 -- ---- single steps
 
-abbrev pub told_of : Heard → Bool → ℕ → Told
+abbrev pub told_of : Heard → Bool → ℕ → StepInput
 told_of heard ran units = record { heard = heard; ran = ran; units = units }
 
 -- what is told where nothing is
-abbrev nothing : Told
+abbrev nothing : StepInput
 nothing = record { heard = record { quiet = false; merged = true; save = Good; load = Good; sliced = true }; ran = false; units = 0 }
 
 -- a step in which the machine takes no event
@@ -114,8 +114,8 @@ told_sim work honest step before mid stamp ran units after reply answer same cos
   next = is x.heard ∙ takes_is x.heard mid stamp after reply answer x.machine x.told e;
 }
 
-in_time_is : (s : Sim) (w : ℕ) (next : Sim × StepAnswer) → is_running s.machine.ending ≡ true → nat_lt w (length s.held) ≡ true → in_time s w next ≡ next
-in_time_is s w next run near = rw (run, near) refl
+while_running_is : (s : Sim) (w : ℕ) (next : Sim × StepAnswer) → is_running s.machine.ending ≡ true → nat_lt w (length s.held) ≡ true → while_running s w next ≡ next
+while_running_is s w next run near = rw (run, near) refl
 
 pub take_over : (work : AnyWork) (honest : Bool) (w : ℕ) (s : Sim) → is_running s.machine.ending ≡ false → IsSimStep work honest (Take w) s s (Said Ended)
 take_over work honest w s over = plain_sim work honest (Take w) s s (Said Ended) refl (rw over refl)
@@ -127,23 +127,23 @@ pub take_holder : (work : AnyWork) (honest : Bool) (w : ℕ) (s : Sim) → is_ru
 take_holder work honest w s run near full = plain_sim work honest (Take w) s s Idle refl (rw (run, near, full) refl)
 
 pub take_none : (work : AnyWork) (honest : Bool) (w : ℕ) (s : Sim) → is_running s.machine.ending ≡ true → nat_lt w (length s.held) ≡ true → is_free (holds s w) ≡ true → hand s.machine w ≡ None → IsSimStep work honest (Take w) s s Idle
-take_none work honest w s run near free none = plain_sim work honest (Take w) s s Idle refl (in_time_is s w _ run near ∙ rw free (ap (taken s w) none))
+take_none work honest w s run near free none = plain_sim work honest (Take w) s s Idle refl (while_running_is s w _ run near ∙ rw free (ap (taken s w) none))
 
 pub take_some : (work : AnyWork) (honest : Bool) (w p : ℕ) (s : Sim) (after : Machine) (held : List (Option Out)) → is_running s.machine.ending ≡ true → nat_lt w (length s.held) ≡ true → is_free (holds s w) ≡ true → hand s.machine w ≡ Some p → after ≡ handed s.machine w p → held ≡ set s.held w (Some (task_of s.machine p)) → IsSimStep work honest (Take w) s (record { machine = after; held = held }) (Handed p)
-take_some work honest w p s after held run near free some e f = plain_sim work honest (Take w) s (record { machine = after; held = held }) (Handed p) (ap (λ (m : Machine). m.superstep) e) (in_time_is s w _ run near ∙ rw free (ap (taken s w) some ∙ rw (e, f) refl))
+take_some work honest w p s after held run near free some e f = plain_sim work honest (Take w) s (record { machine = after; held = held }) (Handed p) (ap (λ (m : Machine). m.superstep) e) (while_running_is s w _ run near ∙ rw free (ap (taken s w) some ∙ rw (e, f) refl))
 
 pub work_over : (work : AnyWork) (honest : Bool) (w : ℕ) (s : Sim) (held : List (Option Out)) → holds s w ≡ None → held ≡ set s.held w None → is_running s.machine.ending ≡ false → IsSimStep work honest (Work w) s (record s { held = held }) (Said Ended)
-work_over work honest w s held none e over = plain_sim work honest (Work w) s (record s { held = held }) (Said Ended) refl (ap (work_on nothing (dropped s w) w) none ∙ rw (over, e) refl)
+work_over work honest w s held none e over = plain_sim work honest (Work w) s (record s { held = held }) (Said Ended) refl (ap (work_on nothing (without_task s w) w) none ∙ rw (over, e) refl)
 
 pub work_far : (work : AnyWork) (honest : Bool) (w : ℕ) (s : Sim) (held : List (Option Out)) → holds s w ≡ None → held ≡ set s.held w None → is_running s.machine.ending ≡ true → nat_lt w (length held) ≡ false → IsSimStep work honest (Work w) s (record s { held = held }) (Said Stale)
 work_far work honest w s held none e run far =
     let far' : nat_lt w (length (set s.held w None)) ≡ false = subst (λ h. nat_lt w (length h) ≡ false) e far in
-    plain_sim work honest (Work w) s (record s { held = held }) (Said Stale) refl (ap (work_on nothing (dropped s w) w) none ∙ rw (run, far', e) refl)
+    plain_sim work honest (Work w) s (record s { held = held }) (Said Stale) refl (ap (work_on nothing (without_task s w) w) none ∙ rw (run, far', e) refl)
 
 pub work_none : (work : AnyWork) (honest : Bool) (w : ℕ) (s : Sim) (held : List (Option Out)) → holds s w ≡ None → held ≡ set s.held w None → is_running s.machine.ending ≡ true → nat_lt w (length held) ≡ true → hand s.machine w ≡ None → IsSimStep work honest (Work w) s (record s { held = held }) Idle
 work_none work honest w s held none e run near nobody =
     let near' : nat_lt w (length (set s.held w None)) ≡ true = subst (λ h. nat_lt w (length h) ≡ true) e near in
-    plain_sim work honest (Work w) s (record s { held = held }) Idle refl (ap (work_on nothing (dropped s w) w) none ∙ in_time_is (dropped s w) w _ run near' ∙ ap (worked nothing (dropped s w) w) nobody ∙ rw e refl)
+    plain_sim work honest (Work w) s (record s { held = held }) Idle refl (ap (work_on nothing (without_task s w) w) none ∙ while_running_is (without_task s w) w _ run near' ∙ ap (worked nothing (without_task s w) w) nobody ∙ rw e refl)
 
 -- what one task costs, of the one that is done
 costs_of : (work : AnyWork) (honest ran : Bool) (units : ℕ) (task : Out) (one : Option Out) → one ≡ Some task → (honest ≡ true → ran ≡ true → AreUnitsAt work task.superstep task.part units) → honest ≡ true → ran ≡ true → (other : Out) → one ≡ Some other → AreUnitsAt work other.superstep other.part units
@@ -155,18 +155,18 @@ costs_of work honest ran units task one is cost h r other e =
 -- the worker does the task that it held
 pub work_held : (work : AnyWork) (honest : Bool) (w : ℕ) (s : Sim) (after : Machine) (held : List (Option Out)) (task : Out) (stamp : Stamp) (ran : Bool) (units : ℕ) (reply : Result Answer JobFault) (answer : StepAnswer) → holds s w ≡ Some task → held ≡ set s.held w None → stamp ≡ brought ran units w task → (honest ≡ true → ran ≡ true → AreUnitsAt work task.superstep task.part units) → IsStep work honest (λ heard. accepted heard s.machine stamp) s.machine after reply → answer ≡ said reply → IsSimStep work honest (Work w) s (record { machine = after; held = held }) answer
 work_held work honest w s after held task stamp ran units reply answer some e st cost x a =
-    let is = λ (heard : Heard). ap (work_on (told_of heard ran units) (dropped s w) w) some ∙ ap (λ (z : Stamp). takes heard (dropped s w) z) (sym st) in
+    let is = λ (heard : Heard). ap (work_on (told_of heard ran units) (without_task s w) w) some ∙ ap (λ (z : Stamp). takes heard (without_task s w) z) (sym st) in
     let costs = costs_of work honest ran units task (does s (Work w)) (ap (held_or_new s w) some) cost in
-    subst (λ h. IsSimStep work honest (Work w) s (record { machine = after; held = h }) answer) (sym e) (told_sim work honest (Work w) s (dropped s w) stamp ran units after reply answer refl costs is x a)
+    subst (λ h. IsSimStep work honest (Work w) s (record { machine = after; held = h }) answer) (sym e) (told_sim work honest (Work w) s (without_task s w) stamp ran units after reply answer refl costs is x a)
 
 -- the worker does a new one
 pub work_new : (work : AnyWork) (honest : Bool) (w p : ℕ) (s : Sim) (handed_out after : Machine) (held : List (Option Out)) (task : Out) (stamp : Stamp) (ran : Bool) (units : ℕ) (reply : Result Answer JobFault) (answer : StepAnswer) → holds s w ≡ None → held ≡ set s.held w None → is_running s.machine.ending ≡ true → nat_lt w (length held) ≡ true → hand s.machine w ≡ Some p → handed_out ≡ handed s.machine w p → task ≡ task_of s.machine p → stamp ≡ brought ran units w task → (honest ≡ true → ran ≡ true → AreUnitsAt work task.superstep task.part units) → IsStep work honest (λ heard. accepted heard handed_out stamp) handed_out after reply → answer ≡ said reply → IsSimStep work honest (Work w) s (record { machine = after; held = held }) answer
 work_new work honest w p s handed_out after held task stamp ran units reply answer none e run near some out' t st cost x a =
     let near' : nat_lt w (length (set s.held w None)) ≡ true = subst (λ h. nat_lt w (length h) ≡ true) e near in
-    let mid = record (dropped s w) { machine = handed s.machine w p } in
+    let mid = record (without_task s w) { machine = handed s.machine w p } in
     let y : IsStep work honest (λ heard. accepted heard (handed s.machine w p) stamp) (handed s.machine w p) after reply = subst (λ m. IsStep work honest (λ heard. accepted heard m stamp) m after reply) out' x in
     let st' : stamp ≡ brought ran units w (task_of s.machine p) = st ∙ ap (brought ran units w) t in
-    let is = λ (heard : Heard). ap (work_on (told_of heard ran units) (dropped s w) w) none ∙ in_time_is (dropped s w) w _ run near' ∙ ap (worked (told_of heard ran units) (dropped s w) w) some ∙ ap (λ (z : Stamp). takes heard mid z) (sym st') in
+    let is = λ (heard : Heard). ap (work_on (told_of heard ran units) (without_task s w) w) none ∙ while_running_is (without_task s w) w _ run near' ∙ ap (worked (told_of heard ran units) (without_task s w) w) some ∙ ap (λ (z : Stamp). takes heard mid z) (sym st') in
     let does_it : does s (Work w) ≡ Some task = ap (held_or_new s w) none ∙ ap (new_task s.machine) some ∙ ap Some (sym t) in
     let costs = costs_of work honest ran units task (does s (Work w)) does_it cost in
     subst (λ h. IsSimStep work honest (Work w) s (record { machine = after; held = h }) answer) (sym e) (told_sim work honest (Work w) s mid stamp ran units after reply answer refl costs is y a)
@@ -317,7 +317,7 @@ calm_ended : (work : AnyWork) (honest : Bool) (m : Machine) (outcome : Outcome) 
 calm_ended work honest m (Open s) e f h = tt
 calm_ended work honest m (Over report) e f h = (h.missed ∙ e, h.restarts ∙ f)
 
-calm_at : (work : AnyWork) (honest : Bool) (m : Machine) (end : End) (outcome : Outcome) → m.missed ≡ 0 → m.restarts ≡ 0 → IsOutcomeAt work honest m end (Ok outcome) → IsCalm outcome
+calm_at : (work : AnyWork) (honest : Bool) (m : Machine) (end : JobStatus) (outcome : Outcome) → m.missed ≡ 0 → m.restarts ≡ 0 → IsOutcomeAt work honest m end (Ok outcome) → IsCalm outcome
 calm_at work honest m Running (Open s) e f h = tt
 calm_at work honest m Running (Over report) e f h = absurd (cc)
 calm_at work honest m Finished outcome e f h = calm_ended work honest m outcome e f h
@@ -345,7 +345,7 @@ outcome_open work honest m s e is = subst (λ x. IsOutcomeAt work honest m x (Ok
 pub outcome_fault : (work : AnyWork) (honest : Bool) (m : Machine) (fault : JobFault) → Fault fault ≡ m.ending → IsOutcomeAt work honest m m.ending (Err fault)
 outcome_fault work honest m fault e = subst (λ x. IsOutcomeAt work honest m x (Err fault)) e refl
 
-outcome_told : (work : AnyWork) (honest : Bool) (m : Machine) (end : End) (result : Result Outcome JobFault) → has_answer end ≡ true → IsEnded work honest m result → IsOutcomeAt work honest m end result
+outcome_told : (work : AnyWork) (honest : Bool) (m : Machine) (end : JobStatus) (result : Result Outcome JobFault) → has_answer end ≡ true → IsEnded work honest m result → IsOutcomeAt work honest m end result
 outcome_told work honest m Running result h is = absurd (cc)
 outcome_told work honest m Finished result h is = is
 outcome_told work honest m Limit result h is = is

@@ -6,18 +6,18 @@ use Rattle.superstep.specs.declared.fault.JobFault.TheVariants.{OutOfMemory}
 use Rattle.superstep.specs.declared.fault.Place.TheVariants.{Slice}
 use Rattle.superstep.specs.Job.{Work}
 use Rattle.superstep.specs.State.{Standing}
-use Rattle.rollback.specs.declared.holding.Holding.{Holding}
-use Rattle.rollback.specs.declared.holding.Holding.TheVariants.{Nothing, Parts, Whole}
+use Rattle.rollback.specs.declared.job_data.JobData.{JobData}
+use Rattle.rollback.specs.declared.job_data.JobData.TheVariants.{Nothing, Parts, Whole}
 use Rattle.rollback.specs.Machine.{Machine, ended_by, is_running}
 use Rattle.rollback.specs.Events.{slicing}
-use Rattle.rollback.specs.Parts.{all_home}
-use Rattle.rollback.specs.Keeping.{IsOther, MayLoadOther}
+use Rattle.rollback.specs.inside.Parts.{all_home}
+use Rattle.rollback.specs.Saving.{IsOther, MayLoadOther}
 use Rattle.rollback.specs.inside.Book.{AreIdsOf}
 use Rattle.superstep.specs.State.{state_id}
 use Rattle.superstep.specs.declared.state.VertexState.{VertexState}
 use Rattle.std.proofs.lemmas.List.{length-map}
 use Rattle.rollback.specs.inside.Loading.{HasIds, IsNotOf}
-use Rattle.rollback.specs.inside.Rolling.{IsHeldOf, StandsBack}
+use Rattle.rollback.specs.inside.Recovery.{IsHeldOf, StandsBack}
 use Rattle.rollback.proofs.Kept.{running_not_answer}
 
 slicing_room_if : (m : Machine) (a : Bool) → cond (a && not true) (ended_by (OutOfMemory Slice) m) m ≡ m
@@ -37,14 +37,14 @@ pub slicing_none : (m : Machine) → is_running m.ending ≡ true → slicing fa
 slicing_none m h = slicing_none_if m (is_running m.ending) h
 
 -- what is held of a state of a job that runs is back
-pub held_back : {J : _} (parts s : ℕ) (m m' : Machine) (state : Standing) (holding : Holding J) → is_running m.ending ≡ true → state.superstep ≡ s → IsHeldOf parts m m' state holding → StandsBack parts s m' holding
-held_back parts s m m' state (Parts seating) run same h =
+pub held_back : {J : _} (parts s : ℕ) (m m' : Machine) (state : Standing) (job_data : JobData J) → is_running m.ending ≡ true → state.superstep ≡ s → IsHeldOf parts m m' state job_data → StandsBack parts s m' job_data
+held_back parts s m m' state (Parts placement) run same h =
     (subst (λ (x : Machine). is_running x.ending ≡ true) (sym h.1) run, (state.since, h.2 ∙ ap (λ n. all_home n state.since parts) same))
 held_back parts s m m' state (Whole whole) run same h = absurd (running_not_answer m.ending run h.0)
 held_back parts s m m' state Nothing run same h = h
 
-pub back_same : {J : _} (parts s s' : ℕ) (m : Machine) (holding : Holding J) → s ≡ s' → StandsBack parts s m holding → StandsBack parts s' m holding
-back_same parts s s' m holding same h = subst (λ n. StandsBack parts n m holding) same h
+pub back_same : {J : _} (parts s s' : ℕ) (m : Machine) (job_data : JobData J) → s ≡ s' → StandsBack parts s m job_data → StandsBack parts s' m job_data
+back_same parts s s' m job_data same h = subst (λ n. StandsBack parts n m job_data) same h
 
 same_at : (xs ys : List ℕ) → length xs ≡ length ys → ((k : ℕ) → k < length xs → get_or xs k 0 ≡ get_or ys k 0) → xs ≡ ys
 same_at [] [] long at = refl

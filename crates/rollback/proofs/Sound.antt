@@ -4,13 +4,13 @@ use Rattle.std.proofs.Common.{replicate}
 use Rattle.std.proofs.Math.ListN.{length-set, set}
 use Rattle.std.proofs.lemmas.List.{length-replicate}
 use Rattle.superstep.specs.declared.settings.Settings.{Settings}
-use Rattle.rollback.specs.declared.ending.End.{End}
+use Rattle.rollback.specs.declared.job_status.JobStatus.{JobStatus}
 use Rattle.std.proofs.lemmas.Grind.{common_steps}
 use Rattle.std.specs.Prelude.{◌==◌, not, ◌⊎◌}
 use Rattle.std.proofs.Common.{inl, inr}
 use Rattle.rollback.specs.declared.control.Out.{Out}
 use Rattle.rollback.specs.declared.event.Answer.TheVariants.{Stale, Taken}
-use Rattle.rollback.specs.Machine.{Machine, all_set, closed, count_set, counts, finished, freed, hand, handed, is_alive, is_free, is_out, is_running, is_that, least, opened, task_of}
+use Rattle.rollback.specs.Machine.{Machine, all_set, closed, count_set, counts, finished, freed, hand, handed, is_alive, is_free, is_out, is_running, is_that, least, opened, restarted, resumed, task_of}
 use Rattle.rollback.specs.Events.{Heard, done_step, shut, stale_done}
 use Rattle.rollback.specs.inside.Sound.{IsOpen, IsSound, IsSoundOut}
 
@@ -154,7 +154,7 @@ sound_rest m waiting age spent missed restarts s = record {
 }
 
 -- how it ends, and what was saved
-pub sound_ending : (m : Machine) (ending : End) (saved : Option ℕ) → IsSound m → IsSound (record m { ending = ending; saved = saved })
+pub sound_ending : (m : Machine) (ending : JobStatus) (saved : Option ℕ) → IsSound m → IsSound (record m { ending = ending; saved = saved })
 sound_ending m ending saved s = record {
   width = s.width;
   outs = λ w task lt is. let x = s.outs w task lt is in record { past = x.past; superstep = x.superstep; part = x.part; alive = x.alive; own = x.own };
@@ -198,6 +198,18 @@ none_out (suc n) (suc w) task e = none_out n w task e
 
 pub sound_opened : (settings : Settings) (quiet : Bool) → IsSound (opened settings quiet)
 sound_opened settings quiet = record {
+  width = length-replicate settings.workers None ∙ sym (length-replicate settings.workers true);
+  outs = λ w task lt e. absurd (none_out settings.workers w task e);
+}
+
+pub sound_resumed : (settings : Settings) (s : ℕ) → IsSound (resumed settings s)
+sound_resumed settings s = record {
+  width = length-replicate settings.workers None ∙ sym (length-replicate settings.workers true);
+  outs = λ w task lt e. absurd (none_out settings.workers w task e);
+}
+
+pub sound_restarted : (settings : Settings) (s : ℕ) → IsSound (restarted (resumed settings s))
+sound_restarted settings s = record {
   width = length-replicate settings.workers None ∙ sym (length-replicate settings.workers true);
   outs = λ w task lt e. absurd (none_out settings.workers w task e);
 }

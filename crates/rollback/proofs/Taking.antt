@@ -2,7 +2,7 @@
 use Rattle.std.proofs.Common.{◌≡◌, ℕ, ◌<◌, List, length, Bool, true, false, cond, refl}
 use Rattle.superstep.specs.Job.{Work}
 use Rattle.rollback.specs.declared.control.Out.{Out}
-use Rattle.rollback.specs.declared.holding.Holding.{Holding}
+use Rattle.rollback.specs.declared.job_data.JobData.{JobData}
 use Rattle.rollback.specs.Machine.{Machine, counts, freed, is_out}
 use Rattle.rollback.specs.Events.{stale_done}
 use Rattle.rollback.specs.inside.Book.{IsBook}
@@ -11,13 +11,13 @@ use Rattle.rollback.proofs.Kept.{book_freed}
 use Rattle.rollback.proofs.Keeps.{AreSame}
 use Rattle.rollback.proofs.Sound.{HasNone, stale_none}
 
-book_stale_if : (work : Work) (honest : Bool) (own : Work) (m : Machine) (ids : List ℕ) {J : _} (holding : Holding J) (w : ℕ) (c : Bool) → w < length m.out → (c ≡ true → HasNone m w) → IsBook work honest own m ids holding → IsBook work honest own (cond c (freed m w) m) ids holding
-book_stale_if work honest own m ids holding w true lt never b = book_freed work honest own m ids holding w lt (never refl) b
-book_stale_if work honest own m ids holding w false lt never b = b
+book_stale_if : (work : Work) (honest : Bool) (own : Work) (m : Machine) (ids : List ℕ) {J : _} (job_data : JobData J) (w : ℕ) (c : Bool) → w < length m.out → (c ≡ true → HasNone m w) → IsBook work honest own m ids job_data → IsBook work honest own (cond c (freed m w) m) ids job_data
+book_stale_if work honest own m ids job_data w true lt never b = book_freed work honest own m ids job_data w lt (never refl) b
+book_stale_if work honest own m ids job_data w false lt never b = b
 
 -- a result that is not taken frees its worker at most
-pub book_stale : (work : Work) (honest : Bool) (own : Work) (m : Machine) (ids : List ℕ) {J : _} (holding : Holding J) (w : ℕ) (task : Out) → IsSound m → w < length m.out → counts m w task ≡ false → IsBook work honest own m ids holding → IsBook work honest own (stale_done m w task) ids holding
-book_stale work honest own m ids holding w task s lt no' b = book_stale_if work honest own m ids holding w (is_out m w task) lt (λ out'. stale_none m w task s lt out' no') b
+pub book_stale : (work : Work) (honest : Bool) (own : Work) (m : Machine) (ids : List ℕ) {J : _} (job_data : JobData J) (w : ℕ) (task : Out) → IsSound m → w < length m.out → counts m w task ≡ false → IsBook work honest own m ids job_data → IsBook work honest own (stale_done m w task) ids job_data
+book_stale work honest own m ids job_data w task s lt no' b = book_stale_if work honest own m ids job_data w (is_out m w task) lt (λ out'. stale_none m w task s lt out' no') b
 
 -- what it leaves
 pub record Leaves (m m' : Machine) : Type 0 where

@@ -1,4 +1,4 @@
--- A book between two events, and what an event makes of it.
+-- A book between two events, and what an event changes.
 use Rattle.std.specs.Prelude.{◌≡◌, ℕ, suc, length, Bool, true, false, ◌&&◌, ◌||◌, not, nat_lt, Result}
 use Rattle.superstep.specs.declared.fault.JobFault.{JobFault}
 use Rattle.superstep.specs.Job.{Meaning, Work}
@@ -10,15 +10,15 @@ use Rattle.rollback.specs.declared.report.Report.{Report}
 use Rattle.rollback.specs.declared.report.Status.{Status}
 use Rattle.rollback.specs.declared.control.Out.{Out}
 use Rattle.rollback.specs.declared.event.Answer.{Answer}
-use Rattle.rollback.specs.declared.ending.End.{End}
-use Rattle.rollback.specs.declared.ending.End.TheVariants.{Fault, Finished, Limit, Running}
+use Rattle.rollback.specs.declared.job_status.JobStatus.{JobStatus}
+use Rattle.rollback.specs.declared.job_status.JobStatus.TheVariants.{Fault, Finished, Limit, Running}
 use Rattle.rollback.specs.declared.event.Event.{Event}
 use Rattle.rollback.specs.declared.event.Event.TheVariants as event
 use Rattle.rollback.specs.Machine.{Machine, is_alive, is_waiting}
 use Rattle.rollback.specs.Events.{Heard, Stamp, reply_of}
 use Rattle.rollback.specs.Events.Stamp.{DoneBy, FailedBy, JoinedBy, LostBy, Ticked}
 
--- ---- what is handed out and brought back, in numbers
+-- ---- tasks and results, in numbers
 
 abbrev pub task_out : TaskStamp → Out
 task_out task = record { epoch = task.epoch; superstep = task.superstep; part = task.part }
@@ -39,19 +39,19 @@ stamp_of event.Tick = Ticked
 abbrev pub IsQuietAt : Work → ℕ → Bool → Type 0
 IsQuietAt work s quiet = (meaning : Meaning work) → is_quiet (state_at meaning.outcomes meaning.graph s) ≡ quiet
 
--- One step of the control machine. Where it closes a superstep and the job's Keeps are honest, it is told how the plain run
--- stands then.
+-- One step of the control model. If it closes a superstep and the job's Keeps are honest, it hears whether the plain
+-- run is quiet then.
 pub record IsStep (work : Work) (honest : Bool) (next : Heard → Machine × Answer) (before after : Machine) (reply : Result Answer JobFault) : Type 0 where
   pub heard : Heard
   pub quiet : honest ≡ true → after.superstep ≡ suc before.superstep → IsQuietAt work (suc before.superstep) heard.quiet
   pub machine : (next heard).0 ≡ after
   pub told : reply ≡ reply_of (next heard)
 
--- there is this worker, and it is not alive and does not wait
+-- this worker exists, is not alive and does not wait
 abbrev pub is_gone : Machine → ℕ → Bool
 is_gone m w = nat_lt w (length m.alive) && not (is_alive m w || is_waiting m w)
 
--- how the control machine stands
+-- the status of the control model
 pub record IsStatus (m : Machine) (status : Status) : Type 0 where
   pub superstep : status.superstep ≡ m.superstep
   pub epoch : status.epoch ≡ m.epoch
@@ -59,14 +59,14 @@ pub record IsStatus (m : Machine) (status : Status) : Type 0 where
   pub restarts : status.restarts ≡ m.restarts
   pub end : status.end ≡ m.ending
 
-abbrev pub has_finished : End → Bool
+abbrev pub has_finished : JobStatus → Bool
 has_finished Running = false
 has_finished Finished = true
 has_finished Limit = false
 has_finished (Fault fault) = false
 
--- The control machine's numbers and, where the job's Keeps are honest, the plain run's answer, with the units of each superstep
--- from superstep 0 on.
+-- The control model's numbers. If the job's Keeps are honest, also the plain run's answer, with the units of each
+-- superstep from 0 on.
 pub record IsReport (work : Work) (honest : Bool) (m : Machine) (report : Report) : Type 0 where
   pub finished : is_finished report.ended.how ≡ has_finished m.ending
   pub superstep : report.ended.superstep ≡ m.superstep

@@ -1,47 +1,48 @@
--- What the control machine makes of events, and what it answers.
+-- What the control model does on events, and what it answers.
 use Rattle.std.specs.Prelude.{ℕ, length, Bool, true, ◌&&◌, not, nat_lt, if◌then◌else◌, Option, Some, None, Result, Ok, Err}
 use Rattle.superstep.specs.declared.fault.JobFault.{JobFault}
 use Rattle.superstep.specs.declared.fault.JobFault.TheVariants.{NoWorkers, OutOfMemory}
 use Rattle.superstep.specs.declared.fault.Place.{Place}
 use Rattle.superstep.specs.declared.fault.Place.TheVariants.{Load, Merge, Save, Slice}
+use Rattle.superstep.specs.declared.settings.Settings.{Settings}
 use Rattle.rollback.specs.declared.control.Out.{Out}
-use Rattle.rollback.specs.declared.ending.End.{End}
-use Rattle.rollback.specs.declared.ending.End.TheVariants.{Running, Finished, Limit, Fault}
-use Rattle.rollback.specs.declared.ending.Told.{Told}
-use Rattle.rollback.specs.declared.ending.Told.TheVariants.{Failed, Good, NoMemory}
+use Rattle.rollback.specs.declared.job_status.JobStatus.{JobStatus}
+use Rattle.rollback.specs.declared.job_status.JobStatus.TheVariants.{Running, Finished, Limit, Fault}
+use Rattle.rollback.specs.declared.job_status.DeviceResult.{DeviceResult}
+use Rattle.rollback.specs.declared.job_status.DeviceResult.TheVariants.{Failed, Good, NoMemory}
 use Rattle.rollback.specs.declared.event.Answer.{Answer}
 use Rattle.rollback.specs.declared.event.Answer.TheVariants.{Advanced, Ended, RolledBack, Stale, Taken}
-use Rattle.rollback.specs.Machine.{Machine, aged, all_set, begun_anew, charged, closed, count_set, counts, ended_by, expired, finished, freed, has_answer, is_alive, is_busy, is_out, is_running, is_saved_now, joined, lost, may_join, one_more, restarted, waits, welcomed}
+use Rattle.rollback.specs.Machine.{Machine, aged, all_set, begun_anew, charged, closed, count_set, counts, ended_by, expired, finished, freed, has_answer, is_alive, is_busy, is_out, is_running, is_saved_now, joined, lost, may_join, one_more, restarted, resumed, waits, welcomed}
 
--- What the machine is told of the data, in one event: whether the next superstep is quiet, how a save and a load went, and
--- for what there was memory.
+-- What the control model hears of the data in one event: whether the next superstep is quiet, how a save and a load
+-- went, and whether there was memory.
 pub record Heard : Type 0 where
   pub quiet : Bool
   -- for the barrier
   pub merged : Bool
-  pub save : Told
-  pub load : Told
+  pub save : DeviceResult
+  pub load : DeviceResult
   -- for slices
   pub sliced : Bool
 
 -- ---- a superstep is closed
 
-abbrev pub after_save : Told → Machine → Machine
+abbrev pub after_save : DeviceResult → Machine → Machine
 after_save Good m = record m { saved = Some m.superstep }
 after_save Failed m = record m { missed = one_more m.missed }
 after_save NoMemory m = ended_by (OutOfMemory Save) m
 
-abbrev pub saving : Told → Machine → Machine
+abbrev pub saving : DeviceResult → Machine → Machine
 saving told m = if is_saved_now m then after_save told m else m
 
--- where the job goes on, its state is cut into slices
+-- if the job goes on, its state is cut into slices
 abbrev pub slicing : Bool → Machine → Machine
 slicing sliced m = if is_running m.ending && not sliced then ended_by (OutOfMemory Slice) m else m
 
 abbrev pub advanced : Machine → Machine × Answer
 advanced m = (m, (if is_running m.ending then Advanced m.superstep else Ended))
 
--- The next superstep; the save, where one is due; the slices; and then a new epoch for those that wait.
+-- The next superstep; the save, if one is due; the slices; and then a new epoch for waiting workers.
 abbrev pub shut : Heard → Machine → Machine × Answer
 shut heard m =
     if heard.merged
@@ -60,18 +61,18 @@ done_step heard m w task =
 
 -- ---- workers are lost
 
--- with those that are left and those that wait
+-- with the remaining and the waiting workers
 abbrev pub after_loss : Machine → Machine
 after_loss m =
     if nat_lt 0 (count_set (joined m).alive) then begun_anew (joined m) else ended_by NoWorkers (joined m)
 
-abbrev pub after_load : Told → Machine → Machine
+abbrev pub after_load : DeviceResult → Machine → Machine
 after_load Good m = m
 after_load Failed m = restarted m
 after_load NoMemory m = ended_by (OutOfMemory Load) m
 
--- the state of superstep 0 is made anew where nothing was saved
-abbrev pub loading : Option ℕ → Told → Machine → Machine
+-- the state of superstep 0 is made again if nothing was saved
+abbrev pub loading : Option ℕ → DeviceResult → Machine → Machine
 loading None told m = m
 loading (Some s) told m = after_load told m
 
@@ -110,7 +111,7 @@ pub data Stamp : Type 0 where
   JoinedBy : (worker : ℕ) → Stamp
   Ticked : Stamp
 
--- while the job runs, of a worker that there is
+-- while the job runs, of a worker that exists
 abbrev pub step : Heard → Machine → Stamp → Machine × Answer
 step heard m (DoneBy w task units) = done_step heard (charged m w units) w task
 step heard m (FailedBy w place) = failed_step m w place
@@ -118,7 +119,7 @@ step heard m (LostBy w) = lost_step heard m w
 step heard m (JoinedBy w) = joined_step m w
 step heard m Ticked = tick_step heard m
 
--- its worker is one of so many
+-- its worker is one of this many
 abbrev pub is_known : ℕ → Stamp → Bool
 is_known workers (DoneBy w task units) = nat_lt w workers
 is_known workers (FailedBy w place) = nat_lt w workers
@@ -126,10 +127,10 @@ is_known workers (LostBy w) = nat_lt w workers
 is_known workers (JoinedBy w) = nat_lt w workers
 is_known workers Ticked = true
 
-abbrev pub heeded : Heard → Machine → Stamp → Machine × Answer
-heeded heard m stamp = if is_known (length m.alive) stamp then step heard m stamp else (m, Stale)
+abbrev pub on_event : Heard → Machine → Stamp → Machine × Answer
+on_event heard m stamp = if is_known (length m.alive) stamp then step heard m stamp else (m, Stale)
 
--- where the job has an answer, units are still added up
+-- if the job has an answer, units are still added up
 abbrev pub after_end : Machine → Stamp → Machine
 after_end m (DoneBy w task units) = if has_answer m.ending && nat_lt w (length m.alive) then charged m w units else m
 after_end m (FailedBy w place) = m
@@ -137,12 +138,16 @@ after_end m (LostBy w) = m
 after_end m (JoinedBy w) = m
 after_end m Ticked = m
 
+-- the machine of a job that goes on before a superstep whose state was saved: as after a loss of all, the state is loaded
+abbrev pub begun : Heard → Settings → (superstep : ℕ) → Machine
+begun heard settings superstep = rolling heard (resumed settings superstep)
+
 -- the machine after an event, and what it answers
 abbrev pub accepted : Heard → Machine → Stamp → Machine × Answer
-accepted heard m stamp = if is_running m.ending then heeded heard m stamp else (after_end m stamp, Ended)
+accepted heard m stamp = if is_running m.ending then on_event heard m stamp else (after_end m stamp, Ended)
 
--- the answer, or the fault that the job ended by
-abbrev pub reply_by : End → Answer → Result Answer JobFault
+-- the answer, or the fault by which the job ended
+abbrev pub reply_by : JobStatus → Answer → Result Answer JobFault
 reply_by Running answer = Ok answer
 reply_by Finished answer = Ok answer
 reply_by Limit answer = Ok answer

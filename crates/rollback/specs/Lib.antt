@@ -1,10 +1,8 @@
--- What a reader has to believe, in this order: the control machine, and what it makes of events.
+-- What a reader has to believe, in this order: the control model, and what it does on events.
 pub mod Machine
 pub mod Events
--- the parts of a running job
-pub mod Parts
--- what is kept of a job elsewhere
-pub mod Keeping
+-- the states that a Keep has
+pub mod Saving
 -- a book between two events
 pub mod Book
 -- a whole run over a list of steps

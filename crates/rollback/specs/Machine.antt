@@ -1,10 +1,10 @@
--- The control machine: a book in numbers, without its data.
+-- The control model: the worker, epoch and superstep numbers of a book, without its data.
 use Rattle.std.specs.Prelude.{ℕ, suc, ◌+◌, ◌-◌, ◌%◌, ◌^◌, min, ◌==◌, List, [], ◌∷◌, length, take, replicate, count_by, slice_index_or, slice_set, Bool, true, false, ◌&&◌, ◌||◌, not, nat_lt, if◌then◌else◌, Option, Some, None}
 use Rattle.superstep.specs.declared.fault.JobFault.{JobFault}
 use Rattle.superstep.specs.declared.settings.Settings.{Settings}
 use Rattle.rollback.specs.declared.control.Out.{Out}
-use Rattle.rollback.specs.declared.ending.End.{End}
-use Rattle.rollback.specs.declared.ending.End.TheVariants.{Running, Finished, Limit, Fault}
+use Rattle.rollback.specs.declared.job_status.JobStatus.{JobStatus}
+use Rattle.rollback.specs.declared.job_status.JobStatus.TheVariants.{Running, Finished, Limit, Fault}
 
 pub record Machine : Type 0 where
   pub settings : Settings
@@ -16,26 +16,26 @@ pub record Machine : Type 0 where
   pub alive : List Bool
   -- it has joined, and waits for a new epoch
   pub waiting : List Bool
-  -- the task that it was handed and has not brought back
+  -- the task that it was assigned and has not returned
   pub out : List (Option Out)
-  -- the ticks since it was handed that task
+  -- the ticks since that assignment
   pub age : List ℕ
-  -- the units of all that it brought back
+  -- the units of all that it returned
   pub spent : List ℕ
-  -- the superstep of the state that was saved last
+  -- the superstep of the last saved state
   pub saved : Option ℕ
   pub missed : ℕ
   pub restarts : ℕ
-  pub ending : End
+  pub ending : JobStatus
 
-abbrev pub is_running : End → Bool
+abbrev pub is_running : JobStatus → Bool
 is_running Running = true
 is_running Finished = false
 is_running Limit = false
 is_running (Fault fault) = false
 
 -- the job has an answer
-abbrev pub has_answer : End → Bool
+abbrev pub has_answer : JobStatus → Bool
 has_answer Running = false
 has_answer Finished = true
 has_answer Limit = true
@@ -51,15 +51,15 @@ is_waiting m w = slice_index_or m.waiting w false
 abbrev pub count_set : List Bool → ℕ
 count_set flags = count_by (λ flag. flag) flags
 
--- each by itself, told its place
+-- each item changed by f, which is given its place
 abbrev pub by_place : {A : Type 0} → (ℕ → A → A) → ℕ → List A → List A
 by_place f base [] = []
 by_place f base (x ∷ xs) = f base x ∷ by_place f (suc base) xs
 
--- ---- how it stands before superstep 0
+-- ---- before superstep 0
 
--- at a superstep, quiet or not
-abbrev pub ending_at : Bool → ℕ → ℕ → End
+-- the status at a superstep, quiet or not
+abbrev pub ending_at : Bool → ℕ → ℕ → JobStatus
 ending_at quiet superstep limit = if quiet then Finished else (if nat_lt superstep limit then Running else Limit)
 
 abbrev pub opened : Settings → Bool → Machine
@@ -79,9 +79,14 @@ opened settings quiet = record {
   ending = ending_at quiet 0 settings.limit;
 }
 
--- ---- the tasks that are handed out
+-- before a superstep, not quiet, whose state was saved by an earlier run
+abbrev pub resumed : Settings → ℕ → Machine
+resumed settings superstep =
+    record (opened settings false) { superstep = superstep; saved = Some superstep; ending = Running }
 
--- the least part from base on that is at this place among so many workers and is not done
+-- ---- assignment of tasks
+
+-- the least part from base on that is not done and belongs to this place among `count` workers
 abbrev pub least : (count place base : ℕ) → List Bool → Option ℕ
 least count place base [] = None
 least count place base (d ∷ ds) =
@@ -91,8 +96,8 @@ abbrev pub is_free : Option Out → Bool
 is_free None = true
 is_free (Some task) = false
 
--- Part i is of the worker at place i mod k among the k that are alive. A worker that has no task is handed the least of
--- its parts that is not done.
+-- Part i belongs to the worker at place i mod k among the k alive workers. A worker without a task is assigned the
+-- least of its parts that is not done.
 abbrev pub hand : Machine → ℕ → Option ℕ
 hand m w =
     if is_running m.ending && (is_alive m w && is_free (slice_index_or m.out w None))
@@ -105,7 +110,7 @@ task_of m part = record { epoch = m.epoch; superstep = m.superstep; part = part 
 abbrev pub handed : Machine → ℕ → ℕ → Machine
 handed m w part = record m { out = slice_set m.out w (Some (task_of m part)); age = slice_set m.age w 0 }
 
--- ---- what is brought back
+-- ---- results
 
 abbrev pub freed : Machine → ℕ → Machine
 freed m w = record m { out = slice_set m.out w None }
@@ -117,11 +122,11 @@ abbrev pub is_that : Option Out → Out → Bool
 is_that None task = false
 is_that (Some other) task = same_task other task
 
--- the worker was handed this task last, and has not brought it back
+-- the worker was assigned this task, and has not returned it
 abbrev pub is_out : Machine → ℕ → Out → Bool
 is_out m w task = is_that (slice_index_or m.out w None) task
 
--- what comes back of this task is taken
+-- a result of this task counts
 abbrev pub counts : Machine → ℕ → Out → Bool
 counts m w task = is_alive m w && (is_out m w task && (task.epoch == m.epoch))
 
@@ -148,7 +153,7 @@ ended_by fault m = record m { ending = Fault fault }
 abbrev pub one_more : ℕ → ℕ
 one_more n = min (n + 1) (2 ^ 64 - 1)
 
--- the next superstep has come
+-- the next superstep begins
 abbrev pub closed : Bool → Machine → Machine
 closed quiet m = record m {
   superstep = m.superstep + 1;
@@ -156,7 +161,7 @@ closed quiet m = record m {
   ending = ending_at quiet (m.superstep + 1) m.settings.limit;
 }
 
--- a state is saved before each superstep that is a multiple of `every`
+-- a state is saved before each superstep that is a multiple of `every`, except superstep 0 and a job's last state
 abbrev pub is_saved_now : Machine → Bool
 is_saved_now m = is_running m.ending && (m.superstep % m.settings.every == 0)
 
@@ -164,26 +169,26 @@ abbrev pub saved_or_first : Option ℕ → ℕ
 saved_or_first None = 0
 saved_or_first (Some s) = s
 
--- the state that was saved last could not be had: all begins with superstep 0
+-- the last saved state could not be loaded: the job begins again with superstep 0
 abbrev pub restarted : Machine → Machine
 restarted m = record m { superstep = 0; saved = None; restarts = one_more m.restarts }
 
--- ---- who is lost, and who joins
+-- ---- lost and joining workers
 
--- the alive and those that wait
+-- alive and waiting workers
 abbrev pub either : List Bool → List Bool → List Bool
 either alive waiting = by_place (λ w flag. flag || slice_index_or waiting w false) 0 alive
 
--- those that wait are alive
+-- waiting workers become alive
 abbrev pub joined : Machine → Machine
 joined m = record m { alive = either m.alive m.waiting; waiting = none_set m.waiting }
 
--- where the job goes on, those that wait are alive in a new epoch
+-- if the job goes on, waiting workers become alive in a new epoch
 abbrev pub welcomed : Machine → Machine
 welcomed m =
     if is_running m.ending && nat_lt 0 (count_set m.waiting) then record (joined m) { epoch = m.epoch + 1 } else m
 
--- all parts are to be done again, from the state that was saved last
+-- all parts are done again, from the last saved state
 abbrev pub begun_anew : Machine → Machine
 begun_anew m =
     record m { epoch = m.epoch + 1; done = none_set m.done; superstep = saved_or_first m.saved }
@@ -216,7 +221,7 @@ in_time lease out age alive = by_place (λ w flag. flag && not (is_overdue lease
 abbrev pub expired : Machine → Machine
 expired m = record m { alive = in_time m.settings.lease m.out m.age m.alive }
 
--- the worker holds no task, is not alive and does not wait; epochs that are counted so far leave room
+-- the worker is not alive and does not wait, and the epoch is below 2^32
 abbrev pub may_join : Machine → ℕ → Bool
 may_join m w = not (is_alive m w) && (not (is_waiting m w) && nat_lt m.epoch (2 ^ 32))
 

@@ -1,5 +1,5 @@
 -- A whole run over a list of steps.
-use Rattle.std.specs.Prelude.{◌≡◌, ◌⊎◌, ◌+◌, ◌*◌, ℕ, suc, List, [], ◌∷◌, length, map, option_map, replicate, slice_index_or, slice_set, Bool, true, Option, Some, None, Result, Ok, Err, nat_lt, if◌then◌else◌}
+use Rattle.std.specs.Prelude.{◌≡◌, ◌⊎◌, ◌+◌, ◌*◌, ℕ, suc, List, [], ◌∷◌, length, replicate, slice_index_or, slice_set, Bool, true, Option, Some, None, Result, Ok, Err, nat_lt, if◌then◌else◌}
 use Rattle.wasm_ast.specs.declared.module.Module.{Module}
 use Rattle.host_calls.specs.declared.call.CallInput.{CallInput}
 use Rattle.bounded_profile.specs.declared.facts.Facts.{Facts}
@@ -11,10 +11,10 @@ use Rattle.superstep.specs.declared.fault.JobFault.{JobFault}
 use Rattle.superstep.specs.declared.fault.JobFault.TheVariants.{OutOfMemory}
 use Rattle.superstep.specs.declared.fault.Place.TheVariants.{Call, Open, Report as Reporting}
 use Rattle.superstep.specs.Job.{Work}
-use Rattle.superstep.specs.Tasks.{AreUnitsAt, TaskStamp}
+use Rattle.superstep.specs.Tasks.{AreUnitsAt}
 use Rattle.rollback.specs.declared.control.Out.{Out}
-use Rattle.rollback.specs.declared.ending.End.{End}
-use Rattle.rollback.specs.declared.ending.End.TheVariants.{Fault, Finished, Limit, Running}
+use Rattle.rollback.specs.declared.job_status.JobStatus.{JobStatus}
+use Rattle.rollback.specs.declared.job_status.JobStatus.TheVariants.{Fault, Finished, Limit, Running}
 use Rattle.rollback.specs.declared.event.Answer.{Answer}
 use Rattle.rollback.specs.declared.event.Answer.TheVariants.{Ended, Stale}
 use Rattle.rollback.specs.declared.simulation.Outcome.{Outcome}
@@ -27,16 +27,16 @@ use Rattle.rollback.specs.declared.simulation.Trace.{Trace}
 use Rattle.rollback.specs.Machine.{Machine, hand, handed, is_free, is_running, opened, task_of}
 use Rattle.rollback.specs.Events.{Heard, Stamp, accepted, reply_of}
 use Rattle.rollback.specs.Events.Stamp.{DoneBy, FailedBy, JoinedBy, LostBy, Ticked}
-use Rattle.rollback.specs.Book.{IsQuietAt, IsReport, is_gone, task_out}
-use Rattle.rollback.specs.Keeping.{IsKeptStep, KeepsFor}
+use Rattle.rollback.specs.Book.{IsQuietAt, IsReport, is_gone}
+use Rattle.rollback.specs.Saving.{IsKeptStep, KeepsFor}
 
--- the machine, and the task that each worker holds
+-- the control model, and the task that each worker holds
 pub record Sim : Type 0 where
   pub machine : Machine
   pub held : List (Option Out)
 
--- what a step is told: of the machine's event, and of the one task that the step does
-pub record Told : Type 0 where
+-- the input of a step: what the model hears in its event, and how the one task of the step went
+pub record StepInput : Type 0 where
   pub heard : Heard
   -- there was memory for its calls
   pub ran : Bool
@@ -45,55 +45,55 @@ pub record Told : Type 0 where
 abbrev pub holds : Sim → ℕ → Option Out
 holds s w = slice_index_or s.held w None
 
-abbrev pub dropped : Sim → ℕ → Sim
-dropped s w = record s { held = slice_set s.held w None }
+abbrev pub without_task : Sim → ℕ → Sim
+without_task s w = record s { held = slice_set s.held w None }
 
--- a fault is told by the ending alone
+-- a fault is reported by the outcome alone
 abbrev pub said : Result Answer JobFault → StepAnswer
 said (Ok answer) = Said answer
 said (Err fault) = Said Ended
 
--- the machine takes an event
+-- the model takes an event
 abbrev pub takes : Heard → Sim → Stamp → Sim × StepAnswer
 takes heard s stamp = (record s { machine = (accepted heard s.machine stamp).0 }, said (reply_of (accepted heard s.machine stamp)))
 
--- the step of a worker that there is, while the job runs
-abbrev pub in_time : Sim → ℕ → Sim × StepAnswer → Sim × StepAnswer
-in_time s w next = if is_running s.machine.ending then (if nat_lt w (length s.held) then next else (s, Said Stale)) else (s, Said Ended)
+-- the step of a worker that exists, while the job runs
+abbrev pub while_running : Sim → ℕ → Sim × StepAnswer → Sim × StepAnswer
+while_running s w next = if is_running s.machine.ending then (if nat_lt w (length s.held) then next else (s, Said Stale)) else (s, Said Ended)
 
--- the worker holds the task of the part that it is handed
+-- the worker holds the task of the part that it is assigned
 abbrev pub taken : Sim → ℕ → Option ℕ → Sim × StepAnswer
 taken s w None = (s, Idle)
 taken s w (Some part) = (record { machine = handed s.machine w part; held = slice_set s.held w (Some (task_of s.machine part)) }, Handed part)
 
 abbrev pub take_step : Sim → ℕ → Sim × StepAnswer
-take_step s w = in_time s w (if is_free (holds s w) then taken s w (hand s.machine w) else (s, Idle))
+take_step s w = while_running s w (if is_free (holds s w) then taken s w (hand s.machine w) else (s, Idle))
 
--- what a worker tells of a task: its units, or that there was no memory for its calls
+-- what a worker reports of a task: its units, or that there was no memory for its calls
 abbrev pub brought : (ran : Bool) → (units w : ℕ) → Out → Stamp
 brought ran units w task = if ran then DoneBy w task units else FailedBy w Call
 
--- the worker does the task of the part that it is handed
-abbrev pub worked : Told → Sim → ℕ → Option ℕ → Sim × StepAnswer
+-- the worker does the task of the part that it is assigned
+abbrev pub worked : StepInput → Sim → ℕ → Option ℕ → Sim × StepAnswer
 worked told s w None = (s, Idle)
 worked told s w (Some part) = takes told.heard (record s { machine = handed s.machine w part }) (brought told.ran told.units w (task_of s.machine part))
 
 -- the worker does the task that it held, or a new one
-abbrev pub work_on : Told → Sim → ℕ → Option Out → Sim × StepAnswer
-work_on told s w None = in_time s w (worked told s w (hand s.machine w))
+abbrev pub work_on : StepInput → Sim → ℕ → Option Out → Sim × StepAnswer
+work_on told s w None = while_running s w (worked told s w (hand s.machine w))
 work_on told s w (Some task) = takes told.heard s (brought told.ran told.units w task)
 
-abbrev pub work_step : Told → Sim → ℕ → Sim × StepAnswer
-work_step told s w = work_on told (dropped s w) w (holds s w)
+abbrev pub work_step : StepInput → Sim → ℕ → Sim × StepAnswer
+work_step told s w = work_on told (without_task s w) w (holds s w)
 
--- a worker that is gone holds nothing
+-- a worker that is gone drops its task
 abbrev pub emptied : Machine → List (Option Out) → ℕ → List (Option Out)
 emptied m held w = if is_gone m w then slice_set held w None else held
 
-abbrev pub join_step : Told → Sim → ℕ → Sim × StepAnswer
+abbrev pub join_step : StepInput → Sim → ℕ → Sim × StepAnswer
 join_step told s w = takes told.heard (record s { held = emptied s.machine s.held w }) (JoinedBy w)
 
-abbrev pub sim_step : Told → Sim → Step → Sim × StepAnswer
+abbrev pub sim_step : StepInput → Sim → Step → Sim × StepAnswer
 sim_step told s (Take w) = take_step s w
 sim_step told s (Works w) = work_step told s w
 sim_step told s (Lose w) = takes told.heard s (LostBy w)
@@ -119,9 +119,9 @@ does s (Join w) = None
 
 -- ---- whole runs
 
--- A step. Where the Keep is honest it is told how the plain run stands, and what its task takes there.
+-- A step. If the Keep is honest, the model hears whether the plain run is quiet, and what the task costs there.
 pub record IsSimStep (work : Work) (honest : Bool) (step : Step) (before after : Sim) (answer : StepAnswer) : Type 0 where
-  pub told : Told
+  pub told : StepInput
   pub quiet : honest ≡ true → after.machine.superstep ≡ suc before.machine.superstep → IsQuietAt work (suc before.machine.superstep) told.heard.quiet
   pub costs : honest ≡ true → told.ran ≡ true → (task : Out) → does before step ≡ Some task → AreUnitsAt work task.superstep task.part told.units
   pub next : sim_step told before step ≡ (after, answer)
@@ -133,8 +133,7 @@ Ran work honest [] s (a ∷ answers) after = ⊥
 Ran work honest (x ∷ xs) s [] after = ⊥
 Ran work honest (x ∷ xs) s (a ∷ answers) after = (next : Sim) × IsSimStep work honest x s next a × Ran work honest xs next answers after
 
--- The same, where each step and what it leaves of the Keep are as this relation says: of the machine before and after it, and
--- of the Keep before and after it.
+-- The same, where this relation holds at each step, of the model and the Keep before and after it.
 abbrev pub RanOver : {K : Type 0} → (Machine → Machine → K → K → Type 0) → Work → Bool → List Step → Sim → K → List StepAnswer → Sim → K → Type 0
 RanOver over work honest [] s keep [] after keep' = (s ≡ after) × (keep ≡ keep')
 RanOver over work honest [] s keep (a ∷ answers) after keep' = ⊥
@@ -142,20 +141,13 @@ RanOver over work honest (x ∷ xs) s keep [] after keep' = ⊥
 RanOver {K} over work honest (x ∷ xs) s keep (a ∷ answers) after keep' =
     (next : Sim) × (mid : K) × IsSimStep work honest x s next a × over s.machine next.machine keep mid × RanOver over work honest xs next mid answers after keep'
 
--- the tasks that are held, in numbers
-abbrev pub stamps : List (Option TaskStamp) → List (Option Out)
-stamps held = map (option_map task_out) held
-
-abbrev pub sim_of : Machine → List (Option TaskStamp) → Sim
-sim_of m held = record { machine = m; held = stamps held }
-
 abbrev pub IsEnded : Work → Bool → Machine → Result Outcome JobFault → Type 0
 IsEnded work honest m (Ok (outcome.Open s)) = ⊥
 IsEnded work honest m (Ok (outcome.Ended report)) = IsReport work honest m report
 IsEnded work honest m (Err fault) = fault ≡ OutOfMemory Reporting
 
--- how the machine has ended, or where it stands
-abbrev pub IsOutcomeAt : Work → Bool → Machine → End → Result Outcome JobFault → Type 0
+-- how the job has ended, or the superstep that it is at
+abbrev pub IsOutcomeAt : Work → Bool → Machine → JobStatus → Result Outcome JobFault → Type 0
 IsOutcomeAt work honest m Running r = r ≡ Ok (outcome.Open m.superstep)
 IsOutcomeAt work honest m Finished r = IsEnded work honest m r
 IsOutcomeAt work honest m Limit r = IsEnded work honest m r
@@ -169,7 +161,7 @@ IsTrace work honest m answers (Err fault) = IsOutcomeAt work honest m m.ending (
 abbrev pub sim_opened : Work → Bool → Sim
 sim_opened work quiet = record { machine = opened work.settings quiet; held = replicate work.settings.workers None }
 
--- the answers and the outcome of the machine over these steps
+-- the answers and the outcome of the model over these steps
 pub record IsRun (work : Work) (honest : Bool) (steps : List Step) (result : Result Trace JobFault) : Type 0 where
   pub quiet : Bool
   pub first : IsQuietAt work 0 quiet
@@ -178,15 +170,15 @@ pub record IsRun (work : Work) (honest : Bool) (steps : List Step) (result : Res
   pub ran : Ran work honest steps (sim_opened work quiet) answers after
   pub trace : IsTrace work honest after.machine answers result
 
--- or there was no memory to begin with
+-- a run, or there was no memory to begin
 abbrev pub IsSimulated : Work → Bool → List Step → Result Trace JobFault → Type 0
 IsSimulated work honest steps result =
     (result ≡ Err (OutOfMemory Open)) ⊎ ((result ≡ Err (OutOfMemory Call)) ⊎ IsRun work honest steps result)
 
 -- ---- calls
 
--- Whatever a call of the module is given: it is never trapped, there is a step for each of its instructions, and it counts
--- no more than the size of `compute` with its calls unfolded, times one more than it is given messages and edges.
+-- Whatever a call of the module is given, it never traps, and each of its instructions takes a step. It counts at most
+-- the size of `compute` with calls inlined, times one more than its messages and edges.
 pub record CallsStayWithin (m : Module) : Type 0 where
   pub compute : HasCompute m
   pub facts : Facts
@@ -200,18 +192,18 @@ pub record CallsStayWithin (m : Module) : Type 0 where
 abbrev pub NeverFails : {K : Type 0} → (K → ℕ) → Type 0
 NeverFails {K} faults = (keep : K) → faults keep ≡ 0
 
--- no state was missed, and all never began anew
+-- no save was missed, and the job never began again
 abbrev pub IsCalm : Outcome → Type 0
 IsCalm (outcome.Open s) = Unit {0}
 IsCalm (outcome.Ended report) = (report.missed ≡ 0) × (report.restarts ≡ 0)
 
--- the same of the machine, which may go on
+-- the same of the model, which may go on
 abbrev pub IsCalmAt : Machine → Type 0
 IsCalmAt m = (m.missed ≡ 0) × (m.restarts ≡ 0)
 
 -- ---- whole runs over a Keep
 
--- The run, and what each of its steps leaves of the Keep. In the end the Keep has what the machine counts as saved.
+-- The run, and what each of its steps leaves of the Keep. In the end the Keep has what the model counts as saved.
 pub record IsRunOver {K : Type 0} (honest : K → Bool) (saved : K → Option ℕ) (may_load : K → List ℕ → Type 0) (faults : K → ℕ) (work : Work) (trusted : Bool) (steps : List Step) (keep keep' : K) (result : Result Trace JobFault) : Type 0 where
   pub quiet : Bool
   pub first : IsQuietAt work 0 quiet
@@ -222,7 +214,7 @@ pub record IsRunOver {K : Type 0} (honest : K → Bool) (saved : K → Option �
   pub calm : LoadsNothingElse saved may_load → NeverFails faults → IsCalmAt after.machine
   pub trace : IsTrace work trusted after.machine answers result
 
--- or there was no memory to begin with, and the Keep is what it was
+-- a run, or there was no memory to begin, and the Keep is unchanged
 abbrev pub IsSimulatedOver : {K : Type 0} → (K → Bool) → (K → Option ℕ) → (K → List ℕ → Type 0) → (K → ℕ) → Work → Bool → List Step → K → K → Result Trace JobFault → Type 0
 IsSimulatedOver honest saved may_load faults work trusted steps keep keep' result =
     ((result ≡ Err (OutOfMemory Open)) × (keep' ≡ keep))

@@ -1,10 +1,12 @@
 pub mod Book
 pub mod Control
-pub mod Heeding
-pub mod Holding
+pub mod DeviceResults
+pub mod EventStep
+pub mod JobData
 pub mod Loading
+pub mod Parts
+pub mod PartSlots
+pub mod Recovery
 pub mod Reporting
-pub mod Rolling
-pub mod Seats
 pub mod Simulating
 pub mod Sound

@@ -1,6 +1,6 @@
 //! The book of a running job.
 
-ghost use Rattle.std.specs.Prelude.{◌≡◌, ◌<◌, true, false, length, map, Bool, None, IfOk, IfErr, IfSome};
+ghost use Rattle.std.specs.Prelude.{◌≡◌, ◌<◌, true, false, length, map, Bool, None, Some, IfOk, IfErr, IfSome};
 ghost use Rattle.superstep.specs.State.{state_id};
 ghost use Rattle.superstep.specs.declared.fault.JobFault.TheVariants.{OutOfMemory};
 ghost use Rattle.superstep.specs.declared.fault.Place.TheVariants.{Open, Report as Reporting};
@@ -14,19 +14,20 @@ ghost use Rattle.rollback.specs.Book.{
   stamp_of,
   task_out,
 };
-ghost use Rattle.rollback.specs.Events.{accepted, done_step, heeded, shut};
+ghost use Rattle.rollback.specs.Events.{accepted, done_step, on_event, shut};
 ghost use Rattle.rollback.specs.Events.Stamp.{DoneBy, FailedBy, JoinedBy, LostBy, Ticked};
-ghost use Rattle.rollback.specs.Keeping.{IsCaused, IsSavedOrLeft, KeepsFor, MayLoadAfter};
+ghost use Rattle.rollback.specs.Saving.{HasLeft, IsBegun, IsCaused, IsSavedOrLeft, KeepsFor, MayLoadAfter};
 ghost use Rattle.rollback.specs.Machine.{all_set, hand, handed, has_answer, is_running, opened, task_of};
-ghost use Rattle.rollback.specs.inside.Heeding.{IsHeeded, IsSteady};
+ghost use Rattle.rollback.specs.inside.Book.{AreIdsOf};
+ghost use Rattle.rollback.specs.inside.EventStep.{IsEventStep, IsSteady};
 
 use crate::control::{Control, Out};
 use crate::event::{Answer, Event};
-use crate::holding::{Holding, bring_back, hand_out, parts_of};
-use crate::keeping::save_if_due;
+use crate::job_data::{JobData, bring_back, hand_out, parts_of};
+use crate::recovery::{hold, hold_opened, put_back};
 use crate::replies::{advanced_reply, ended_reply, rolled_reply};
 use crate::report::{Report, Status, report_of, state_of};
-use crate::rolling::{hold, hold_opened, put_back};
+use crate::saving::save_if_due;
 use checkpoint::Keep;
 use std::alloc::{AllocError, Global};
 use std::marker::Model;
@@ -35,15 +36,16 @@ use std::rt::Files;
 use std::thread::Threads;
 use superstep::{Done, Job, JobFault, Origin, Place, State, Task, VertexState};
 
-/// The book of a running job. It hands out the parts of a superstep, takes what comes back of them, closes the superstep when
-/// all are done, saves states, and goes back to the last one where workers are lost. Contracts see the control machine.
+/// The book of a running job. It assigns the parts of a superstep to workers, takes their results, and closes the
+/// superstep when all are done. It saves states, and goes back to the last one when workers are lost. In contracts its
+/// model is the control model.
 #[derive(Drop)]
 pub struct Book<'a, J: Origin> {
     alloc: Global,
     job: &'a Job,
     ids: Vec<u64>,
     control: Control,
-    holding: Holding<J>,
+    job_data: JobData<J>,
 }
 
 impl<'a, J: Origin> Model for Book<'a, J> {
@@ -55,7 +57,7 @@ impl<'a, J: Origin> Model for Book<'a, J> {
     ghost view = { λ book. book.control };
 
     ghost invariant = { λ book.
-        IsBook J.work J.honest book.job.now book.control book.ids.items book.holding };
+        IsBook J.work J.honest book.job.now book.control book.ids.items book.job_data };
 }
 
 fn open_book<'a, J: Origin>(alloc: Global, job: &'a Job) -> Result<Book<'a, J>, AllocError>
@@ -67,13 +69,13 @@ fn open_book<'a, J: Origin>(alloc: Global, job: &'a Job) -> Result<Book<'a, J>, 
     let ids = ids_of(alloc, &state.in_order(alloc)?)?;
     let quiet = state.is_quiet();
     let control = Control::new(alloc, job.settings(), quiet)?;
-    let holding = hold_opened(alloc, job, state, quiet)?;
+    let job_data = hold_opened(alloc, job, state, quiet)?;
     Ok(Book {
         alloc,
         job,
         ids,
         control,
-        holding,
+        job_data,
     })
 }
 
@@ -83,7 +85,45 @@ fn ids_of(alloc: Global, vertices: &[&VertexState]) -> Result<Vec<u64>, AllocErr
     vertices.iter().map(|vertex| vertex.id).collect(alloc)
 }
 
-// The task of which this came back.
+// The ids of a job's vertices, by rising id.
+fn ids_of_job(alloc: Global, job: &Job) -> Result<Vec<u64>, AllocError>
+    ensures { IfOk result (λ ids. AreIdsOf job.now ids.items) }
+{
+    job.settings();
+    let state = State::first(alloc, job)?;
+    let vertices = state.in_order(alloc)?;
+    ids_of(alloc, &vertices)
+}
+
+fn resume_book<'a, J: Origin, K: Keep, R: Files + AllocGlobal>(
+    rt: &R,
+    alloc: Global,
+    job: &'a Job,
+    keep: &mut K,
+    superstep: u32,
+) -> Result<Book<'a, J>, AllocError>
+    requires job { J.work ≡ job.now }
+    requires early { superstep < job.now.settings.limit }
+    requires saved { K.saved keep.old ≡ Some superstep }
+    requires trusts { J.honest ≡ true → K.honest keep.old ≡ true }
+    requires left { J.honest ≡ true → HasLeft J.work (K.may_load keep.old) superstep }
+    ensures { IfOk result (IsBegun J.work J.honest (K.honest keep.old) (K.honest keep.new)
+        (K.saved keep.old) (K.saved keep.new) (K.may_load keep.old) (K.may_load keep.new)
+        (K.faults keep.old) (K.faults keep.new) superstep) }
+{
+    let ids = ids_of_job(alloc, job)?;
+    let mut control = Control::resumed(alloc, job.settings(), superstep)?;
+    let job_data = put_back(rt, alloc, job, &ids, &mut control, keep);
+    Ok(Book {
+        alloc,
+        job,
+        ids,
+        control,
+        job_data,
+    })
+}
+
+// Returns the task of this result.
 fn out_of<J: Origin>(done: &Done<J>) -> Out
     ensures { result ≡ done_out done.now }
 {
@@ -95,7 +135,7 @@ fn out_of<J: Origin>(done: &Done<J>) -> Out
 }
 
 impl<'a, J: Origin> Book<'a, J> {
-    /// The book of a job before superstep 0. The only refusal is that there is no memory, to `Open` it.
+    /// Opens the book of a job, before superstep 0. It fails only if memory runs out: `OutOfMemory` of `Open`.
     pub fn open(alloc: Global, job: &'a Job) -> Result<Book<'a, J>, JobFault>
         requires job { J.work ≡ job.now }
         ensures opened { IfOk result (λ book. (quiet : Bool) × IsQuietAt J.work 0 quiet
@@ -108,8 +148,37 @@ impl<'a, J: Origin> Book<'a, J> {
         }
     }
 
-    /// The task that the worker is handed, where it is alive and has none, and one of its parts is to be done. It takes no
-    /// memory.
+    /// The book of a job that goes on where an earlier run of it has left off: before a superstep whose state the Keep has. It
+    /// begins as after a loss of all: it loads the state, or begins with superstep 0 where that can't be had, which counts as a
+    /// restart. Want of memory for that ends the job.
+    ///
+    /// It asks that the superstep is the Keep's last and below the limit. The only refusal is that there is no memory, to `Open`
+    /// it.
+    pub fn resume<K: Keep, R: Files + AllocGlobal>(
+        rt: &R,
+        alloc: Global,
+        job: &'a Job,
+        keep: &mut K,
+        superstep: u32,
+    ) -> Result<Book<'a, J>, JobFault>
+        requires job { J.work ≡ job.now }
+        requires early { superstep < job.now.settings.limit }
+        requires saved { K.saved keep.old ≡ Some superstep }
+        requires trusts { J.honest ≡ true → K.honest keep.old ≡ true }
+        requires left { J.honest ≡ true → HasLeft J.work (K.may_load keep.old) superstep }
+        ensures begun { IfOk result (IsBegun J.work J.honest (K.honest keep.old) (K.honest keep.new)
+            (K.saved keep.old) (K.saved keep.new) (K.may_load keep.old) (K.may_load keep.new)
+            (K.faults keep.old) (K.faults keep.new) superstep) }
+        ensures refused { IfErr result (λ fault. fault ≡ OutOfMemory Open) }
+    {
+        match resume_book(rt, alloc, job, keep, superstep) {
+            Ok(book) => Ok(book),
+            Err(_) => Err(JobFault::OutOfMemory(Place::Open)),
+        }
+    }
+
+    /// Assigns the worker its next task, if it is alive, has no task, and one of its parts is not done. It allocates
+    /// nothing.
     pub fn next_task(&mut self, worker: u32) -> Option<Task<J>>
         ensures none { result ≡ None → (self.new ≡ self.old) × (hand self.old worker ≡ None) }
         ensures some { IfSome result (λ task. (hand self.old worker ≡ Some task.part)
@@ -122,13 +191,13 @@ impl<'a, J: Origin> Book<'a, J> {
         }
         let part = self.control.hand(index)?;
         let epoch = self.control.epoch();
-        let task = hand_out(&mut self.holding, part, epoch);
+        let task = hand_out(&mut self.job_data, part, epoch);
         self.control.hand_out(index, part);
         Some(task)
     }
 
-    /// What the job ended with. It asks that the job has ended as `Finished` or `Limit`. The only refusal is that there is no
-    /// memory, for the `Report`.
+    /// Returns what the job ended with, which has to be `Finished` or `Limit`. It fails only if memory runs out:
+    /// `OutOfMemory` of `Report`.
     pub fn report(self) -> Result<Report, JobFault>
         requires { has_answer self.ending ≡ true }
         ensures report { IfOk result (IsReport J.work J.honest self.entry) }
@@ -139,9 +208,9 @@ impl<'a, J: Origin> Book<'a, J> {
             job: _,
             ids: _,
             control,
-            holding,
+            job_data,
         } = self;
-        let state = state_of(holding);
+        let state = state_of(job_data);
         match report_of(alloc, &state, control) {
             Ok(report) => Ok(report),
             Err(_) => Err(JobFault::OutOfMemory(Place::Report)),
@@ -154,14 +223,14 @@ impl<'a, J: Origin> Book<'a, J> {
         self.control.is_running()
     }
 
-    // Whether there is this worker, and it is not alive and does not wait.
+    // Returns whether this worker exists, is not alive and does not wait.
     pub(crate) fn is_gone(&self, worker: u32) -> bool
         ensures { result ≡ is_gone self.now worker }
     {
         (worker as usize) < self.control.workers() && self.control.is_gone(worker as usize)
     }
 
-    /// How it stands. It takes no memory.
+    /// Returns the status of the job. It allocates nothing.
     pub fn status(&self) -> Status
         ensures { IsStatus self.now result }
     {
@@ -174,7 +243,7 @@ impl<'a, J: Origin> Book<'a, J> {
         }
     }
 
-    // All parts are done.
+    // Closes the superstep, of which all parts are done.
     fn close<K: Keep, R: Threads + Sync + Files + AllocGlobal>(
         &mut self,
         rt: &R,
@@ -184,25 +253,25 @@ impl<'a, J: Origin> Book<'a, J> {
         requires done { all_set self.old.done ≡ true }
         requires keep { KeepsFor J.work J.honest (K.honest keep.old) (K.saved keep.old)
             (K.may_load keep.old) self.old }
-        ensures { IsHeeded J.work J.honest
+        ensures { IsEventStep J.work J.honest
             (λ heard. shut heard self.old)
             self.old self.new (K.honest keep.old) (K.honest keep.new)
             (K.saved keep.old) (K.saved keep.new) (K.may_load keep.old) (K.may_load keep.new)
             (K.faults keep.old) (K.faults keep.new) result }
     {
-        let parts = parts_of(mem::replace(&mut self.holding, Holding::Nothing));
+        let parts = parts_of(mem::replace(&mut self.job_data, JobData::Nothing));
         let Ok(state) = parts.merge(rt, self.alloc, self.job) else {
             self.control.fail(Place::Merge);
             return Err(JobFault::OutOfMemory(Place::Merge));
         };
         self.control.close(state.is_quiet());
         save_if_due(rt, self.alloc, &mut self.control, keep, &state);
-        self.holding = hold(self.alloc, self.job, &mut self.control, state);
+        self.job_data = hold(self.alloc, self.job, &mut self.control, state);
         self.control.welcome();
         advanced_reply(&self.control)
     }
 
-    // What becomes of a result of a worker that there is.
+    // Counts a result of a worker that exists, or leaves it out.
     fn count_done<K: Keep, R: Threads + Sync + Files + AllocGlobal>(
         &mut self,
         rt: &R,
@@ -214,7 +283,7 @@ impl<'a, J: Origin> Book<'a, J> {
         requires running { is_running self.old.ending ≡ true }
         requires keep { KeepsFor J.work J.honest (K.honest keep.old) (K.saved keep.old)
             (K.may_load keep.old) self.old }
-        ensures { IsHeeded J.work J.honest
+        ensures { IsEventStep J.work J.honest
             (λ heard. done_step heard self.old worker (done_out done))
             self.old self.new (K.honest keep.old) (K.honest keep.new)
             (K.saved keep.old) (K.saved keep.new) (K.may_load keep.old) (K.may_load keep.new)
@@ -226,7 +295,7 @@ impl<'a, J: Origin> Book<'a, J> {
             return Ok(Answer::Stale);
         }
         self.control.free(worker);
-        bring_back(&mut self.holding, done);
+        bring_back(&mut self.job_data, done);
         if self.control.finish(task.part) {
             self.close(rt, keep)
         } else {
@@ -234,7 +303,7 @@ impl<'a, J: Origin> Book<'a, J> {
         }
     }
 
-    fn heed_done<K: Keep, R: Threads + Sync + Files + AllocGlobal>(
+    fn on_done<K: Keep, R: Threads + Sync + Files + AllocGlobal>(
         &mut self,
         rt: &R,
         worker: usize,
@@ -244,8 +313,8 @@ impl<'a, J: Origin> Book<'a, J> {
         requires running { is_running self.old.ending ≡ true }
         requires keep { KeepsFor J.work J.honest (K.honest keep.old) (K.saved keep.old)
             (K.may_load keep.old) self.old }
-        ensures { IsHeeded J.work J.honest
-            (λ heard. heeded heard self.old (DoneBy worker (done_out done) done.units))
+        ensures { IsEventStep J.work J.honest
+            (λ heard. on_event heard self.old (DoneBy worker (done_out done) done.units))
             self.old self.new (K.honest keep.old) (K.honest keep.new)
             (K.saved keep.old) (K.saved keep.new) (K.may_load keep.old) (K.may_load keep.new)
             (K.faults keep.old) (K.faults keep.new) result }
@@ -257,10 +326,10 @@ impl<'a, J: Origin> Book<'a, J> {
         self.count_done(rt, worker, done, keep)
     }
 
-    fn heed_failed(&mut self, worker: usize, place: Place) -> Result<Answer, JobFault>
+    fn on_failed(&mut self, worker: usize, place: Place) -> Result<Answer, JobFault>
         requires running { is_running self.old.ending ≡ true }
         ensures step { IsStep J.work J.honest
-            (λ heard. heeded heard self.old (FailedBy worker place))
+            (λ heard. on_event heard self.old (FailedBy worker place))
             self.old self.new result }
         ensures steady { IsSteady self.old self.new }
     {
@@ -271,13 +340,13 @@ impl<'a, J: Origin> Book<'a, J> {
             return Ok(Answer::Stale);
         }
         self.control.fail(place);
-        self.holding = Holding::Nothing;
+        self.job_data = JobData::Nothing;
         Err(JobFault::OutOfMemory(place))
     }
 
-    fn heed_joined(&mut self, worker: usize) -> Result<Answer, JobFault>
+    fn on_joined(&mut self, worker: usize) -> Result<Answer, JobFault>
         requires running { is_running self.old.ending ≡ true }
-        ensures step { IsStep J.work J.honest (λ heard. heeded heard self.old (JoinedBy worker))
+        ensures step { IsStep J.work J.honest (λ heard. on_event heard self.old (JoinedBy worker))
             self.old self.new result }
         ensures steady { IsSteady self.old self.new }
     {
@@ -291,7 +360,7 @@ impl<'a, J: Origin> Book<'a, J> {
         Ok(Answer::Taken)
     }
 
-    fn heed_lost<K: Keep, R: Threads + Sync + Files + AllocGlobal>(
+    fn on_lost<K: Keep, R: Threads + Sync + Files + AllocGlobal>(
         &mut self,
         rt: &R,
         worker: usize,
@@ -300,8 +369,8 @@ impl<'a, J: Origin> Book<'a, J> {
         requires running { is_running self.old.ending ≡ true }
         requires keep { KeepsFor J.work J.honest (K.honest keep.old) (K.saved keep.old)
             (K.may_load keep.old) self.old }
-        ensures { IsHeeded J.work J.honest
-            (λ heard. heeded heard self.old (LostBy worker))
+        ensures { IsEventStep J.work J.honest
+            (λ heard. on_event heard self.old (LostBy worker))
             self.old self.new (K.honest keep.old) (K.honest keep.new)
             (K.saved keep.old) (K.saved keep.new) (K.may_load keep.old) (K.may_load keep.new)
             (K.faults keep.old) (K.faults keep.new) result }
@@ -312,16 +381,16 @@ impl<'a, J: Origin> Book<'a, J> {
         if !self.control.is_alive(worker) {
             return Ok(Answer::Stale);
         }
-        // What it holds is of no use: it makes room for the state that is loaded.
-        self.holding = Holding::Nothing;
+        // The data is of no use. Dropping it makes room for the state that is loaded.
+        self.job_data = JobData::Nothing;
         if !self.control.lose(worker) {
             return Err(JobFault::NoWorkers);
         }
-        self.holding = put_back(rt, self.alloc, self.job, &self.ids, &mut self.control, keep);
+        self.job_data = put_back(rt, self.alloc, self.job, &self.ids, &mut self.control, keep);
         rolled_reply(&self.control)
     }
 
-    fn heed_tick<K: Keep, R: Threads + Sync + Files + AllocGlobal>(
+    fn on_tick<K: Keep, R: Threads + Sync + Files + AllocGlobal>(
         &mut self,
         rt: &R,
         keep: &mut K,
@@ -329,8 +398,8 @@ impl<'a, J: Origin> Book<'a, J> {
         requires running { is_running self.old.ending ≡ true }
         requires keep { KeepsFor J.work J.honest (K.honest keep.old) (K.saved keep.old)
             (K.may_load keep.old) self.old }
-        ensures { IsHeeded J.work J.honest
-            (λ heard. heeded heard self.old Ticked)
+        ensures { IsEventStep J.work J.honest
+            (λ heard. on_event heard self.old Ticked)
             self.old self.new (K.honest keep.old) (K.honest keep.new)
             (K.saved keep.old) (K.saved keep.new) (K.may_load keep.old) (K.may_load keep.new)
             (K.faults keep.old) (K.faults keep.new) result }
@@ -339,16 +408,16 @@ impl<'a, J: Origin> Book<'a, J> {
         if !self.control.is_some_overdue() {
             return Ok(Answer::Taken);
         }
-        // What it holds is of no use: it makes room for the state that is loaded.
-        self.holding = Holding::Nothing;
+        // The data is of no use. Dropping it makes room for the state that is loaded.
+        self.job_data = JobData::Nothing;
         if !self.control.lose_overdue() {
             return Err(JobFault::NoWorkers);
         }
-        self.holding = put_back(rt, self.alloc, self.job, &self.ids, &mut self.control, keep);
+        self.job_data = put_back(rt, self.alloc, self.job, &self.ids, &mut self.control, keep);
         rolled_reply(&self.control)
     }
 
-    // After the end nothing changes but the units of workers.
+    // Answers an event after the end, when only the units of workers change.
     fn note_after_end(&mut self, event: Event<J>) -> Result<Answer, JobFault>
         requires over { is_running self.old.ending ≡ false }
         ensures step { IsStep J.work J.honest (λ heard. accepted heard self.old (stamp_of event))
@@ -368,10 +437,11 @@ impl<'a, J: Origin> Book<'a, J> {
         ended_reply(&self.control)
     }
 
-    /// What becomes of an event. The Keep is to have what the book counts as saved.
+    /// Takes an event, and answers it. The Keep has to have what the book counts as saved.
     ///
-    /// It wants memory only where it closes a superstep or rolls back. The faults are `NoWorkers`, and `OutOfMemory` of `Merge`,
-    /// `Save`, `Load`, `Slice` or the place of a `Failed`. A fault ends the job, and each later event is answered by it.
+    /// It allocates only when it closes a superstep or rolls back. The faults are `NoWorkers`, and `OutOfMemory` of
+    /// `Merge`, `Save`, `Load`, `Slice` or the place of a `Failed`. A fault ends the job, and each later event returns
+    /// it again.
     pub fn accept<K: Keep, R: Threads + Sync + Files + AllocGlobal>(
         &mut self,
         rt: &R,
@@ -380,7 +450,7 @@ impl<'a, J: Origin> Book<'a, J> {
     ) -> Result<Answer, JobFault>
         requires keep { KeepsFor J.work J.honest (K.honest keep.old) (K.saved keep.old)
             (K.may_load keep.old) self.old }
-        // The answer and the control are the control machine's.
+        // The answer and the control are those of the control model.
         ensures step { IsStep J.work J.honest (λ heard. accepted heard self.old (stamp_of event))
             self.old self.new result }
         ensures keep { KeepsFor J.work J.honest (K.honest keep.new) (K.saved keep.new)
@@ -395,11 +465,11 @@ impl<'a, J: Origin> Book<'a, J> {
             return self.note_after_end(event);
         }
         match event {
-            Event::Done(worker, done) => self.heed_done(rt, worker as usize, done, keep),
-            Event::Failed(worker, place) => self.heed_failed(worker as usize, place),
-            Event::Lost(worker) => self.heed_lost(rt, worker as usize, keep),
-            Event::Joined(worker) => self.heed_joined(worker as usize),
-            Event::Tick => self.heed_tick(rt, keep),
+            Event::Done(worker, done) => self.on_done(rt, worker as usize, done, keep),
+            Event::Failed(worker, place) => self.on_failed(worker as usize, place),
+            Event::Lost(worker) => self.on_lost(rt, worker as usize, keep),
+            Event::Joined(worker) => self.on_joined(worker as usize),
+            Event::Tick => self.on_tick(rt, keep),
         }
     }
 }

@@ -1,4 +1,4 @@
-//! The control of a book: the control machine in code, a method for each of its words.
+//! The control of a book: the control model in code, with a method for each of its operations.
 
 ghost use Rattle.std.specs.Prelude.{◌≡◌, ◌<◌, ◌≤◌, ◌^◌, ◌||◌, not, nat_lt, true, length, IfOk, IfSome};
 ghost use Rattle.superstep.specs.declared.fault.JobFault.TheVariants.{OutOfMemory};
@@ -26,6 +26,7 @@ ghost use Rattle.rollback.specs.Machine.{
   may_join,
   opened,
   restarted,
+  resumed,
   waits,
   welcomed,
   ending_at,
@@ -34,14 +35,14 @@ ghost use Rattle.rollback.specs.Events.{after_loss, after_save, stale_done};
 ghost use Rattle.rollback.specs.inside.Control.{epochs_there, epochs_used};
 ghost use Rattle.rollback.specs.inside.Sound.{IsOpen};
 
-use crate::ending::{End, Told};
 use crate::flags::{are_all_set, clear, count_set, join};
+use crate::job_status::{DeviceResult, JobStatus};
 use crate::leases::{count_in_time, keep_in_time, least_part, make_older};
 use std::alloc::{AllocError, Global};
 use std::marker::Model;
 use superstep::{JobFault, Place, Settings};
 
-/// A task that a worker was handed.
+/// A task that was assigned to a worker.
 #[derive(Clone, Copy)]
 pub struct Out {
     pub epoch: u64,
@@ -49,7 +50,7 @@ pub struct Out {
     pub part: u32,
 }
 
-/// The control of a book. Contracts see it as the control machine.
+/// The control of a book: worker, epoch and superstep numbers without data. In contracts its model is `Machine`.
 #[derive(Drop)]
 pub struct Control {
     settings: Settings,
@@ -64,7 +65,7 @@ pub struct Control {
     saved: Option<u32>,
     missed: u64,
     restarts: u64,
-    ending: End,
+    ending: JobStatus,
 }
 
 impl Model for Control {
@@ -79,7 +80,7 @@ impl Model for Control {
 }
 
 impl Control {
-    /// The control before superstep 0, which is quiet or not.
+    /// Makes the control before superstep 0, which is quiet or not.
     pub fn new(alloc: Global, settings: Settings, quiet: bool) -> Result<Control, AllocError>
         requires parts { settings.parts ≤ 2 ^ 20 }
         requires workers { settings.workers ≤ 2 ^ 20 }
@@ -108,6 +109,21 @@ impl Control {
             restarts: 0,
             ending: ending_at(quiet, 0, settings.limit),
         })
+    }
+
+    /// The control before a superstep, not quiet, whose state was saved by an earlier run.
+    pub fn resumed(alloc: Global, settings: Settings, superstep: u32) -> Result<Control, AllocError>
+        requires parts { settings.parts ≤ 2 ^ 20 }
+        requires workers { settings.workers ≤ 2 ^ 20 }
+        requires every { 0 < settings.every }
+        requires early { superstep < settings.limit }
+        ensures { IfOk result (λ control. control ≡ resumed settings superstep) }
+    {
+        let mut control = Control::new(alloc, settings, false)?;
+        control.superstep = superstep;
+        control.saved = Some(superstep);
+        control.ending = JobStatus::Running;
+        Ok(control)
     }
 
     pub fn superstep(&self) -> u32
@@ -140,7 +156,7 @@ impl Control {
         self.saved
     }
 
-    pub fn ending(&self) -> End
+    pub fn ending(&self) -> JobStatus
         ensures { result ≡ self.now.ending }
     {
         self.ending
@@ -149,13 +165,13 @@ impl Control {
     pub fn is_running(&self) -> bool
         ensures { result ≡ is_running self.now.ending }
     {
-        matches!(self.ending, End::Running)
+        matches!(self.ending, JobStatus::Running)
     }
 
     pub fn has_answer(&self) -> bool
         ensures { result ≡ has_answer self.now.ending }
     {
-        matches!(self.ending, End::Finished | End::Limit)
+        matches!(self.ending, JobStatus::Finished | JobStatus::Limit)
     }
 
     pub fn workers(&self) -> usize
@@ -164,7 +180,7 @@ impl Control {
         self.alive.len()
     }
 
-    /// The units of each worker.
+    /// Returns the units of each worker.
     pub fn into_spent(self) -> Vec<u128>
         ensures { result.items ≡ self.spent }
     {
@@ -178,7 +194,7 @@ impl Control {
         self.alive[worker]
     }
 
-    /// Whether the worker is not alive and does not wait.
+    /// Returns whether the worker is not alive and does not wait.
     pub fn is_gone(&self, worker: usize) -> bool
         requires { worker < length self.now.alive }
         ensures { result ≡ not (is_alive self.now worker || is_waiting self.now worker) }
@@ -186,7 +202,7 @@ impl Control {
         !self.alive[worker] && !self.waiting[worker]
     }
 
-    /// The part that the worker is to be handed.
+    /// Returns the part that the worker is assigned next.
     pub fn hand(&self, worker: usize) -> Option<u32>
         requires { worker < length self.now.alive }
         ensures hand { result ≡ hand self.now worker }
@@ -202,7 +218,7 @@ impl Control {
         }
     }
 
-    /// The worker is handed this part.
+    /// Assigns this part to the worker.
     pub fn hand_out(&mut self, worker: usize, part: u32)
         requires { worker < length self.old.alive }
         ensures { self.new ≡ handed self.old worker part }
@@ -216,7 +232,7 @@ impl Control {
         self.age[worker] = 0;
     }
 
-    /// Whether this is the task that the worker has not brought back.
+    /// Returns whether this is the task that the worker has.
     pub fn is_out(&self, worker: usize, task: Out) -> bool
         requires { worker < length self.now.alive }
         ensures { result ≡ is_out self.now worker task }
@@ -230,7 +246,7 @@ impl Control {
         }
     }
 
-    /// Whether what comes back of the task is taken.
+    /// Returns whether a result of this task counts.
     pub fn counts(&self, worker: usize, task: Out) -> bool
         requires { worker < length self.now.alive }
         ensures { result ≡ counts self.now worker task }
@@ -238,7 +254,7 @@ impl Control {
         self.alive[worker] && (self.is_out(worker, task) && task.epoch == self.epoch)
     }
 
-    /// The worker has no task any more.
+    /// Takes the task from the worker.
     pub fn free(&mut self, worker: usize)
         requires { worker < length self.old.alive }
         ensures { self.new ≡ freed self.old worker }
@@ -246,7 +262,7 @@ impl Control {
         self.out[worker] = None;
     }
 
-    /// What comes back of the task is not taken. Where it is the worker's task, the worker has none any more.
+    /// Leaves out a result of this task. If it is the worker's task, the worker then has none.
     pub fn leave_out(&mut self, worker: usize, task: Out)
         requires { worker < length self.old.alive }
         ensures { self.new ≡ stale_done self.old worker task }
@@ -264,7 +280,7 @@ impl Control {
         self.spent[worker] = self.spent[worker].saturating_add(units);
     }
 
-    /// The part is done. Answers whether all are.
+    /// Marks the part as done. Returns whether all are.
     pub fn finish(&mut self, part: u32) -> bool
         requires { part < length self.old.done }
         ensures after { self.new ≡ finished self.old part }
@@ -274,7 +290,7 @@ impl Control {
         are_all_set(&self.done)
     }
 
-    /// The next superstep has come, which is quiet or not.
+    /// Goes on to the next superstep, which is quiet or not.
     pub fn close(&mut self, quiet: bool)
         requires { is_running self.old.ending ≡ true }
         ensures { self.new ≡ closed quiet self.old }
@@ -284,25 +300,27 @@ impl Control {
         self.ending = ending_at(quiet, self.superstep, self.settings.limit);
     }
 
-    /// Whether the state that has come is saved.
+    /// Returns whether the state of this superstep is due to be saved.
     pub fn is_saved_now(&self) -> bool
         ensures { result ≡ is_saved_now self.now }
     {
-        matches!(self.ending, End::Running) && self.superstep % self.settings.every == 0
+        matches!(self.ending, JobStatus::Running) && self.superstep % self.settings.every == 0
     }
 
-    /// The state was saved, or was not.
-    pub fn note_save(&mut self, told: Told)
+    /// Notes how a save went.
+    pub fn note_save(&mut self, told: DeviceResult)
         ensures { self.new ≡ after_save told self.old }
     {
         match told {
-            Told::Good => self.saved = Some(self.superstep),
-            Told::Failed => self.missed = self.missed.saturating_add(1),
-            Told::NoMemory => self.ending = End::Fault(JobFault::OutOfMemory(Place::Save)),
+            DeviceResult::Good => self.saved = Some(self.superstep),
+            DeviceResult::Failed => self.missed = self.missed.saturating_add(1),
+            DeviceResult::NoMemory => self.ending = JobStatus::Fault(JobFault::OutOfMemory(
+                Place::Save,
+            )),
         }
     }
 
-    /// Where the job goes on, those that wait are alive in a new epoch.
+    /// Lets waiting workers join in a new epoch, if the job goes on.
     pub fn welcome(&mut self)
         ensures { self.new ≡ welcomed self.old }
     {
@@ -313,7 +331,8 @@ impl Control {
         }
     }
 
-    // All parts are to be done again, by those that are left and those that wait. Answers whether there are such.
+    // Begins a new epoch, in which the remaining and the waiting workers do all parts again. Returns whether there are
+    // any.
     fn begin_anew(&mut self) -> bool
         requires running { is_running self.old.ending ≡ true }
         requires epochs { epochs_used self.old < epochs_there self.old }
@@ -328,12 +347,12 @@ impl Control {
             self.superstep = self.saved.unwrap_or(0);
             true
         } else {
-            self.ending = End::Fault(JobFault::NoWorkers);
+            self.ending = JobStatus::Fault(JobFault::NoWorkers);
             false
         }
     }
 
-    /// The worker is lost. Answers whether the job goes on, with a new epoch.
+    /// Loses the worker. Returns whether the job goes on, in a new epoch.
     pub fn lose(&mut self, worker: usize) -> bool
         requires in_range { worker < length self.old.alive }
         requires alive { is_alive self.old worker ≡ true }
@@ -345,14 +364,14 @@ impl Control {
         self.begin_anew()
     }
 
-    /// A tick passes.
+    /// Makes the tasks of alive workers one tick older.
     pub fn grow_older(&mut self)
         ensures { self.new ≡ aged self.old }
     {
         make_older(&self.alive, &self.out, &mut self.age);
     }
 
-    /// Whether a worker has had its task for the whole lease.
+    /// Returns whether some worker has had its task for the whole lease.
     pub fn is_some_overdue(&self) -> bool
         ensures { result ≡ nat_lt (count_set (expired self.now).alive) (count_set self.now.alive) }
     {
@@ -360,7 +379,7 @@ impl Control {
             < count_set(&self.alive)
     }
 
-    /// All that are overdue are lost at once. Answers whether the job goes on, with a new epoch.
+    /// Loses all overdue workers at once. Returns whether the job goes on, in a new epoch.
     pub fn lose_overdue(&mut self) -> bool
         requires running { is_running self.old.ending ≡ true }
         requires some { count_set (expired self.old).alive < count_set self.old.alive }
@@ -371,7 +390,7 @@ impl Control {
         self.begin_anew()
     }
 
-    /// The state that was saved last could not be had: all begins with superstep 0.
+    /// Begins again with superstep 0, as the last saved state could not be loaded.
     pub fn restart(&mut self)
         requires { is_running self.old.ending ≡ true }
         ensures { self.new ≡ restarted self.old }
@@ -381,14 +400,14 @@ impl Control {
         self.restarts = self.restarts.saturating_add(1);
     }
 
-    /// There is no memory, for this work.
+    /// Ends the job, as memory ran out at this place.
     pub fn fail(&mut self, place: Place)
         ensures { self.new ≡ ended_by (OutOfMemory place) self.old }
     {
-        self.ending = End::Fault(JobFault::OutOfMemory(place));
+        self.ending = JobStatus::Fault(JobFault::OutOfMemory(place));
     }
 
-    /// Whether the worker is alive and has a task.
+    /// Returns whether the worker is alive and has a task.
     pub fn is_busy(&self, worker: usize) -> bool
         requires { worker < length self.now.alive }
         ensures { result ≡ is_busy self.now.alive self.now.out worker }
@@ -403,7 +422,7 @@ impl Control {
         !self.alive[worker] && (!self.waiting[worker] && self.epoch < 0x1_0000_0000)
     }
 
-    /// The worker waits for a new epoch.
+    /// Lets the worker wait for a new epoch.
     pub fn let_wait(&mut self, worker: usize)
         requires in_range { worker < length self.old.alive }
         requires may { may_join self.old worker ≡ true }
@@ -414,15 +433,15 @@ impl Control {
     }
 }
 
-// How a job stands at a superstep, quiet or not.
-fn ending_at(quiet: bool, superstep: u32, limit: u32) -> End
+// Returns the status of a job at a superstep, quiet or not.
+fn ending_at(quiet: bool, superstep: u32, limit: u32) -> JobStatus
     ensures { result ≡ ending_at quiet superstep limit }
 {
     if quiet {
-        End::Finished
+        JobStatus::Finished
     } else if superstep < limit {
-        End::Running
+        JobStatus::Running
     } else {
-        End::Limit
+        JobStatus::Limit
     }
 }

@@ -1,33 +1,33 @@
-//! What happens to a job, and what becomes of it.
+//! The events of a job, and the answers to them.
 
 use superstep::{Done, Origin, Place};
 
-/// What happens to a job. Workers are numbered from 0.
+/// An event of a job. Workers are numbered from 0.
 #[derive(Drop)]
 pub enum Event<J: Origin> {
-    /// The worker brings this back.
+    /// The worker returns this result of its task.
     Done(u32, Done<J>),
-    /// The worker's task had no memory, for this work.
+    /// Memory ran out in the worker's task, at this place.
     Failed(u32, Place),
-    /// The worker is lost, with what it holds.
+    /// The worker is lost, and its task with it.
     Lost(u32),
-    /// The worker is there again and holds no task.
+    /// The worker is back, and has no task.
     Joined(u32),
-    /// Time passes: leases are counted in ticks.
+    /// One tick passes. Leases are counted in ticks.
     Tick,
 }
 
-/// What becomes of an event.
+/// The answer to an event.
 #[derive(Clone, Copy)]
 pub enum Answer {
-    /// It is counted, and the superstep is the same.
+    /// The event counts, and the superstep is the same.
     Taken,
     /// It closed a superstep, and this one is next.
     Advanced(u32),
     /// Workers were lost, and the job is back at this superstep.
     RolledBack(u32),
-    /// It is of an earlier time, or of a worker that cannot send it now.
+    /// The event is of a task that does not count, or of a worker that cannot send it.
     Stale,
-    /// The job has ended, or ends by it.
+    /// The job has ended, or ends by this event.
     Ended,
 }

@@ -3,7 +3,7 @@
 ghost use Rattle.std.specs.Prelude.{◌≡◌, ◌≤◌, length};
 ghost use Rattle.rollback.specs.Machine.{all_set, count_set, either, none_set};
 
-/// How many are set.
+/// Counts the flags that are set.
 pub fn count_set(flags: &[bool]) -> usize
     ensures count { result ≡ count_set flags.now }
     ensures small { result ≤ length flags.now }
@@ -22,7 +22,7 @@ pub fn are_all_set(flags: &[bool]) -> bool
     true
 }
 
-/// Sets none of them.
+/// Clears all flags.
 pub fn clear(flags: &mut [bool])
     ensures { flags.new ≡ none_set flags.old }
 {
@@ -31,7 +31,7 @@ pub fn clear(flags: &mut [bool])
     }
 }
 
-/// Those that wait are alive too.
+/// Makes waiting workers alive.
 pub fn join(alive: &mut [bool], waiting: &[bool])
     requires { length waiting.now ≡ length alive.old }
     ensures { alive.new ≡ either alive.old waiting.now }

@@ -1,4 +1,4 @@
-//! Tasks that are out, their ages, and who is late.
+//! Assigned tasks, their ages, and overdue workers.
 
 ghost use Rattle.std.specs.Prelude.{◌≡◌, ◌<◌, ◌%◌, ◌==◌, ◌&&◌, not, length, IfSome};
 ghost use Rattle.rollback.specs.Machine.{count_set, in_time, is_busy, is_overdue, least, older, one_older};
@@ -6,7 +6,7 @@ ghost use Rattle.rollback.specs.inside.Sound.{IsOpen};
 
 use crate::control::Out;
 
-/// The least part that is not done and is at this place among so many workers.
+/// Finds the least part that is not done and belongs to this place among `count` workers.
 pub fn least_part(count: usize, place: usize, done: &[bool]) -> Option<usize>
     requires { 0 < count }
     ensures least { result ≡ least count place 0 done.now }
@@ -27,7 +27,7 @@ fn is_next(part: usize, count: usize, place: usize, is_done: bool) -> bool
     part % count == place && !is_done
 }
 
-// Whether the worker is alive and has a task.
+// Returns whether the worker is alive and has a task.
 fn has_task(alive: &[bool], out: &[Option<Out>], worker: usize) -> bool
     requires alive { worker < length alive.now }
     requires out { worker < length out.now }
@@ -36,7 +36,7 @@ fn has_task(alive: &[bool], out: &[Option<Out>], worker: usize) -> bool
     alive[worker] && out[worker].is_some()
 }
 
-// Whether it has had its task for the whole lease.
+// Returns whether the worker has had its task for the whole lease.
 fn is_late(lease: u32, out: &[Option<Out>], age: &[u32], worker: usize) -> bool
     requires out { worker < length out.now }
     requires age { worker < length age.now }
@@ -51,7 +51,7 @@ fn stays(alive: bool, overdue: bool) -> bool
     alive && !overdue
 }
 
-/// The tasks of workers that are alive are older by a tick.
+/// Makes the tasks of alive workers one tick older.
 pub fn make_older(alive: &[bool], out: &[Option<Out>], age: &mut [u32])
     requires alive { length alive.now ≡ length age.old }
     requires out { length out.now ≡ length age.old }
@@ -68,7 +68,7 @@ fn one_older(busy: bool, age: u32) -> u32
     if busy { age.saturating_add(1) } else { age }
 }
 
-/// Those that are late are not alive any more.
+/// Makes overdue workers not alive.
 pub fn keep_in_time(lease: u32, out: &[Option<Out>], age: &[u32], alive: &mut [bool])
     requires out { length out.now ≡ length alive.old }
     requires age { length age.now ≡ length alive.old }
@@ -79,7 +79,7 @@ pub fn keep_in_time(lease: u32, out: &[Option<Out>], age: &[u32], alive: &mut [b
     }
 }
 
-/// How many are alive and not late.
+/// Counts the workers that are alive and not overdue.
 pub fn count_in_time(lease: u32, out: &[Option<Out>], age: &[u32], alive: &[bool]) -> usize
     requires out { length out.now ≡ length alive.now }
     requires age { length age.now ≡ length alive.now }

@@ -1,23 +1,23 @@
-//! The book of a running job: tasks and what comes back of them, saved states and rollbacks.
+//! The book of a running job: assigned tasks and their results, saved states and rollbacks.
 #![tactic(auto)]
 
 mod book;
 mod control;
-mod ending;
 mod event;
 mod flags;
-mod holding;
-mod keeping;
+mod job_data;
+mod job_status;
 mod leases;
+mod part_slots;
 mod parts;
+mod recovery;
 mod replies;
 mod report;
-mod rolling;
-mod seats;
+mod saving;
 mod simulation;
 
 pub use book::Book;
-pub use ending::End;
 pub use event::{Answer, Event};
+pub use job_status::JobStatus;
 pub use report::{Report, Status};
 pub use simulation::{Outcome, Step, StepAnswer, Trace, simulate};

@@ -2,44 +2,44 @@
 
 ghost use Rattle.std.specs.Prelude.{◌≡◌, ◌<◌, true, suc, replicate, length, IfOk};
 ghost use Rattle.superstep.specs.State.{HasIdsOf};
-ghost use Rattle.rollback.specs.Keeping.{IsFullStateAt};
-ghost use Rattle.rollback.specs.Parts.{IsHome, all_home, moved};
-ghost use Rattle.rollback.specs.Parts.Spot.{Gone, Returned};
+ghost use Rattle.rollback.specs.Saving.{IsFullStateAt};
+ghost use Rattle.rollback.specs.inside.Parts.{IsHome, all_home, moved};
+ghost use Rattle.rollback.specs.inside.Parts.Spot.{Gone, Returned};
 
-use crate::seats::{Seat, dones_of, seated, slice_of};
+use crate::part_slots::{PartSlot, dones_of, in_slots, slice_of};
 use std::alloc::{AllocError, Global};
 use std::marker::Model;
 use std::mem;
 use std::thread::Threads;
 use superstep::{Apart, Done, Job, Origin, State, Task, Totals, barrier, take_apart};
 
-/// The parts of a running job between two barriers: slices are moved out with tasks, and none is copied. Contracts see the
-/// superstep and where each part is.
+/// The parts of a running job between two barriers. Slices are moved out with tasks, and none is copied. In contracts
+/// the model is the superstep and where each part is.
 #[derive(Drop)]
 pub struct Parts<J: Origin> {
     totals: Totals,
     aggregates: [i64; 8],
-    seats: Vec<Seat<J>>,
+    part_slots: Vec<PartSlot<J>>,
 }
 
 impl<J: Origin> Model for Parts<J> {
-    ghost use Rattle.rollback.specs.Parts.{Seating};
-    ghost use Rattle.rollback.specs.inside.Seats.{IsKept, spots_of};
+    ghost use Rattle.rollback.specs.inside.Parts.{Placement};
+    ghost use Rattle.rollback.specs.inside.PartSlots.{IsKept, spots_of};
 
-    ghost Value = { Seating };
+    ghost Value = { Placement };
 
     ghost view = { λ parts. record {
       superstep = parts.totals.superstep;
       since = parts.totals.since;
-      spots = spots_of parts.seats.items;
+      spots = spots_of parts.part_slots.items;
     } };
 
     ghost invariant = { λ parts.
-        IsKept J.work J.honest parts.totals parts.aggregates parts.seats.items };
+        IsKept J.work J.honest parts.totals parts.aggregates parts.part_slots.items };
 }
 
 impl<J: Origin> Parts<J> {
-    /// The parts of a state. All of it is moved, not copied. The only refusal is that there is no memory.
+    /// Cuts a state into its parts. All of it is moved, not copied. `Err` is out of memory.
     pub fn of(alloc: Global, job: &Job, state: State) -> Result<Parts<J>, AllocError>
         requires job { J.work ≡ job.now }
         requires fits { HasIdsOf job.now state }
@@ -52,15 +52,15 @@ impl<J: Origin> Parts<J> {
             aggregates,
             slices,
         } = take_apart::<J>(alloc, job, state)?;
-        let seats = seated(alloc, slices)?;
+        let part_slots = in_slots(alloc, slices)?;
         Ok(Parts {
             totals,
             aggregates,
-            seats,
+            part_slots,
         })
     }
 
-    /// The task of a part that is here. It takes no memory.
+    /// Takes the slice of a part that is here, as a task. It allocates nothing.
     pub fn hand_out(&mut self, part: u32, epoch: u64) -> Task<J>
         requires { IsHome self.old part }
         ensures epoch { result.epoch ≡ epoch }
@@ -68,21 +68,21 @@ impl<J: Origin> Parts<J> {
         ensures part { result.part ≡ part }
         ensures after { self.new ≡ moved self.old part Gone }
     {
-        let seat = mem::replace(&mut self.seats[part as usize], Seat::Away);
-        Task::new(epoch, slice_of(seat), self.aggregates)
+        let slot = mem::replace(&mut self.part_slots[part as usize], PartSlot::Away);
+        Task::new(epoch, slice_of(slot), self.aggregates)
     }
 
-    /// This came back of its part. It takes no memory.
+    /// Puts a result in the slot of its part. It allocates nothing.
     pub fn bring_back(&mut self, done: Done<J>)
         requires superstep { done.superstep ≡ self.old.superstep }
         requires part { done.part < length self.old.spots }
         ensures { self.new ≡ moved self.old done.part Returned }
     {
         let part = done.part() as usize;
-        self.seats[part] = Seat::Back(done);
+        self.part_slots[part] = PartSlot::Back(done);
     }
 
-    /// The state after the superstep, where all parts have come back. The only refusal is that there is no memory.
+    /// Merges the results of all parts into the state after the superstep. `Err` is out of memory.
     pub fn merge(
         self,
         rt: &(impl Threads + Sync),
@@ -101,9 +101,9 @@ impl<J: Origin> Parts<J> {
         let Parts {
             totals,
             aggregates: _,
-            seats,
+            part_slots,
         } = self;
-        let dones = dones_of(alloc, seats)?;
+        let dones = dones_of(alloc, part_slots)?;
         barrier(rt, alloc, job, totals, dones)
     }
 }

@@ -1,54 +1,54 @@
-//! What is told of a book.
+//! The status and the report of a book.
 
 ghost use Rattle.std.specs.Prelude.{◌≡◌, IfOk};
 ghost use Rattle.rollback.specs.inside.Book.{HasWhole};
 ghost use Rattle.rollback.specs.inside.Reporting.{IsReportIn};
 
 use crate::control::Control;
-use crate::ending::End;
-use crate::holding::Holding;
+use crate::job_data::JobData;
+use crate::job_status::JobStatus;
 use std::alloc::{AllocError, Global};
-use superstep::{Ended, Origin, State, tell_end};
+use superstep::{JobEnd, Origin, State, tell_end};
 
-/// How a book stands.
+/// The status of a book.
 #[derive(Clone, Copy)]
 pub struct Status {
     pub superstep: u32,
-    /// It grows with each loss, and where workers that joined begin.
+    /// It grows with each loss, and when waiting workers join.
     pub epoch: u64,
-    /// How many states the device failed to save.
+    /// The number of states that the device failed to save.
     pub missed: u64,
-    /// How often all began again with superstep 0 because the last state could not be had.
+    /// How often the job began again with superstep 0, as the last saved state could not be loaded.
     pub restarts: u64,
-    pub end: End,
+    pub end: JobStatus,
 }
 
-/// What a job ended with, and what became of its workers.
+/// The end of a job, and the counts of its losses and its workers' units.
 #[derive(Drop)]
 pub struct Report {
-    pub ended: Ended,
-    /// It grew with each loss, and where workers that joined began.
+    pub ended: JobEnd,
+    /// It grew with each loss, and when waiting workers joined.
     pub epoch: u64,
-    /// How many states the device failed to save.
+    /// The number of states that the device failed to save.
     pub missed: u64,
-    /// How often all began again with superstep 0 because the last state could not be had.
+    /// How often the job began again with superstep 0, as the last saved state could not be loaded.
     pub restarts: u64,
-    /// The units of each worker. They stop at the greatest number of 128 bits.
+    /// The units of each worker, each up to 2^128 - 1.
     pub spent: Vec<u128>,
 }
 
-/// The state that a job ended with.
-pub fn state_of<J: Origin>(holding: Holding<J>) -> State
-    requires { HasWhole holding }
-    ensures { holding ≡ Holding.Whole result }
+/// Returns the state that a job ended with.
+pub fn state_of<J: Origin>(job_data: JobData<J>) -> State
+    requires { HasWhole job_data }
+    ensures { job_data ≡ JobData.Whole result }
 {
-    match holding {
-        Holding::Whole(state) => state,
+    match job_data {
+        JobData::Whole(state) => state,
         _ => unreachable!(),
     }
 }
 
-/// What is told of a job that ended with this state.
+/// Makes the report of a job that ended with this state.
 pub fn report_of(alloc: Global, state: &State, control: Control) -> Result<Report, AllocError>
     ensures { IfOk result (IsReportIn state.now control) }
 {

@@ -1,4 +1,4 @@
-//! Whole runs over lists of steps.
+//! Whole runs of a job over lists of steps.
 
 ghost use Rattle.std.specs.Prelude.{◌≡◌, ◌<◌, ℕ, length, replicate, slice_index_or, slice_set, Bool, true, None, Result, option_map, IfErr, IfOk};
 ghost use Rattle.superstep.specs.Job.{Meaning};
@@ -7,16 +7,16 @@ ghost use Rattle.superstep.specs.declared.fault.JobFault.{JobFault};
 ghost use Rattle.rollback.specs.Book.{IsStep, stamp_of, task_out};
 ghost use Rattle.rollback.specs.Events.{accepted};
 ghost use Rattle.checkpoint.specs.Keep.{LoadsNothingElse};
-ghost use Rattle.rollback.specs.Keeping.{IsKeptStep, KeepsFor};
+ghost use Rattle.rollback.specs.Saving.{IsKeptStep, KeepsFor};
 ghost use Rattle.rollback.specs.Machine.{is_free};
-ghost use Rattle.rollback.specs.Simulation.{CallsStayWithin, IsCalm, IsOutcomeAt, IsSimStep, IsSimulated, IsSimulatedOver, NeverFails, RanOver, brought, emptied, said, sim_of, stamps};
-ghost use Rattle.rollback.specs.inside.Simulating.{AreAnswersTo, HasSameCounts, IsRunnerOf};
+ghost use Rattle.rollback.specs.Simulation.{CallsStayWithin, IsCalm, IsOutcomeAt, IsSimStep, IsSimulated, IsSimulatedOver, NeverFails, RanOver, brought, emptied, said};
+ghost use Rattle.rollback.specs.inside.Simulating.{AreAnswersTo, HasSameCounts, IsRunnerOf, sim_of, stamps};
 ghost use Rattle.rollback.specs.declared.event.Answer.{Answer};
 ghost use Rattle.rollback.specs.declared.simulation.Step.TheVariants.{Join, Take, Work};
 
 use crate::book::Book;
-use crate::ending::End;
 use crate::event::{Answer, Event};
+use crate::job_status::JobStatus;
 use crate::report::Report;
 use checkpoint::Keep;
 use interp::{Scratch, calls_are_a_function, calls_end};
@@ -27,51 +27,51 @@ use std::rt::Files;
 use std::thread::Threads;
 use superstep::{Job, JobFault, Origin, Place, Task, run_task};
 
-/// What a job's workers do, one step after another. Workers are numbered from 0.
+/// A step of a job's workers. Workers are numbered from 0.
 #[derive(Clone, Copy)]
 pub enum Step {
     /// The worker takes a task, and holds it.
     Take(u32),
-    /// The worker does the task that it holds, or takes one before, and brings back what comes of it.
+    /// The worker does the task that it holds, or takes one first, and returns the result.
     Work(u32),
     /// The worker is lost. It still holds its task.
     Lose(u32),
-    /// Time passes.
+    /// One tick passes.
     Tick,
     /// The worker joins again. If it is not alive and does not wait, it drops its task first.
     Join(u32),
 }
 
-/// What is answered to a step.
+/// The answer to a step.
 #[derive(Clone, Copy)]
 pub enum StepAnswer {
     /// The worker holds a task already, or there is none for it.
     Idle,
-    /// It was handed the task of this part.
+    /// The worker was assigned the task of this part.
     Handed(u32),
-    /// This became of the step's event.
+    /// This is the answer to the step's event.
     Said(Answer),
 }
 
-/// Where the steps lead.
+/// The outcome of a list of steps.
 #[derive(Drop)]
 pub enum Outcome {
     /// The job goes on, at this superstep.
     Open(u32),
-    /// It has an answer.
+    /// The job has ended, with an answer.
     Ended(Report),
 }
 
-/// What became of each step, and where they lead.
+/// The answer to each step, and the outcome.
 #[derive(Drop)]
 pub struct Trace {
-    /// What was answered to each step, in their order.
+    /// The answers to the steps, in their order.
     pub answers: Vec<StepAnswer>,
-    /// Where they lead.
+    /// The outcome after the last step.
     pub outcome: Outcome,
 }
 
-// What the tasks of a job are done with.
+// The tools of a job's tasks.
 #[derive(Drop)]
 struct TaskRunner<'a> {
     alloc: Global,
@@ -79,7 +79,7 @@ struct TaskRunner<'a> {
     scratch: Scratch<'a>,
 }
 
-// What the worker tells of a task once it was done.
+// Does a task, and returns the event that reports it.
 fn done_by<J: Origin>(runner: &mut TaskRunner, worker: u32, task: Task<J>) -> Event<J>
     requires runner { IsRunnerOf J.work runner.old }
     ensures runner { IsRunnerOf J.work runner.new }
@@ -93,7 +93,7 @@ fn done_by<J: Origin>(runner: &mut TaskRunner, worker: u32, task: Task<J>) -> Ev
     }
 }
 
-// The book takes an event.
+// Gives the book an event, and returns the step's answer.
 fn tell<J: Origin, K: Keep, R: Threads + Sync + Files + AllocGlobal>(
     rt: &R,
     book: &mut Book<J>,
@@ -123,7 +123,7 @@ fn holds_none<J: Origin>(held: &[Option<Task<J>>], worker: usize) -> bool
     held[worker].is_none()
 }
 
-// The task that the worker held.
+// Takes the task that the worker held.
 fn let_go<J: Origin>(held: &mut [Option<Task<J>>], worker: usize) -> Option<Task<J>>
     ensures held { option_map task_out result ≡ slice_index_or (stamps held.old) worker None }
     ensures after { stamps held.new ≡ slice_set (stamps held.old) worker None }
@@ -135,7 +135,7 @@ fn let_go<J: Origin>(held: &mut [Option<Task<J>>], worker: usize) -> Option<Task
     }
 }
 
-// A worker that is not alive and does not wait drops its task.
+// Drops the task of a worker that is not alive and does not wait.
 fn empty_if_gone<J: Origin>(book: &Book<J>, held: &mut [Option<Task<J>>], worker: u32)
     ensures { stamps held.new ≡ emptied book.now (stamps held.old) worker }
 {
@@ -253,7 +253,7 @@ fn step_of<J: Origin, K: Keep, R: Threads + Sync + Files + AllocGlobal>(
     }
 }
 
-// The steps, one after another, each with its answer.
+// Runs the steps, one after another, and writes down each answer.
 fn run<J: Origin, K: Keep, R: Threads + Sync + Files + AllocGlobal>(
     rt: &R,
     runner: &mut TaskRunner,
@@ -278,18 +278,18 @@ fn run<J: Origin, K: Keep, R: Threads + Sync + Files + AllocGlobal>(
     }
 }
 
-// How the book has ended, or where it stands.
+// Returns how the job has ended, or the superstep that it is at.
 fn outcome_of<J: Origin>(book: Book<J>) -> Result<Outcome, JobFault>
     ensures { IsOutcomeAt J.work J.honest book.entry book.entry.ending result }
 {
     let status = book.status();
     match status.end {
-        End::Running => Ok(Outcome::Open(status.superstep)),
-        End::Finished | End::Limit => {
+        JobStatus::Running => Ok(Outcome::Open(status.superstep)),
+        JobStatus::Finished | JobStatus::Limit => {
             let report = book.report()?;
             Ok(Outcome::Ended(report))
         }
-        End::Fault(fault) => Err(fault),
+        JobStatus::Fault(fault) => Err(fault),
     }
 }
 
@@ -304,7 +304,7 @@ fn empty_hands<J: Origin>(alloc: Global, workers: u32) -> Result<Vec<Option<Task
     Ok(held)
 }
 
-// The answers to the steps, before which no worker holds a task.
+// Runs the steps, before which no worker holds a task, and returns the answers.
 fn answers_to<J: Origin, K: Keep, R: Threads + Sync + Files + AllocGlobal>(
     rt: &R,
     runner: &mut TaskRunner,
@@ -328,7 +328,7 @@ fn answers_to<J: Origin, K: Keep, R: Threads + Sync + Files + AllocGlobal>(
     Ok(answers)
 }
 
-// The run of the job whose tasks the runner does.
+// Simulates the job whose tasks the runner does.
 fn simulate_by<J: Origin, K: Keep, R: Threads + Sync + Files + AllocGlobal>(
     rt: &R,
     runner: &mut TaskRunner,
@@ -349,7 +349,7 @@ fn simulate_by<J: Origin, K: Keep, R: Threads + Sync + Files + AllocGlobal>(
     Ok(Trace { answers, outcome })
 }
 
-// The same for a job that a type names.
+// Does the same for a job that a type names.
 fn simulate_as<J: Origin, K: Keep, R: Threads + Sync + Files + AllocGlobal>(
     rt: &R,
     alloc: Global,
@@ -374,7 +374,7 @@ fn simulate_as<J: Origin, K: Keep, R: Threads + Sync + Files + AllocGlobal>(
     simulate_by::<J, K, R>(rt, &mut runner, keep, steps)
 }
 
-// What the calls of the job's module come to, whatever they are given.
+// Proves that calls of the job's module stay within their bound, whatever they are given.
 fn calls_stay_within(job: &Job)
     ensures calls { CallsStayWithin job.now.«module» }
     ensures meaning { Meaning job.now }
@@ -387,8 +387,8 @@ fn calls_stay_within(job: &Job)
 
 /// Runs a job over these steps, in which workers take tasks, do them, are lost and join again, and time passes.
 ///
-/// An `Err` is the fault that ended the job: `NoWorkers`, or want of memory for the work that it names. Want of memory to begin
-/// with is `Open` or `Call`, and for the report `Report`. The Keep is then as saves and loads left it.
+/// An `Err` is the fault that ended the job: `NoWorkers`, or `OutOfMemory` with its place. The place is `Open` or
+/// `Call` before the first step, and `Report` for the report. The Keep is then as saves and loads left it.
 pub fn simulate<K: Keep, R: Threads + Sync + Files + AllocGlobal>(
     rt: &R,
     alloc: Global,
@@ -398,16 +398,16 @@ pub fn simulate<K: Keep, R: Threads + Sync + Files + AllocGlobal>(
 ) -> Result<Trace, JobFault>
     // No call meets a trap or a missing operand, and each stays within its bound.
     ensures calls { CallsStayWithin job.now.«module» }
-    // So what they come to is one function, and there is the plain run of the job's graph.
+    // So their outcomes are a function, and there is a plain run of the job's graph.
     ensures meaning { Meaning job.now }
-    // The answers and the outcome are the control machine's, and where the Keep is honest a job that has ended has the
+    // The answers and the outcome are those of the control model. If the Keep is honest, a job that has ended has the
     // plain run's answer.
     ensures simulated { IsSimulated job.now (K.honest keep.old) steps.now result }
     // Each step leaves the Keep as its save or its load left it, or as it was.
     ensures kept { IsSimulatedOver K.honest K.saved K.may_load K.faults job.now
         (K.honest keep.old) steps.now keep.old keep.new result }
-    // With a Keep that loads nothing else than what was saved, and whose device never fails, nothing is missed, and all never
-    // begins anew.
+    // If the Keep loads only what was saved and its device never fails, no save is missed and the job never begins
+    // again.
     ensures calm { LoadsNothingElse K.saved K.may_load → NeverFails K.faults
         → IfOk result (λ trace. IsCalm trace.outcome) }
     // An honest Keep stays honest.

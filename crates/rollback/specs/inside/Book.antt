@@ -1,17 +1,17 @@
--- What a book keeps.
+-- What a book holds, as it is kept.
 use Rattle.std.specs.Prelude.{◌≡◌, ◌<◌, ◌≤◌, ℕ, suc, Bool, true, false, List, length, map, slice_index_or, Option, Some, None}
 use Rattle.superstep.specs.Job.{Work}
 use Rattle.superstep.specs.State.{HasIdsOf, Standing, is_settled, state_id}
 use Rattle.superstep.specs.Ending.{WasBusy}
 use Rattle.rollback.specs.declared.control.Out.{Out}
-use Rattle.rollback.specs.declared.ending.End.{End}
-use Rattle.rollback.specs.declared.ending.End.TheVariants.{Fault, Finished, Limit, Running}
-use Rattle.rollback.specs.declared.holding.Holding.{Holding}
-use Rattle.rollback.specs.declared.holding.Holding.TheVariants.{Nothing, Parts, Whole}
+use Rattle.rollback.specs.declared.job_status.JobStatus.{JobStatus}
+use Rattle.rollback.specs.declared.job_status.JobStatus.TheVariants.{Fault, Finished, Limit, Running}
+use Rattle.rollback.specs.declared.job_data.JobData.{JobData}
+use Rattle.rollback.specs.declared.job_data.JobData.TheVariants.{Nothing, Parts, Whole}
 use Rattle.rollback.specs.Machine.{Machine, has_answer, is_running, saved_or_first}
-use Rattle.rollback.specs.Parts.{Seating, Spot, is_returned}
-use Rattle.rollback.specs.Parts.Spot.{Gone, Home}
-use Rattle.rollback.specs.Keeping.{IsFullStateAt}
+use Rattle.rollback.specs.inside.Parts.{Placement, Spot, is_returned}
+use Rattle.rollback.specs.inside.Parts.Spot.{Gone, Home}
+use Rattle.rollback.specs.Saving.{IsFullStateAt}
 use Rattle.rollback.specs.Book.{IsQuietAt, has_finished}
 use Rattle.rollback.specs.inside.Sound.{IsSound}
 
@@ -20,8 +20,8 @@ pub record AreIdsOf (work : Work) (own : List ℕ) : Type 0 where
   pub those : (state : Standing) → map state_id state.vertices ≡ own → HasIdsOf work state
   pub only : (state : Standing) → HasIdsOf work state → map state_id state.vertices ≡ own
 
--- how the plain run stands at a superstep, where a job has this end
-abbrev pub StandsAt : Work → End → ℕ → Type 0
+-- how the plain run is at a superstep, where a job has this status
+abbrev pub StandsAt : Work → JobStatus → ℕ → Type 0
 StandsAt work Running s = IsQuietAt work s false × (s < work.settings.limit)
 StandsAt work Finished s = IsQuietAt work s true × (s ≤ work.settings.limit)
 StandsAt work Limit s = IsQuietAt work s false × (s ≡ work.settings.limit)
@@ -32,7 +32,7 @@ abbrev pub WasBusyTo : Work → Option ℕ → Type 0
 WasBusyTo work None = Unit {0}
 WasBusyTo work (Some s) = WasBusy work (suc s)
 
--- the plain run comes to where the machine is
+-- the plain run reaches the superstep of the model
 pub record IsReached (work : Work) (m : Machine) : Type 0 where
   pub busy : WasBusy work m.superstep
   pub saved : WasBusyTo work m.saved
@@ -45,14 +45,14 @@ IsBacked m spots =
     → (w : ℕ) × (task : Out) × (w < length m.out) × (slice_index_or m.out w None ≡ Some task) × (task.epoch ≡ m.epoch) × (task.part ≡ part)
 
 -- the parts of a job that runs
-pub record AreParts (work : Work) (m : Machine) (seating : Seating) : Type 0 where
+pub record AreParts (work : Work) (m : Machine) (placement : Placement) : Type 0 where
   pub running : is_running m.ending ≡ true
-  pub superstep : seating.superstep ≡ m.superstep
+  pub superstep : placement.superstep ≡ m.superstep
   pub early : m.superstep < work.settings.limit
-  pub done : m.done ≡ map is_returned seating.spots
-  pub many : length seating.spots ≡ work.settings.parts
+  pub done : m.done ≡ map is_returned placement.spots
+  pub many : length placement.spots ≡ work.settings.parts
   pub sound : IsSound m
-  pub backed : IsBacked m seating.spots
+  pub backed : IsBacked m placement.spots
 
 -- the state that a job ended with
 pub record IsWhole (work : Work) (honest : Bool) (m : Machine) (state : Standing) : Type 0 where
@@ -62,27 +62,27 @@ pub record IsWhole (work : Work) (honest : Bool) (m : Machine) (state : Standing
   pub at : honest ≡ true → IsFullStateAt work state.superstep state
   pub quiet : is_settled state ≡ has_finished m.ending
 
-abbrev pub is_fault : End → Bool
+abbrev pub is_fault : JobStatus → Bool
 is_fault Running = false
 is_fault Finished = false
 is_fault Limit = false
 is_fault (Fault fault) = true
 
-abbrev pub IsHeld : {J : _} → Work → Bool → Machine → Holding J → Type 0
-IsHeld work honest m (Parts seating) = AreParts work m seating
-IsHeld work honest m (Whole state) = IsWhole work honest m state
-IsHeld work honest m Nothing = is_fault m.ending ≡ true
+abbrev pub HoldsData : {J : _} → Work → Bool → Machine → JobData J → Type 0
+HoldsData work honest m (Parts placement) = AreParts work m placement
+HoldsData work honest m (Whole state) = IsWhole work honest m state
+HoldsData work honest m Nothing = is_fault m.ending ≡ true
 
-pub record IsBook (work : Work) (honest : Bool) (own : Work) (m : Machine) (ids : List ℕ) {J : _} (holding : Holding J) : Type 0 where
+pub record IsBook (work : Work) (honest : Bool) (own : Work) (m : Machine) (ids : List ℕ) {J : _} (job_data : JobData J) : Type 0 where
   pub job : own ≡ work
   pub settings : m.settings ≡ work.settings
   pub knows : AreIdsOf work ids
-  pub held : IsHeld work honest m holding
+  pub held : HoldsData work honest m job_data
   pub past : saved_or_first m.saved ≤ m.superstep
   pub reached : honest ≡ true → IsReached work m
 
 -- it holds the state that a job ended with
-abbrev pub HasWhole : {J : _} → Holding J → Type 0
-HasWhole (Parts seating) = ⊥
+abbrev pub HasWhole : {J : _} → JobData J → Type 0
+HasWhole (Parts placement) = ⊥
 HasWhole (Whole state) = Unit {0}
 HasWhole Nothing = ⊥

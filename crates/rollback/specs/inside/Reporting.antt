@@ -1,4 +1,4 @@
--- What is told of a state that a job ended with, and of its control.
+-- The report of a state that a job ended with, and of its control.
 use Rattle.std.specs.Prelude.{◌≡◌}
 use Rattle.superstep.specs.Ending.{HasStopped, IsEndIn, IsEndOf}
 use Rattle.superstep.specs.Job.{Work}

@@ -1,25 +1,34 @@
--- What simulating goes by, and what a step leaves of the counts.
-use Rattle.std.specs.Prelude.{◌≡◌, ℕ, Bool, List, Option, Some, None, replicate}
+-- What simulating looks at, and what a step leaves of the counts.
+use Rattle.std.specs.Prelude.{◌≡◌, ℕ, Bool, List, map, Option, Some, None, option_map, replicate}
 use Rattle.superstep.specs.Job.{Work}
+use Rattle.superstep.specs.Tasks.{TaskStamp}
 use Rattle.rollback.specs.declared.control.Out.{Out}
 use Rattle.rollback.specs.declared.simulation.Step.{Step}
 use Rattle.rollback.specs.declared.simulation.StepAnswer.{StepAnswer}
 use Rattle.rollback.specs.declared.simulation.TaskRunner.{TaskRunner}
+use Rattle.rollback.specs.Book.{task_out}
 use Rattle.rollback.specs.Machine.{Machine}
-use Rattle.rollback.specs.Keeping.{IsMadeAt}
+use Rattle.rollback.specs.Saving.{IsMadeAt}
 use Rattle.rollback.specs.Simulation.{RanOver, Sim}
+
+-- the tasks that are held, in numbers
+abbrev pub stamps : List (Option TaskStamp) → List (Option Out)
+stamps held = map (option_map task_out) held
+
+abbrev pub sim_of : Machine → List (Option TaskStamp) → Sim
+sim_of m held = record { machine = m; held = stamps held }
 
 -- it does the tasks of this job
 pub record IsRunnerOf (work : Work) (runner : TaskRunner) : Type 0 where
   pub job : work ≡ runner.job.now
   pub fits : runner.scratch ≡ runner.job.now.«module»
 
--- nothing more was missed, and all did not begin anew
+-- no more was missed, and the job did not begin again
 pub record HasSameCounts (before after : Machine) : Type 0 where
   pub missed : after.missed ≡ before.missed
   pub restarts : after.restarts ≡ before.restarts
 
--- the machine, where none of so many workers holds a task
+-- the model, where none of this many workers holds a task
 abbrev pub with_none_held : ℕ → Machine → Sim
 with_none_held workers m = record { machine = m; held = replicate workers None }
 
@@ -28,6 +37,6 @@ pub record AreAnswersTo {K : Type 0} (over : Machine → Machine → K → K →
   pub held : List (Option Out)
   pub ran : RanOver over work honest steps (with_none_held work.settings.workers before) keep answers (record { machine = after; held = held }) keep'
 
--- where it may load nothing else, it loads a state that fits there
+-- if it may load nothing else, it loads a state that fits there
 abbrev pub LoadsMade : Work → (List ℕ → Type 0) → Machine → Type 0
 LoadsMade work may_load m = (s : ℕ) → m.saved ≡ Some s → (bytes : List ℕ) → may_load bytes → IsMadeAt work s bytes

@@ -1,4 +1,4 @@
--- What is so of the tasks that are out.
+-- What holds of assigned tasks.
 use Rattle.std.specs.Prelude.{◌≡◌, ◌<◌, ◌≤◌, ◌%◌, ℕ, List, length, take, slice_index_or, Bool, true, false, Some, None}
 use Rattle.rollback.specs.declared.control.Out.{Out}
 use Rattle.rollback.specs.Machine.{Machine, count_set, is_alive}
@@ -7,7 +7,7 @@ use Rattle.rollback.specs.Machine.{Machine, count_set, is_alive}
 abbrev pub IsOpen : List Bool → ℕ → Type 0
 IsOpen done part = (part < length done) × (slice_index_or done part true ≡ false)
 
--- a worker's task out, if it is of this epoch, is an open part of the worker's own
+-- a worker's task, if it is of this epoch, is an open part of its own
 pub record IsSoundOut (m : Machine) (w : ℕ) (task : Out) : Type 0 where
   pub past : task.epoch ≤ m.epoch
   pub superstep : task.epoch ≡ m.epoch → task.superstep ≡ m.superstep

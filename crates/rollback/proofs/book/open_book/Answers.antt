@@ -4,9 +4,9 @@ use Rattle.superstep.specs.Job.{Work}
 use Rattle.superstep.specs.State.{HasIdsOf, state_id}
 use Rattle.superstep.specs.declared.state.VertexState.{VertexState}
 use Rattle.rollback.specs.Book.{IsQuietAt}
-use Rattle.rollback.specs.Keeping.{IsFullStateAt}
+use Rattle.rollback.specs.Saving.{IsFullStateAt}
 use Rattle.rollback.specs.inside.Book.{AreIdsOf}
-use Rattle.rollback.specs.inside.Rolling.{IsFirst}
+use Rattle.rollback.specs.inside.Recovery.{IsFirst}
 use Rattle.rollback.proofs.Kept
 use Rattle.rollback.proofs.Opening.{few_parts, few_workers, first_ids, full_first, some_every, some_limit}
 use Rattle.rollback.proofs.book.open_book.Goals as goal
@@ -41,7 +41,7 @@ invariant_of-result g c =
     let ids =
     c.in_ok-ids.ensures ∙ ap (map id_of) c.deref.ensures.value ∙ sym (map-map state_id now c.in_ok-in_order.field-0.items)
     ∙ ap (map state_id) c.in_ok-in_order.ensures.same in
-    rw c.in_ok-control.ensures (Kept.book_opened work g.J.Origin.honest job c.settings.result c.in_ok-ids.ids.items c.in_ok-holding.holding c.is_quiet-quiet.result state own
+    rw c.in_ok-control.ensures (Kept.book_opened work g.J.Origin.honest job c.settings.result c.in_ok-ids.ids.items c.in_ok-job_data.job_data c.is_quiet-quiet.result state own
     (c.settings.ensures.settings ∙ ap (λ (w : Work). w.settings) own)
     (subst (λ (w : Work). 0 < w.settings.limit) own (some_limit job.settings c.settings.ensures.good))
     (subst (λ (w : Work). AreIdsOf w c.in_ok-ids.ids.items) own (first_ids job state c.in_ok-ids.ids.items graph ids c.in_ok-state.ensures.ids))
@@ -49,7 +49,7 @@ invariant_of-result g c =
     c.in_ok-state.ensures.superstep
     (λ sure. full_first work job state own c.in_ok-state.ensures.first c.in_ok-state.ensures.since)
     c.is_quiet-quiet.ensures
-    (subst (λ (w : Work). IsFirst w.settings.parts c.is_quiet-quiet.result state c.in_ok-holding.holding) own c.in_ok-holding.ensures))
+    (subst (λ (w : Work). IsFirst w.settings.parts c.is_quiet-quiet.result state c.in_ok-job_data.job_data) own c.in_ok-job_data.ensures))
 
 pub returns : goal.returns
 returns g c =

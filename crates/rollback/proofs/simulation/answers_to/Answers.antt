@@ -1,8 +1,8 @@
 use Rattle.std.proofs.Common.{◌≡◌, replicate, sym, subst, rules, ◌∙◌, ap, None}
 use Rattle.superstep.specs.Job.{Work}
-use Rattle.rollback.specs.Keeping.{IsKeptStep}
-use Rattle.rollback.specs.Simulation.{RanOver, Sim, sim_of, stamps}
-use Rattle.rollback.specs.inside.Simulating.{with_none_held}
+use Rattle.rollback.specs.Saving.{IsKeptStep}
+use Rattle.rollback.specs.Simulation.{RanOver, Sim}
+use Rattle.rollback.specs.inside.Simulating.{sim_of, stamps, with_none_held}
 use Rattle.rollback.proofs.Simulated
 use Rattle.rollback.proofs.simulation.answers_to.Goals as goal
 

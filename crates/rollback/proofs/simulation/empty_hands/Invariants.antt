@@ -1,5 +1,5 @@
 use Rattle.std.proofs.Common.{◌≡◌, replicate, None}
-use Rattle.rollback.specs.Simulation.{stamps}
+use Rattle.rollback.specs.inside.Simulating.{stamps}
 use Rattle.rollback.proofs.simulation.empty_hands.Given as goal
 
 abbrev pub invariant-loop-worker : goal.invariant-loop-worker

@@ -1,4 +1,4 @@
-use Rattle.rollback.specs.Simulation.{sim_of, stamps}
+use Rattle.rollback.specs.inside.Simulating.{sim_of, stamps}
 use Rattle.rollback.proofs.Simulated
 use Rattle.rollback.proofs.simulation.join.Goals as goal
 

@@ -1,7 +1,7 @@
 use Rattle.std.proofs.Common.{◌≡◌, length, take}
-use Rattle.rollback.specs.Keeping.{IsKeptStep, KeepsFor}
-use Rattle.rollback.specs.Simulation.{RanOver, sim_of}
-use Rattle.rollback.specs.inside.Simulating.{IsRunnerOf}
+use Rattle.rollback.specs.Saving.{IsKeptStep, KeepsFor}
+use Rattle.rollback.specs.Simulation.{RanOver}
+use Rattle.rollback.specs.inside.Simulating.{IsRunnerOf, sim_of}
 use Rattle.rollback.proofs.simulation.run.Given as goal
 
 abbrev pub invariant-loop-i : goal.invariant-loop-i

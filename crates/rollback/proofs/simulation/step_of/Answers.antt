@@ -1,4 +1,4 @@
-use Rattle.rollback.specs.Simulation.{sim_of}
+use Rattle.rollback.specs.inside.Simulating.{sim_of}
 use Rattle.rollback.proofs.Simulated
 use Rattle.rollback.proofs.simulation.step_of.Goals as goal
 

@@ -1,6 +1,6 @@
 use Rattle.std.proofs.Common.{sym, rules, refl, ◌∙◌, ap, Some}
 use Rattle.std.proofs.Math.ListN.{set}
-use Rattle.rollback.specs.Simulation.{sim_of, stamps}
+use Rattle.rollback.specs.inside.Simulating.{sim_of, stamps}
 use Rattle.rollback.proofs.Simulated
 use Rattle.rollback.proofs.simulation.take.Goals as goal
 

@@ -3,15 +3,16 @@ use Rattle.superstep.specs.declared.fault.JobFault.TheVariants.{OutOfMemory}
 use Rattle.superstep.specs.declared.fault.Place.TheVariants.{Merge}
 use Rattle.superstep.specs.Job.{Work}
 use Rattle.superstep.specs.State.{HasIdsOf}
-use Rattle.rollback.specs.declared.ending.Told.TheVariants.{Good}
+use Rattle.rollback.specs.declared.job_status.DeviceResult.TheVariants.{Good}
 use Rattle.rollback.specs.Machine.{Machine, all_set, closed, ended_by, is_running, is_saved_now, saved_or_first, welcomed}
 use Rattle.rollback.specs.Events.{advanced, reply_of, saving, slicing}
-use Rattle.rollback.specs.Parts.Spot.{Returned}
+use Rattle.rollback.specs.inside.Parts.Spot.{Returned}
 use Rattle.rollback.specs.Book.{IsQuietAt}
-use Rattle.rollback.specs.Keeping.{IsFullStateAt, IsSaveTold, KeepsFor, LoadsNoMore}
-use Rattle.rollback.specs.inside.Book.{AreParts, IsHeld}
-use Rattle.rollback.specs.inside.Holding.{Runs}
-use Rattle.rollback.specs.inside.Rolling.{IsHeldOf, has_room}
+use Rattle.rollback.specs.Saving.{IsFullStateAt, KeepsFor, LoadsNoMore}
+use Rattle.rollback.specs.inside.DeviceResults.{IsSaveResult}
+use Rattle.rollback.specs.inside.Book.{AreParts, HoldsData}
+use Rattle.rollback.specs.inside.JobData.{Runs}
+use Rattle.rollback.specs.inside.Recovery.{IsHeldOf, has_room}
 use Rattle.rollback.proofs.Keeps
 use Rattle.rollback.proofs.Kept
 use Rattle.rollback.proofs.book.Book.close.Goals as goal
@@ -19,26 +20,26 @@ use Rattle.rollback.proofs.book.Book.close.Goals as goal
 pub parts_of-parts-requires : goal.parts_of-parts-requires
 parts_of-parts-requires g c =
     let i = c.self.inside in
-    let r = Kept.runs g.J.Origin.work g.J.Origin.honest i.control i.holding c.self.invariant.held (subst (λ (m : Machine). is_running m.ending ≡ true) (sym c.self.view_is) c.requires.running) in
+    let r = Kept.runs g.J.Origin.work g.J.Origin.honest i.control i.job_data c.self.invariant.held (subst (λ (m : Machine). is_running m.ending ≡ true) (sym c.self.view_is) c.requires.running) in
     subst (λ h. Runs h (λ _. Unit {0})) (sym (c.replace.ensures.value ∙ r.1)) tt
 
 pub merge-requires-clause-all : goal.merge-requires-clause-all
 merge-requires-clause-all g c κs within =
     let i = c.self.inside in
-    let x : AreParts g.J.Origin.work i.control c.parts_of-parts.result = subst (λ h. IsHeld g.J.Origin.work g.J.Origin.honest i.control h) (sym c.replace.ensures.value ∙ c.parts_of-parts.ensures) c.self.invariant.held in
+    let x : AreParts g.J.Origin.work i.control c.parts_of-parts.result = subst (λ h. HoldsData g.J.Origin.work g.J.Origin.honest i.control h) (sym c.replace.ensures.value ∙ c.parts_of-parts.ensures) c.self.invariant.held in
     Kept.all_returned_is g.J.Origin.work i.control c.parts_of-parts.result x (subst (λ (m : Machine). all_set m.done ≡ true) (sym c.self.view_is) c.requires.done)
     ∙ ap (λ (work : Work). replicate work.settings.parts Returned) (sym c.self.invariant.job)
 
 pub merge-requires-clause-early : goal.merge-requires-clause-early
 merge-requires-clause-early g c κs within =
     let i = c.self.inside in
-    let x : AreParts g.J.Origin.work i.control c.parts_of-parts.result = subst (λ h. IsHeld g.J.Origin.work g.J.Origin.honest i.control h) (sym c.replace.ensures.value ∙ c.parts_of-parts.ensures) c.self.invariant.held in
+    let x : AreParts g.J.Origin.work i.control c.parts_of-parts.result = subst (λ h. HoldsData g.J.Origin.work g.J.Origin.honest i.control h) (sym c.replace.ensures.value ∙ c.parts_of-parts.ensures) c.self.invariant.held in
     rw (c.self.invariant.job, x.superstep) x.early
 
 pub invariant_of-self : goal.invariant_of-self
 invariant_of-self g c =
     let i = c.self.inside in
-    rw c.fail.ensures (Kept.book_ended g.J.Origin.work g.J.Origin.honest i.job.now i.control i.ids.items i.holding _ (OutOfMemory Merge) c.replace.ensures.after c.self.invariant)
+    rw c.fail.ensures (Kept.book_ended g.J.Origin.work g.J.Origin.honest i.job.now i.control i.ids.items i.job_data _ (OutOfMemory Merge) c.replace.ensures.after c.self.invariant)
 
 pub returns-in_default : goal.returns-in_default
 returns-in_default g c =
@@ -68,7 +69,7 @@ invariant_of-self-2 g c =
     let b = c.self.invariant in
     let run = subst (λ (m : Machine). is_running m.ending ≡ true) (sym c.self.view_is) c.requires.running in
     let done = subst (λ (m : Machine). all_set m.done ≡ true) (sym c.self.view_is) c.requires.done in
-    let x : AreParts work i.control c.parts_of-parts.result = subst (λ h. IsHeld work honest i.control h) (sym c.replace.ensures.value ∙ c.parts_of-parts.ensures) b.held in
+    let x : AreParts work i.control c.parts_of-parts.result = subst (λ h. HoldsData work honest i.control h) (sym c.replace.ensures.value ∙ c.parts_of-parts.ensures) b.held in
     let state = c.in-Ok.state in
     let quiet = c.is_quiet.result in
     let told = c.save_if_due.ensures.told.0 in
@@ -79,7 +80,7 @@ invariant_of-self-2 g c =
     let e1 : c.save_if_due.new.control ≡ m1 = c.save_if_due.ensures.told.1 ∙ ap (λ m. saving told m) c.close.ensures in
     let e2 : c.hold.new.control ≡ slicing sliced m1 = c.hold.ensures.control ∙ ap (λ m. slicing sliced m) e1 in
     let truth = λ (sure : honest ≡ true). subst (λ q. IsQuietAt work (suc i.control.superstep) q) (sym c.is_quiet.ensures) (Kept.settled_quiet work (suc i.control.superstep) state (subst (λ n. IsFullStateAt work n state) later (at sure))) in
-    let f = Kept.fresh_saving work honest (closed quiet i.control) told (Kept.fresh_closed work honest i.job.now i.control i.ids.items i.holding quiet b run done truth) in
+    let f = Kept.fresh_saving work honest (closed quiet i.control) told (Kept.fresh_closed work honest i.job.now i.control i.ids.items i.job_data quiet b run done truth) in
     let held = subst (λ m. IsHeldOf work.settings.parts m1 m state c.hold.result) e2 (subst (λ m. IsHeldOf work.settings.parts m c.hold.new.control state c.hold.result) e1 (subst (λ (own : Work). IsHeldOf own.settings.parts c.save_if_due.new.control c.hold.new.control state c.hold.result) b.job c.hold.ensures.held)) in
     let has = subst (λ (own : Work). HasIdsOf own state) b.job c.in-Ok.ensures.ids in
     let near : state.superstep ≡ m1.superstep = later ∙ sym (add-one i.control.superstep) ∙ sym (Kept.superstep_saving (closed quiet i.control) told) in
@@ -92,7 +93,7 @@ returns g c =
     let honest = g.J.Origin.honest in
     let m = c.args.self.now in
     let i = c.self.inside in
-    let x : AreParts work i.control c.parts_of-parts.result = subst (λ h. IsHeld work honest i.control h) (sym c.replace.ensures.value ∙ c.parts_of-parts.ensures) c.self.invariant.held in
+    let x : AreParts work i.control c.parts_of-parts.result = subst (λ h. HoldsData work honest i.control h) (sym c.replace.ensures.value ∙ c.parts_of-parts.ensures) c.self.invariant.held in
     let state = c.in-Ok.state in
     let quiet = c.is_quiet.result in
     let told = c.save_if_due.ensures.told.0 in
@@ -110,7 +111,7 @@ returns g c =
     let past : saved_or_first m.saved < state.superstep = let p = subst (λ (y : Machine). saved_or_first y.saved ≤ y.superstep) c.self.view_is c.self.invariant.past in omega (arith, p, later) in
     let near : state.superstep ≡ mc.superstep = later ∙ sym (add-one m.superstep) in
     let old : KeepsFor work honest (g.K.Keep.honest c.args.keep.now) (g.K.Keep.saved c.args.keep.now) (g.K.Keep.may_load c.args.keep.now) mc = Keeps.keeps_same work honest (g.K.Keep.honest c.args.keep.now) (g.K.Keep.saved c.args.keep.now) (g.K.Keep.may_load c.args.keep.now) m mc refl c.requires.keep in
-    let saved = subst (λ y. is_saved_now y ≡ true → IsSaveTold state (g.K.Keep.honest c.args.keep.now) (g.K.Keep.honest c.save_if_due.new.keep) (g.K.Keep.saved c.args.keep.now) (g.K.Keep.saved c.save_if_due.new.keep) (g.K.Keep.may_load c.args.keep.now) (g.K.Keep.may_load c.save_if_due.new.keep) (g.K.Keep.faults c.args.keep.now) (g.K.Keep.faults c.save_if_due.new.keep) told) close c.save_if_due.ensures.told.2 in
+    let saved = subst (λ y. is_saved_now y ≡ true → IsSaveResult state (g.K.Keep.honest c.args.keep.now) (g.K.Keep.honest c.save_if_due.new.keep) (g.K.Keep.saved c.args.keep.now) (g.K.Keep.saved c.save_if_due.new.keep) (g.K.Keep.may_load c.args.keep.now) (g.K.Keep.may_load c.save_if_due.new.keep) (g.K.Keep.faults c.args.keep.now) (g.K.Keep.faults c.save_if_due.new.keep) told) close c.save_if_due.ensures.told.2 in
     let other : is_saved_now mc ≡ false → KeepsFor work honest (g.K.Keep.honest c.save_if_due.new.keep) (g.K.Keep.saved c.save_if_due.new.keep) (g.K.Keep.may_load c.save_if_due.new.keep) mc × (g.K.Keep.saved c.save_if_due.new.keep ≡ g.K.Keep.saved c.args.keep.now) × LoadsNoMore (g.K.Keep.may_load c.args.keep.now) (g.K.Keep.may_load c.save_if_due.new.keep) = λ none.
     let same = c.save_if_due.ensures.same (rw close none) in
     (subst (λ kp. KeepsFor work honest (g.K.Keep.honest kp) (g.K.Keep.saved kp) (g.K.Keep.may_load kp) mc) (sym same) old, ap (λ kp. g.K.Keep.saved kp) same, λ bytes. subst (λ kp. g.K.Keep.may_load kp bytes → g.K.Keep.may_load c.args.keep.now bytes) (sym same) (λ may. may)) in

@@ -7,7 +7,7 @@ use Rattle.rollback.specs.Events.{Heard, done_step, stale_done}
 use Rattle.rollback.specs.Book.{done_out}
 use Rattle.rollback.proofs.Kept
 use Rattle.rollback.proofs.Sound.{stale_is, taken_is}
-use Rattle.rollback.proofs.Steps.{counted_heeded, heeded_steady, plain, plain_step, reply_running}
+use Rattle.rollback.proofs.Steps.{counted_on_event, on_event_steady, plain, plain_step, reply_running}
 use Rattle.rollback.proofs.Taking.{book_stale, stale_leaves}
 use Rattle.rollback.proofs.book.Book.count_done.Goals as goal
 
@@ -15,21 +15,21 @@ pub bring_back-requires : goal.bring_back-requires
 bring_back-requires g c =
     let i = c.self.inside in
     let near = subst (λ (m : Machine). c.args.worker < length m.alive) (sym c.self.view_is) c.requires.worker in
-    Kept.takes g.J.Origin.work g.J.Origin.honest i.control i.holding c.args.worker c.args.done c.self.invariant.held (subst (λ (m : Machine). is_running m.ending ≡ true) (sym c.self.view_is) c.requires.running) near
+    Kept.takes g.J.Origin.work g.J.Origin.honest i.control i.job_data c.args.worker c.args.done c.self.invariant.held (subst (λ (m : Machine). is_running m.ending ≡ true) (sym c.self.view_is) c.requires.running) near
     (subst (λ o. counts i.control c.args.worker o ≡ true) c.out_of-task.ensures (sym c.counts.ensures ∙ c.if-not-counts.false))
 
 pub finish-requires : goal.finish-requires
 finish-requires g c =
     let i = c.self.inside in
     let near = subst (λ (m : Machine). c.args.worker < length m.alive) (sym c.self.view_is) c.requires.worker in
-    rw c.free.ensures (Kept.counted_open g.J.Origin.work g.J.Origin.honest i.control i.holding c.args.worker c.out_of-task.result c.self.invariant.held (subst (λ (m : Machine). is_running m.ending ≡ true) (sym c.self.view_is) c.requires.running) near (sym c.counts.ensures ∙ c.if-not-counts.false))
+    rw c.free.ensures (Kept.counted_open g.J.Origin.work g.J.Origin.honest i.control i.job_data c.args.worker c.out_of-task.result c.self.invariant.held (subst (λ (m : Machine). is_running m.ending ≡ true) (sym c.self.view_is) c.requires.running) near (sym c.counts.ensures ∙ c.if-not-counts.false))
 
 pub invariant_of-self : goal.invariant_of-self
 invariant_of-self g c =
     let i = c.self.inside in
-    let s = Kept.running_sound g.J.Origin.work g.J.Origin.honest i.control i.holding c.self.invariant.held (subst (λ (m : Machine). is_running m.ending ≡ true) (sym c.self.view_is) c.requires.running) in
+    let s = Kept.running_sound g.J.Origin.work g.J.Origin.honest i.control i.job_data c.self.invariant.held (subst (λ (m : Machine). is_running m.ending ≡ true) (sym c.self.view_is) c.requires.running) in
     let wl : c.args.worker < length i.control.out = rw s.width (subst (λ (m : Machine). c.args.worker < length m.alive) (sym c.self.view_is) c.requires.worker) in
-    rw c.leave_out.ensures (book_stale g.J.Origin.work g.J.Origin.honest i.job.now i.control i.ids.items i.holding c.args.worker c.out_of-task.result s wl (sym c.counts.ensures ∙ c.if-not-counts.true) c.self.invariant)
+    rw c.leave_out.ensures (book_stale g.J.Origin.work g.J.Origin.honest i.job.now i.control i.ids.items i.job_data c.args.worker c.out_of-task.result s wl (sym c.counts.ensures ∙ c.if-not-counts.true) c.self.invariant)
 
 pub returns-then-not-counts : goal.returns-then-not-counts
 returns-then-not-counts g c =
@@ -39,7 +39,7 @@ returns-then-not-counts g c =
     let no' : counts m c.args.worker o ≡ false = subst (λ (t : Out). counts m c.args.worker t ≡ false) c.out_of-task.ensures (subst (λ (x : Machine). counts x c.args.worker c.out_of-task.result ≡ false) c.self.view_is (sym c.counts.ensures ∙ c.if-not-counts.true)) in
     let is = c.leave_out.ensures ∙ ap (λ (t : Out). stale_done c.self.inside.control c.args.worker t) c.out_of-task.ensures ∙ ap (λ (x : Machine). stale_done x c.args.worker o) c.self.view_is in
     let left = stale_leaves m c.args.worker o in
-    heeded_steady g.J.Origin.work g.J.Origin.honest next m c.leave_out.new.self (g.K.Keep.honest c.args.keep.now) (g.K.Keep.saved c.args.keep.now) (g.K.Keep.may_load c.args.keep.now) (g.K.Keep.faults c.args.keep.now) (Ok Stale)
+    on_event_steady g.J.Origin.work g.J.Origin.honest next m c.leave_out.new.self (g.K.Keep.honest c.args.keep.now) (g.K.Keep.saved c.args.keep.now) (g.K.Keep.may_load c.args.keep.now) (g.K.Keep.faults c.args.keep.now) (Ok Stale)
     (plain_step g.J.Origin.work g.J.Origin.honest m c.leave_out.new.self (stale_done m c.args.worker o) next Stale (Ok Stale) (stale_is plain m c.args.worker o no') (sym is)
     (ap (λ (x : Machine). x.superstep) is ∙ left.same.superstep) (rw (is, left.ending) (reply_running m.ending Stale c.requires.running)))
     (record { saved = ap (λ (x : Machine). x.saved) is ∙ left.same.saved; missed = ap (λ (x : Machine). x.missed) is ∙ left.same.missed; restarts = ap (λ (x : Machine). x.restarts) is ∙ left.same.restarts }) c.requires.keep
@@ -52,7 +52,7 @@ returns-else-finish g c =
     let yes' : counts m c.args.worker o ≡ true = subst (λ (t : Out). counts m c.args.worker t ≡ true) c.out_of-task.ensures (subst (λ (x : Machine). counts x c.args.worker c.out_of-task.result ≡ true) c.self.view_is (sym c.counts.ensures ∙ c.if-not-counts.false)) in
     let is = c.finish.ensures.after ∙ ap (λ (x : Machine). finished x c.out_of-task.result.part) (c.free.ensures ∙ ap (λ (x : Machine). freed x c.args.worker) c.self.view_is) ∙ ap (λ (t : Out). finished (freed m c.args.worker) t.part) c.out_of-task.ensures in
     let e = taken_is plain m c.args.worker o yes' (subst (λ (x : Machine). all_set x.done ≡ false) is (sym c.finish.ensures.all ∙ c.if-finish.false)) in
-    heeded_steady g.J.Origin.work g.J.Origin.honest next m c.finish.new.self (g.K.Keep.honest c.args.keep.now) (g.K.Keep.saved c.args.keep.now) (g.K.Keep.may_load c.args.keep.now) (g.K.Keep.faults c.args.keep.now) (Ok Taken)
+    on_event_steady g.J.Origin.work g.J.Origin.honest next m c.finish.new.self (g.K.Keep.honest c.args.keep.now) (g.K.Keep.saved c.args.keep.now) (g.K.Keep.may_load c.args.keep.now) (g.K.Keep.faults c.args.keep.now) (Ok Taken)
     (plain_step g.J.Origin.work g.J.Origin.honest m c.finish.new.self (finished (freed m c.args.worker) o.part) next Taken (Ok Taken) e (sym is) (ap (λ (x : Machine). x.superstep) is) (rw is (reply_running m.ending Taken c.requires.running)))
     (record { saved = ap (λ (x : Machine). x.saved) is; missed = ap (λ (x : Machine). x.missed) is; restarts = ap (λ (x : Machine). x.restarts) is }) c.requires.keep
 
@@ -62,18 +62,18 @@ returns-then-finish g c =
     let o = done_out c.args.done in
     let yes' : counts m c.args.worker o ≡ true = subst (λ (t : Out). counts m c.args.worker t ≡ true) c.out_of-task.ensures (subst (λ (x : Machine). counts x c.args.worker c.out_of-task.result ≡ true) c.self.view_is (sym c.counts.ensures ∙ c.if-not-counts.false)) in
     let is = c.finish.ensures.after ∙ ap (λ (x : Machine). finished x c.out_of-task.result.part) (c.free.ensures ∙ ap (λ (x : Machine). freed x c.args.worker) c.self.view_is) ∙ ap (λ (t : Out). finished (freed m c.args.worker) t.part) c.out_of-task.ensures in
-    counted_heeded g.J.Origin.work g.J.Origin.honest m c.finish.new.self _ c.args.worker o _ _ _ _ _ _ _ _ c.close.result yes' is (sym c.finish.ensures.all ∙ c.if-finish.true) c.close.ensures
+    counted_on_event g.J.Origin.work g.J.Origin.honest m c.finish.new.self _ c.args.worker o _ _ _ _ _ _ _ _ c.close.result yes' is (sym c.finish.ensures.all ∙ c.if-finish.true) c.close.ensures
 
 pub invariant_of-self-then-finish : goal.invariant_of-self-then-finish
 invariant_of-self-then-finish g c =
     let i = c.self.inside in
     let near = subst (λ (m : Machine). c.args.worker < length m.alive) (sym c.self.view_is) c.requires.worker in
-    rw (c.finish.ensures.after, c.free.ensures) (rw c.out_of-task.ensures (Kept.book_taken_in g.J.Origin.work g.J.Origin.honest i.job.now i.control i.ids.items i.holding _ c.args.worker (done_out c.args.done) near (subst (λ (m : Machine). is_running m.ending ≡ true) (sym c.self.view_is) c.requires.running)
+    rw (c.finish.ensures.after, c.free.ensures) (rw c.out_of-task.ensures (Kept.book_taken_in g.J.Origin.work g.J.Origin.honest i.job.now i.control i.ids.items i.job_data _ c.args.worker (done_out c.args.done) near (subst (λ (m : Machine). is_running m.ending ≡ true) (sym c.self.view_is) c.requires.running)
     (subst (λ o. counts i.control c.args.worker o ≡ true) c.out_of-task.ensures (sym c.counts.ensures ∙ c.if-not-counts.false)) c.bring_back.ensures c.self.invariant))
 
 pub invariant_of-self-else-finish : goal.invariant_of-self-else-finish
 invariant_of-self-else-finish g c =
     let i = c.self.inside in
     let near = subst (λ (m : Machine). c.args.worker < length m.alive) (sym c.self.view_is) c.requires.worker in
-    rw (c.finish.ensures.after, c.free.ensures) (rw c.out_of-task.ensures (Kept.book_taken_in g.J.Origin.work g.J.Origin.honest i.job.now i.control i.ids.items i.holding _ c.args.worker (done_out c.args.done) near (subst (λ (m : Machine). is_running m.ending ≡ true) (sym c.self.view_is) c.requires.running)
+    rw (c.finish.ensures.after, c.free.ensures) (rw c.out_of-task.ensures (Kept.book_taken_in g.J.Origin.work g.J.Origin.honest i.job.now i.control i.ids.items i.job_data _ c.args.worker (done_out c.args.done) near (subst (λ (m : Machine). is_running m.ending ≡ true) (sym c.self.view_is) c.requires.running)
     (subst (λ o. counts i.control c.args.worker o ≡ true) c.out_of-task.ensures (sym c.counts.ensures ∙ c.if-not-counts.false)) c.bring_back.ensures c.self.invariant))

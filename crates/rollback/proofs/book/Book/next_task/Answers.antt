@@ -7,13 +7,13 @@ pub hand_out-task-requires : goal.hand_out-task-requires
 hand_out-task-requires g c =
     let i = c.self.inside in
     let e : hand i.control c.args.worker ≡ Some c.in_ok-part.part = search rules in
-    has_home g.J.Origin.work g.J.Origin.honest i.control i.holding c.args.worker c.in_ok-part.part c.self.invariant.held e c.in_ok-part.ensures.in_range
+    has_home g.J.Origin.work g.J.Origin.honest i.control i.job_data c.args.worker c.in_ok-part.part c.self.invariant.held e c.in_ok-part.ensures.in_range
 
 pub invariant_of-self : goal.invariant_of-self
 invariant_of-self g c =
     let i = c.self.inside in
     let e : hand i.control c.args.worker ≡ Some c.in_ok-part.part = search rules in
-    rw c.hand_out.ensures (book_handed_in g.J.Origin.work g.J.Origin.honest i.job.now i.control i.ids.items i.holding _ c.args.worker c.in_ok-part.part (search rules) c.in_ok-part.ensures.in_range e c.hand_out-task.ensures.after c.self.invariant)
+    rw c.hand_out.ensures (book_handed_in g.J.Origin.work g.J.Origin.honest i.job.now i.control i.ids.items i.job_data _ c.args.worker c.in_ok-part.part (search rules) c.in_ok-part.ensures.in_range e c.hand_out-task.ensures.after c.self.invariant)
 
 pub returns-clause-some : goal.returns-clause-some
 returns-clause-some g c =
@@ -21,7 +21,7 @@ returns-clause-some g c =
     let m = c.args.self.now in
     let task = c.hand_out-task.result in
     let told = c.hand_out-task.ensures in
-    let same = home_superstep g.J.Origin.work g.J.Origin.honest i.control i.holding task.superstep c.self.invariant.held told.superstep ∙ ap (λ (x : Machine). x.superstep) c.self.view_is in
+    let same = home_superstep g.J.Origin.work g.J.Origin.honest i.control i.job_data task.superstep c.self.invariant.held told.superstep ∙ ap (λ (x : Machine). x.superstep) c.self.view_is in
     let epoch : task.epoch ≡ m.epoch = told.epoch ∙ c.epoch-epoch.ensures ∙ ap (λ (x : Machine). x.epoch) c.self.view_is in
     let e : hand m c.args.worker ≡ Some c.in_ok-part.part = subst (λ (x : Machine). hand x c.args.worker ≡ Some c.in_ok-part.part) c.self.view_is (search rules) in (
       e ∙ ap Some (sym told.part),

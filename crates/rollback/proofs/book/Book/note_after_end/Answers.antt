@@ -44,7 +44,7 @@ returns-then-worker-workers-clause-step g c =
 pub invariant_of-self : goal.invariant_of-self
 invariant_of-self g c =
     let i = c.self.inside in
-    rw c.charge.ensures (Kept.book_rest g.J.Origin.work g.J.Origin.honest i.job.now i.control i.ids.items i.holding i.control.waiting i.control.age _ i.control.missed i.control.restarts c.self.invariant)
+    rw c.charge.ensures (Kept.book_rest g.J.Origin.work g.J.Origin.honest i.job.now i.control i.ids.items i.job_data i.control.waiting i.control.age _ i.control.missed i.control.restarts c.self.invariant)
 
 pub returns-clause-step : goal.returns-clause-step
 returns-clause-step g c =

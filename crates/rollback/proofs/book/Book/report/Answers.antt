@@ -1,19 +1,19 @@
 use Rattle.std.proofs.Common.{◌≡◌, true, sym, subst}
 use Rattle.rollback.specs.Machine.{Machine, has_answer}
 use Rattle.rollback.specs.Book.{IsReport}
-use Rattle.rollback.specs.inside.Book.{IsHeld, IsWhole}
+use Rattle.rollback.specs.inside.Book.{HoldsData, IsWhole}
 use Rattle.rollback.proofs.Reports.{has_whole, reports}
 use Rattle.rollback.proofs.book.Book.report.Goals as goal
 
 pub state_of-state-requires : goal.state_of-state-requires
 state_of-state-requires g c =
     let i = c.self.inside in
-    has_whole g.J.Origin.work g.J.Origin.honest i.control i.holding c.self.invariant.held (subst (λ (m : Machine). has_answer m.ending ≡ true) (sym c.self.view_is) c.requires)
+    has_whole g.J.Origin.work g.J.Origin.honest i.control i.job_data c.self.invariant.held (subst (λ (m : Machine). has_answer m.ending ≡ true) (sym c.self.view_is) c.requires)
 
 pub returns-in-Ok-clause-report : goal.returns-in-Ok-clause-report
 returns-in-Ok-clause-report g c =
     let work = g.J.Origin.work in
     let honest = g.J.Origin.honest in
     let i = c.self.inside in
-    let x : IsWhole work honest i.control c.state_of-state.result = subst (λ h. IsHeld work honest i.control h) c.state_of-state.ensures c.self.invariant.held in
+    let x : IsWhole work honest i.control c.state_of-state.result = subst (λ h. HoldsData work honest i.control h) c.state_of-state.ensures c.self.invariant.held in
     subst (λ m. IsReport work honest m c.in-Ok.report) c.self.view_is (reports work honest i.control c.state_of-state.result c.in-Ok.report x c.self.invariant.reached c.in-Ok.ensures)

@@ -1,23 +1,23 @@
 use Rattle.std.proofs.Common.{◌≡◌, suc, ap, ◌∙◌, subst}
 use Rattle.std.proofs.lemmas.Result.{IfOk-weaker}
 use Rattle.superstep.specs.State.{IsStateAt}
-use Rattle.rollback.specs.Parts.{Seating}
-use Rattle.rollback.proofs.Seated.{all_returned, ok_both, row_back}
+use Rattle.rollback.specs.inside.Parts.{Placement}
+use Rattle.rollback.proofs.InSlots.{all_returned, ok_both, row_back}
 use Rattle.rollback.proofs.parts.Parts.merge.Goals as goal
 
 pub dones_of-requires : goal.dones_of-requires
 dones_of-requires g c =
-    all_returned c.self.inside.seats.items c.args.job.now.settings.parts (ap (λ (x : Seating). x.spots) c.self.view_is ∙ c.requires.all)
+    all_returned c.self.inside.part_slots.items c.args.job.now.settings.parts (ap (λ (x : Placement). x.spots) c.self.view_is ∙ c.requires.all)
 
 pub barrier-requires-clause-row : goal.barrier-requires-clause-row
 barrier-requires-clause-row g c κs within =
     let i = c.self.inside in
-    row_back i.totals.superstep c.args.job.now.settings.parts i.seats.items c.in_ok-dones.dones.items c.in_ok-dones.ensures c.self.invariant.seated (ap (λ (x : Seating). x.spots) c.self.view_is ∙ c.requires.all)
+    row_back i.totals.superstep c.args.job.now.settings.parts i.part_slots.items c.in_ok-dones.dones.items c.in_ok-dones.ensures c.self.invariant.in_slots (ap (λ (x : Placement). x.spots) c.self.view_is ∙ c.requires.all)
 
 pub returns-clause-next : goal.returns-clause-next
 returns-clause-next g c =
     let i = c.self.inside in
-    let here : i.totals.superstep ≡ c.args.self.superstep = ap (λ (x : Seating). x.superstep) c.self.view_is in
+    let here : i.totals.superstep ≡ c.args.self.superstep = ap (λ (x : Placement). x.superstep) c.self.view_is in
     IfOk-weaker c.barrier.result _ _ (λ state told. λ sure.
     record {
       at = subst (λ n. IsStateAt g.J.Origin.work (suc n) state) here (told.0 sure);

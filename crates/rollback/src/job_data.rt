@@ -1,0 +1,58 @@
+//! The data of a job, as its book holds it.
+
+ghost use Rattle.std.specs.Prelude.{◌≡◌, ℕ};
+ghost use Rattle.rollback.specs.inside.Parts.{Placement, moved};
+ghost use Rattle.rollback.specs.inside.Parts.Spot.{Gone, Returned};
+ghost use Rattle.rollback.specs.inside.JobData.{HasHome, Runs, FitsPart};
+
+use crate::parts::Parts;
+use superstep::{Done, Origin, State, Task};
+
+/// The data of a job, as its book holds it.
+#[derive(Drop)]
+pub enum JobData<J: Origin> {
+    /// The parts, while the job runs.
+    Parts(Parts<J>),
+    /// The state that the job ended with.
+    Whole(State),
+    /// Nothing, if the job has no answer.
+    Nothing,
+}
+
+/// Takes the slice of a part that is here, as a task. It allocates nothing.
+pub fn hand_out<J: Origin>(job_data: &mut JobData<J>, part: u32, epoch: u64) -> Task<J>
+    requires { HasHome job_data.old part }
+    ensures epoch { result.epoch ≡ epoch }
+    ensures part { result.part ≡ part }
+    ensures superstep { Runs job_data.old (λ placement. result.superstep ≡ placement.superstep) }
+    ensures after { Runs job_data.old (λ placement.
+        job_data.new ≡ JobData.Parts (moved placement part Gone)) }
+{
+    match job_data {
+        JobData::Parts(parts) => parts.hand_out(part, epoch),
+        _ => unreachable!(),
+    }
+}
+
+/// Puts a result in the slot of its part. It allocates nothing.
+pub fn bring_back<J: Origin>(job_data: &mut JobData<J>, done: Done<J>)
+    requires { FitsPart job_data.old done }
+    ensures { Runs job_data.old (λ placement.
+        job_data.new ≡ JobData.Parts (moved placement done.part Returned)) }
+{
+    match job_data {
+        JobData::Parts(parts) => parts.bring_back(done),
+        _ => unreachable!(),
+    }
+}
+
+/// Returns the parts of a running job.
+pub fn parts_of<J: Origin>(job_data: JobData<J>) -> Parts<J>
+    requires { Runs job_data (λ _. Unit {0}) }
+    ensures { job_data ≡ JobData.Parts result }
+{
+    match job_data {
+        JobData::Parts(parts) => parts,
+        _ => unreachable!(),
+    }
+}

@@ -1,8 +1,8 @@
 -- Which senders said bye.
 use Rattle.std.proofs.lemmas.Bool.Decides.{eqb_tells}
 use Rattle.std.proofs.Common.{◌≡◌, ◌≢◌, ℕ, zero, suc, ◌<◌, Bool, true, false, ◌||◌, List, [], ◌∷◌, ◌++◌, length, replicate, set, slice_index_or, Result, Ok, Err, OnOk, OnErr, sym, refl, ap, ◌∙◌, arith, ◌⊎◌, ⊎_elim, inl, inr}
-use Rattle.channels.specs.Rule.{has_bye, of}
-use Rattle.channels.proofs.Rules.{of_more_else, of_more_here}
+use Rattle.channels.specs.Protocol.{has_bye, of}
+use Rattle.channels.proofs.ProtocolSteps.{of_more_else, of_more_here}
 
 or_assoc : (a b c : Bool) → (a || (b || c)) ≡ ((a || b) || c)
 or_assoc true b c = refl

@@ -32,7 +32,7 @@ use Rattle.validate.specs.contracts.valid.Valid as Valid
 use Rattle.validate.specs.contracts.valid.Valid.TheInside as valid_inside
 use Rattle.host_calls.specs.contracts.imports.HostCall as HostCall
 use Rattle.bounded_profile.specs.contracts.cells.Cells as Cells
-use Rattle.bounded_profile.specs.contracts.spans.Span as Span
+use Rattle.bounded_profile.specs.contracts.extents.Extent as Extent
 use Rattle.bounded_profile.specs.contracts.tables.Tables as Tables
 use Rattle.bounded_profile.specs.contracts.verified.Judged as Judged
 use Rattle.bounded_profile.specs.contracts.verified.Verified as Verified
@@ -50,7 +50,7 @@ use Rattle.wasm_ast.proofs.types.Limits.TheSendSync as limits
 use Rattle.host_calls.proofs.imports.HostCall.TheSendSync as host_call
 use Rattle.bounded_profile.proofs.cells.Cells.TheSendSync as cells
 use Rattle.bounded_profile.proofs.facts.Facts.TheSendSync as facts
-use Rattle.bounded_profile.proofs.spans.Span.TheSendSync as span
+use Rattle.bounded_profile.proofs.extents.Extent.TheSendSync as extent
 use Rattle.graph.proofs.parts.Part.TheSendSync as part
 use Rattle.superstep.proofs.settings.Settings.TheSendSync as settings
 use Rattle.wasm_ast.proofs.plain.Branch.TheSendSync as branch
@@ -179,7 +179,7 @@ tables_field = struct_sync (struct_type.shape Tables.the_type) (
   facts.the_field_sync,
   (
     Vec-sync HostCall.the_row host_call.the_sync,
-    (Vec-sync Cells.the_row cells.the_sync, (Vec-sync Span.the_row span.the_sync, tt)),
+    (Vec-sync Cells.the_row cells.the_sync, (Vec-sync Extent.the_row extent.the_sync, tt)),
   ),
 )
 

@@ -2,9 +2,9 @@
 use Rattle.std.proofs.lemmas.Bool.Decides.{eqb_tells}
 use Rattle.std.proofs.Common.{◌≡◌, ◌≢◌, ℕ, zero, suc, ◌+◌, ◌<◌, Bool, true, false, true≢false, ◌||◌, List, [], ◌∷◌, ◌++◌, map, length, set, slice_get, slice_index_or, Some, None, Result, Ok, Err, OnOk, OnErr, is_err, sym, refl, ap, ◌∙◌, subst, arith, ◌⊎◌, ⊎_elim, inl, inr}
 use mathlib.Core.List.{append-nil}
-use Rattle.channels.specs.Rule.{has_bye}
+use Rattle.channels.specs.Protocol.{has_bye}
 use Rattle.channels.specs.Orders.{stops, at, tasks_in, with_order}
-use Rattle.channels.specs.Lines.{sent_on}
+use Rattle.channels.specs.TaskChannels.{sent_on}
 use Rattle.channels.specs.declared.order.Order.{Order}
 use Rattle.channels.specs.declared.order.Order.TheVariants.{Do, Stop}
 use Rattle.channels.proofs.Byes.{has_bye_more}

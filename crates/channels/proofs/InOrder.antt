@@ -1,6 +1,6 @@
 -- What was compared stays so under other names.
 use Rattle.std.proofs.Common.{◌≡◌, ℕ, Bool, List, sym, subst}
-use Rattle.channels.specs.Rule.{IsOnceInOrder}
+use Rattle.channels.specs.Protocol.{IsOnceInOrder}
 
 pub in_order_as : {M : Type 0} (from : M → ℕ) (closes : M → Bool) (p q : ℕ) (sent sent' got got' : List M) → p ≡ q → sent' ≡ sent → got' ≡ got
     → IsOnceInOrder from closes p sent got → IsOnceInOrder from closes q sent' got'

@@ -2,4 +2,4 @@ pub mod Byes
 pub mod Crossing
 pub mod Handing
 pub mod InOrder
-pub mod Rules
+pub mod ProtocolSteps

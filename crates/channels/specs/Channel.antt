@@ -1,4 +1,4 @@
--- What tells one channel from another.
+-- The identity of a channel.
 use Rattle.std.specs.Prelude.{Option}
 use Rattle.std.specs.Global.{Global}
 use Rattle.atomic_table.specs.declared.badge.Badge.{Badge}
@@ -8,7 +8,7 @@ use Rattle.crossbeam_channel.specs.declared.flavors.array.Lockers.{Lockers}
 use Rattle.crossbeam_channel.specs.declared.flavors.array.Rounds.{Rounds}
 use Rattle.crossbeam_channel.specs.declared.flavors.array.Rows.{Rows}
 use Rattle.crossbeam_channel.specs.declared.flavors.array.Whole.{Whole}
-use Rattle.channels.specs.declared.rule.InOrder.{InOrder}
+use Rattle.channels.specs.declared.protocol.InOrder.{InOrder}
 use Rattle.channels.specs.declared.view.View.{View}
 
 abbrev pub Channel : Type 0 → Type 0

@@ -1,8 +1,8 @@
--- What a reader has to believe, in this order: the rule of a channel, and what its ends show.
+-- What a reader has to believe, in this order: the protocol of a channel, and what its ends show.
 pub mod Views
-pub mod Rule
+pub mod Protocol
 pub mod Channel
-pub mod Mail
+pub mod ChannelEnds
 -- the orders that workers are sent
 pub mod Orders
-pub mod Lines
+pub mod TaskChannels

@@ -27,10 +27,10 @@ module _ {J : Type 0} where
   tasks_in (Do task ∷ orders) = task ∷ tasks_in orders
   tasks_in (Stop ∷ orders) = tasks_in orders
 
-  -- what was handed to worker w, of what was handed to each
+  -- the orders that worker w was sent
   abbrev pub at : List (List (Order J)) → ℕ → List (Order J)
   at handed w = slice_index_or handed w []
 
-  -- one order more for worker w
+  -- one more order for worker w
   abbrev pub with_order : List (List (Order J)) → ℕ → Order J → List (List (Order J))
   with_order handed w order = slice_set handed w (at handed w ++ order ∷ [])

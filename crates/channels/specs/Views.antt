@@ -3,7 +3,7 @@ use Rattle.std.specs.Prelude.{ℕ, true, false, List, [], ◌∷◌, ◌++◌}
 use Rattle.channels.specs.declared.view.View.{View}
 
 module _ {M : Type 0} where
-  -- the reader: how many senders there are, and what was received
+  -- the reader: the number of senders, and what was received
   abbrev pub reader : ℕ → List M → View M
   reader senders received = record {
     sends = false;
@@ -46,7 +46,7 @@ module _ {M : Type 0} where
   abbrev pub spent : View M
   spent = record { sends = false; from = 0; sent = []; reads = false; senders = 0; received = [] }
 
-  -- one message more was sent
+  -- one more message was sent
   abbrev pub with_sent : View M → M → View M
   with_sent v m = record {
     sends = v.sends;
@@ -57,7 +57,7 @@ module _ {M : Type 0} where
     received = v.received;
   }
 
-  -- one message more was received
+  -- one more message was received
   abbrev pub with_received : View M → M → View M
   with_received v m = record {
     sends = v.sends;

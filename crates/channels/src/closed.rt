@@ -1,5 +1,5 @@
 //! The one fault of a channel.
 
-/// The other end of the channel is gone.
+/// The fault that the other end of the channel is gone.
 #[derive(Clone, Copy)]
 pub struct Closed;

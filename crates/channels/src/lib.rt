@@ -1,15 +1,15 @@
-//! Channels with several senders and one reader: of each sender, messages are received once and in order.
+//! Channels with several senders and one reader. The messages of each sender are received once and in order.
 #![tactic(auto)]
 
+mod channel_ends;
 mod closed;
-mod line;
-mod mail;
 mod order;
-mod rule;
+mod protocol;
+mod task_channel;
 mod view;
 
+pub use channel_ends::{ReceivingEnd, SendingEnd};
 pub use closed::Closed;
-pub use line::Line;
-pub use mail::{ReceivingEnd, SendingEnd};
 pub use order::Order;
-pub use rule::Signed;
+pub use protocol::Signed;
+pub use task_channel::TaskChannel;

@@ -1,13 +1,13 @@
-//! What workers are sent.
+//! The orders to workers.
 
-use crate::rule::Signed;
+use crate::protocol::Signed;
 use superstep::{Origin, Task};
 
-/// What a worker is sent.
+/// An order to a worker.
 #[derive(Drop)]
 pub enum Order<J: Origin> {
     Do(Task<J>),
-    /// No task comes any more.
+    /// No further task comes.
     Stop,
 }
 
@@ -15,7 +15,7 @@ impl<J: Origin> Order<J> {
     ghost use Rattle.std.specs.Prelude.{◌≡◌};
     ghost use Rattle.channels.specs.Orders.{stops};
 
-    /// Whether no task comes any more.
+    /// Returns whether no further task comes.
     pub(crate) fn stops(&self) -> bool
         ensures { result ≡ stops self.now }
     {

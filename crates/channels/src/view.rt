@@ -1,15 +1,15 @@
-//! What a pass of a channel knows.
+//! The knowledge of a channel's passes.
 
 use std::collections::LinkedList;
 
-/// What a sender knows of a channel, all that it sent, and what its reader does, all that it received. No value of it is made.
+/// The knowledge of a pass: all that its sender sent, or all that its reader received. It exists in contracts only.
 pub struct View<M> {
     pub sends: bool,
     /// Its number among the senders.
     pub from: u32,
     pub sent: LinkedList<M>,
     pub reads: bool,
-    /// How many senders there are.
+    /// The number of senders.
     pub senders: u32,
     pub received: LinkedList<M>,
 }

@@ -1,16 +1,18 @@
 -- What a list of hands and events leaves: its end, and the account of each worker.
 use Rattle.std.proofs.Common.{◌≡◌, ◌<◌, ◌+◌, ◌-◌, ◌≤◌, ◌^◌, ℕ, zero, suc, Bool, true, false, true≢false, List, [], ◌∷◌, ◌++◌, length, replicate, slice_index_or, sym, refl, ap, ◌∙◌, subst, arith}
-use Rattle.superstep.specs.declared.settings.Settings as settings
 use Rattle.superstep.specs.Job.{Work}
-use Rattle.rollback.specs.declared.ending.End.{End}
-use Rattle.rollback.specs.declared.ending.End.TheVariants.{Fault, Finished, Limit, Running}
-use Rattle.rollback.specs.Machine.{Machine, has_answer, is_running, opened}
+use Rattle.rollback.specs.declared.job_status.JobStatus.{JobStatus}
+use Rattle.rollback.specs.declared.job_status.JobStatus.TheVariants.{Fault, Finished, Limit, Running}
+use Rattle.rollback.specs.Events.{Heard, begun}
+use Rattle.rollback.specs.Machine.{Machine, has_answer, is_running, opened, resumed}
 use Rattle.workers.specs.Steps.{Move, Steps, after, events, moved, stamps_in}
 use Rattle.workers.specs.Steps.Move.{Hand, Take}
 use Rattle.workers.specs.Units.{cut, units_by}
+use Rattle.workers.specs.inside.EventLoop.{IsUnspent}
 use Rattle.workers.specs.declared.message.Message.{Message}
 use Rattle.channels.specs.declared.order.Order.{Order}
-use Rattle.workers.proofs.Spent.{IsAccount, account, accepted_account, accepted_ending, accounts_after, is_faulty, spent_at, spent_sum}
+use Rattle.workers.proofs.Faults.{begun_own, opened_own}
+use Rattle.workers.proofs.Spent.{Account, IsAccount, account, accepted_account, accepted_ending, accounts_after, is_faulty, rolling_account, spent_at, spent_sum}
 
 -- ---- an end stays
 
@@ -30,20 +32,20 @@ steps_over work honest {m} {n} p over = ap (λ (x : Machine). is_running x.endin
 
 -- ---- the accounts at the end
 
-not_running : (e : End) → is_faulty e ≡ true → is_running e ≡ false
+not_running : (e : JobStatus) → is_faulty e ≡ true → is_running e ≡ false
 not_running Running f = absurd (true≢false (sym f))
 not_running Finished f = refl
 not_running Limit f = refl
 not_running (Fault fault) f = refl
 
-no_answer : (e : End) → is_faulty e ≡ true → has_answer e ≡ false
+no_answer : (e : JobStatus) → is_faulty e ≡ true → has_answer e ≡ false
 no_answer Running f = absurd (true≢false (sym f))
 no_answer Finished f = absurd (true≢false (sym f))
 no_answer Limit f = absurd (true≢false (sym f))
 no_answer (Fault fault) f = refl
 
 -- what comes to an answer has no fault on the way
-sound_at : (e : End) (m : Machine) (moves : List Move) → m.ending ≡ e → has_answer (after m moves).ending ≡ true → (b : Bool) → is_faulty e ≡ b → is_faulty m.ending ≡ false
+sound_at : (e : JobStatus) (m : Machine) (moves : List Move) → m.ending ≡ e → has_answer (after m moves).ending ≡ true → (b : Bool) → is_faulty e ≡ b → is_faulty m.ending ≡ false
 sound_at e m moves is h false f = ap is_faulty is ∙ f
 sound_at e m moves is h true f =
     let over : is_running m.ending ≡ false = ap is_running is ∙ not_running e f in
@@ -68,24 +70,37 @@ length_replicate : {A : Type 0} (n : ℕ) (x : A) → length (replicate n x) ≡
 length_replicate zero x = refl
 length_replicate (suc n) x = ap suc (length_replicate n x)
 
-opened_account : (s : settings.Settings) (quiet : Bool) → IsAccount (account (opened s quiet))
-opened_account s quiet = record {
-  width = length_replicate s.workers 0 ∙ sym (length_replicate s.workers true);
-  small = λ w. subst (λ (x : ℕ). x ≤ 2 ^ 128 - 1) (sym (zeros s.workers w)) (omega arith);
+-- a book that was opened has handed out and taken nothing
+pub opened_unspent : (work : Work) (quiet : Bool) → IsUnspent work (opened work.settings quiet)
+opened_unspent work quiet = record { own = opened_own work.settings quiet; spent = refl; width = length_replicate work.settings.workers true }
+
+-- nor has one that goes on
+pub begun_unspent : (work : Work) (heard : Heard) (superstep : ℕ) → IsUnspent work (begun heard work.settings superstep)
+begun_unspent work heard superstep =
+    let same = rolling_account heard (resumed work.settings superstep) in
+    record {
+      own = begun_own heard work.settings superstep;
+      spent = ap (λ (a : Account). a.0) same;
+      width = ap (λ (a : Account). a.1) same ∙ length_replicate work.settings.workers true;
+    }
+
+unspent_account : (work : Work) (m : Machine) → IsUnspent work m → IsAccount (account m)
+unspent_account work m u = record {
+  width = ap length u.spent ∙ length_replicate work.settings.workers 0 ∙ sym u.width;
+  small = λ w. subst (λ (x : ℕ). x ≤ 2 ^ 128 - 1) (sym (ap (λ l. slice_index_or l w 0) u.spent ∙ zeros work.settings.workers w)) (omega arith);
 }
 
 -- what the book added up of a worker is the sum of the units that were received of it
-pub spent_of : {J : Type 0} (work : Work) (honest : Bool) (s : settings.Settings) (quiet : Bool) (n : Machine) (got got' : List (Message J)) (ls ls' : List (List (Order J)))
-    → Steps work honest (opened s quiet) n got got' ls ls' → has_answer n.ending ≡ true → got ≡ [] → (w : ℕ) → w < s.workers
+pub spent_of : {J : Type 0} (work : Work) (honest : Bool) (begin n : Machine) (got got' : List (Message J)) (ls ls' : List (List (Order J)))
+    → Steps work honest begin n got got' ls ls' → IsUnspent work begin → has_answer n.ending ≡ true → got ≡ [] → (w : ℕ) → w < work.settings.workers
     → slice_index_or n.spent w 0 ≡ cut (units_by w (stamps_in got'))
-spent_of work honest s quiet n got got' ls ls' p h none w below =
-    let begin = opened s quiet in
+spent_of work honest begin n got got' ls ls' p u h none w below =
     let same : stamps_in got' ≡ events p.moves = p.took ∙ ap (λ l. stamps_in l ++ events p.moves) none in
     let told : has_answer (after begin p.moves).ending ≡ true = ap (λ (x : Machine). has_answer x.ending) p.leads ∙ h in
-    let here : w < (account begin).1 = subst (λ (k : ℕ). w < k) (sym (length_replicate s.workers true)) below in
+    let here : w < (account begin).1 = subst (λ (k : ℕ). w < k) (sym u.width) below in
     ap (λ (x : Machine). slice_index_or x.spent w 0) (sym p.leads)
     ∙ ap (λ a. spent_at a w) (accounts begin p.moves told)
-    ∙ spent_sum (account begin) (events p.moves) w (opened_account s quiet) here
-    ∙ ap (λ x. cut (x + units_by w (events p.moves))) (zeros s.workers w)
+    ∙ spent_sum (account begin) (events p.moves) w (unspent_account work begin u) here
+    ∙ ap (λ x. cut (x + units_by w (events p.moves))) (ap (λ l. slice_index_or l w 0) u.spent ∙ zeros work.settings.workers w)
     ∙ ap cut (let z : 0 + units_by w (events p.moves) ≡ units_by w (events p.moves) = omega arith in z)
     ∙ ap (λ l. cut (units_by w l)) (sym same)

@@ -5,19 +5,21 @@ use Rattle.superstep.specs.declared.fault.JobFault.{JobFault}
 use Rattle.superstep.specs.declared.fault.JobFault.TheVariants.{Closed, NoWorkers, OutOfMemory, Settings, ThreadRefused}
 use Rattle.superstep.specs.declared.fault.Place.{Place}
 use Rattle.superstep.specs.declared.fault.Place.TheVariants as place
-use Rattle.rollback.specs.declared.ending.End.{End}
-use Rattle.rollback.specs.declared.ending.End.TheVariants.{Fault, Finished, Limit, Running}
+use Rattle.rollback.specs.declared.job_status.JobStatus.{JobStatus}
+use Rattle.rollback.specs.declared.job_status.JobStatus.TheVariants.{Fault, Finished, Limit, Running}
 use Rattle.rollback.specs.declared.report.Report.{Report}
-use Rattle.rollback.specs.Book.{IsReport}
-use Rattle.rollback.specs.Keeping.{KeepsFor}
+use Rattle.rollback.specs.Book.{IsQuietAt, IsReport}
+use Rattle.rollback.specs.Saving.{KeepsFor}
+use Rattle.rollback.specs.Events.{Heard, begun}
 use Rattle.rollback.specs.Machine.{Machine, has_answer, opened}
-use Rattle.workers.specs.Answers.{HasSpent, IsAnswerAt, IsDriveFault, IsOpened, IsRunFault, IsTold, Ran, WhereEnded, WhereOpened, WhereRefused, WhereRun, has_ended}
+use Rattle.workers.specs.JobAnswers.{HasSpent, IsAnswerAt, IsDriveFault, IsOpened, IsRunFault, IsTold, EndedOver, RanFrom, RanOn, WhereEnded, WhereOpened, WhereRefused, WhereRun, has_ended}
 use Rattle.channels.specs.Orders.{at}
 use Rattle.workers.specs.Steps.{AreMoves, Steps, after, events, hands, outs_in, stamps_in}
+use Rattle.workers.specs.inside.EventLoop.{IsUnspent, is_own, is_own_fault}
 use Rattle.workers.specs.declared.message.Message.{Message}
 use Rattle.channels.specs.declared.order.Order.{Order}
-use Rattle.workers.proofs.Accounts.{spent_of}
-use Rattle.workers.proofs.Faults.{is_own, is_own_fault, steps_own}
+use Rattle.workers.proofs.Accounts.{begun_unspent, opened_unspent, spent_of}
+use Rattle.workers.proofs.Faults.{steps_own}
 
 -- ---- by what is answered
 
@@ -85,7 +87,7 @@ run_fault (Err Closed) h = tt
 pub answer_fault : (work : Work) (honest : Bool) (m : Machine) (fault : JobFault) → Fault fault ≡ m.ending → IsAnswerAt work honest m m.ending (Err fault)
 answer_fault work honest m fault e = subst (λ x. IsAnswerAt work honest m x (Err fault)) e refl
 
-told : (work : Work) (honest : Bool) (m : Machine) (end : End) (r : Result Report JobFault) → has_answer end ≡ true → IsTold work honest m r → IsAnswerAt work honest m end r
+told : (work : Work) (honest : Bool) (m : Machine) (end : JobStatus) (r : Result Report JobFault) → has_answer end ≡ true → IsTold work honest m r → IsAnswerAt work honest m end r
 told work honest m Running r h is = absurd (cc)
 told work honest m Finished r h is = is
 told work honest m Limit r h is = is
@@ -94,7 +96,7 @@ told work honest m (Fault fault) r h is = absurd (cc)
 pub answer_told : (work : Work) (honest : Bool) (m : Machine) (r : Result Report JobFault) → has_answer m.ending ≡ true → IsTold work honest m r → IsAnswerAt work honest m m.ending r
 answer_told work honest m r h is = told work honest m m.ending r h is
 
-pub answers_report : (work : Work) (honest : Bool) (m : Machine) (end : End) (report : Report) → IsAnswerAt work honest m end (Ok report) → (has_answer end ≡ true) × IsReport work honest m report
+pub answers_report : (work : Work) (honest : Bool) (m : Machine) (end : JobStatus) (report : Report) → IsAnswerAt work honest m end (Ok report) → (has_answer end ≡ true) × IsReport work honest m report
 answers_report work honest m Running report is = absurd is
 answers_report work honest m Finished report is = (refl, is)
 answers_report work honest m Limit report is = (refl, is)
@@ -111,37 +113,67 @@ told_fault : (work : Work) (honest : Bool) (m : Machine) (r : Result Report JobF
 told_fault work honest m (Ok report) is = tt
 told_fault work honest m (Err fault) is = subst IsDriveFault (sym is) tt
 
-fault_at : (work : Work) (honest : Bool) (m : Machine) (end : End) (r : Result Report JobFault) → is_own end ≡ true → IsAnswerAt work honest m end r → IfErr r IsDriveFault
+fault_at : (work : Work) (honest : Bool) (m : Machine) (end : JobStatus) (r : Result Report JobFault) → is_own end ≡ true → IsAnswerAt work honest m end r → IfErr r IsDriveFault
 fault_at work honest m Running r h is = absurd is
 fault_at work honest m Finished r h is = told_fault work honest m r is
 fault_at work honest m Limit r h is = told_fault work honest m r is
 fault_at work honest m (Fault fault) r h is = subst (λ x. IfErr x IsDriveFault) (sym is) (own_fault fault h)
 
 module _ {J : Type 0} (work : Work) (honest : Bool) (m n : Machine) (got got' : List (Message J)) (ls ls' : List (List (Order J))) where
-  pub drive_fault : (r : Result Report JobFault) → Steps work honest m n got got' ls ls' → IsOpened work m → IsAnswerAt work honest n n.ending r → IfErr r IsDriveFault
-  drive_fault r p o is = fault_at work honest n n.ending r (steps_own work honest work.settings o.0 m n got got' ls ls' p o.2) is
+  pub drive_fault : (r : Result Report JobFault) → Steps work honest m n got got' ls ls' → IsUnspent work m → IsAnswerAt work honest n n.ending r → IfErr r IsDriveFault
+  drive_fault r p u is = fault_at work honest n n.ending r (steps_own work honest m n got got' ls ls' p u.own) is
 
-  pub ran_of : (r : Result Report JobFault) → Steps work honest m n got got' ls ls' → IsOpened work m → got ≡ [] → ((w : ℕ) → at ls w ≡ []) → work.settings.workers ≡ length ls
-      → IsAnswerAt work honest n n.ending r → Ran work honest got' ls' r
-  ran_of r p o none empty many is = record {
-    quiet = o.0;
-    first = o.1;
+  pub ran_of : (r : Result Report JobFault) → Steps work honest m n got got' ls ls' → got ≡ [] → ((w : ℕ) → at ls w ≡ []) → work.settings.workers ≡ length ls
+      → IsAnswerAt work honest n n.ending r → RanFrom work honest m got' ls' r
+  ran_of r p none empty many is = record {
     moves = p.moves;
-    are = subst (λ (x : Machine). AreMoves work honest x p.moves) o.2 p.are;
+    are = p.are;
     end = n;
-    leads = ap (λ (x : Machine). after x p.moves) (sym o.2) ∙ p.leads;
+    leads = p.leads;
     took = p.took ∙ ap (λ l. stamps_in l ++ events p.moves) none;
     gave = λ w h. p.gave w (subst (λ (k : ℕ). w < k) many h) ∙ ap (λ l. outs_in l ++ hands w p.moves) (empty w);
     answers = is;
   }
 
-  pub has_spent : (r : Result Report JobFault) (k : ℕ) → Steps work honest m n got got' ls ls' → IsOpened work m → got ≡ [] → k ≡ work.settings.workers
+  pub has_spent : (r : Result Report JobFault) (k : ℕ) → Steps work honest m n got got' ls ls' → IsUnspent work m → got ≡ [] → k ≡ work.settings.workers
       → IsAnswerAt work honest n n.ending r → IfOk r (HasSpent k got')
-  has_spent (Ok report) k p o none many is =
+  has_spent (Ok report) k p u none many is =
       let a = answers_report work honest n n.ending report is in
-      let q : Steps work honest (opened work.settings o.0) n got got' ls ls' = subst (λ (x : Machine). Steps work honest x n got got' ls ls') o.2 p in
-      λ w h. ap (λ l. slice_index_or l w 0) a.1.spent ∙ spent_of work honest work.settings o.0 n got got' ls ls' q a.0 none w (subst (λ (x : ℕ). w < x) many h)
-  has_spent (Err fault) k p o none many is = tt
+      λ w h. ap (λ l. slice_index_or l w 0) a.1.spent ∙ spent_of work honest m n got got' ls ls' p u a.0 none w (subst (λ (x : ℕ). w < x) many h)
+  has_spent (Err fault) k p u none many is = tt
+
+-- ---- where it began
+
+module _ {J : Type 0} (work : Work) (honest : Bool) (m : Machine) (got : List (Message J)) (ls : List (List (Order J))) (r : Result Report JobFault) where
+  -- from an opened book on
+  pub ran_opened : IsOpened work m → RanFrom work honest m got ls r → EndedOver work honest got ls r
+  ran_opened o p = record {
+    quiet = o.0;
+    first = o.1;
+    moves = p.moves;
+    are = subst (λ (x : Machine). AreMoves work honest x p.moves) o.2 p.are;
+    end = p.end;
+    leads = ap (λ (x : Machine). after x p.moves) (sym o.2) ∙ p.leads;
+    took = p.took;
+    gave = p.gave;
+    answers = p.answers;
+  }
+
+  -- from a book on that goes on
+  pub ran_begun : (superstep : ℕ) (heard : Heard) → m ≡ begun heard work.settings superstep → RanFrom work honest m got ls r → RanOn work honest superstep got ls r
+  ran_begun superstep heard is p = (heard, subst (λ (x : Machine). RanFrom work honest x got ls r) is p)
+
+-- what `Book::open` promises of a job that a type names
+pub opened_of : (own work : Work) (m : Machine) → own ≡ work → ((quiet : Bool) × IsQuietAt own 0 quiet × (m ≡ opened work.settings quiet)) → IsOpened own m
+opened_of own work m same is = subst (λ (w : Work). (quiet : Bool) × IsQuietAt own 0 quiet × (m ≡ opened w.settings quiet)) (sym same) is
+
+-- an opened book has handed out and taken nothing
+pub unspent_opened : (work : Work) (m : Machine) → IsOpened work m → IsUnspent work m
+unspent_opened work m o = subst (λ (x : Machine). IsUnspent work x) (sym o.2) (opened_unspent work o.0)
+
+-- nor has one that goes on
+pub unspent_begun : (work : Work) (m : Machine) (heard : Heard) (superstep : ℕ) → m ≡ begun heard work.settings superstep → IsUnspent work m
+unspent_begun work m heard superstep is = subst (λ (x : Machine). IsUnspent work x) (sym is) (begun_unspent work heard superstep)
 
 -- ---- the Keep
 

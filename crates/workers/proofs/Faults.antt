@@ -1,39 +1,25 @@
--- By which faults the control machine ends a job.
+-- By which faults the control model ends a job.
 use Rattle.std.proofs.Common.{◌≡◌, ℕ, ◌+◌, Bool, true, false, ◌&&◌, not, cond, Option, Some, None, List, [], ◌∷◌, sym, refl, ap, ◌∙◌}
 use Rattle.std.specs.Prelude.{nat_lt}
-use Rattle.superstep.specs.declared.fault.JobFault.{JobFault}
-use Rattle.superstep.specs.declared.fault.JobFault.TheVariants.{Closed, NoWorkers, OutOfMemory, Settings, ThreadRefused}
+use Rattle.superstep.specs.declared.fault.JobFault.TheVariants.{NoWorkers}
 use Rattle.superstep.specs.declared.fault.Place.{Place}
 use Rattle.superstep.specs.declared.settings.Settings as settings
 use Rattle.superstep.specs.Job.{Work}
 use Rattle.rollback.specs.declared.control.Out.{Out}
-use Rattle.rollback.specs.declared.ending.End.{End}
-use Rattle.rollback.specs.declared.ending.End.TheVariants.{Fault, Finished, Limit, Running}
-use Rattle.rollback.specs.declared.ending.Told.{Told}
-use Rattle.rollback.specs.declared.ending.Told.TheVariants.{Failed, Good, NoMemory}
+use Rattle.rollback.specs.declared.job_status.JobStatus.{JobStatus}
+use Rattle.rollback.specs.declared.job_status.JobStatus.TheVariants.{Fault, Finished, Limit, Running}
+use Rattle.rollback.specs.declared.job_status.DeviceResult.{DeviceResult}
+use Rattle.rollback.specs.declared.job_status.DeviceResult.TheVariants.{Failed, Good, NoMemory}
 use Rattle.rollback.specs.declared.event.Answer.{Answer}
 use Rattle.rollback.specs.declared.event.Answer.TheVariants.{Ended, Stale, Taken}
-use Rattle.rollback.specs.Machine.{Machine, aged, all_set, begun_anew, charged, closed, count_set, counts, ended_by, expired, finished, freed, has_answer, is_alive, is_busy, is_out, is_running, is_saved_now, joined, lost, may_join, opened, welcomed}
-use Rattle.rollback.specs.Events.{Heard, Stamp, after_end, after_load, after_loss, after_save, closing, done_step, failed_step, heeded, joined_step, loading, loss, lost_step, rolling, saving, shut, slicing, stale_done, tick_step}
+use Rattle.rollback.specs.Machine.{Machine, aged, all_set, begun_anew, charged, closed, count_set, counts, ended_by, expired, finished, freed, has_answer, is_alive, is_busy, is_out, is_running, is_saved_now, joined, lost, may_join, opened, resumed, welcomed}
+use Rattle.rollback.specs.Events.{Heard, Stamp, after_end, after_load, after_loss, after_save, begun, closing, done_step, failed_step, on_event, joined_step, loading, loss, lost_step, rolling, saving, shut, slicing, stale_done, tick_step}
 use Rattle.rollback.specs.Events.Stamp.{DoneBy, FailedBy, JoinedBy, LostBy, Ticked}
 use Rattle.workers.specs.Steps.{Move, Steps, after, moved}
+use Rattle.workers.specs.inside.EventLoop.{is_own}
 use Rattle.workers.specs.Steps.Move.{Hand, Take}
 use Rattle.workers.specs.declared.message.Message.{Message}
 use Rattle.channels.specs.declared.order.Order.{Order}
-
--- a fault of the book's own: there is no memory, or no worker
-abbrev pub is_own_fault : JobFault → Bool
-is_own_fault (OutOfMemory place) = true
-is_own_fault NoWorkers = true
-is_own_fault (Settings setting) = false
-is_own_fault ThreadRefused = false
-is_own_fault Closed = false
-
-abbrev pub is_own : End → Bool
-is_own Running = true
-is_own Finished = true
-is_own Limit = true
-is_own (Fault fault) = is_own_fault fault
 
 abbrev pub own : Machine → Bool
 own m = is_own m.ending
@@ -51,12 +37,12 @@ ending_own true b = refl
 ending_own false true = refl
 ending_own false false = refl
 
-after_save_own : (told : Told) (m : Machine) → own m ≡ true → own (after_save told m) ≡ true
+after_save_own : (told : DeviceResult) (m : Machine) → own m ≡ true → own (after_save told m) ≡ true
 after_save_own Good m h = h
 after_save_own Failed m h = h
 after_save_own NoMemory m h = refl
 
-saving_own : (told : Told) (m : Machine) → own m ≡ true → own (saving told m) ≡ true
+saving_own : (told : DeviceResult) (m : Machine) → own m ≡ true → own (saving told m) ≡ true
 saving_own told m h = chosen (is_saved_now m) (after_save told m) m (after_save_own told m h) h
 
 slicing_own : (sliced : Bool) (m : Machine) → own m ≡ true → own (slicing sliced m) ≡ true
@@ -88,12 +74,12 @@ after_loss_own : (m : Machine) → own m ≡ true → own (after_loss m) ≡ tru
 after_loss_own m h =
     chosen (nat_lt 0 (count_set (joined m).alive)) (begun_anew (joined m)) (ended_by NoWorkers (joined m)) h refl
 
-after_load_own : (told : Told) (m : Machine) → own m ≡ true → own (after_load told m) ≡ true
+after_load_own : (told : DeviceResult) (m : Machine) → own m ≡ true → own (after_load told m) ≡ true
 after_load_own Good m h = h
 after_load_own Failed m h = h
 after_load_own NoMemory m h = refl
 
-loading_own : (saved : Option ℕ) (told : Told) (m : Machine) → own m ≡ true → own (loading saved told m) ≡ true
+loading_own : (saved : Option ℕ) (told : DeviceResult) (m : Machine) → own m ≡ true → own (loading saved told m) ≡ true
 loading_own None told m h = h
 loading_own (Some s) told m h = after_load_own told m h
 
@@ -117,12 +103,12 @@ failed_own m w place h = chosen_pair (is_busy m.alive m.out w) _ _ refl h
 joined_own : (m : Machine) (w : ℕ) → own m ≡ true → own (joined_step m w).0 ≡ true
 joined_own m w h = chosen_pair (may_join m w) _ _ h h
 
-heeded_own : (heard : Heard) (m : Machine) (stamp : Stamp) → own m ≡ true → own (heeded heard m stamp).0 ≡ true
-heeded_own heard m (DoneBy w task units) h = chosen_pair (nat_lt w _) (done_step heard (charged m w units) w task) (m, Stale) (done_own heard (charged m w units) w task h) h
-heeded_own heard m (FailedBy w place) h = chosen_pair (nat_lt w _) _ (m, Stale) (failed_own m w place h) h
-heeded_own heard m (LostBy w) h = chosen_pair (nat_lt w _) _ (m, Stale) (lost_own heard m w h) h
-heeded_own heard m (JoinedBy w) h = chosen_pair (nat_lt w _) _ (m, Stale) (joined_own m w h) h
-heeded_own heard m Ticked h = tick_own heard m h
+on_event_own : (heard : Heard) (m : Machine) (stamp : Stamp) → own m ≡ true → own (on_event heard m stamp).0 ≡ true
+on_event_own heard m (DoneBy w task units) h = chosen_pair (nat_lt w _) (done_step heard (charged m w units) w task) (m, Stale) (done_own heard (charged m w units) w task h) h
+on_event_own heard m (FailedBy w place) h = chosen_pair (nat_lt w _) _ (m, Stale) (failed_own m w place h) h
+on_event_own heard m (LostBy w) h = chosen_pair (nat_lt w _) _ (m, Stale) (lost_own heard m w h) h
+on_event_own heard m (JoinedBy w) h = chosen_pair (nat_lt w _) _ (m, Stale) (joined_own m w h) h
+on_event_own heard m Ticked h = tick_own heard m h
 
 after_end_own : (m : Machine) (stamp : Stamp) → own m ≡ true → own (after_end m stamp) ≡ true
 after_end_own m (DoneBy w task units) h = chosen (has_answer m.ending && nat_lt w _) (charged m w units) m h h
@@ -133,13 +119,18 @@ after_end_own m Ticked h = h
 
 moved_own : (m : Machine) (move : Move) → own m ≡ true → own (moved m move) ≡ true
 moved_own m (Hand w task) h = h
-moved_own m (Take heard stamp) h = chosen_pair (is_running m.ending) (heeded heard m stamp) (after_end m stamp, Ended) (heeded_own heard m stamp h) (after_end_own m stamp h)
+moved_own m (Take heard stamp) h = chosen_pair (is_running m.ending) (on_event heard m stamp) (after_end m stamp, Ended) (on_event_own heard m stamp h) (after_end_own m stamp h)
 
 after_own : (m : Machine) (moves : List Move) → own m ≡ true → own (after m moves) ≡ true
 after_own m [] h = h
 after_own m (move ∷ moves) h = after_own (moved m move) moves (moved_own m move h)
 
-pub steps_own : {J : Type 0} (work : Work) (honest : Bool) (s : settings.Settings) (quiet : Bool) (m n : Machine) (got got' : List (Message J)) (ls ls' : List (List (Order J)))
-    → Steps work honest m n got got' ls ls' → m ≡ opened s quiet → own n ≡ true
-steps_own work honest s quiet m n got got' ls ls' p is =
-    ap own (sym p.leads) ∙ after_own m p.moves (ap own is ∙ ending_own quiet (nat_lt 0 s.limit))
+pub opened_own : (s : settings.Settings) (quiet : Bool) → own (opened s quiet) ≡ true
+opened_own s quiet = ending_own quiet (nat_lt 0 s.limit)
+
+pub begun_own : (heard : Heard) (s : settings.Settings) (superstep : ℕ) → own (begun heard s superstep) ≡ true
+begun_own heard s superstep = rolling_own heard (resumed s superstep) refl
+
+pub steps_own : {J : Type 0} (work : Work) (honest : Bool) (m n : Machine) (got got' : List (Message J)) (ls ls' : List (List (Order J)))
+    → Steps work honest m n got got' ls ls' → own m ≡ true → own n ≡ true
+steps_own work honest m n got got' ls ls' p is = ap own (sym p.leads) ∙ after_own m p.moves is

@@ -6,16 +6,16 @@ use Rattle.rollback.specs.declared.event.Event.{Event}
 use Rattle.rollback.specs.declared.event.Event.TheVariants as event
 use Rattle.rollback.specs.declared.report.Report.{Report}
 use Rattle.rollback.specs.Book.{stamp_of}
-use Rattle.workers.specs.Answers.{HasSpent, WhereEnded}
+use Rattle.workers.specs.JobAnswers.{HasSpent, WhereEnded}
 use Rattle.workers.specs.Hub.{HasByes, received, staff}
 use Rattle.workers.specs.Messages.{event_sender, sender_of}
 use Rattle.workers.specs.Passes.{handed_in_by}
-use Rattle.channels.specs.Rule.{of}
+use Rattle.channels.specs.Protocol.{of}
 use Rattle.workers.specs.Steps.{stamps_in}
 use Rattle.workers.specs.Threads.{AreCharged, AreSettled, HasHandedIn, HasSettled, IsSettledHub}
 use Rattle.workers.specs.Units.{cut, units_by, units_of}
 use Rattle.workers.specs.declared.coordinator.Receipts.{Receipts}
-use Rattle.workers.specs.declared.ends.Ends.{Ends}
+use Rattle.workers.specs.declared.coordinator_ends.CoordinatorEnds.{CoordinatorEnds}
 use Rattle.workers.specs.declared.message.Message.{Message}
 use Rattle.workers.specs.declared.message.Message.TheVariants as message
 use Rattle.workers.specs.declared.pass.WorkerReceipt.{WorkerReceipt}
@@ -61,7 +61,7 @@ module _ {J : Type 0} where
       ∙ sym (of_step w m ms (⊎_elim (λ x. inl x.1) (λ x. inr x.1) (eqb_tells (sender_of m) (w + 1))))
 
   -- the receipts of the workers from w on
-  charged : (ends : Ends J) (report : Report) (w : ℕ) (rs : List (WorkerReceipt J)) → HasByes (staff ends) (received ends) → HasSpent (staff ends) (received ends) report
+  charged : (ends : CoordinatorEnds J) (report : Report) (w : ℕ) (rs : List (WorkerReceipt J)) → HasByes (staff ends) (received ends) → HasSpent (staff ends) (received ends) report
       → AreSettled ends w rs → w + length rs ≡ staff ends → AreCharged report w rs
   charged ends report w [] byes spent old all = tt
   charged ends report w (r ∷ rs) byes spent old all =
@@ -71,16 +71,16 @@ module _ {J : Type 0} where
         charged ends report (w + 1) rs byes spent old.1 (omega arith),
       )
 
-  handed_in_some : (ends : Ends J) (receipts : Receipts J) (report : Report) → IsSettledHub ends receipts → HasByes (staff ends) (received ends)
+  handed_in_some : (ends : CoordinatorEnds J) (receipts : Receipts J) (report : Report) → IsSettledHub ends receipts → HasByes (staff ends) (received ends)
       → HasSpent (staff ends) (received ends) report → AreCharged report 0 receipts.workers.items
   handed_in_some ends receipts report s byes spent = charged ends report 0 receipts.workers.items byes spent s.workers (omega (arith, s.all, receipts.workers.ok.0))
 
-  handed_in_ok : (ends : Ends J) (receipts : Option (Receipts J)) (report : Report) → HasSettled ends receipts → HasByes (staff ends) (received ends)
+  handed_in_ok : (ends : CoordinatorEnds J) (receipts : Option (Receipts J)) (report : Report) → HasSettled ends receipts → HasByes (staff ends) (received ends)
       → HasSpent (staff ends) (received ends) report → HasHandedIn receipts report
   handed_in_ok ends (Some receipts) report s byes spent = handed_in_some ends receipts report s byes spent
   handed_in_ok ends None report s byes spent = absurd s
 
-  pub handed_in : (ends : Ends J) (receipts : Option (Receipts J)) (r : Result Report JobFault) → WhereEnded r (HasSettled ends receipts) → WhereEnded r (HasByes (staff ends) (received ends))
+  pub handed_in : (ends : CoordinatorEnds J) (receipts : Option (Receipts J)) (r : Result Report JobFault) → WhereEnded r (HasSettled ends receipts) → WhereEnded r (HasByes (staff ends) (received ends))
       → IfOk r (HasSpent (staff ends) (received ends)) → IfOk r (HasHandedIn receipts)
   handed_in ends receipts (Ok report) s byes spent = handed_in_ok ends receipts report s byes spent
   handed_in ends receipts (Err fault) s byes spent = tt

@@ -3,10 +3,10 @@ pub mod Ending
 pub mod Faults
 pub mod HandedIn
 pub mod Handing
-pub mod Hiring
+pub mod SpawnedThreads
 pub mod Moving
 pub mod Opening
 pub mod Over
 pub mod Passing
 pub mod Spent
-pub mod Told
+pub mod RunAnswers

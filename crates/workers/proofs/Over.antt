@@ -3,11 +3,11 @@ use Rattle.std.proofs.Common.{◌≡◌, ◌<◌, ◌∙◌, ℕ, Bool, List, ap
 use Rattle.superstep.specs.Job.{Work}
 use Rattle.rollback.specs.Machine.{Machine}
 use Rattle.channels.specs.Orders.{at, stops, tasks_in}
-use Rattle.channels.specs.Rule.{has_bye}
+use Rattle.channels.specs.Protocol.{has_bye}
 use Rattle.workers.specs.Hub.{IsSameHub, handed, received, staff}
 use Rattle.workers.specs.Steps.{Steps}
-use Rattle.workers.specs.inside.Driving.{IsOver}
-use Rattle.workers.specs.declared.ends.Ends.{Ends}
+use Rattle.workers.specs.inside.EventLoop.{IsOver}
+use Rattle.workers.specs.declared.coordinator_ends.CoordinatorEnds.{CoordinatorEnds}
 use Rattle.workers.specs.declared.message.Message.{Message}
 use Rattle.workers.proofs.Accounts.{steps_over}
 use Rattle.workers.proofs.Handing.{handed_wide}
@@ -15,7 +15,7 @@ use Rattle.workers.proofs.Moving.{steps_none, steps_still}
 
 module _ {J : Type 0} (work : Work) (honest : Bool) where
   -- once a message was taken
-  pub over_still : {m n : Machine} {got got' : List (Message J)} {a b : Ends J}
+  pub over_still : {m n : Machine} {got got' : List (Message J)} {a b : CoordinatorEnds J}
       → Steps work honest m n got got' (handed a) (handed b) → handed b ≡ handed a → IsSameHub a b → IsOver m a → IsOver n b
   over_still p same hub o = record {
     ended = steps_over work honest p o.ended;
@@ -23,6 +23,6 @@ module _ {J : Type 0} (work : Work) (honest : Bool) where
   }
 
   -- all are stopped
-  pub steps_stop : (m : Machine) (a b : Ends J) → received b ≡ received a → ((w : ℕ) → tasks_in (at (handed b) w) ≡ tasks_in (at (handed a) w)) → IsSameHub a b
+  pub steps_stop : (m : Machine) (a b : CoordinatorEnds J) → received b ≡ received a → ((w : ℕ) → tasks_in (at (handed b) w) ≡ tasks_in (at (handed a) w)) → IsSameHub a b
       → Steps work honest m m (received a) (received b) (handed a) (handed b)
   steps_stop m a b same kept hub = steps_still work honest (received b) (handed b) (steps_none work honest m (received a) (handed a)) same kept (handed_wide a b hub.workers)

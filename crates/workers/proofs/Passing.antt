@@ -1,9 +1,9 @@
 -- Passes that are used one after another.
 use Rattle.std.proofs.Common.{◌∙◌, refl}
-use Rattle.channels.specs.Mail.{IsSameReader, IsSameSender}
+use Rattle.channels.specs.ChannelEnds.{IsSameReader, IsSameSender}
 use Rattle.workers.specs.Passes.{IsReceipt, IsSamePass}
-use Rattle.channels.specs.declared.mail.ReceivingEnd.{ReceivingEnd}
-use Rattle.channels.specs.declared.mail.SendingEnd.{SendingEnd}
+use Rattle.channels.specs.declared.channel_ends.ReceivingEnd.{ReceivingEnd}
+use Rattle.channels.specs.declared.channel_ends.SendingEnd.{SendingEnd}
 use Rattle.workers.specs.declared.pass.WorkerPass.{WorkerPass}
 use Rattle.workers.specs.declared.pass.WorkerReceipt.{WorkerReceipt}
 

@@ -1,17 +1,17 @@
--- What the control machine adds up of each worker, in one event.
+-- What the control model adds up of each worker, in one event.
 use Rattle.std.proofs.lemmas.Bool.Decides.{eqb_tells, nat_tests}
 use Rattle.std.specs.Prelude.{nat_lt}
 use Rattle.std.proofs.Common.{◌≡◌, ◌≢◌, ℕ, zero, suc, ◌+◌, ◌-◌, ◌<◌, ◌≤◌, ◌^◌, min, Bool, true, false, ◌&&◌, not, cond, eqb, true≢false, Option, Some, None, List, [], ◌∷◌, length, set, slice_index_or, sym, refl, ap, ◌∙◌, subst, arith, eq-eqb, ne_eqb, ◌⊎◌, ⊎_elim, inl, inr}
 use Rattle.superstep.specs.declared.fault.Place.{Place}
 use Rattle.rollback.specs.declared.control.Out.{Out}
-use Rattle.rollback.specs.declared.ending.End.{End}
-use Rattle.rollback.specs.declared.ending.End.TheVariants.{Fault, Finished, Limit, Running}
-use Rattle.rollback.specs.declared.ending.Told.{Told}
-use Rattle.rollback.specs.declared.ending.Told.TheVariants.{Failed, Good, NoMemory}
+use Rattle.rollback.specs.declared.job_status.JobStatus.{JobStatus}
+use Rattle.rollback.specs.declared.job_status.JobStatus.TheVariants.{Fault, Finished, Limit, Running}
+use Rattle.rollback.specs.declared.job_status.DeviceResult.{DeviceResult}
+use Rattle.rollback.specs.declared.job_status.DeviceResult.TheVariants.{Failed, Good, NoMemory}
 use Rattle.rollback.specs.declared.event.Answer.{Answer}
 use Rattle.rollback.specs.declared.event.Answer.TheVariants.{Ended, Stale}
 use Rattle.rollback.specs.Machine.{Machine, aged, all_set, by_place, charged, closed, counts, expired, finished, freed, has_answer, is_alive, is_busy, is_out, is_running, is_saved_now, joined, lost, may_join, welcomed}
-use Rattle.rollback.specs.Events.{Heard, Stamp, accepted, after_end, after_load, after_loss, after_save, closing, done_step, failed_step, heeded, joined_step, loading, loss, lost_step, rolling, saving, shut, slicing, stale_done, tick_step}
+use Rattle.rollback.specs.Events.{Heard, Stamp, accepted, after_end, after_load, after_loss, after_save, closing, done_step, failed_step, on_event, joined_step, loading, loss, lost_step, rolling, saving, shut, slicing, stale_done, tick_step}
 use Rattle.rollback.specs.Events.Stamp.{DoneBy, FailedBy, JoinedBy, LostBy, Ticked}
 use Rattle.workers.specs.Units.{cut, units_by, units_of}
 
@@ -56,12 +56,12 @@ chosen_pair : (b : Bool) (m n : Machine × Answer) (a : Account) → account m.0
 chosen_pair true m n a p q = p
 chosen_pair false m n a p q = q
 
-after_save_account : (told : Told) (m : Machine) → account (after_save told m) ≡ account m
+after_save_account : (told : DeviceResult) (m : Machine) → account (after_save told m) ≡ account m
 after_save_account Good m = refl
 after_save_account Failed m = refl
 after_save_account NoMemory m = refl
 
-saving_account : (told : Told) (m : Machine) → account (saving told m) ≡ account m
+saving_account : (told : DeviceResult) (m : Machine) → account (saving told m) ≡ account m
 saving_account told m = chosen (is_saved_now m) (after_save told m) m (account m) (after_save_account told m) refl
 
 slicing_account : (sliced : Bool) (m : Machine) → account (slicing sliced m) ≡ account m
@@ -91,16 +91,16 @@ done_account heard m w task =
 after_loss_account : (m : Machine) → account (after_loss m) ≡ account m
 after_loss_account m = chosen _ _ _ (account m) (joined_account m) (joined_account m)
 
-after_load_account : (told : Told) (m : Machine) → account (after_load told m) ≡ account m
+after_load_account : (told : DeviceResult) (m : Machine) → account (after_load told m) ≡ account m
 after_load_account Good m = refl
 after_load_account Failed m = refl
 after_load_account NoMemory m = refl
 
-loading_account : (saved : Option ℕ) (told : Told) (m : Machine) → account (loading saved told m) ≡ account m
+loading_account : (saved : Option ℕ) (told : DeviceResult) (m : Machine) → account (loading saved told m) ≡ account m
 loading_account None told m = refl
 loading_account (Some s) told m = after_load_account told m
 
-rolling_account : (heard : Heard) (m : Machine) → account (rolling heard m) ≡ account m
+pub rolling_account : (heard : Heard) (m : Machine) → account (rolling heard m) ≡ account m
 rolling_account heard m = slicing_account heard.sliced (loading m.saved heard.load m) ∙ loading_account m.saved heard.load m
 
 loss_account : (heard : Heard) (m : Machine) → account (loss heard m).0 ≡ account m
@@ -146,15 +146,15 @@ account_after a (LostBy w) = a
 account_after a (JoinedBy w) = a
 account_after a Ticked = a
 
-heeded_account : (heard : Heard) (m : Machine) (stamp : Stamp) → account (heeded heard m stamp).0 ≡ account_after (account m) stamp
-heeded_account heard m (DoneBy w task units) =
+on_event_account : (heard : Heard) (m : Machine) (stamp : Stamp) → account (on_event heard m stamp).0 ≡ account_after (account m) stamp
+on_event_account heard m (DoneBy w task units) =
     chosen_each (nat_lt w (length m.alive)) (done_step heard (charged m w units) w task) (m, Stale) (with_units (account m) w units) (account m)
     (done_account heard (charged m w units) w task)
     refl
-heeded_account heard m (FailedBy w place) = chosen_pair (nat_lt w (length m.alive)) _ (m, Stale) (account m) (failed_account m w place) refl
-heeded_account heard m (LostBy w) = chosen_pair (nat_lt w (length m.alive)) _ (m, Stale) (account m) (lost_step_account heard m w) refl
-heeded_account heard m (JoinedBy w) = chosen_pair (nat_lt w (length m.alive)) _ (m, Stale) (account m) (joined_step_account m w) refl
-heeded_account heard m Ticked = tick_account heard m
+on_event_account heard m (FailedBy w place) = chosen_pair (nat_lt w (length m.alive)) _ (m, Stale) (account m) (failed_account m w place) refl
+on_event_account heard m (LostBy w) = chosen_pair (nat_lt w (length m.alive)) _ (m, Stale) (account m) (lost_step_account heard m w) refl
+on_event_account heard m (JoinedBy w) = chosen_pair (nat_lt w (length m.alive)) _ (m, Stale) (account m) (joined_step_account m w) refl
+on_event_account heard m Ticked = tick_account heard m
 
 after_end_account : (m : Machine) (stamp : Stamp) → has_answer m.ending ≡ true → account (after_end m stamp) ≡ account_after (account m) stamp
 after_end_account m (DoneBy w task units) h =
@@ -165,19 +165,19 @@ after_end_account m (LostBy w) h = refl
 after_end_account m (JoinedBy w) h = refl
 after_end_account m Ticked h = refl
 
-abbrev pub is_faulty : End → Bool
+abbrev pub is_faulty : JobStatus → Bool
 is_faulty Running = false
 is_faulty Finished = false
 is_faulty Limit = false
 is_faulty (Fault fault) = true
 
-accepted_at : (e : End) (heard : Heard) (m : Machine) (stamp : Stamp) → m.ending ≡ e → is_faulty e ≡ false → account (accepted heard m stamp).0 ≡ account_after (account m) stamp
+accepted_at : (e : JobStatus) (heard : Heard) (m : Machine) (stamp : Stamp) → m.ending ≡ e → is_faulty e ≡ false → account (accepted heard m stamp).0 ≡ account_after (account m) stamp
 accepted_at Running heard m stamp is f =
-    ap (λ e. account (cond (is_running e) (heeded heard m stamp) (after_end m stamp, Ended)).0) is ∙ heeded_account heard m stamp
+    ap (λ e. account (cond (is_running e) (on_event heard m stamp) (after_end m stamp, Ended)).0) is ∙ on_event_account heard m stamp
 accepted_at Finished heard m stamp is f =
-    ap (λ e. account (cond (is_running e) (heeded heard m stamp) (after_end m stamp, Ended)).0) is ∙ after_end_account m stamp (ap has_answer is)
+    ap (λ e. account (cond (is_running e) (on_event heard m stamp) (after_end m stamp, Ended)).0) is ∙ after_end_account m stamp (ap has_answer is)
 accepted_at Limit heard m stamp is f =
-    ap (λ e. account (cond (is_running e) (heeded heard m stamp) (after_end m stamp, Ended)).0) is ∙ after_end_account m stamp (ap has_answer is)
+    ap (λ e. account (cond (is_running e) (on_event heard m stamp) (after_end m stamp, Ended)).0) is ∙ after_end_account m stamp (ap has_answer is)
 accepted_at (Fault fault) heard m stamp is f = absurd (true≢false f)
 
 -- where the job goes on or has an answer, an event adds its units and nothing else
@@ -186,7 +186,7 @@ accepted_account heard m stamp f = accepted_at m.ending heard m stamp refl f
 
 -- ---- ends
 
-same_ending : (b : Bool) (m n : Machine) (e : End) → m.ending ≡ e → n.ending ≡ e → (cond b m n).ending ≡ e
+same_ending : (b : Bool) (m n : Machine) (e : JobStatus) → m.ending ≡ e → n.ending ≡ e → (cond b m n).ending ≡ e
 same_ending true m n e p q = p
 same_ending false m n e p q = q
 
@@ -200,7 +200,7 @@ after_end_ending m Ticked = refl
 -- an end stays
 pub accepted_ending : (heard : Heard) (m : Machine) (stamp : Stamp) → is_running m.ending ≡ false → (accepted heard m stamp).0.ending ≡ m.ending
 accepted_ending heard m stamp over =
-    ap (λ b. (cond b (heeded heard m stamp) (after_end m stamp, Ended)).0.ending) over ∙ after_end_ending m stamp
+    ap (λ b. (cond b (on_event heard m stamp) (after_end m stamp, Ended)).0.ending) over ∙ after_end_ending m stamp
 
 -- ---- the sum of units
 

@@ -1,14 +1,14 @@
--- What belongs to one hub, and what its coordinator received and handed out.
+-- What belongs to one hub, and what its coordinator received and sent.
 use Rattle.std.specs.Global.{Vec}
 use Rattle.std.specs.Prelude.{◌≡◌, ◌<◌, ◌+◌, ℕ, true, List, [], ◌∷◌, map, vec_len, slice_get, Some}
 use Rattle.rollback.specs.declared.event.Event.{Event}
-use Rattle.channels.specs.Mail.{channel_of, received_by, sent_by, source_of}
+use Rattle.channels.specs.ChannelEnds.{channel_of, received_by, sent_by, source_of}
 use Rattle.workers.specs.Messages.{closes, sender_of}
-use Rattle.channels.specs.Lines.{channel_on, sent_on}
+use Rattle.channels.specs.TaskChannels.{channel_on, sent_on}
 use Rattle.channels.specs.Orders.{at, coordinator, stops}
 use Rattle.workers.specs.Passes as pass
-use Rattle.channels.specs.Rule.{IsOnceInOrder, has_bye, of}
-use Rattle.workers.specs.declared.ends.Ends.{Ends}
+use Rattle.channels.specs.Protocol.{IsOnceInOrder, has_bye, of}
+use Rattle.workers.specs.declared.coordinator_ends.CoordinatorEnds.{CoordinatorEnds}
 use Rattle.workers.specs.declared.message.Message.{Message}
 use Rattle.workers.specs.declared.message.Message.TheVariants as message
 use Rattle.channels.specs.declared.order.Order.{Order}
@@ -32,44 +32,44 @@ module _ {J : Type 0} where
   events_in (message.Event event ∷ messages) = event ∷ events_in messages
   events_in (message.Bye sender ∷ messages) = events_in messages
 
-  -- all that send to the coordinator, so many workers and the ticker, said bye
+  -- all senders to the coordinator, this many workers and the ticker, have said bye
   abbrev pub HasByes : ℕ → List (Message J) → Type 0
   HasByes workers received = (p : ℕ) → p < workers + 1 → has_bye closes (of sender_of p received) ≡ true
 
   -- ---- the coordinator's ends
 
   -- what was received, in order
-  abbrev pub received : Ends J → List (Message J)
+  abbrev pub received : CoordinatorEnds J → List (Message J)
   received ends = received_by ends.events
 
-  -- what was handed to each worker, in order
-  abbrev pub handed : Ends J → List (List (Order J))
-  handed ends = map sent_on ends.lines.items
+  -- the orders that each worker was sent
+  abbrev pub handed : CoordinatorEnds J → List (List (Order J))
+  handed ends = map sent_on ends.task_channels.items
 
-  -- how many workers there are
-  abbrev pub staff : Ends J → ℕ
-  staff ends = vec_len ends.lines
+  -- the number of workers
+  abbrev pub staff : CoordinatorEnds J → ℕ
+  staff ends = vec_len ends.task_channels
 
-  -- worker w was told that no task comes any more
-  abbrev pub IsStopped : Ends J → ℕ → Type 0
+  -- worker w was sent `Stop`
+  abbrev pub IsStopped : CoordinatorEnds J → ℕ → Type 0
   IsStopped ends w = has_bye stops (at (handed ends) w) ≡ true
 
-  -- nothing was received or handed out
-  pub record IsUnused (ends : Ends J) : Type 0 where
+  -- nothing was received or sent
+  pub record IsUnused (ends : CoordinatorEnds J) : Type 0 where
     pub nothing_received : received ends ≡ []
     pub nothing_handed : (w : ℕ) → at (handed ends) w ≡ []
 
   -- ---- the channels of a hub, and the passes that belong to them
 
-  abbrev pub channels_of : Ends J → Channels J
-  channels_of ends = record { events = source_of ends.events; orders = map channel_on ends.lines.items }
+  abbrev pub channels_of : CoordinatorEnds J → Channels J
+  channels_of ends = record { events = source_of ends.events; orders = map channel_on ends.task_channels.items }
 
   -- the channels and the workers are the same
-  pub record IsSameHub (before after : Ends J) : Type 0 where
+  pub record IsSameHub (before after : CoordinatorEnds J) : Type 0 where
     pub channels : channels_of after ≡ channels_of before
     pub workers : staff after ≡ staff before
 
-  -- the pass of worker w, which has handed in and taken nothing
+  -- the pass of worker w, which has sent and taken nothing
   pub record IsNewPass (channels : Channels J) (w : ℕ) (mine : WorkerPass J) : Type 0 where
     pub worker : pass.worker_of mine ≡ w
     pub events : channel_of mine.events ≡ channels.events
@@ -82,20 +82,20 @@ module _ {J : Type 0} where
   AreNewPasses channels w [] = Unit {0}
   AreNewPasses channels w (mine ∷ passes) = IsNewPass channels w mine × AreNewPasses channels (w + 1) passes
 
-  -- the ticker's pass, which has handed in nothing
+  -- the ticker's pass, which has sent nothing
   pub record IsNewTicker (channels : Channels J) (mine : TickPass J) : Type 0 where
     pub events : channel_of mine.events ≡ channels.events
     pub nothing_handed_in : pass.ticked mine ≡ []
 
-  -- the ends of a new hub: those of the coordinator, of so many workers, and of the ticker
-  pub record IsNewHubOf (workers : ℕ) (ends : Ends J) (passes : Vec (WorkerPass J)) (ticker : TickPass J) : Type 0 where
+  -- the ends of a new hub: those of the coordinator, of this many workers, and of the ticker
+  pub record IsNewHubOf (workers : ℕ) (ends : CoordinatorEnds J) (passes : Vec (WorkerPass J)) (ticker : TickPass J) : Type 0 where
     pub unused : IsUnused ends
     pub workers_are : staff ends ≡ workers
     pub passes_are : AreNewPasses (channels_of ends) 0 passes.items
     pub passes_len : vec_len passes ≡ workers
     pub ticker_is : IsNewTicker (channels_of ends) ticker
 
-  -- ---- what is left of passes
+  -- ---- receipts
 
   -- it is of worker w
   pub record IsReceiptOn (channels : Channels J) (w : ℕ) (receipt : WorkerReceipt J) : Type 0 where
@@ -106,12 +106,12 @@ module _ {J : Type 0} where
   abbrev pub IsTickReceiptOn : Channels J → TickReceipt J → Type 0
   IsTickReceiptOn channels receipt = channel_of receipt.events ≡ channels.events
 
-  -- What was received of worker w came once and in order, and so did the tasks that it took.
-  pub record IsSettled (ends : Ends J) (w : ℕ) (receipt : WorkerReceipt J) : Type 0 where
+  -- What was received from worker w came once and in order, and so did the tasks that it took.
+  pub record IsSettled (ends : CoordinatorEnds J) (w : ℕ) (receipt : WorkerReceipt J) : Type 0 where
     pub on : IsReceiptOn (channels_of ends) w receipt
     pub events : IsOnceInOrder sender_of closes (w + 1) (pass.handed_in_by receipt) (received ends)
     pub tasks : IsOnceInOrder coordinator stops 0 (at (handed ends) w) (pass.taken_by receipt)
 
-  pub record IsTickerSettled (ends : Ends J) (receipt : TickReceipt J) : Type 0 where
+  pub record IsTickerSettled (ends : CoordinatorEnds J) (receipt : TickReceipt J) : Type 0 where
     pub on : IsTickReceiptOn (channels_of ends) receipt
     pub events : IsOnceInOrder sender_of closes 0 (pass.ticked_by receipt) (received ends)

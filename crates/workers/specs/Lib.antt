@@ -3,10 +3,10 @@
 pub mod Messages
 pub mod Passes
 pub mod Hub
--- one list of hands and events, and what it brings
+-- one list of assignments and events, the units in it, and the answers over it
 pub mod Steps
 pub mod Units
-pub mod Answers
+pub mod JobAnswers
 -- the threads of a hub, and its coordinator
 pub mod Threads
 pub mod Coordinator

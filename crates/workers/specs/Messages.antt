@@ -1,4 +1,4 @@
--- Whose a message is, and which is a sender's last.
+-- The sender of a message, and which message is a sender's last.
 use Rattle.std.specs.Prelude.{ℕ, ◌+◌, Bool, true, false}
 use Rattle.rollback.specs.declared.event.Event.{Event}
 use Rattle.rollback.specs.declared.event.Event.TheVariants.{Done, Failed, Joined, Lost, Tick}
@@ -7,12 +7,12 @@ use Rattle.workers.specs.declared.message.Message.TheVariants as message
 use Rattle.workers.specs.declared.message.Sender.{Sender}
 use Rattle.workers.specs.declared.message.Sender.TheVariants.{Ticker, Worker}
 
--- Those who send to the coordinator are numbered: the ticker is 0, and worker w is w + 1.
+-- The senders to the coordinator are numbered: the ticker is 0, and worker w is w + 1.
 abbrev pub sender_number : Sender → ℕ
 sender_number Ticker = 0
 sender_number (Worker w) = w + 1
 
--- whose event it is
+-- the sender of an event
 abbrev pub event_sender : {J : _} → Event J → ℕ
 event_sender (Done w done) = w + 1
 event_sender (Failed w place) = w + 1

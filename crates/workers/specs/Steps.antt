@@ -1,4 +1,4 @@
--- What the book, the received list and the handed lists have to do with one list of hands and events.
+-- How the book, the received messages and the sent orders follow one list of assignments and events.
 use Rattle.std.specs.Prelude.{◌≡◌, ◌<◌, ◌==◌, ℕ, suc, Bool, true, List, [], ◌∷◌, ◌++◌, length, map, Some, if◌then◌else◌}
 use Rattle.superstep.specs.Job.{Work}
 use Rattle.rollback.specs.declared.control.Out.{Out}
@@ -10,9 +10,9 @@ use Rattle.workers.specs.Hub.{events_in}
 use Rattle.workers.specs.declared.message.Message.{Message}
 use Rattle.channels.specs.declared.order.Order.{Order}
 
--- ---- hands and events
+-- ---- assignments and events
 
--- a worker was handed this task; or an event was taken, of which the machine was told this
+-- a worker was assigned this task; or an event was taken, in which the model heard this
 pub data Move : Type 0 where
   Hand : (worker : ℕ) → (task : Out) → Move
   Take : (heard : Heard) → (stamp : Stamp) → Move
@@ -21,7 +21,8 @@ abbrev pub moved : Machine → Move → Machine
 moved m (Hand w task) = handed m w task.part
 moved m (Take heard stamp) = (accepted heard m stamp).0
 
--- A hand is the one that the machine makes. Where the job's Keep is honest, the machine is told how the plain run stands.
+-- An assignment is the one that the model makes. If the job's Keep is honest, the model hears whether the plain run is
+-- quiet.
 abbrev pub IsMove : Work → Bool → Machine → Move → Type 0
 IsMove work honest m (Hand w task) = (hand m w ≡ Some task.part) × (task ≡ task_of m task.part)
 IsMove work honest m (Take heard stamp) =
@@ -49,7 +50,7 @@ abbrev pub hand_of : ℕ → Move → List Out
 hand_of w (Hand v task) = if v == w then task ∷ [] else []
 hand_of w (Take heard stamp) = []
 
--- the tasks that worker w was handed, in order
+-- the tasks that worker w was assigned, in order
 abbrev pub hands : ℕ → List Move → List Out
 hands w [] = []
 hands w (move ∷ moves) = hand_of w move ++ hands w moves
@@ -60,12 +61,12 @@ hands w (move ∷ moves) = hand_of w move ++ hands w moves
 abbrev pub stamps_in : {J : Type 0} → List (Message J) → List Stamp
 stamps_in messages = map stamp_of (events_in messages)
 
--- what a worker was handed, without stops and in numbers
+-- what a worker was sent, without stops and in numbers
 abbrev pub outs_in : {J : Type 0} → List (Order J) → List Out
 outs_in orders = map task_out (tasks_in orders)
 
--- There is one list of hands and events that leads from the one machine to the other. Its events are what was received in
--- between, and its hands to each worker are what was handed to it, in their order.
+-- There is one list of assignments and events that leads from one state of the model to the other. Its events are what
+-- was received in between. Its assignments to each worker are what that worker was sent, in order.
 pub record Steps {J : Type 0} (work : Work) (honest : Bool) (before now : Machine) (received received' : List (Message J)) (handed handed' : List (List (Order J))) : Type 0 where
   pub moves : List Move
   pub are : AreMoves work honest before moves

@@ -1,9 +1,9 @@
--- The units that workers bring.
+-- The units that workers report.
 use Rattle.std.specs.Prelude.{ℕ, ◌+◌, ◌-◌, ◌^◌, ◌==◌, min, List, [], ◌∷◌, if◌then◌else◌}
 use Rattle.rollback.specs.Events.{Stamp}
 use Rattle.rollback.specs.Events.Stamp.{DoneBy, FailedBy, JoinedBy, LostBy, Ticked}
 
--- those that the event brings of worker w
+-- the units of worker w in this event
 abbrev pub units_of : ℕ → Stamp → ℕ
 units_of w (DoneBy v task units) = if v == w then units else 0
 units_of w (FailedBy v place) = 0
@@ -11,7 +11,7 @@ units_of w (LostBy v) = 0
 units_of w (JoinedBy v) = 0
 units_of w Ticked = 0
 
--- all of worker w, added up, stale ones too
+-- all units of worker w, added up, stale ones too
 abbrev pub units_by : ℕ → List Stamp → ℕ
 units_by w [] = 0
 units_by w (stamp ∷ stamps) = units_of w stamp + units_by w stamps

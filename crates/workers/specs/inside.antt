@@ -1,2 +1,2 @@
-pub mod Driving
+pub mod EventLoop
 pub mod Opening

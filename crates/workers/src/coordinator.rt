@@ -2,11 +2,11 @@
 
 ghost use Rattle.std.specs.Prelude.{◌≡◌, ◌<◌, ◌+◌, ◌++◌, ◌∷◌, [], ℕ, true, Some, IfOk, IfErr, OnOk, OnErr};
 ghost use Rattle.superstep.specs.declared.fault.JobFault.TheVariants.{Closed};
-ghost use Rattle.workers.specs.Answers.{HasSpent, IsDriveFault, IsOpened, Ran, WhereEnded};
+ghost use Rattle.workers.specs.JobAnswers.{HasSpent, IsDriveFault, IsOpened, EndedOver, WhereEnded};
 ghost use Rattle.workers.specs.Messages.{sender_of};
 ghost use Rattle.channels.specs.declared.order.Order.TheVariants.{Do};
 
-use crate::ends::Ends;
+use crate::coordinator_ends::CoordinatorEnds;
 use crate::message::Message;
 use crate::pass::{TickReceipt, WorkerReceipt};
 use checkpoint::Keep;
@@ -16,20 +16,20 @@ use std::sync::Wait;
 use std::thread::Threads;
 use superstep::{JobFault, Origin, Task};
 
-/// What is left of all that sent to the coordinator.
+/// The receipts of all senders to the coordinator.
 #[derive(Drop)]
 pub struct Receipts<J: Origin> {
     pub(crate) ticker: TickReceipt<J>,
     pub(crate) workers: Vec<WorkerReceipt<J>>,
 }
 
-/// The coordinator of a job: it hands tasks to workers, and takes what happens.
+/// The coordinator of a job. It sends tasks to workers and receives messages.
 ///
-/// It has its ends but while `run_job` has lent them to its threads. After a job that was run to its end it has the receipts
-/// of all that sent to it.
+/// It has its channel ends, except while `run_job` lends them to its threads. After a job has run to its end, it has
+/// the receipts of all senders.
 #[derive(Drop)]
 pub struct Coordinator<J: Origin> {
-    pub(crate) ends: Option<Ends<J>>,
+    pub(crate) ends: Option<CoordinatorEnds<J>>,
     pub(crate) receipts: Option<Receipts<J>>,
 }
 
@@ -39,8 +39,8 @@ impl<J: Origin> Coordinator<J> {
     ghost use Rattle.channels.specs.Orders.{at, tasks_in, with_order};
     ghost use Rattle.workers.specs.Passes.{handed_in_by, taken_by, ticked_by};
 
-    // The one that has these ends.
-    pub(crate) fn of(ends: Ends<J>) -> Coordinator<J>
+    // Makes a coordinator with these ends.
+    pub(crate) fn of(ends: CoordinatorEnds<J>) -> Coordinator<J>
         ensures { result.ends ≡ Some ends }
     {
         Coordinator {
@@ -49,8 +49,8 @@ impl<J: Origin> Coordinator<J> {
         }
     }
 
-    /// Sends a task to a worker. It waits where the worker's channel is full. What was handed to the others stays. `Closed`: the
-    /// worker's end is gone, or it was stopped.
+    /// Sends a task to a worker. It waits while the worker's channel is full. `Closed`: the worker's end is gone, or
+    /// the worker was stopped.
     pub fn offer<R: Wait>(&mut self, rt: &R, worker: u32, task: Task<J>) -> Result<(), JobFault>
         requires { worker < staff self.old }
         ensures handed { OnOk result
@@ -72,7 +72,8 @@ impl<J: Origin> Coordinator<J> {
         }
     }
 
-    /// The next message, which is of a sender that there is. It waits for it. `Closed`: every sender's end is gone.
+    /// Waits for the next message and returns it. The message is from a sender that exists. `Closed`: every sender's
+    /// end is gone.
     pub fn take_event<R: Wait>(&mut self, rt: &R) -> Result<Message<J>, JobFault>
         ensures received { IfOk result (λ message.
             received self.new ≡ received self.old ++ message ∷ []) }
@@ -91,8 +92,8 @@ impl<J: Origin> Coordinator<J> {
         }
     }
 
-    /// Stops the ticker and all workers, also those behind a channel that is closed. A worker is stopped once. `Closed`: the end
-    /// of one of them is gone.
+    /// Stops the ticker and all workers, even if the channel of one is closed. A worker is stopped once. `Closed`: the
+    /// end of one of them is gone.
     pub fn stop<R: Wait>(&mut self, rt: &R) -> Result<(), JobFault>
         ensures stopped { OnOk result ((w : ℕ) → w < staff self.new → IsStopped self.new w) }
         ensures tasks { (w : ℕ)
@@ -110,8 +111,8 @@ impl<J: Origin> Coordinator<J> {
         }
     }
 
-    /// What was received of this worker of the hub came once and in order, and so did the tasks that it took. The call changes
-    /// nothing.
+    /// Compares a worker's receipt with what was received and sent: its messages and its tasks came once and in order.
+    /// The call changes nothing.
     pub fn settle(&mut self, receipt: WorkerReceipt<J>) -> WorkerReceipt<J>
         requires worker { receipt.worker < staff self.old }
         requires hub { IsReceiptOf self.old receipt }
@@ -128,7 +129,8 @@ impl<J: Origin> Coordinator<J> {
         }
     }
 
-    /// What was received of the ticker of the hub came once and in order. The call changes nothing.
+    /// Compares the ticker's receipt with what was received: its ticks came once and in order. The call changes
+    /// nothing.
     pub fn settle_ticker(&mut self, receipt: TickReceipt<J>) -> TickReceipt<J>
         requires { IsTickReceiptOf self.old receipt }
         ensures settled { IsTickerSettledBy self.new result }
@@ -143,11 +145,12 @@ impl<J: Origin> Coordinator<J> {
         }
     }
 
-    /// Drives a job to its end, stops the ticker and all workers, takes every bye, and answers what the job ended with.
+    /// Drives a job to its end, stops the ticker and all workers, and waits for every bye. Returns what the job ended
+    /// with.
     ///
-    /// It asks a book that was opened for the job of this hub and not used, a Keep as the hub was opened with, and that nothing was
-    /// received or handed out. Once at the start, and after each event, it hands tasks to the workers that may be free. Where a
-    /// channel is closed it stops all and answers so.
+    /// The hub and the book have to be unused and of this job, and the Keep like the one that the hub was opened with.
+    /// At the start, and after each event, it sends tasks to workers that may be free. If a channel is closed, it stops
+    /// all and returns `Closed`.
     pub fn drive<K: Keep, R: Wait + Threads + Sync + Files + AllocGlobal>(
         &mut self,
         rt: &R,
@@ -158,9 +161,9 @@ impl<J: Origin> Coordinator<J> {
         requires workers { staff self.old ≡ J.work.settings.workers }
         requires book { IsOpened J.work book }
         requires keep { J.honest ≡ true → K.honest keep.old ≡ true }
-        // There is one list of hands and events, of what was handed out and received, over which the job ended so.
+        // There is one list of assignments and events, of what was sent and received, over which the job ended so.
         ensures ran { WhereEnded result
-            (Ran J.work J.honest (received self.new) (handed self.new) result) }
+            (EndedOver J.work J.honest (received self.new) (handed self.new) result) }
         ensures byes { WhereEnded result (HasByes (staff self.new) (received self.new)) }
         ensures stopped { WhereEnded result
             ((w : ℕ) → w < staff self.new → IsStopped self.new w) }

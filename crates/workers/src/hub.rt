@@ -5,24 +5,24 @@ ghost use Rattle.superstep.specs.declared.fault.JobFault.TheVariants.{OutOfMemor
 ghost use Rattle.superstep.specs.declared.fault.Place.TheVariants.{Channel, Open};
 ghost use Rattle.workers.specs.Hub.{IsNewHubOf};
 ghost use Rattle.channels.specs.Orders.{at};
-ghost use Rattle.channels.specs.Lines.{channel_on, sent_on};
-ghost use Rattle.channels.specs.Mail.{channel_of, received_by, senders_of, source_of};
+ghost use Rattle.channels.specs.TaskChannels.{channel_on, sent_on};
+ghost use Rattle.channels.specs.ChannelEnds.{channel_of, received_by, senders_of, source_of};
 
 use crate::coordinator::Coordinator;
-use crate::ends::Ends;
+use crate::coordinator_ends::CoordinatorEnds;
 use crate::message::Message;
 use crate::pass::{TickPass, WorkerPass};
-use channels::{Line, ReceivingEnd, SendingEnd};
+use channels::{ReceivingEnd, SendingEnd, TaskChannel};
 use checkpoint::Keep;
 use std::alloc::{AllocError, Global};
 use std::sync::Arc;
 use std::sync::atomic::AtomicBool;
 use superstep::{Job, JobFault, Origin, Place};
 
-// Room for what there is of each worker and of each sender.
+// The lists with an item for each worker or sender.
 #[derive(Drop)]
 struct Rows<J: Origin> {
-    lines: Vec<Line<J>>,
+    task_channels: Vec<TaskChannel<J>>,
     passes: Vec<WorkerPass<J>>,
     gone: Vec<bool>,
 }
@@ -34,32 +34,32 @@ fn new_rows<J: Origin>(alloc: Global, workers: usize) -> Result<Rows<J>, AllocEr
     ensures { IfOk result (AreEmptyRows workers) }
 {
     Ok(Rows {
-        lines: Vec::with_capacity(alloc, workers)?,
+        task_channels: Vec::with_capacity(alloc, workers)?,
         passes: Vec::with_capacity(alloc, workers)?,
         gone: Vec::from_elem(alloc, false, workers + 1)?,
     })
 }
 
-// The channel of the next worker's tasks, which holds two, and the worker's ends.
-fn open_line<J: Origin>(
+// Opens the next worker's task channel, with room for two orders, and makes the worker's pass.
+fn open_task_channel<J: Origin>(
     alloc: Global,
     worker: u32,
     events: &mut ReceivingEnd<Message<J>>,
     ticks: &SendingEnd<Message<J>>,
-) -> Result<(Line<J>, WorkerPass<J>), AllocError>
+) -> Result<(TaskChannel<J>, WorkerPass<J>), AllocError>
     requires ticks { channel_of ticks.now ≡ source_of events.old }
     requires next { senders_of events.old ≡ worker + 1 }
-    ensures line { IfOk result (λ pair. sent_on pair.0 ≡ []) }
+    ensures task_channel { IfOk result (λ pair. sent_on pair.0 ≡ []) }
     ensures pass { IfOk result (λ pair.
         IsNewPassOf (source_of events.old) (channel_on pair.0) worker pair.1) }
     ensures senders { OnOk result (senders_of events.new ≡ worker + 2) }
     ensures received { received_by events.new ≡ received_by events.old }
     ensures channel { source_of events.new ≡ source_of events.old }
 {
-    let (orders, line) = Line::open(alloc, 2)?;
+    let (orders, task_channel) = TaskChannel::open(alloc, 2)?;
     let mine = events.add_sender(ticks)?;
     Ok((
-        line,
+        task_channel,
         WorkerPass {
             worker,
             events: mine,
@@ -68,8 +68,8 @@ fn open_line<J: Origin>(
     ))
 }
 
-// Those of all workers.
-fn open_lines<J: Origin>(
+// Opens the task channels of all workers, and makes their passes.
+fn open_task_channels<J: Origin>(
     alloc: Global,
     workers: u32,
     events: &mut ReceivingEnd<Message<J>>,
@@ -86,19 +86,20 @@ fn open_lines<J: Origin>(
     ensures channel { source_of events.new ≡ source_of events.old }
 {
     for worker in 0..workers {
-        let (line, pass) = open_line(alloc, worker, events, ticks)?;
-        rows.lines.push_reserved(line);
+        let (task_channel, pass) = open_task_channel(alloc, worker, events, ticks)?;
+        rows.task_channels.push_reserved(task_channel);
         rows.passes.push_reserved(pass);
     }
     Ok(())
 }
 
-// The channels of so many workers and the ticker. That of events holds two more than there are workers.
+// Opens the channels of this many workers and the ticker. The channel of events has room for two messages more than
+// there are workers.
 fn connect<J: Origin>(
     alloc: Global,
     workers: u32,
     mut rows: Rows<J>,
-) -> Result<(Ends<J>, Vec<WorkerPass<J>>, TickPass<J>), AllocError>
+) -> Result<(CoordinatorEnds<J>, Vec<WorkerPass<J>>, TickPass<J>), AllocError>
     requires few { workers ≤ 64 }
     requires rows { AreEmptyRows workers rows }
     ensures { IfOk result (λ hub. IsNewHubOf workers hub.0 hub.1 hub.2) }
@@ -106,16 +107,16 @@ fn connect<J: Origin>(
     let (mut events, ticks) = ReceivingEnd::open(alloc, workers as usize + 2)?;
     let stopped = Arc::new(alloc, AtomicBool::new(false))?;
     let seen = Arc::try_clone(&stopped)?;
-    open_lines(alloc, workers, &mut events, &ticks, &mut rows)?;
+    open_task_channels(alloc, workers, &mut events, &ticks, &mut rows)?;
     let Rows {
-        lines,
+        task_channels,
         passes,
         gone,
     } = rows;
     Ok((
-        Ends {
+        CoordinatorEnds {
             events,
-            lines,
+            task_channels,
             gone,
             stopped,
         },
@@ -133,11 +134,11 @@ pub struct Hub;
 impl Hub {
     ghost use Rattle.workers.specs.Coordinator.{IsNewHub};
 
-    /// The channels of a job, and all their ends: those of the coordinator, of each worker, and of the ticker. The type says
-    /// of which job they are, and whether its Keep is honest.
+    /// Opens the channels of a job. Returns all their ends: the coordinator, the pass of each worker, and that of the
+    /// ticker. The type says of which job they are, and whether its Keep is honest.
     ///
-    /// A task channel holds two tasks, and that of events two more than there are workers. The only refusal is that there is
-    /// no memory: for the lists, to `Open` them, or for a `Channel`.
+    /// A task channel has room for two orders, and the channel of events for two messages more than there are workers.
+    /// It fails only if memory runs out: `OutOfMemory` of `Open` for the lists, of `Channel` for a channel.
     pub fn open<J: Origin, K: Keep>(
         alloc: Global,
         job: &Job,

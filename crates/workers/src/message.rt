@@ -1,10 +1,10 @@
-//! What the coordinator receives.
+//! Messages to the coordinator, and their senders.
 
 use channels::Signed;
 use rollback::Event;
 use superstep::Origin;
 
-/// Who sends to the coordinator.
+/// A sender to the coordinator.
 #[derive(Clone, Copy)]
 pub enum Sender {
     Ticker,
@@ -12,7 +12,7 @@ pub enum Sender {
     Worker(u32),
 }
 
-/// What the coordinator receives.
+/// A message to the coordinator.
 #[derive(Drop)]
 pub enum Message<J: Origin> {
     /// Something happened to the job.
@@ -25,7 +25,7 @@ impl Sender {
     ghost use Rattle.std.specs.Prelude.{◌≡◌};
     ghost use Rattle.workers.specs.Messages.{sender_number};
 
-    /// Its number among the senders.
+    /// Returns its number among the senders.
     pub(crate) fn number(&self) -> usize
         ensures { result ≡ sender_number self.now }
     {

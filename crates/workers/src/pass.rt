@@ -1,12 +1,12 @@
-//! The ends that workers and the ticker have, and what is left of them once they have said bye.
+//! The passes of workers and the ticker, which are their channel ends, and their receipts after a bye.
 
 ghost use Rattle.std.specs.Prelude.{◌≡◌, ◌+◌, ◌++◌, ◌∷◌, [], false, IfOk, IfErr, OnOk, OnErr};
 ghost use Rattle.superstep.specs.declared.fault.JobFault.TheVariants.{Closed};
 ghost use Rattle.rollback.specs.declared.event.Event.TheVariants.{Tick};
-ghost use Rattle.channels.specs.Mail.{number_of, sent_by};
+ghost use Rattle.channels.specs.ChannelEnds.{number_of, sent_by};
 ghost use Rattle.workers.specs.Messages.{closes, event_sender};
 ghost use Rattle.channels.specs.Orders.{order_of};
-ghost use Rattle.channels.specs.Rule.{has_bye};
+ghost use Rattle.channels.specs.Protocol.{has_bye};
 ghost use Rattle.workers.specs.declared.message.Message.TheVariants.{Bye, Event as Happened};
 ghost use Rattle.workers.specs.declared.message.Sender.TheVariants.{Ticker, Worker};
 
@@ -18,7 +18,7 @@ use std::sync::atomic::{AtomicBool, Ordering};
 use std::sync::{Arc, Wait};
 use superstep::{JobFault, Origin, Task};
 
-/// The ends of a worker: it takes tasks, and hands in events.
+/// The ends of a worker: with them it takes tasks and sends events.
 #[derive(Drop)]
 pub struct WorkerPass<J: Origin> {
     pub(crate) worker: u32,
@@ -28,7 +28,7 @@ pub struct WorkerPass<J: Origin> {
     pub ghost open: { has_bye closes (sent_by events) ≡ false },
 }
 
-/// What is left of the ends of a worker that said bye: what it handed in and what it took.
+/// The receipt of a worker that has said bye: what it sent and what it took.
 #[derive(Drop)]
 pub struct WorkerReceipt<J: Origin> {
     pub(crate) worker: u32,
@@ -46,7 +46,7 @@ pub struct TickPass<J: Origin> {
     pub ghost open: { has_bye closes (sent_by events) ≡ false },
 }
 
-/// What is left of the end of the ticker once it said bye: what it handed in.
+/// The receipt of the ticker that has said bye: what it sent.
 #[derive(Drop)]
 pub struct TickReceipt<J: Origin> {
     pub(crate) events: SendingEnd<Message<J>>,
@@ -56,14 +56,15 @@ pub struct TickReceipt<J: Origin> {
 impl<J: Origin> WorkerPass<J> {
     ghost use Rattle.workers.specs.Passes.{IsReceipt, IsSamePass, handed_in, handed_in_by, taken, taken_by, worker_of};
 
-    /// The worker's number.
+    /// Returns the worker's number.
     pub fn worker(&self) -> u32
         ensures { result ≡ worker_of self.now }
     {
         self.worker
     }
 
-    /// The next task, or none where the coordinator stopped this worker. It waits for it. `Closed`: the coordinator is gone.
+    /// Waits for the next task and returns it, or `None` if the coordinator stopped this worker. `Closed`: the
+    /// coordinator is gone.
     pub fn take<R: Wait>(&mut self, rt: &R) -> Result<Option<Task<J>>, JobFault>
         ensures taken { IfOk result (λ task.
             taken self.new ≡ taken self.old ++ order_of task ∷ []) }
@@ -79,7 +80,7 @@ impl<J: Origin> WorkerPass<J> {
         }
     }
 
-    /// Hands in an event of this worker. It waits where the channel is full. `Closed`: the coordinator is gone.
+    /// Sends an event of this worker. It waits while the channel is full. `Closed`: the coordinator is gone.
     pub fn hand_in<R: Wait>(&mut self, rt: &R, event: Event<J>) -> Result<(), JobFault>
         requires { event_sender event ≡ worker_of self.old + 1 }
         ensures handed_in { OnOk result
@@ -95,7 +96,7 @@ impl<J: Origin> WorkerPass<J> {
         }
     }
 
-    /// Says bye: the worker hands in nothing more. `Closed`: the coordinator is gone.
+    /// Says bye, after which the worker sends nothing. `Closed`: the coordinator is gone.
     pub fn bye<R: Wait>(self, rt: &R) -> Result<WorkerReceipt<J>, JobFault>
         ensures handed_in { IfOk result (λ receipt.
             handed_in_by receipt ≡ handed_in self ++ Bye (Worker (worker_of self)) ∷ []) }
@@ -126,12 +127,12 @@ impl<J: Origin> WorkerPass<J> {
 impl<J: Origin> TickPass<J> {
     ghost use Rattle.workers.specs.Passes.{IsSameTicker, IsTickReceipt, ticked, ticked_by};
 
-    /// Whether the coordinator has stopped all. Nothing is claimed of it.
+    /// Returns whether the coordinator has stopped all. Nothing is claimed of the answer.
     pub fn stopped(&self) -> bool {
         self.stopped.load(Ordering::SeqCst)
     }
 
-    /// Lets one tick pass. It waits where the channel is full. `Closed`: the coordinator is gone.
+    /// Sends one tick. It waits while the channel is full. `Closed`: the coordinator is gone.
     pub fn tick<R: Wait>(&mut self, rt: &R) -> Result<(), JobFault>
         ensures ticked { OnOk result (ticked self.new ≡ ticked self.old ++ Happened Tick ∷ []) }
         ensures refused { IfErr result (λ fault. fault ≡ Closed) }
@@ -144,7 +145,7 @@ impl<J: Origin> TickPass<J> {
         }
     }
 
-    /// Says bye: the ticker hands in nothing more. `Closed`: the coordinator is gone.
+    /// Says bye, after which the ticker sends nothing. `Closed`: the coordinator is gone.
     pub fn bye<R: Wait>(self, rt: &R) -> Result<TickReceipt<J>, JobFault>
         ensures ticked { IfOk result (λ receipt.
             ticked_by receipt ≡ ticked self ++ Bye Ticker ∷ []) }

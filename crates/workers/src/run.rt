@@ -1,19 +1,21 @@
-//! A job is run in threads.
+//! Running a job in threads.
 
 ghost use Rattle.std.specs.Thread.{IsSync};
-ghost use Rattle.std.specs.Prelude.{◌≡◌, true, IfErr, IfOk};
-ghost use Rattle.workers.specs.Answers.{HasSpent, IsDriveFault, IsOpened, IsRunFault, Ran, WhereEnded, WhereRefused, WhereRun, has_ended};
+ghost use Rattle.std.specs.Prelude.{◌≡◌, ◌<◌, true, IfErr, IfOk, Some};
+ghost use Rattle.rollback.specs.Saving.{HasLeft, KeepsFor};
+ghost use Rattle.workers.specs.JobAnswers.{HasSpent, IsDriveFault, IsRunFault, EndedOver, RanFrom, RanOn, WhereEnded, WhereRefused, WhereRun, has_ended};
 ghost use Rattle.workers.specs.Coordinator as lent;
 ghost use Rattle.workers.specs.Hub.{HasByes, IsNewHubOf, IsSameHub, IsUnused, handed, received, staff};
 ghost use Rattle.workers.specs.Threads.{AreThreadsOf, HasSettled, IsIdle};
+ghost use Rattle.workers.specs.inside.EventLoop.{IsUnspent};
 
+use crate::audit::settle_all;
 use crate::coordinator::{Coordinator, Receipts};
-use crate::ends::Ends;
+use crate::coordinator_ends::CoordinatorEnds;
 use crate::gate::Gate;
-use crate::hired::Hired;
 use crate::pass::{TickPass, WorkerPass};
-use crate::settling::settle_all;
-use crate::staffing::hire_all;
+use crate::spawning::spawn_all;
+use crate::thread_promises::HubThreads;
 use checkpoint::Keep;
 use rollback::{Book, Report};
 use std::alloc::Global;
@@ -23,7 +25,7 @@ use std::thread;
 use std::thread::Threads;
 use superstep::{Job, JobFault, Origin};
 
-// Whether the job was driven to its end.
+// Returns whether the job was driven to its end.
 fn was_driven(answer: &Result<Report, JobFault>) -> bool
     ensures { result ≡ has_ended answer.now }
 {
@@ -33,21 +35,22 @@ fn was_driven(answer: &Result<Report, JobFault>) -> bool
     }
 }
 
-// Drives the job to its end, joins all threads, and settles what they sent and took.
+// Drives the job to its end, joins all threads, and compares their receipts.
 fn drive_all<J: Origin, K: Keep, R: Wait + Threads + Sync + Files + AllocGlobal>(
     rt: &R,
-    ends: &mut Ends<J>,
-    hired: Hired<J>,
+    ends: &mut CoordinatorEnds<J>,
+    spawned: HubThreads<J>,
     book: Book<J>,
     keep: &mut K,
 ) -> (Option<Receipts<J>>, Result<Report, JobFault>)
     requires unused { IsUnused ends.old }
     requires workers { staff ends.old ≡ J.work.settings.workers }
-    requires book { IsOpened J.work book }
-    requires keep { J.honest ≡ true → K.honest keep.old ≡ true }
-    requires hired { AreThreadsOf ends.old hired }
+    requires book { IsUnspent J.work book }
+    requires keep { KeepsFor J.work J.honest (K.honest keep.old) (K.saved keep.old)
+        (K.may_load keep.old) book }
+    requires spawned { AreThreadsOf ends.old spawned }
     ensures ran { WhereEnded result.1
-        (Ran J.work J.honest (received ends.new) (handed ends.new) result.1) }
+        (RanFrom J.work J.honest book.entry (received ends.new) (handed ends.new) result.1) }
     ensures byes { WhereEnded result.1 (HasByes (staff ends.new) (received ends.new)) }
     ensures spent { IfOk result.1 (HasSpent (staff ends.new) (received ends.new)) }
     ensures settled { WhereEnded result.1 (HasSettled ends.new result.0) }
@@ -56,10 +59,10 @@ fn drive_all<J: Origin, K: Keep, R: Wait + Threads + Sync + Files + AllocGlobal>
 {
     let answer = ends.drive(rt, book, keep);
     if !was_driven(&answer) {
-        drop(hired);
+        drop(spawned);
         return (None, answer);
     }
-    match settle_all(rt, ends, hired) {
+    match settle_all(rt, ends, spawned) {
         Ok(receipts) => (Some(receipts), answer),
         Err(_) => {
             drop(answer);
@@ -68,10 +71,10 @@ fn drive_all<J: Origin, K: Keep, R: Wait + Threads + Sync + Files + AllocGlobal>
     }
 }
 
-// Starts all threads in a scope, drives the job to its end, and gives the ends back with the receipts of what the threads sent.
-// Where a thread cannot be started, those that run are stopped: each sends its bye alone, for which the channel has room, and
+// Starts all threads in a scope and drives the job to its end. Returns the ends with the receipts of the threads. If a
+// thread cannot be started, the running ones are stopped. Each sends only its bye, for which the channel has room, and
 // the scope joins them.
-fn run_hired<
+fn run_spawned<
     J: Origin + Send + Sync,
     K: Keep + Drop,
     G: Gate + Sync,
@@ -81,18 +84,22 @@ fn run_hired<
     alloc: Global,
     job: &Job,
     gate: &G,
-    ends: Ends<J>,
+    ends: CoordinatorEnds<J>,
     passes: Vec<WorkerPass<J>>,
     ticker: TickPass<J>,
     book: Book<J>,
     keep: K,
-) -> (Ends<J>, Option<Receipts<J>>, Result<Report, JobFault>)
+) -> (
+    CoordinatorEnds<J>,
+    Option<Receipts<J>>,
+    Result<Report, JobFault>,
+)
     requires job { J.work ≡ job.now }
     requires hub { IsNewHubOf J.work.settings.workers ends passes ticker }
-    requires book { IsOpened J.work book }
-    requires keep { J.honest ≡ true → K.honest keep ≡ true }
+    requires book { IsUnspent J.work book }
+    requires keep { KeepsFor J.work J.honest (K.honest keep) (K.saved keep) (K.may_load keep) book }
     ensures ran { WhereEnded result.2
-        (Ran J.work J.honest (received result.0) (handed result.0) result.2) }
+        (RanFrom J.work J.honest book.entry (received result.0) (handed result.0) result.2) }
     ensures byes { WhereEnded result.2 (HasByes (staff result.0) (received result.0)) }
     ensures spent { IfOk result.2 (HasSpent (staff result.0) (received result.0)) }
     ensures settled { WhereEnded result.2 (HasSettled result.0 result.1) }
@@ -104,14 +111,15 @@ fn run_hired<
         thread::scope_env(),
         rt,
         |scope|
-            // A closure knows of the bounds only what it asks.
+            // A closure knows of the bounds only what it requires.
             requires sync { IsSync R.row × IsSync G.row }
             requires job { J.work ≡ job.now }
             requires hub { IsNewHubOf J.work.settings.workers ends passes ticker }
-            requires book { IsOpened J.work book }
-            requires keep { J.honest ≡ true → K.honest keep ≡ true }
+            requires book { IsUnspent J.work book }
+            requires keep { KeepsFor J.work J.honest (K.honest keep) (K.saved keep)
+                (K.may_load keep) book }
             ensures ran { WhereEnded result.2
-                (Ran J.work J.honest (received result.0) (handed result.0) result.2) }
+                (RanFrom J.work J.honest book.entry (received result.0) (handed result.0) result.2) }
             ensures byes { WhereEnded result.2 (HasByes (staff result.0) (received result.0)) }
             ensures spent { IfOk result.2 (HasSpent (staff result.0) (received result.0)) }
             ensures settled { WhereEnded result.2 (HasSettled result.0 result.1) }
@@ -121,9 +129,9 @@ fn run_hired<
         {
             let mut mine = ends;
             let mut keep = keep;
-            match hire_all(scope, rt, alloc, job, gate, &mine, passes, ticker) {
-                Ok(hired) => {
-                    let (receipts, answer) = drive_all(rt, &mut mine, hired, book, &mut keep);
+            match spawn_all(scope, rt, alloc, job, gate, &mine, passes, ticker) {
+                Ok(spawned) => {
+                    let (receipts, answer) = drive_all(rt, &mut mine, spawned, book, &mut keep);
                     (mine, receipts, answer)
                 }
                 Err(fault) => {
@@ -136,12 +144,12 @@ fn run_hired<
     )
 }
 
-/// Runs a job in threads, one for each worker and the ticker's, and answers what it ended with.
+/// Runs a job in threads, one for each worker and one for the ticker. Returns what the job ended with.
 ///
-/// It asks all parts of one hub of this job, which have sent and taken nothing, and a Keep as the hub was opened with. Want of
-/// memory to `Open` the book comes before any thread is started. ThreadRefused: a thread could not be started, for want of
-/// memory too; those that were are stopped and joined, and nothing was received or handed out. Closed: a channel's other end is
-/// gone.
+/// Its precondition: the coordinator and the passes are those of one unused hub of this job, and the Keep is like the
+/// one that the hub was opened with. `OutOfMemory` of `Open`, for the book, comes before any thread is started.
+/// `ThreadRefused`: a thread could not be started, perhaps as memory ran out. The started ones were stopped and joined,
+/// and no task was sent or event received. `Closed`: a channel's other end is gone.
 pub fn run_job<
     J: Origin + Send + Sync,
     K: Keep + Drop,
@@ -160,16 +168,16 @@ pub fn run_job<
     requires job { J.work ≡ job.now }
     requires hub { lent.IsNewHub job.now.settings.workers coordinator.old passes ticker }
     requires keep { J.honest ≡ true → K.honest keep ≡ true }
-    // There is one list of hands and events, of what was handed out and received, over which the job ended so.
+    // There is one list of assignments and events, of what was sent and received, over which the job ended so.
     ensures ran { WhereRun result
-        (Ran J.work J.honest (lent.received coordinator.new)
+        (EndedOver J.work J.honest (lent.received coordinator.new)
         (lent.handed coordinator.new) result) }
     ensures byes { WhereRun result
         (HasByes (lent.staff coordinator.new) (lent.received coordinator.new)) }
     ensures spent { IfOk result
         (HasSpent (lent.staff coordinator.new) (lent.received coordinator.new)) }
     ensures handed_in { IfOk result (lent.HasHandedIn coordinator.new) }
-    // All that the threads sent was received, once and in order, and what workers took is what they were handed.
+    // All that the threads sent was received, once and in order, and what workers took is what they were sent.
     ensures settled { WhereRun result (lent.IsSettled coordinator.new) }
     ensures idle { WhereRefused result (lent.IsIdle coordinator.new) }
     ensures refused { IfErr result IsRunFault }
@@ -187,7 +195,70 @@ pub fn run_job<
         drop(ticker);
         return Err(JobFault::Closed);
     };
-    let (ends, receipts, answer) = run_hired(
+    let (ends, receipts, answer) = run_spawned(
+        rt, alloc, job, gate, ends, passes, ticker, book, keep,
+    );
+    coordinator.ends = Some(ends);
+    coordinator.receipts = receipts;
+    answer
+}
+
+/// Runs a job in threads as `run_job` does, but goes on where an earlier run of it has left off: before a superstep whose state
+/// the Keep has. It begins as after a loss of all workers, by loading that state, or with superstep 0 where it can't be had,
+/// which counts as a restart.
+///
+/// It asks besides that the superstep is the Keep's last and below the limit, and, where the hub was opened with an honest Keep,
+/// that what it may load is the job's state there. It refuses as `run_job` does.
+pub fn resume_job<
+    J: Origin + Send + Sync,
+    K: Keep + Drop,
+    G: Gate + Sync,
+    R: Wait + Threads + Sync + Files + AllocGlobal,
+>(
+    rt: &R,
+    alloc: Global,
+    job: &Job,
+    coordinator: &mut Coordinator<J>,
+    passes: Vec<WorkerPass<J>>,
+    ticker: TickPass<J>,
+    keep: K,
+    gate: &G,
+    superstep: u32,
+) -> Result<Report, JobFault>
+    requires job { J.work ≡ job.now }
+    requires hub { lent.IsNewHub job.now.settings.workers coordinator.old passes ticker }
+    requires early { superstep < job.now.settings.limit }
+    requires saved { K.saved keep ≡ Some superstep }
+    requires keep { J.honest ≡ true → K.honest keep ≡ true }
+    requires left { J.honest ≡ true → HasLeft J.work (K.may_load keep) superstep }
+    // There is one list of hands and events from that state on, of what was handed out and received, over which the job ended so.
+    ensures ran { WhereRun result
+        (RanOn J.work J.honest superstep (lent.received coordinator.new)
+        (lent.handed coordinator.new) result) }
+    ensures byes { WhereRun result
+        (HasByes (lent.staff coordinator.new) (lent.received coordinator.new)) }
+    ensures spent { IfOk result
+        (HasSpent (lent.staff coordinator.new) (lent.received coordinator.new)) }
+    ensures handed_in { IfOk result (lent.HasHandedIn coordinator.new) }
+    ensures settled { WhereRun result (lent.IsSettled coordinator.new) }
+    ensures idle { WhereRefused result (lent.IsIdle coordinator.new) }
+    ensures refused { IfErr result IsRunFault }
+    ensures hub { lent.IsSameHub coordinator.old coordinator.new }
+{
+    let mut keep = keep;
+    let book = match Book::resume(rt, alloc, job, &mut keep, superstep) {
+        Ok(book) => book,
+        Err(fault) => {
+            drop(ticker);
+            return Err(fault);
+        }
+    };
+    let Some(ends) = coordinator.ends.take() else {
+        drop(book);
+        drop(ticker);
+        return Err(JobFault::Closed);
+    };
+    let (ends, receipts, answer) = run_spawned(
         rt, alloc, job, gate, ends, passes, ticker, book, keep,
     );
     coordinator.ends = Some(ends);

@@ -1,12 +1,13 @@
-//! A job is run in threads over a hub of its own.
+//! Running a job in threads over a hub of its own.
 
-ghost use Rattle.std.specs.Prelude.{◌≡◌, true, IfErr, IfOk};
+ghost use Rattle.std.specs.Prelude.{◌≡◌, ◌<◌, true, IfErr, IfOk, Some};
+ghost use Rattle.rollback.specs.Saving.{HasLeft};
 ghost use Rattle.superstep.specs.Ending.{IsEndOf};
-ghost use Rattle.workers.specs.Answers.{IsRunFault};
+ghost use Rattle.workers.specs.JobAnswers.{IsRunFault};
 
 use crate::gate::Gate;
 use crate::hub::Hub;
-use crate::run::run_job;
+use crate::run::{resume_job, run_job};
 use checkpoint::Keep;
 use rollback::Report;
 use std::alloc::Global;
@@ -16,7 +17,7 @@ use std::sync::Wait;
 use std::thread::Threads;
 use superstep::{Job, JobFault, Origin};
 
-// The same for a job that a type names.
+// Does the same for a job that a type names.
 fn run_as<
     J: Origin + Send + Sync,
     K: Keep + Drop,
@@ -35,10 +36,11 @@ fn run_as<
     answer
 }
 
-/// Runs a job in threads over a hub of its own, its states kept here and its workers lost as the gate says, and answers what it
-/// ended with: where the Keep is honest, what the plain run ends with, and the units of each superstep from the first on.
+/// Runs a job in threads over a hub of its own. Its states are saved in this Keep, and its workers are lost as the gate
+/// says. Returns what the job ended with. If the Keep is honest, that is the end of the plain run, with the units of
+/// each superstep from the first on.
 ///
-/// It refuses as `Hub::open` and `run_job` do.
+/// Its faults are those of `Hub::open` and `run_job`.
 pub fn run_in_threads<
     K: Keep + Drop,
     G: Gate + Sync,
@@ -50,4 +52,57 @@ pub fn run_in_threads<
     ensures refused { IfErr result IsRunFault }
 {
     run_as::<Brand, K, G, R>(rt, alloc, job, keep, gate)
+}
+
+// The same for a job that a type names.
+fn resume_as<
+    J: Origin + Send + Sync,
+    K: Keep + Drop,
+    G: Gate + Sync,
+    R: Wait + Threads + Sync + Files + AllocGlobal,
+>(rt: &R, alloc: Global, job: &Job, keep: K, gate: &G, superstep: u32) -> Result<Report, JobFault>
+    requires job { J.work ≡ job.now }
+    requires honest { J.honest ≡ K.honest keep }
+    requires early { superstep < job.now.settings.limit }
+    requires saved { K.saved keep ≡ Some superstep }
+    requires left { K.honest keep ≡ true → HasLeft job.now (K.may_load keep) superstep }
+    ensures answer { J.honest ≡ true → IfOk result (λ report. IsEndOf J.work report.ended) }
+    ensures since { J.honest ≡ true → IfOk result (λ report. report.ended.since ≡ 0) }
+    ensures refused { IfErr result IsRunFault }
+{
+    let (mut coordinator, passes, ticker) = Hub::open::<J, K>(alloc, job, &keep)?;
+    let answer = resume_job(
+        rt,
+        alloc,
+        job,
+        &mut coordinator,
+        passes,
+        ticker,
+        keep,
+        gate,
+        superstep,
+    );
+    drop(coordinator);
+    answer
+}
+
+/// Runs a job in threads as `run_in_threads` does, but goes on where an earlier run of it has left off: before the superstep of the
+/// Keep's last save, which has to be below the limit. It answers what the job ended with: where the Keep is honest and what it may
+/// load is the job's state there, what the plain run from superstep 0 on ends with.
+///
+/// It refuses as `Hub::open` and `resume_job` do.
+pub fn resume_in_threads<
+    K: Keep + Drop,
+    G: Gate + Sync,
+    R: Wait + Threads + Sync + Files + AllocGlobal,
+>(rt: &R, alloc: Global, job: &Job, keep: K, gate: &G, superstep: u32) -> Result<Report, JobFault>
+    requires early { superstep < job.now.settings.limit }
+    requires saved { K.saved keep ≡ Some superstep }
+    requires left { K.honest keep ≡ true → HasLeft job.now (K.may_load keep) superstep }
+    ensures answer { K.honest keep ≡ true
+        → IfOk result (λ report. IsEndOf job.now report.ended) }
+    ensures since { K.honest keep ≡ true → IfOk result (λ report. report.ended.since ≡ 0) }
+    ensures refused { IfErr result IsRunFault }
+{
+    resume_as::<Brand, K, G, R>(rt, alloc, job, keep, gate, superstep)
 }

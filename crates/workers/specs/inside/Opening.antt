@@ -2,8 +2,8 @@
 use Rattle.std.specs.Prelude.{◌≡◌, ◌≤◌, ◌+◌, ℕ, false, [], map, replicate, vec_len, vec_capacity}
 use Rattle.workers.specs.Hub.{AreNewPasses}
 use Rattle.channels.specs.Orders.{at}
-use Rattle.channels.specs.Lines.{channel_on, sent_on}
-use Rattle.channels.specs.Mail.{channel_of, source_of}
+use Rattle.channels.specs.TaskChannels.{channel_on, sent_on}
+use Rattle.channels.specs.ChannelEnds.{channel_of, source_of}
 use Rattle.workers.specs.Passes as pass
 use Rattle.workers.specs.declared.hub.Rows.{Rows}
 use Rattle.workers.specs.declared.message.Message.{Message}
@@ -12,11 +12,11 @@ use Rattle.workers.specs.declared.pass.WorkerPass.{WorkerPass}
 use Rattle.channels.specs.Channel.{Channel}
 
 module _ {J : Type 0} where
-  -- there is room for so many workers
+  -- there is room for this many workers
   pub record AreEmptyRows (workers : ℕ) (rows : Rows J) : Type 0 where
-    pub lines : rows.lines.items ≡ []
+    pub task_channels : rows.task_channels.items ≡ []
     pub passes : rows.passes.items ≡ []
-    pub lines_room : workers ≤ vec_capacity rows.lines
+    pub task_channels_room : workers ≤ vec_capacity rows.task_channels
     pub passes_room : workers ≤ vec_capacity rows.passes
     pub gone : rows.gone.items ≡ replicate (workers + 1) false
 
@@ -28,9 +28,9 @@ module _ {J : Type 0} where
     pub nothing_handed_in : pass.handed_in mine ≡ []
     pub nothing_taken : pass.taken mine ≡ []
 
-  -- so many workers have new lines and passes
+  -- this many workers have new task channels and passes
   pub record AreFilledRows (events : Channel (Message J)) (workers : ℕ) (rows : Rows J) : Type 0 where
-    pub lines : vec_len rows.lines ≡ workers
+    pub task_channels : vec_len rows.task_channels ≡ workers
     pub passes : vec_len rows.passes ≡ workers
-    pub nothing : (w : ℕ) → at (map sent_on rows.lines.items) w ≡ []
-    pub new : AreNewPasses (record { events = events; orders = map channel_on rows.lines.items }) 0 rows.passes.items
+    pub nothing : (w : ℕ) → at (map sent_on rows.task_channels.items) w ≡ []
+    pub new : AreNewPasses (record { events = events; orders = map channel_on rows.task_channels.items }) 0 rows.passes.items

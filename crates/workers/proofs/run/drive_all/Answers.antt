@@ -1,13 +1,13 @@
 use Rattle.std.proofs.Common.{◌≡◌, false, ℕ, sym, ◌∙◌, subst, IfOk}
-use Rattle.workers.specs.Answers.{HasSpent, Ran, WhereEnded, has_ended}
+use Rattle.workers.specs.JobAnswers.{HasSpent, RanFrom, WhereEnded, has_ended}
 use Rattle.workers.specs.Hub.{HasByes, handed, received, staff}
 use Rattle.workers.proofs.Ending.{not_ended, where_ended}
 use Rattle.workers.proofs.Handing.{hub_then}
-use Rattle.workers.proofs.Hiring.{threads_same}
+use Rattle.workers.proofs.SpawnedThreads.{threads_same}
 use Rattle.workers.proofs.run.drive_all.Goals as goal
 
 pub settle_all-requires : goal.settle_all-requires
-settle_all-requires g c = threads_same c.args.ends.now c.drive-answer.new.self c.args.hired c.drive-answer.ensures.hub c.requires.hired
+settle_all-requires g c = threads_same c.args.ends.now c.drive-answer.new.self c.args.spawned c.drive-answer.ensures.hub c.requires.spawned
 
 pub returns-then-not-was_driven-clause-settled : goal.returns-then-not-was_driven-clause-settled
 returns-then-not-was_driven-clause-settled g c =
@@ -21,8 +21,8 @@ returns-in-Ok-clause-ran g c =
     let r = c.drive-answer.result in
     let e = c.drive-answer.new.self in
     let f = c.settle_all.new.ends in
-    subst (λ l. WhereEnded r (Ran work honest l (handed f) r)) (sym c.settle_all.ensures.received)
-    (subst (λ l. WhereEnded r (Ran work honest (received e) l r)) (sym c.settle_all.ensures.handed) c.drive-answer.ensures.ran)
+    subst (λ l. WhereEnded r (RanFrom work honest c.args.book l (handed f) r)) (sym c.settle_all.ensures.received)
+    (subst (λ l. WhereEnded r (RanFrom work honest c.args.book (received e) l r)) (sym c.settle_all.ensures.handed) c.drive-answer.ensures.ran)
 
 pub returns-in-Ok-clause-byes : goal.returns-in-Ok-clause-byes
 returns-in-Ok-clause-byes g c =

@@ -1,4 +1,4 @@
-use Rattle.workers.proofs.Told.{answer_told, since_told}
+use Rattle.workers.proofs.RunAnswers.{answer_told, since_told}
 use Rattle.workers.proofs.threads.run_as.Goals as goal
 
 pub returns-clause-answer : goal.returns-clause-answer

@@ -1,7 +1,0 @@
-use Rattle.std.proofs.Common.{ap}
-use Rattle.channels.proofs.Rules.{forks}
-use Rattle.channels.proofs.mail.ReceivingEnd.add_sender.Goals as goal
-
-pub another-pass-requires-clause-rule : goal.another-pass-requires-clause-rule
-another-pass-requires-clause-rule g c =
-    forks g.M.Signed.from g.M.Signed.closes _ _ (ap (λ v. v.reads) c.args.self.now.role)

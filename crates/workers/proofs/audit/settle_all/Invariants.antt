@@ -1,0 +1,17 @@
+use Rattle.std.proofs.Common.{◌≡◌, ◌+◌, ◌≤◌, vec_len, vec_capacity}
+use Rattle.std.specs.Vec.Iter.{into_iter_items, into_iter_len}
+use Rattle.workers.specs.Hub.{IsSameHub, IsTickerSettled, handed, received, staff}
+use Rattle.workers.specs.Threads.{AreSpawned, AreSettled}
+use Rattle.workers.proofs.audit.settle_all.Given as goal
+
+abbrev pub invariant-loop-thread : goal.invariant-loop-thread
+invariant-loop-thread g l = record {
+  spawned : AreSpawned l.fn.ends (vec_len l.receipts) (into_iter_items l.thread-iterator);
+  all : vec_len l.receipts + into_iter_len l.thread-iterator ≡ staff l.fn.ends;
+  room : staff l.fn.ends ≤ vec_capacity l.receipts;
+  ticker : IsTickerSettled l.ends l.ticker;
+  settled : AreSettled l.ends 0 l.receipts.items;
+  received : received l.ends ≡ received l.fn.ends;
+  handed : handed l.ends ≡ handed l.fn.ends;
+  hub : IsSameHub l.fn.ends l.ends;
+}

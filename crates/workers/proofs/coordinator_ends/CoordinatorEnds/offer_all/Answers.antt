@@ -1,0 +1,32 @@
+use Rattle.std.proofs.Common.{◌∙◌, refl, rules}
+use Rattle.workers.specs.Hub.{handed, received}
+use Rattle.workers.proofs.Handing.{hub_same, hub_then}
+use Rattle.workers.proofs.Moving.{steps_none, steps_then}
+use Rattle.workers.proofs.coordinator_ends.CoordinatorEnds.offer_all.Goals as goal
+
+pub loop-worker-init : goal.loop-worker-init
+loop-worker-init g c =
+    let s = c.args.self.now in
+    record {
+      steps = steps_none g.J.Origin.work g.J.Origin.honest c.args.book.now (received s) (handed s);
+      saved = refl;
+      hub = hub_same s;
+      all = search rules;
+    }
+
+pub loop-worker-preserved : goal.loop-worker-preserved
+loop-worker-preserved g c =
+    let i = c.loop-worker.invariant in
+    let o = c.offer_next.ensures in
+    record {
+      steps = steps_then g.J.Origin.work g.J.Origin.honest i.steps c.in_ok-offer_next.ensures.steps;
+      saved = o.saved ∙ i.saved;
+      hub = hub_then i.hub o.hub;
+      all = i.all;
+    }
+
+pub returns-in_err-offer_next-clause-saved : goal.returns-in_err-offer_next-clause-saved
+returns-in_err-offer_next-clause-saved g c = c.offer_next.ensures.saved ∙ c.loop-worker.invariant.saved
+
+pub returns-in_err-offer_next-clause-hub : goal.returns-in_err-offer_next-clause-hub
+returns-in_err-offer_next-clause-hub g c = hub_then c.loop-worker.invariant.hub c.offer_next.ensures.hub

@@ -1,0 +1,31 @@
+use Rattle.workers.proofs.Ending.{ran_begun, unspent_begun, where_mapped, where_run}
+use Rattle.workers.proofs.HandedIn.{handed_in}
+use Rattle.workers.specs.Hub.{handed, received}
+use Rattle.workers.proofs.run.resume_job.Goals as goal
+
+pub run_spawned-ends-requires-clause-book : goal.run_spawned-ends-requires-clause-book
+run_spawned-ends-requires-clause-book g c _ _ =
+    let b = c.in-Ok.ensures.begun in
+    unspent_begun g.J.Origin.work c.in-Ok.book b.heard c.args.superstep b.machine
+
+pub run_spawned-ends-requires-clause-keep : goal.run_spawned-ends-requires-clause-keep
+run_spawned-ends-requires-clause-keep g c _ _ = c.in-Ok.ensures.begun.keeps
+
+pub returns-clause-ran : goal.returns-clause-ran
+returns-clause-ran g c =
+    let r = c.run_spawned-ends.result in
+    let b = c.in-Ok.ensures.begun in
+    where_run r.2 _
+    (where_mapped r.2 _ _ (ran_begun g.J.Origin.work g.J.Origin.honest c.in-Ok.book (received r.0) (handed r.0) r.2 c.args.superstep b.heard b.machine) c.run_spawned-ends.ensures.ran)
+
+pub returns-clause-byes : goal.returns-clause-byes
+returns-clause-byes g c = where_run c.run_spawned-ends.result.2 _ c.run_spawned-ends.ensures.byes
+
+pub returns-clause-settled : goal.returns-clause-settled
+returns-clause-settled g c = where_run c.run_spawned-ends.result.2 _ c.run_spawned-ends.ensures.settled
+
+pub returns-clause-handed_in : goal.returns-clause-handed_in
+returns-clause-handed_in g c =
+    let r = c.run_spawned-ends.result in
+    let e = c.run_spawned-ends.ensures in
+    handed_in r.0 r.1 r.2 e.settled e.byes e.spent

@@ -1,0 +1,10 @@
+use Rattle.workers.proofs.RunAnswers.{answer_told_on, since_told_on}
+use Rattle.workers.proofs.threads.resume_as.Goals as goal
+
+pub returns-clause-answer : goal.returns-clause-answer
+returns-clause-answer g c = λ sure.
+    answer_told_on g.J.Origin.work g.J.Origin.honest _ _ c.args.superstep c.resume_job-answer.result c.resume_job-answer.ensures.ran sure
+
+pub returns-clause-since : goal.returns-clause-since
+returns-clause-since g c = λ sure.
+    since_told_on g.J.Origin.work g.J.Origin.honest _ _ c.args.superstep c.resume_job-answer.result c.resume_job-answer.ensures.ran sure

@@ -1,0 +1,35 @@
+-- The state of the event loop.
+use Rattle.std.specs.Prelude.{◌≡◌, ◌<◌, ℕ, Bool, true, false, length, replicate}
+use Rattle.superstep.specs.declared.fault.JobFault.{JobFault}
+use Rattle.superstep.specs.declared.fault.JobFault.TheVariants.{Closed, NoWorkers, OutOfMemory, Settings, ThreadRefused}
+use Rattle.superstep.specs.Job.{Work}
+use Rattle.rollback.specs.declared.job_status.JobStatus.{JobStatus}
+use Rattle.rollback.specs.declared.job_status.JobStatus.TheVariants.{Fault, Finished, Limit, Running}
+use Rattle.rollback.specs.Machine.{Machine, is_running}
+use Rattle.workers.specs.Hub.{IsStopped, staff}
+use Rattle.workers.specs.declared.coordinator_ends.CoordinatorEnds.{CoordinatorEnds}
+
+-- the job has ended, and every worker was stopped
+pub record IsOver {J : Type 0} (book : Machine) (ends : CoordinatorEnds J) : Type 0 where
+  pub ended : is_running book.ending ≡ false
+  pub stopped : (w : ℕ) → w < staff ends → IsStopped ends w
+
+-- a fault of the book's own: there is no memory, or no worker
+abbrev pub is_own_fault : JobFault → Bool
+is_own_fault (OutOfMemory place) = true
+is_own_fault NoWorkers = true
+is_own_fault (Settings setting) = false
+is_own_fault ThreadRefused = false
+is_own_fault Closed = false
+
+abbrev pub is_own : JobStatus → Bool
+is_own Running = true
+is_own Finished = true
+is_own Limit = true
+is_own (Fault fault) = is_own_fault fault
+
+-- a book that has handed out and taken nothing
+pub record IsUnspent (work : Work) (m : Machine) : Type 0 where
+  pub own : is_own m.ending ≡ true
+  pub spent : m.spent ≡ replicate work.settings.workers 0
+  pub width : length m.alive ≡ work.settings.workers

@@ -1,0 +1,233 @@
+//! The event loop, which drives a job to its end.
+
+ghost use Rattle.std.specs.Prelude.{◌≡◌, ◌<◌, ◌+◌, ◌∷◌, false, true, ℕ, IfErr, IfOk, OnOk};
+ghost use Rattle.rollback.specs.Saving.{KeepsFor};
+ghost use Rattle.rollback.specs.Machine.{is_running};
+ghost use Rattle.workers.specs.JobAnswers.{HasSpent, IsAnswerAt, IsDriveFault, RanFrom, WhereEnded};
+ghost use Rattle.workers.specs.Steps.{Steps};
+ghost use Rattle.workers.specs.inside.EventLoop.{IsOver, IsUnspent};
+
+use crate::coordinator_ends::CoordinatorEnds;
+use crate::message::Message;
+use channels::Closed;
+use checkpoint::Keep;
+use rollback::{Answer, Book, Event, JobStatus, Report};
+use std::rt::Files;
+use std::sync::Wait;
+use std::thread::Threads;
+use superstep::{JobFault, Origin};
+
+// The workers that may be free once an event was taken.
+#[derive(Clone, Copy)]
+enum Free {
+    Nobody,
+    One(u32),
+    All,
+}
+
+// Returns who is free if the superstep stays the same: the worker that returned a result.
+fn freed_by<J: Origin>(event: &Event<J>) -> Free {
+    match event {
+        Event::Done(worker, _) => Free::One(*worker),
+        Event::Failed(..) | Event::Lost(_) | Event::Joined(_) | Event::Tick => Free::Nobody,
+    }
+}
+
+// Returns who is free after this answer: with a new superstep or epoch, all workers are.
+fn free_after(freed: Free, answer: Result<Answer, JobFault>) -> Free {
+    match answer {
+        Ok(Answer::Taken) | Ok(Answer::Stale) => freed,
+        Ok(Answer::Advanced(_)) | Ok(Answer::RolledBack(_)) => Free::All,
+        Ok(Answer::Ended) | Err(_) => Free::Nobody,
+    }
+}
+
+fn goes_on<J: Origin>(book: &Book<J>) -> bool
+    ensures { result ≡ is_running book.now.ending }
+{
+    matches!(book.status().end, JobStatus::Running)
+}
+
+// Returns the report or the fault of a job that has ended.
+fn answer_of<J: Origin>(book: Book<J>) -> Result<Report, JobFault>
+    requires { is_running book.ending ≡ false }
+    ensures { IsAnswerAt J.work J.honest book.entry book.entry.ending result }
+{
+    let status = book.status();
+    match status.end {
+        JobStatus::Running => unreachable!(),
+        JobStatus::Finished | JobStatus::Limit => {
+            let report = book.report()?;
+            Ok(report)
+        }
+        JobStatus::Fault(fault) => {
+            drop(book);
+            Err(fault)
+        }
+    }
+}
+
+impl<J: Origin> CoordinatorEnds<J> {
+    ghost use Rattle.workers.specs.Hub.{HasByes, IsSameHub, IsStopped, IsUnused, handed, received, staff};
+    ghost use Rattle.channels.specs.Orders.{at, tasks_in};
+
+    // Sends the worker its next task, if the book has one for it.
+    fn offer_next<R: Wait>(&mut self, rt: &R, book: &mut Book<J>, worker: u32) -> Result<(), Closed>
+        requires { worker < staff self.old }
+        ensures steps { OnOk result (Steps J.work J.honest book.old book.new
+            (received self.old) (received self.new) (handed self.old) (handed self.new)) }
+        ensures saved { book.new.saved ≡ book.old.saved }
+        ensures hub { IsSameHub self.old self.new }
+    {
+        match book.next_task(worker) {
+            Some(task) => self.offer(rt, worker as usize, task),
+            None => Ok(()),
+        }
+    }
+
+    // Sends each worker its next task, if the book has one for it.
+    fn offer_all<R: Wait>(&mut self, rt: &R, book: &mut Book<J>) -> Result<(), Closed>
+        ensures steps { OnOk result (Steps J.work J.honest book.old book.new
+            (received self.old) (received self.new) (handed self.old) (handed self.new)) }
+        ensures saved { book.new.saved ≡ book.old.saved }
+        ensures hub { IsSameHub self.old self.new }
+    {
+        let workers = self.task_channels.len() as u32;
+        for worker in 0..workers {
+            self.offer_next(rt, book, worker)?;
+        }
+        Ok(())
+    }
+
+    // Sends free workers their next tasks.
+    fn offer_free<R: Wait>(&mut self, rt: &R, book: &mut Book<J>, free: Free) -> Result<(), Closed>
+        ensures steps { OnOk result (Steps J.work J.honest book.old book.new
+            (received self.old) (received self.new) (handed self.old) (handed self.new)) }
+        ensures saved { book.new.saved ≡ book.old.saved }
+        ensures hub { IsSameHub self.old self.new }
+    {
+        match free {
+            Free::Nobody => Ok(()),
+            Free::One(worker) => {
+                if worker as usize >= self.task_channels.len() {
+                    return Ok(());
+                }
+                self.offer_next(rt, book, worker)
+            }
+            Free::All => self.offer_all(rt, book),
+        }
+    }
+
+    // Takes one message, and gives it to the book if it is an event. Returns who may be free then.
+    fn take_one<K: Keep, R: Wait + Threads + Sync + Files + AllocGlobal>(
+        &mut self,
+        rt: &R,
+        book: &mut Book<J>,
+        keep: &mut K,
+    ) -> Result<Free, Closed>
+        requires keep { KeepsFor J.work J.honest (K.honest keep.old) (K.saved keep.old)
+            (K.may_load keep.old) book.old }
+        ensures steps { OnOk result (Steps J.work J.honest book.old book.new
+            (received self.old) (received self.new) (handed self.old) (handed self.new)) }
+        ensures keep { KeepsFor J.work J.honest (K.honest keep.new) (K.saved keep.new)
+            (K.may_load keep.new) book.new }
+        ensures handed { handed self.new ≡ handed self.old }
+        ensures hub { IsSameHub self.old self.new }
+    {
+        match self.take_event(rt)? {
+            Message::Event(event) => {
+                let freed = freed_by(&event);
+                let answer = book.accept(rt, event, keep);
+                Ok(free_after(freed, answer))
+            }
+            Message::Bye(_) => Ok(Free::Nobody),
+        }
+    }
+
+    // Sends free workers their next tasks while the job runs. Once it has ended, stops all, unless they were stopped
+    // before.
+    fn offer_or_stop<R: Wait>(
+        &mut self,
+        rt: &R,
+        book: &mut Book<J>,
+        free: Free,
+        stopped: &mut bool,
+    ) -> Result<(), Closed>
+        requires stopped { stopped.old ≡ true → IsOver book.old self.old }
+        ensures steps { OnOk result (Steps J.work J.honest book.old book.new
+            (received self.old) (received self.new) (handed self.old) (handed self.new)) }
+        ensures saved { book.new.saved ≡ book.old.saved }
+        ensures stopped { OnOk result (stopped.new ≡ true → IsOver book.new self.new) }
+        ensures hub { IsSameHub self.old self.new }
+    {
+        if goes_on(book) {
+            return self.offer_free(rt, book, free);
+        }
+        if !*stopped {
+            self.stop(rt)?;
+            *stopped = true;
+        }
+        Ok(())
+    }
+
+    // Runs the job to its end: sends tasks and takes messages. Then stops all, and takes messages until every sender
+    // has said bye.
+    fn run_out<K: Keep, R: Wait + Threads + Sync + Files + AllocGlobal>(
+        &mut self,
+        rt: &R,
+        book: &mut Book<J>,
+        keep: &mut K,
+    ) -> Result<(), Closed>
+        requires keep { KeepsFor J.work J.honest (K.honest keep.old) (K.saved keep.old)
+            (K.may_load keep.old) book.old }
+        ensures steps { OnOk result (Steps J.work J.honest book.old book.new
+            (received self.old) (received self.new) (handed self.old) (handed self.new)) }
+        ensures ended { OnOk result (is_running book.new.ending ≡ false) }
+        ensures byes { OnOk result (HasByes (staff self.new) (received self.new)) }
+        ensures stopped { OnOk result ((w : ℕ) → w < staff self.new → IsStopped self.new w) }
+        ensures hub { IsSameHub self.old self.new }
+    {
+        let mut free = Free::All;
+        let mut stopped = false;
+        for _ in rt.forever() {
+            self.offer_or_stop(rt, book, free, &mut stopped)?;
+            if stopped && self.all_gone() {
+                return Ok(());
+            }
+            free = self.take_one(rt, book, keep)?;
+        }
+        unreachable!()
+    }
+
+    /// Drives a job to its end, stops all, waits for every bye, and returns the report. If a channel is closed, it
+    /// stops all and returns `Closed`.
+    pub fn drive<K: Keep, R: Wait + Threads + Sync + Files + AllocGlobal>(
+        &mut self,
+        rt: &R,
+        mut book: Book<J>,
+        keep: &mut K,
+    ) -> Result<Report, JobFault>
+        requires unused { IsUnused self.old }
+        requires workers { staff self.old ≡ J.work.settings.workers }
+        requires book { IsUnspent J.work book }
+        requires keep { KeepsFor J.work J.honest (K.honest keep.old) (K.saved keep.old)
+            (K.may_load keep.old) book }
+        ensures ran { WhereEnded result
+            (RanFrom J.work J.honest book.entry (received self.new) (handed self.new) result) }
+        ensures byes { WhereEnded result (HasByes (staff self.new) (received self.new)) }
+        ensures stopped { WhereEnded result
+            ((w : ℕ) → w < staff self.new → IsStopped self.new w) }
+        ensures spent { IfOk result (HasSpent (staff self.new) (received self.new)) }
+        ensures refused { IfErr result IsDriveFault }
+        ensures hub { IsSameHub self.old self.new }
+    {
+        match self.run_out(rt, &mut book, keep) {
+            Ok(()) => answer_of(book),
+            Err(_) => {
+                drop(book);
+                let _closed = self.stop(rt);
+                Err(JobFault::Closed)
+            }
+        }
+    }
+}

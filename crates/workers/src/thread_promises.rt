@@ -1,0 +1,50 @@
+//! The promises of threads: what they return is a receipt of this hub.
+
+use crate::coordinator_ends::CoordinatorEnds;
+use crate::pass::{TickReceipt, WorkerReceipt};
+use std::snapshot::Snapshot;
+use std::thread::{Promise, PromisedHandle};
+use superstep::{JobFault, Origin};
+
+/// The promise of a worker's thread: it returns this worker's receipt, on the channels of this hub.
+#[derive(Drop)]
+pub struct WorkerPromise<J: Origin> {
+    pub worker: u32,
+    pub hub: Snapshot<CoordinatorEnds<J>>,
+}
+
+/// The promise of the ticker's thread: it returns the ticker's receipt, on the channels of this hub.
+#[derive(Drop)]
+pub struct TickerPromise<J: Origin> {
+    pub hub: Snapshot<CoordinatorEnds<J>>,
+}
+
+impl<J: Origin> Promise<Result<WorkerReceipt<J>, JobFault>> for WorkerPromise<J> {
+    ghost use Rattle.std.specs.Prelude.{IfOk};
+    ghost use Rattle.workers.specs.Hub.{IsReceiptOn, channels_of};
+
+    ghost kept_by = { λ promise result.
+        IfOk result (IsReceiptOn (channels_of promise.hub.value) promise.worker) };
+}
+
+impl<J: Origin> Promise<Result<TickReceipt<J>, JobFault>> for TickerPromise<J> {
+    ghost use Rattle.std.specs.Prelude.{IfOk};
+    ghost use Rattle.workers.specs.Hub.{IsTickReceiptOn, channels_of};
+
+    ghost kept_by = { λ promise result.
+        IfOk result (IsTickReceiptOn (channels_of promise.hub.value)) };
+}
+
+pub type WorkerThread<J> = PromisedHandle<Result<WorkerReceipt<J>, JobFault>, WorkerPromise<J>>;
+
+pub type TickThread<J> = PromisedHandle<Result<TickReceipt<J>, JobFault>, TickerPromise<J>>;
+
+/// The threads of a hub, and room for the receipts of its workers.
+#[derive(Drop)]
+pub struct HubThreads<J: Origin> {
+    pub ticker: TickThread<J>,
+    /// One for each worker, from 0 on.
+    pub workers: Vec<WorkerThread<J>>,
+    /// An empty list with room for the receipt of each worker.
+    pub receipts: Vec<WorkerReceipt<J>>,
+}

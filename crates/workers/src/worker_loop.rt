@@ -1,0 +1,201 @@
+//! The loops of the workers' threads and of the ticker's.
+
+ghost use Rattle.std.specs.Prelude.{◌≡◌, ◌+◌, IfOk, IfSome};
+ghost use Rattle.workers.specs.Messages.{event_sender};
+ghost use Rattle.workers.specs.Passes.{IsReceipt, IsSamePass, IsTickReceipt, worker_of};
+
+use crate::gate::{Gate, Turn, Worked};
+use crate::pass::{TickPass, TickReceipt, WorkerPass, WorkerReceipt};
+use interp::Scratch;
+use rollback::Event;
+use std::alloc::Global;
+use std::sync::Wait;
+use superstep::{Done, Found, Job, JobFault, Origin, Place, Task, TaskLost, run_task};
+
+// Runs a task. The scratch is made for the first one.
+fn work_on<'a, J: Origin>(
+    alloc: Global,
+    job: &'a Job,
+    task: Task<J>,
+    scratch: &mut Option<Scratch<'a>>,
+) -> Result<Done<J>, TaskLost>
+    requires job { J.work ≡ job.now }
+    requires fits { IfSome scratch.old (λ scratch. scratch ≡ job.now.«module») }
+    ensures fits { IfSome scratch.new (λ scratch. scratch ≡ job.now.«module») }
+{
+    if scratch.is_none() {
+        let Ok(made) = Scratch::new(alloc, job.verified()) else {
+            return Err(TaskLost { place: Place::Call });
+        };
+        *scratch = Some(made);
+    }
+    match scratch {
+        Some(scratch) => run_task(alloc, job, task, scratch),
+        None => unreachable!(),
+    }
+}
+
+// Runs a task, and returns the event that reports it.
+fn outcome<'a, J: Origin>(
+    alloc: Global,
+    job: &'a Job,
+    worker: u32,
+    task: Task<J>,
+    scratch: &mut Option<Scratch<'a>>,
+) -> Event<J>
+    requires job { J.work ≡ job.now }
+    requires fits { IfSome scratch.old (λ scratch. scratch ≡ job.now.«module») }
+    ensures own { event_sender result ≡ worker + 1 }
+    ensures fits { IfSome scratch.new (λ scratch. scratch ≡ job.now.«module») }
+{
+    match work_on(alloc, job, task, scratch) {
+        Ok(done) => Event::Done(worker, done),
+        Err(lost) => Event::Failed(worker, lost.place),
+    }
+}
+
+// What the task finds in its part, where the gate asks for it.
+fn found_by<J: Origin, G: Gate>(gate: &G, task: &Task<J>) -> Option<Found> {
+    if gate.counts() {
+        Some(task.found())
+    } else {
+        None
+    }
+}
+
+// Shows the gate what the worker did for a task that found this, if it did it.
+fn show<J: Origin, G: Gate, R: Wait>(
+    rt: &R,
+    gate: &G,
+    worker: u32,
+    found: Option<Found>,
+    event: &Event<J>,
+) {
+    if let Event::Done(_, done) = event {
+        let work = Worked {
+            epoch: done.epoch(),
+            superstep: done.superstep(),
+            part: done.part(),
+            units: done.units(),
+            sent: done.sent(),
+            found,
+        };
+        gate.worked(rt, worker, work);
+    }
+}
+
+// Reports the worker as lost, and as joined again if the gate says so. Returns whether it is lost for good.
+fn be_lost<J: Origin, G: Gate, R: Wait>(
+    rt: &R,
+    gate: &G,
+    pass: &mut WorkerPass<J>,
+) -> Result<bool, JobFault>
+    ensures same { IsSamePass pass.old pass.new }
+{
+    let worker = pass.worker();
+    pass.hand_in(rt, Event::Lost(worker))?;
+    if !gate.again(worker) {
+        return Ok(true);
+    }
+    pass.hand_in(rt, Event::Joined(worker))?;
+    Ok(false)
+}
+
+// Works on one task, or is lost with it, as the gate says. Returns whether the worker is lost for good.
+fn work_one<'a, J: Origin, G: Gate, R: Wait>(
+    rt: &R,
+    alloc: Global,
+    job: &'a Job,
+    gate: &G,
+    pass: &mut WorkerPass<J>,
+    task: Task<J>,
+    scratch: &mut Option<Scratch<'a>>,
+) -> Result<bool, JobFault>
+    requires job { J.work ≡ job.now }
+    requires fits { IfSome scratch.old (λ scratch. scratch ≡ job.now.«module») }
+    ensures fits { IfSome scratch.new (λ scratch. scratch ≡ job.now.«module») }
+    ensures same { IsSamePass pass.old pass.new }
+{
+    let worker = pass.worker();
+    match gate.before(worker, task.superstep(), task.part()) {
+        Turn::Go => {
+            let found = found_by(gate, &task);
+            let event = outcome(alloc, job, worker, task, scratch);
+            show(rt, gate, worker, found, &event);
+            pass.hand_in(rt, event)?;
+            Ok(false)
+        }
+        Turn::Lose => {
+            drop(task);
+            be_lost(rt, gate, pass)
+        }
+    }
+}
+
+// Takes tasks until the worker is stopped. As the gate says, it works on each task or is lost with it, and sends the
+// event.
+fn work_until_stopped<'a, J: Origin, G: Gate, R: Wait>(
+    rt: &R,
+    alloc: Global,
+    job: &'a Job,
+    gate: &G,
+    pass: &mut WorkerPass<J>,
+    scratch: &mut Option<Scratch<'a>>,
+) -> Result<(), JobFault>
+    requires job { J.work ≡ job.now }
+    requires fits { IfSome scratch.old (λ scratch. scratch ≡ job.now.«module») }
+    ensures same { IsSamePass pass.old pass.new }
+{
+    let mut lost = false;
+    for _ in rt.forever() {
+        let Some(task) = pass.take(rt)? else {
+            break;
+        };
+        if !lost {
+            lost = work_one(rt, alloc, job, gate, pass, task, scratch)?;
+        }
+    }
+    Ok(())
+}
+
+/// Runs a worker's loop. It asks the gate before each task, works on it or is lost with it, and sends the event. Once
+/// it is lost for good, it drops all tasks. When it is stopped, it says bye.
+pub fn work_all<J: Origin, G: Gate, R: Wait>(
+    rt: &R,
+    alloc: Global,
+    job: &Job,
+    gate: &G,
+    mut pass: WorkerPass<J>,
+) -> Result<WorkerReceipt<J>, JobFault>
+    requires { J.work ≡ job.now }
+    ensures { IfOk result (IsReceipt pass) }
+{
+    let mut scratch = None;
+    let worked = work_until_stopped(rt, alloc, job, gate, &mut pass, &mut scratch);
+    drop(scratch);
+    match worked {
+        Ok(()) => pass.bye(rt),
+        Err(fault) => {
+            drop(pass);
+            Err(fault)
+        }
+    }
+}
+
+/// Runs the ticker's loop. It asks the gate before each tick, until the gate says no or the coordinator has stopped
+/// all. Then it says bye.
+pub fn tick_all<J: Origin, G: Gate, R: Wait>(
+    rt: &R,
+    gate: &G,
+    mut pass: TickPass<J>,
+) -> Result<TickReceipt<J>, JobFault>
+    ensures { IfOk result (IsTickReceipt pass) }
+{
+    for n in 1..u64::MAX {
+        if pass.stopped() || !gate.tick(n) {
+            break;
+        }
+        pass.tick(rt)?;
+    }
+    pass.bye(rt)
+}

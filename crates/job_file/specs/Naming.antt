@@ -1,0 +1,42 @@
+-- Of which job the text of a file is.
+use Rattle.std.specs.Prelude.{◌≡◌, ℕ, List, Option, Some, codes, option_and_then}
+use Rattle.hex.specs.Hex.{encode_lower}
+use Rattle.serde_json.specs.Data.{Data, member, no_members, number, object, string, unsigned}
+use Rattle.serde_json.specs.Find.{as_str, get}
+use Rattle.serde_json.specs.Read.{read}
+use Rattle.job_file.specs.declared.job_id.JobId.{JobId}
+use Rattle.job_file.specs.declared.text.Kinship.{Kinship}
+use Rattle.job_file.specs.declared.text.Kinship.TheVariants.{OtherGraph, OtherModule, Same, Unreadable}
+
+-- the text that is a member of a JSON object
+abbrev pub text_at : (name : List ℕ) → Data → Option (List ℕ)
+text_at name json = option_and_then as_str (get name json)
+
+-- what the file of a job holds
+abbrev pub job_data : JobId → (limit parts : ℕ) → Data
+job_data job limit parts =
+    object (member (codes "graph") (string (encode_lower job.graph))
+    (member (codes "limit") (number (unsigned limit))
+    (member (codes "module") (string (encode_lower job.«module»))
+    (member (codes "parts") (number (unsigned parts)) no_members))))
+
+-- its members `module` and `graph` are the digests of this job's, in hexadecimal
+pub record Names (job : JobId) (json : Data) : Type 0 where
+  pub of_module : text_at (codes "module") json ≡ Some (encode_lower job.«module»)
+  pub of_graph : text_at (codes "graph") json ≡ Some (encode_lower job.graph)
+
+-- the text is JSON that names this job
+pub record NamesJob (text : List ℕ) (job : JobId) : Type 0 where
+  pub json : Data
+  pub parsed : read text ≡ Some json
+  pub names : Names job json
+
+-- what is told of a JSON value: it names this job, or does not
+abbrev pub IsKinshipIn : Data → JobId → Kinship → Type 0
+IsKinshipIn json job Same = Names job json
+IsKinshipIn json job _ = Names job json → ⊥
+
+-- what is told of a text
+abbrev pub IsKinship : List ℕ → JobId → Kinship → Type 0
+IsKinship text job Same = NamesJob text job
+IsKinship text job _ = NamesJob text job → ⊥

@@ -1,0 +1,52 @@
+-- What is counted of a superstep.
+use Rattle.std.specs.Prelude.{◌≡◌, ◌≢◌, ℕ, ◌+◌, ◌-◌, ◌^◌, ◌==◌, List, Option, Some, None, min, nat_lt, slice_index_or, if◌then◌else◌}
+use Rattle.run_report.specs.declared.tally.Tallied.{Tallied}
+use Rattle.run_report.specs.declared.tally.Tally.{Tally}
+
+-- a sum, which stops at the greatest number of 64 bits
+abbrev pub capped_sum : ℕ → ℕ → ℕ
+capped_sum a b = min (a + b) (2 ^ 64 - 1)
+
+-- with one more task of the same epoch
+abbrev pub together : Tallied → Tallied → Tallied
+together before task = record {
+  epoch = before.epoch;
+  tasks = capped_sum before.tasks task.tasks;
+  units = capped_sum before.units task.units;
+  called = capped_sum before.called task.called;
+  received = capped_sum before.received task.received;
+  sent = capped_sum before.sent task.sent;
+}
+
+-- with one more task: one of an older epoch counts for nothing, and one of a newer epoch begins again
+abbrev pub with_task : Option Tallied → Tallied → Tallied
+with_task None task = task
+with_task (Some before) task =
+    if nat_lt before.epoch task.epoch then task
+    else if nat_lt task.epoch before.epoch then before
+    else together before task
+
+-- what was counted, if all tasks were done
+abbrev pub whole : (parts : ℕ) → Option Tallied → Option Tallied
+whole parts None = None
+whole parts (Some row) = if row.tasks == parts then Some row else None
+
+-- messages that were sent in a superstep and not received in the next
+abbrev pub dropped_of : Option Tallied → Option Tallied → Option ℕ
+dropped_of (Some row) (Some next) = Some (row.sent - next.received)
+dropped_of _ _ = None
+
+-- what was counted of the superstep of this number
+abbrev pub row_in : List (Option Tallied) → ℕ → Option Tallied
+row_in rows superstep = slice_index_or rows superstep None
+
+-- nothing was counted yet
+pub record IsNoTally (parts : ℕ) (tally : Tally) : Type 0 where
+  pub parts_of : tally.parts ≡ parts
+  pub nothing : (superstep : ℕ) → row_in tally.rows.items superstep ≡ None
+
+-- one more task of this superstep was counted, and nothing else has changed
+pub record Counts (superstep : ℕ) (task : Tallied) (old new : Tally) : Type 0 where
+  pub parts : new.parts ≡ old.parts
+  pub counted : row_in new.rows.items superstep ≡ Some (with_task (row_in old.rows.items superstep) task)
+  pub others : (other : ℕ) → other ≢ superstep → row_in new.rows.items other ≡ row_in old.rows.items other

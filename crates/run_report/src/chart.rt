@@ -1,0 +1,70 @@
+//! A run as a chart: three panels, one below another.
+
+use crate::measure::Measure;
+use crate::panel::push_panel;
+use crate::report::{JobFiles, RunReport};
+use crate::words::push_words;
+use std::alloc::{AllocError, Global};
+
+/// The report as a chart in SVG: how many vertices were called in each superstep, how many messages they sent, and the units that
+/// they took. Of many supersteps one point shows several, by the greatest of them. The only refusal is that there is no memory.
+pub fn svg_text(alloc: Global, files: JobFiles, report: &RunReport) -> Result<String, AllocError> {
+    let mut text = String::new(alloc);
+    push_head(&mut text, files, report)?;
+    push_panel(&mut text, Measure::Called, &report.supersteps)?;
+    push_panel(&mut text, Measure::Sent, &report.supersteps)?;
+    push_panel(&mut text, Measure::Units, &report.supersteps)?;
+    text.push_str("</svg>\n")?;
+    Ok(text)
+}
+
+// Lengths are tenths of a pixel.
+fn push_head(text: &mut String, files: JobFiles, report: &RunReport) -> Result<(), AllocError> {
+    text.push_str("<svg xmlns=\"http://www.w3.org/2000/svg\" width=\"900\" height=\"740\"")?;
+    text.push_str(" viewBox=\"0 0 9000 7400\" font-family=\"sans-serif\" font-size=\"130\">\n")?;
+    text.push_str("<title>")?;
+    push_title(text, files)?;
+    text.push_str("</title>\n<rect width=\"9000\" height=\"7400\" fill=\"#ffffff\"/>\n")?;
+    text.push_str("<text x=\"300\" y=\"380\" font-size=\"200\" font-weight=\"bold\">")?;
+    push_title(text, files)?;
+    text.push_str("</text>\n<text x=\"300\" y=\"640\">")?;
+    push_sizes(text, report)?;
+    push_end(text, report)?;
+    text.push_str("</text>\n")
+}
+
+fn push_title(text: &mut String, files: JobFiles) -> Result<(), AllocError> {
+    push_words(text, files.module)?;
+    text.push_str(" over ")?;
+    push_words(text, files.graph)
+}
+
+fn push_sizes(text: &mut String, report: &RunReport) -> Result<(), AllocError> {
+    let (vertices, edges) = (report.vertices, report.edges);
+    let (workers, parts) = (report.settings.workers, report.settings.parts);
+    write!(
+        text,
+        "vertices {vertices}, edges {edges}, workers {workers}, parts {parts}: "
+    )
+}
+
+// How the job ended, in the words of its last line.
+fn push_end(text: &mut String, report: &RunReport) -> Result<(), AllocError> {
+    let outcome = &report.outcome;
+    push_words(text, outcome.how)?;
+    if let Some(fault) = outcome.fault {
+        text.push_str(" ")?;
+        push_words(text, fault)?;
+    }
+    push_total(text, " supersteps ", outcome.superstep)?;
+    push_total(text, " units ", outcome.units)?;
+    push_total(text, " dropped ", outcome.dropped)
+}
+
+// A number behind a word, where it is known.
+fn push_total(text: &mut String, word: &str, total: Option<u64>) -> Result<(), AllocError> {
+    match total {
+        Some(total) => write!(text, "{word}{total}"),
+        None => Ok(()),
+    }
+}

@@ -1,0 +1,16 @@
+//! What a run did, as JSON and as a chart.
+#![tactic(auto)]
+
+mod chart;
+mod json;
+mod measure;
+mod panel;
+mod report;
+mod scale;
+mod tally;
+mod words;
+
+pub use chart::svg_text;
+pub use json::json_text;
+pub use report::{JobFiles, Outcome, RunReport, RunSettings, SuperstepCounts};
+pub use tally::{Ended, Tallied, Tally, capped};

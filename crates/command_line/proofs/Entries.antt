@@ -1,19 +1,23 @@
 -- What the getters of a parse's matches read, by its entries.
 use Rattle.std.proofs.Common.{◌≡◌, ◌∙◌, ◌<◌, ◌^◌, ℕ, Bool, true, false, List, Option, Some, None, Result, Ok, Err, ap, sym, subst, refl, codes, option_map}
-use Rattle.std.specs.Prelude.{IsSomeAnd, MatchOption, unwrap_or}
+use Rattle.std.specs.Prelude.{IsSomeAnd, MatchOption, find, option_and_then, unwrap_or}
 use Rattle.std.specs.Borrow.{Bor}
 use Rattle.std.specs.Option.{option_map_or}
 use Rattle.std.specs.Str.{bytes_eq}
 use Rattle.std.specs.Str.Parse.{IsNumeral, ParsesBool, ParsesUnsigned, digits_value, without_leading_plus}
 use Rattle.std.proofs.lemmas.Slice.Eq.{bytes_eq-Decides}
-use Rattle.clap.specs.Words.{ReadsOne, Row, Text, first_of, first_value, found_of, one_text, rows_of, subcommand_name_of, subcommand_rows, subcommand_rows_of}
+use Rattle.clap.specs.Words.{ReadsOne, Row, Text, first_of, first_value, found_of, matched_of, one_text, rows_of, subcommand_name_of, subcommand_rows, subcommand_rows_of}
+use Rattle.clap.specs.Facts.{Entry}
+use Rattle.clap.specs.Walk.{row_of}
 use Rattle.clap.specs.declared.parser.matches.ArgMatches.{ArgMatches}
 use Rattle.clap.specs.declared.parser.matches.ArgMatches.TheViews.{out-ArgMatches}
 use Rattle.clap.specs.declared.parser.matches.Found.{Found}
-use Rattle.clap.proofs.WalkLemmas.{first_value-rows, one_text-rows}
-use Rattle.command_line.specs.CommandLine.{Asks, AsksFor, AsksImport, AsksJob, AsksRun, Gives, GivesNumber, is_set}
+use Rattle.clap.specs.declared.parser.matches.MatchedArg.{MatchedArg}
+use Rattle.clap.proofs.WalkLemmas.{find_row, first_value-rows, one_text-rows}
+use Rattle.command_line.specs.CommandLine.{Asks, AsksFor, AsksImport, AsksJob, AsksModule, AsksRun, Gives, GivesNumber, MayGiveNumber, is_set}
 use Rattle.command_line.specs.declared.request.ImportRequest.{ImportRequest}
 use Rattle.command_line.specs.declared.request.JobRequest.{JobRequest}
+use Rattle.command_line.specs.declared.request.ModuleRequest.{ModuleRequest}
 use Rattle.command_line.specs.declared.request.Options.{Options}
 use Rattle.command_line.specs.declared.request.Options.TheVariants as options
 use Rattle.command_line.specs.declared.request.Request.{Request}
@@ -85,6 +89,16 @@ flag_read E f name read none value = go (one_text f name) refl
     go None e = ap (λ (r : Option Bool). unwrap_or r false) (none e) ∙ ap set_by (sym e ∙ one_text-rows f name)
     go (Some t) e = true_word E t read (value t e) ∙ ap set_by (sym e ∙ one_text-rows f name)
 
+-- where the value of an argument came from
+pub source_read : (f : Found) (name : Text)
+    → option_and_then (λ (a : MatchedArg). a.source) (matched_of f name) ≡ option_and_then (λ (row : Row). row.source) (find (λ row. bytes_eq row.id name) (rows_of f))
+source_read f name = go (find (λ (e : Entry). bytes_eq e.0.now name) f.entries.items) ∙ ap (option_and_then (λ (row : Row). row.source)) (sym (find_row f.entries.items name))
+  where
+    go : (o : Option Entry) → option_and_then (λ (a : MatchedArg). a.source) (option_map (λ e. e.1) o)
+        ≡ option_and_then (λ (row : Row). row.source) (option_map row_of o)
+    go None = refl
+    go (Some e) = refl
+
 both : {A B : Type 0} (a x : A) (b y : B) → Some a ≡ Some x → Some b ≡ Some y → ◌≡◌ {A = Option (A × B)} (Some (x, y)) (Some (a, b))
 both a x b y p q = cc
 
@@ -118,9 +132,21 @@ pub none_found : {T : Type 0} (P : T → Type 0) (r : Option T) → Finds P r �
 none_found P None finds is = finds
 none_found P (Some x) finds is = cc
 
+-- a number that is there and may be left out
+pub bound_found : (rows : List Row) (name text : Text) (found : Option ℕ) (made : Option (Option ℕ)) → first_of name rows ≡ Some text
+    → Finds (GivesNumber rows name) found → MatchOption found (made ≡ None) (λ n. IsSomeAnd made (λ r. r ≡ Some n))
+    → Finds (MayGiveNumber rows name) made
+bound_found rows name text None made there finds made_is = none_is _ made made_is none
+  where
+    none : (x : Option ℕ) → MayGiveNumber rows name x → ⊥
+    none None empty = let no : Some text ≡ None = sym there ∙ empty in cc
+    none (Some n) gives = finds n gives
+bound_found rows name text (Some n) None there finds made_is = absurd made_is
+bound_found rows name text (Some n) (Some r) there finds made_is = subst (MayGiveNumber rows name) (sym made_is) finds
+
 -- ---- which request a command asks for, by its name
 
-pub asks_call : (rows : List Row) (asked : Request) → AsksFor (codes "call") rows asked → (m : Bor Text) × (input : Bor Text) × Gives rows (codes "module") m × Gives rows (codes "input") input
+pub asks_call : (rows : List Row) (asked : Request) → AsksFor (codes "call") rows asked → (m : ModuleRequest) × (input : Bor Text) × AsksModule rows m × Gives rows (codes "input") input
 asks_call rows (request.Call m input) h = (m, input, h.1, h.2)
 asks_call rows other h = let no : true ≡ false = ap (bytes_eq (codes "call")) h.0 in cc
 
@@ -140,11 +166,15 @@ pub asks_asm : (rows : List Row) (asked : Request) → AsksFor (codes "asm") row
 asks_asm rows (request.Assemble m binary) h = (m, binary, h.1, h.2)
 asks_asm rows other h = let no : true ≡ false = ap (bytes_eq (codes "asm")) h.0 in cc
 
+pub asks_fit : (rows : List Row) (asked : Request) → AsksFor (codes "fit") rows asked → (m : Bor Text) × (binary : Bor Text) × Gives rows (codes "module") m × Gives rows (codes "binary") binary
+asks_fit rows (request.Fit m binary) h = (m, binary, h.1, h.2)
+asks_fit rows other h = let no : true ≡ false = ap (bytes_eq (codes "fit")) h.0 in cc
+
 pub asks_print : (rows : List Row) (asked : Request) → AsksFor (codes "print") rows asked → (m : Bor Text) × Gives rows (codes "module") m
 asks_print rows (request.Print m) h = (m, h.1)
 asks_print rows other h = let no : true ≡ false = ap (bytes_eq (codes "print")) h.0 in cc
 
-pub asks_verify : (rows : List Row) (asked : Request) → AsksFor (codes "verify") rows asked → (m : Bor Text) × Gives rows (codes "module") m
+pub asks_verify : (rows : List Row) (asked : Request) → AsksFor (codes "verify") rows asked → (m : ModuleRequest) × AsksModule rows m
 asks_verify rows (request.Verify m) h = (m, h.1)
 asks_verify rows other h = let no : true ≡ false = ap (bytes_eq (codes "verify")) h.0 in cc
 
@@ -153,16 +183,17 @@ asks_graph rows (request.Import asked) h = (asked, h.1)
 asks_graph rows other h = let no : true ≡ false = ap (bytes_eq (codes "graph")) h.0 in cc
 
 pub asks_none : (name : Text) (rows : List Row) → (name ≡ codes "call" → ⊥) → (name ≡ codes "run" → ⊥) → (name ≡ codes "replay" → ⊥)
-    → (name ≡ codes "upgrade" → ⊥) → (name ≡ codes "asm" → ⊥) → (name ≡ codes "print" → ⊥) → (name ≡ codes "verify" → ⊥) → (name ≡ codes "graph" → ⊥)
+    → (name ≡ codes "upgrade" → ⊥) → (name ≡ codes "asm" → ⊥) → (name ≡ codes "fit" → ⊥) → (name ≡ codes "print" → ⊥) → (name ≡ codes "verify" → ⊥) → (name ≡ codes "graph" → ⊥)
     → (asked : Request) → AsksFor name rows asked → ⊥
-asks_none name rows call run replay upgrade asm print verify graph (request.Call m input) h = call h.0
-asks_none name rows call run replay upgrade asm print verify graph (request.Run asked) h = run h.0
-asks_none name rows call run replay upgrade asm print verify graph (request.Replay asked steps) h = replay h.0
-asks_none name rows call run replay upgrade asm print verify graph (request.Upgrade checkpoint newer) h = upgrade h.0
-asks_none name rows call run replay upgrade asm print verify graph (request.Assemble m binary) h = asm h.0
-asks_none name rows call run replay upgrade asm print verify graph (request.Print m) h = print h.0
-asks_none name rows call run replay upgrade asm print verify graph (request.Verify m) h = verify h.0
-asks_none name rows call run replay upgrade asm print verify graph (request.Import asked) h = graph h.0
+asks_none name rows call run replay upgrade asm fit print verify graph (request.Call m input) h = call h.0
+asks_none name rows call run replay upgrade asm fit print verify graph (request.Run asked) h = run h.0
+asks_none name rows call run replay upgrade asm fit print verify graph (request.Replay asked steps) h = replay h.0
+asks_none name rows call run replay upgrade asm fit print verify graph (request.Upgrade checkpoint newer) h = upgrade h.0
+asks_none name rows call run replay upgrade asm fit print verify graph (request.Assemble m binary) h = asm h.0
+asks_none name rows call run replay upgrade asm fit print verify graph (request.Fit m binary) h = fit h.0
+asks_none name rows call run replay upgrade asm fit print verify graph (request.Print m) h = print h.0
+asks_none name rows call run replay upgrade asm fit print verify graph (request.Verify m) h = verify h.0
+asks_none name rows call run replay upgrade asm fit print verify graph (request.Import asked) h = graph h.0
 
 pub run_found : (rows : List Row) (found : Option RunRequest) (made : Option Request) → Finds (AsksRun rows) found
     → MatchOption found (made ≡ None) (λ asked. IsSomeAnd made (λ r. r ≡ request.Run asked)) → Finds (AsksFor (codes "run") rows) made

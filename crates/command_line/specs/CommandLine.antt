@@ -1,5 +1,5 @@
 -- The program's command line, and what is asked for by it.
-use Rattle.std.specs.Prelude.{◌≡◌, ◌⊎◌, ◌<◌, ◌^◌, ℕ, Bool, true, false, List, [], ◌∷◌, ◌++◌, Option, Some, map, codes, pos, option_map, slice_index, ◌==◌, IsSomeAnd}
+use Rattle.std.specs.Prelude.{◌≡◌, ◌⊎◌, ◌<◌, ◌^◌, ℕ, Bool, true, false, List, [], ◌∷◌, ◌++◌, Option, None, Some, map, codes, pos, option_map, option_and_then, find, if◌then◌else◌, slice_index, ◌==◌, IsSomeAnd}
 use Rattle.std.specs.List.{list_any}
 use Rattle.std.specs.Option.{option_map_or}
 use Rattle.std.specs.Str.{bytes_eq}
@@ -12,16 +12,22 @@ use Rattle.clap.specs.Simple.{new_shape}
 use Rattle.clap.specs.declared.builder.action.ArgAction.TheVariants.{SetTrue}
 use Rattle.clap.specs.declared.builder.value_parser.ValueParser.{ValueParser}
 use Rattle.clap.specs.declared.builder.value_parser.ValueParser.TheVariants.{Signed}
+use Rattle.clap.specs.declared.parser.matches.ValueSource.{ValueSource}
+use Rattle.clap.specs.declared.parser.matches.ValueSource.TheVariants.{CommandLine}
 use Rattle.superstep.specs.declared.settings.Settings.{Settings}
+use Rattle.command_line.specs.declared.request.Cores.{Cores}
 use Rattle.command_line.specs.declared.request.ImportRequest.{ImportRequest}
 use Rattle.command_line.specs.declared.request.JobRequest.{JobRequest}
+use Rattle.command_line.specs.declared.request.ModuleRequest.{ModuleRequest}
 use Rattle.command_line.specs.declared.request.Options.{Options}
 use Rattle.command_line.specs.declared.request.Options.TheVariants as options
+use Rattle.command_line.specs.declared.request.Progress.{Progress}
+use Rattle.command_line.specs.declared.request.Progress.TheVariants.{Always, Never, OnTerminal}
 use Rattle.command_line.specs.declared.request.Request.{Request}
 use Rattle.command_line.specs.declared.request.Request.TheVariants as request
 use Rattle.command_line.specs.declared.request.RunRequest.{RunRequest}
 
--- ---- the arguments, of four kinds
+-- ---- the arguments, of five kinds
 
 -- `NAME`, by its place, which has to be given
 abbrev pub positional : Text → Rule
@@ -39,6 +45,10 @@ flag name = record (new_rule name) { long = Some name; action = Some SetTrue }
 abbrev pub number : ValueParser
 number = Signed (pos 0) (pos 4294967295)
 
+-- `--name N`, a number that may be left out
+abbrev pub bound : Text → Rule
+bound name = record (option name) { parser = Some number }
+
 -- `--name N`, which is `otherwise` where it is not given
 abbrev pub setting : (Text × Text) → Rule
 setting (name, otherwise) = record (option name) { defaults = otherwise ∷ []; parser = Some number }
@@ -46,6 +56,10 @@ setting (name, otherwise) = record (option name) { defaults = otherwise ∷ []; 
 -- what a command takes that may explain why its module is refused
 abbrev pub explain : Rule
 explain = flag (codes "explain")
+
+-- what a command takes that may refuse a module for its size
+abbrev pub max_size : Rule
+max_size = bound (codes "max-size")
 
 -- the settings of a job, with what each is otherwise
 abbrev pub settings : List (Text × Text)
@@ -67,12 +81,14 @@ abbrev pub job_rules : List Rule
 job_rules = map setting settings ++ flag (codes "units") ∷ []
 
 abbrev pub call : Shape
-call = command (codes "call") (positional (codes "module") ∷ positional (codes "input") ∷ explain ∷ [])
+call = command (codes "call") (positional (codes "module") ∷ positional (codes "input") ∷ max_size ∷ explain ∷ [])
 
 abbrev pub run : Shape
 run = command (codes "run")
     (positional (codes "module") ∷ positional (codes "graph")
-    ∷ option (codes "keep") ∷ option (codes "lose") ∷ flag (codes "again") ∷ (job_rules ++ explain ∷ []))
+    ∷ option (codes "keep") ∷ flag (codes "resume") ∷ option (codes "lose") ∷ flag (codes "again")
+    ∷ (job_rules ++ flag (codes "all-cores") ∷ flag (codes "progress") ∷ flag (codes "quiet")
+    ∷ option (codes "report") ∷ option (codes "plot") ∷ max_size ∷ explain ∷ []))
 
 abbrev pub replay : Shape
 replay = command (codes "replay")
@@ -84,11 +100,14 @@ upgrade = command (codes "upgrade") (positional (codes "checkpoint") ∷ positio
 abbrev pub asm : Shape
 asm = command (codes "asm") (positional (codes "module") ∷ positional (codes "binary") ∷ [])
 
+abbrev pub fit : Shape
+fit = command (codes "fit") (positional (codes "module") ∷ positional (codes "binary") ∷ [])
+
 abbrev pub print : Shape
 print = command (codes "print") (positional (codes "module") ∷ [])
 
 abbrev pub verify : Shape
-verify = command (codes "verify") (positional (codes "module") ∷ explain ∷ [])
+verify = command (codes "verify") (positional (codes "module") ∷ max_size ∷ explain ∷ [])
 
 abbrev pub graph : Shape
 graph = command (codes "graph")
@@ -107,7 +126,7 @@ pregel = record {
     subcommand_required = true;
     arg_required_else_help = true;
   };
-  subs = call ∷ run ∷ replay ∷ upgrade ∷ asm ∷ print ∷ verify ∷ graph ∷ console ∷ [];
+  subs = call ∷ run ∷ replay ∷ upgrade ∷ asm ∷ fit ∷ print ∷ verify ∷ graph ∷ console ∷ [];
 }
 
 -- ---- what is asked for by a command and the entries of its arguments
@@ -124,11 +143,25 @@ MayGive rows name text = first_of name rows ≡ option_map (λ t. t.now) text
 abbrev pub is_set : List Row → (name : Text) → Bool
 is_set rows name = option_map_or (bytes_eq (codes "true")) (one_of name rows) false
 
--- the setting's entry is this number of 32 bits, in decimal digits
+-- the words gave it, and not its default
+abbrev pub is_from_words : Option ValueSource → Bool
+is_from_words (Some CommandLine) = true
+is_from_words source = false
+
+-- the argument's entry is from the words
+abbrev pub is_given : List Row → (name : Text) → Bool
+is_given rows name = is_from_words (option_and_then (λ row. row.source) (find (λ row. bytes_eq row.id name) rows))
+
+-- the argument's entry is this number of 32 bits, in decimal digits
 abbrev pub GivesNumber : List Row → (name : Text) → ℕ → Type 0
 GivesNumber rows name n =
     let digits : Text → Text = without_leading_plus in
     IsSomeAnd (one_of name rows) (λ text. IsNumeral 10 (digits text) × (n ≡ digits_value 10 (digits text)) × (n < 2 ^ 32))
+
+-- the same, or there is no entry and no number
+abbrev pub MayGiveNumber : List Row → (name : Text) → Option ℕ → Type 0
+MayGiveNumber rows name None = first_of name rows ≡ None
+MayGiveNumber rows name (Some n) = GivesNumber rows name n
 
 -- the entries of the settings are these numbers
 pub record GivesSettings (rows : List Row) (given : Settings) : Type 0 where
@@ -138,19 +171,42 @@ pub record GivesSettings (rows : List Row) (given : Settings) : Type 0 where
   pub limit : GivesNumber rows (codes "limit") given.limit
   pub lease : GivesNumber rows (codes "lease") given.lease
 
+-- the entries ask for this module
+pub record AsksModule (rows : List Row) (asked : ModuleRequest) : Type 0 where
+  pub path : Gives rows (codes "module") asked.path
+  pub max_size : MayGiveNumber rows (codes "max-size") asked.max_size
+
 -- the entries ask for this job
 pub record AsksJob (rows : List Row) (job : JobRequest) : Type 0 where
-  pub module_path : Gives rows (codes "module") job.«module»
+  pub module_file : AsksModule rows job.«module»
   pub graph_path : Gives rows (codes "graph") job.graph
   pub settings : GivesSettings rows job.settings
   pub units : job.tells_units ≡ is_set rows (codes "units")
 
+-- the entries ask for these of the machine's processors
+pub record AsksCores (rows : List Row) (asked : Cores) : Type 0 where
+  pub all : asked.all ≡ is_set rows (codes "all-cores")
+  pub workers : asked.workers_given ≡ is_given rows (codes "workers")
+  pub parts : asked.parts_given ≡ is_given rows (codes "parts")
+
+-- when the entries ask that progress is shown
+abbrev pub progress_in : List Row → Progress
+progress_in rows =
+    if is_set rows (codes "quiet") then Never
+    else if is_set rows (codes "progress") then Always
+    else OnTerminal
+
 -- the entries ask for this run
 pub record AsksRun (rows : List Row) (asked : RunRequest) : Type 0 where
   pub job : AsksJob rows asked.job
+  pub cores : AsksCores rows asked.cores
   pub keep : MayGive rows (codes "keep") asked.keep
+  pub resume : asked.resume ≡ is_set rows (codes "resume")
   pub lose : MayGive rows (codes "lose") asked.lose
   pub again : asked.again ≡ is_set rows (codes "again")
+  pub progress : asked.progress ≡ progress_in rows
+  pub report : MayGive rows (codes "report") asked.report
+  pub plot : MayGive rows (codes "plot") asked.plot
 
 -- the entries ask for this graph file
 pub record AsksImport (rows : List Row) (asked : ImportRequest) : Type 0 where
@@ -165,14 +221,15 @@ pub record AsksImport (rows : List Row) (asked : ImportRequest) : Type 0 where
 
 -- the command over files of this name asks for this
 abbrev pub AsksFor : (name : Text) → List Row → Request → Type 0
-AsksFor name rows (request.Call m input) = (name ≡ codes "call") × Gives rows (codes "module") m × Gives rows (codes "input") input
+AsksFor name rows (request.Call m input) = (name ≡ codes "call") × AsksModule rows m × Gives rows (codes "input") input
 AsksFor name rows (request.Run asked) = (name ≡ codes "run") × AsksRun rows asked
 AsksFor name rows (request.Replay asked steps) = (name ≡ codes "replay") × AsksJob rows asked × Gives rows (codes "steps") steps
 AsksFor name rows (request.Upgrade checkpoint newer) =
     (name ≡ codes "upgrade") × Gives rows (codes "checkpoint") checkpoint × Gives rows (codes "binary") newer
 AsksFor name rows (request.Assemble m binary) = (name ≡ codes "asm") × Gives rows (codes "module") m × Gives rows (codes "binary") binary
+AsksFor name rows (request.Fit m binary) = (name ≡ codes "fit") × Gives rows (codes "module") m × Gives rows (codes "binary") binary
 AsksFor name rows (request.Print m) = (name ≡ codes "print") × Gives rows (codes "module") m
-AsksFor name rows (request.Verify m) = (name ≡ codes "verify") × Gives rows (codes "module") m
+AsksFor name rows (request.Verify m) = (name ≡ codes "verify") × AsksModule rows m
 AsksFor name rows (request.Import asked) = (name ≡ codes "graph") × AsksImport rows asked
 
 -- the command of this name asks for this
@@ -190,19 +247,23 @@ AskedBy words = AskedIn (subcommand_of pregel words)
 
 -- ---- a sign, which `clap` takes before a number
 
+-- the options whose value is a number that `clap` reads
+abbrev pub numbers : List Text
+numbers = map (λ s. s.0) settings ++ codes "max-size" ∷ []
+
 -- 43 is `+`
 abbrev pub begins_with_plus : Text → Bool
 begins_with_plus text = slice_index text 0 == 43
 
--- the setting's entry is written with a `+`
+-- the number's entry is written with a `+`
 abbrev pub is_signed : List Row → (name : Text) → Bool
 is_signed rows name = option_map_or begins_with_plus (first_of name rows) false
 
--- a setting of the command that was met is
+-- a number of the command that was met is
 abbrev pub has_plus_in : (met : Option (Text × List Row)) → Bool
-has_plus_in met = option_map_or (λ command. list_any (λ s. is_signed command.1 s.0) settings) met false
+has_plus_in met = option_map_or (λ command. list_any (is_signed command.1) numbers) met false
 
--- a setting among the words has a `+`
+-- a number among the words has a `+`
 abbrev pub has_plus : (words : List Text) → Bool
 has_plus words = has_plus_in (subcommand_of pregel words)
 
@@ -212,7 +273,7 @@ has_plus words = has_plus_in (subcommand_of pregel words)
 abbrev pub AsksNothing : (words : List Text) → Type 0
 AsksNothing words = (given : Options) → AskedBy words given → ⊥
 
--- Memory ran out, or `clap` refuses the words, or it takes them and a setting has a `+`, or what it takes asks for nothing.
+-- Memory ran out, or `clap` refuses the words, or it takes them and a number has a `+`, or what it takes asks for nothing.
 abbrev pub IsRefusal : (words : List Text) → Error → Type 0
 IsRefusal words e = HasKind (fault_of pregel words) e
     ⊎ ((fault_of pregel words ≡ [])

@@ -3,22 +3,25 @@
 ghost use Rattle.std.specs.Prelude.{◌≡◌, ◌∷◌, [], IfErr, IfOk, IsErrAnd, MatchResult, OnOk, codes, false, map};
 ghost use Rattle.std.specs.List.{list_any};
 ghost use Rattle.clap.specs.Words.{HasKind, app_of, fault_of, subcommand_rows_of};
-ghost use Rattle.command_line.specs.CommandLine.{AskedBy, AskedIn, AsksFor, AsksJob, AsksRun, GivesNumber, GivesSettings, IsRefusal, has_plus, has_plus_in, is_set, is_signed, pregel};
+ghost use Rattle.command_line.specs.CommandLine.{AskedBy, AskedIn, AsksCores, AsksFor, AsksJob, AsksModule, AsksRun, GivesNumber, GivesSettings, IsRefusal, MayGiveNumber, has_plus, has_plus_in, is_given, is_set, is_signed, pregel, progress_in};
 ghost use Rattle.command_line.specs.inside.Commands.{Finds, IsRefusedIn, rows_in};
 
 use crate::commands::pregel;
-use crate::request::{ImportRequest, JobRequest, Options, Request, RunRequest};
+use crate::request::{
+    Cores, ImportRequest, JobRequest, ModuleRequest, Options, Progress, Request, RunRequest,
+};
 use clap::error::ErrorKind;
+use clap::parser::ValueSource;
 use clap::{ArgMatches, Command, Error};
 use std::alloc::Global;
 use std::convert::AsStr;
 use superstep::Settings;
 
-// The names of a job's settings.
-static SETTINGS: [&str; 5] = ["parts", "workers", "every", "limit", "lease"];
+// The names of the options whose value is a number that `clap` reads.
+static NUMBERS: [&str; 6] = ["parts", "workers", "every", "limit", "lease", "max-size"];
 
 /// Reads the words of a command line, the program's name first. A refusal is clap's, with its text and status; help
-/// that is asked for comes as one too. A setting that is written with a `+`, which clap takes, is refused. Words in
+/// that is asked for comes as one too. A number that is written with a `+`, which clap takes, is refused. Words in
 /// which clap finds no fault, with no `+`, that ask for something, are refused for want of memory alone.
 pub fn options<'a, S: AsStr>(alloc: Global, words: &'a [S]) -> Result<Options<'a>, Error>
     ensures asked { IfOk result (AskedBy (map S.text words.entry.now)) }
@@ -45,7 +48,7 @@ fn options_by<'a, S: AsStr>(command: &mut Command<'a>, words: &'a [S]) -> Result
     options_in(command, &matches)
 }
 
-// Finds the options in the matches. A setting with a `+` and a missing command are errors.
+// Finds the options in the matches. A number with a `+` and a missing command are errors.
 fn options_in<'a>(command: &mut Command<'a>, matches: &ArgMatches<'a>) -> Result<Options<'a>, Error>
     ensures asked { IfOk result (AskedIn (subcommand_rows_of matches.now)) }
     ensures unsigned { OnOk result (has_plus_in (subcommand_rows_of matches.now) ≡ false) }
@@ -76,20 +79,20 @@ fn refusal<'a>(
     Err(error)
 }
 
-// Whether a setting has a `+`, which `clap` takes before a number.
+// Whether a number has a `+`, which `clap` takes before a number.
 fn has_plus(matches: &ArgMatches) -> bool
     ensures { result ≡ has_plus_in (subcommand_rows_of matches.now) }
 {
     let Some((_, entries)) = matches.subcommand() else {
         return false;
     };
-    any_has_plus(entries, SETTINGS.as_slice())
+    any_has_plus(entries, NUMBERS.as_slice())
 }
 
-fn any_has_plus(entries: &ArgMatches, settings: &[&str]) -> bool
-    ensures { result ≡ list_any (λ s. is_signed (rows_in entries.now) s.now) settings.now }
+fn any_has_plus(entries: &ArgMatches, names: &[&str]) -> bool
+    ensures { result ≡ list_any (λ s. is_signed (rows_in entries.now) s.now) names.now }
 {
-    settings.iter().any(|name| begins_with_plus(entries, name))
+    names.iter().any(|name| begins_with_plus(entries, name))
 }
 
 fn begins_with_plus(entries: &ArgMatches, name: &str) -> bool
@@ -124,13 +127,14 @@ fn requested<'a>(name: &str, entries: &ArgMatches<'a>) -> Option<Request<'a>>
         "replay" => replay_asked(entries),
         "upgrade" => upgrade_asked(entries),
         "asm" => assemble_asked(entries),
+        "fit" => fit_asked(entries),
         "graph" => import_asked(entries),
         "print" => {
             let module = entries.get_str("module")?;
             Some(Request::Print { module })
         }
         "verify" => {
-            let module = entries.get_str("module")?;
+            let module = module_asked(entries)?;
             Some(Request::Verify { module })
         }
         _ => None,
@@ -140,7 +144,7 @@ fn requested<'a>(name: &str, entries: &ArgMatches<'a>) -> Option<Request<'a>>
 fn call_asked<'a>(entries: &ArgMatches<'a>) -> Option<Request<'a>>
     ensures { Finds (AsksFor (codes "call") (rows_in entries.now)) result }
 {
-    let module = entries.get_str("module")?;
+    let module = module_asked(entries)?;
     let input = entries.get_str("input")?;
     Some(Request::Call { module, input })
 }
@@ -151,10 +155,39 @@ fn run_asked<'a>(entries: &ArgMatches<'a>) -> Option<RunRequest<'a>>
     let job = job_asked(entries)?;
     Some(RunRequest {
         job,
+        cores: cores_asked(entries),
         keep: entries.get_str("keep"),
+        resume: is_set(entries, "resume"),
         lose: entries.get_str("lose"),
         again: is_set(entries, "again"),
+        progress: progress_asked(entries),
+        report: entries.get_str("report"),
+        plot: entries.get_str("plot"),
     })
+}
+
+fn cores_asked(entries: &ArgMatches) -> Cores
+    ensures { AsksCores (rows_in entries.now) result }
+{
+    Cores {
+        all: is_set(entries, "all-cores"),
+        workers_given: is_given(entries, "workers"),
+        parts_given: is_given(entries, "parts"),
+    }
+}
+
+// When progress is shown; `--quiet` outweighs `--progress`.
+fn progress_asked(entries: &ArgMatches) -> Progress
+    ensures { result ≡ progress_in (rows_in entries.now) }
+{
+    if is_set(entries, "quiet") {
+        return Progress::Never;
+    }
+    if is_set(entries, "progress") {
+        Progress::Always
+    } else {
+        Progress::OnTerminal
+    }
 }
 
 fn replay_asked<'a>(entries: &ArgMatches<'a>) -> Option<Request<'a>>
@@ -181,6 +214,14 @@ fn assemble_asked<'a>(entries: &ArgMatches<'a>) -> Option<Request<'a>>
     Some(Request::Assemble { module, binary })
 }
 
+fn fit_asked<'a>(entries: &ArgMatches<'a>) -> Option<Request<'a>>
+    ensures { Finds (AsksFor (codes "fit") (rows_in entries.now)) result }
+{
+    let module = entries.get_str("module")?;
+    let binary = entries.get_str("binary")?;
+    Some(Request::Fit { module, binary })
+}
+
 fn import_asked<'a>(entries: &ArgMatches<'a>) -> Option<Request<'a>>
     ensures { Finds (AsksFor (codes "graph") (rows_in entries.now)) result }
 {
@@ -201,7 +242,7 @@ fn import_asked<'a>(entries: &ArgMatches<'a>) -> Option<Request<'a>>
 fn job_asked<'a>(entries: &ArgMatches<'a>) -> Option<JobRequest<'a>>
     ensures { Finds (AsksJob (rows_in entries.now)) result }
 {
-    let module = entries.get_str("module")?;
+    let module = module_asked(entries)?;
     let graph = entries.get_str("graph")?;
     let settings = settings_of(entries)?;
     let tells_units = is_set(entries, "units");
@@ -211,6 +252,14 @@ fn job_asked<'a>(entries: &ArgMatches<'a>) -> Option<JobRequest<'a>>
         settings,
         tells_units,
     })
+}
+
+fn module_asked<'a>(entries: &ArgMatches<'a>) -> Option<ModuleRequest<'a>>
+    ensures { Finds (AsksModule (rows_in entries.now)) result }
+{
+    let path = entries.get_str("module")?;
+    let max_size = bound_of(entries, "max-size")?;
+    Some(ModuleRequest { path, max_size })
 }
 
 fn settings_of(entries: &ArgMatches) -> Option<Settings>
@@ -230,6 +279,27 @@ fn number_of(entries: &ArgMatches, name: &str) -> Option<u32>
     ensures { Finds (GivesNumber (rows_in entries.now) name.now) result }
 {
     entries.get_one(name)
+}
+
+// The number of an option that may be left out.
+fn bound_of(entries: &ArgMatches, name: &str) -> Option<Option<u32>>
+    ensures { Finds (MayGiveNumber (rows_in entries.now) name.now) result }
+{
+    match entries.get_str(name) {
+        Some(_) => number_of(entries, name).map(Some),
+        None => Some(None),
+    }
+}
+
+// Whether the words give an option. Its default does not count.
+fn is_given(entries: &ArgMatches, name: &str) -> bool
+    ensures { result ≡ is_given (rows_in entries.now) name.now }
+{
+    match entries.value_source(name) {
+        Some(ValueSource::CommandLine) => true,
+        Some(ValueSource::DefaultValue) => false,
+        None => false,
+    }
 }
 
 // Whether a flag is given.

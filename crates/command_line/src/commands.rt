@@ -1,9 +1,10 @@
 //! The program's commands: the arguments of each, and its help.
 
 ghost use Rattle.std.specs.Prelude.{IfOk, map};
-ghost use Rattle.command_line.specs.CommandLine.{console, flag, option, positional, pregel, setting};
+ghost use Rattle.command_line.specs.CommandLine.{bound, console, flag, option, positional, pregel, setting};
 ghost use Rattle.command_line.specs.inside.Commands.{AddsCommands, AddsRules, IsArg, IsCommand, IsLeaf, rule_in, shape_in};
 
+use crate::after_help;
 use clap::{Arg, ArgAction, Command, value_parser};
 use std::alloc::{AllocError, Global};
 
@@ -18,6 +19,12 @@ enum Argument {
     },
     // An option with a value.
     Option {
+        name: &'static str,
+        value_name: &'static str,
+        help: &'static str,
+    },
+    // An option with a number that may be left out.
+    Number {
         name: &'static str,
         value_name: &'static str,
         help: &'static str,
@@ -91,7 +98,12 @@ const CHECKPOINT: Argument = Argument::Positional {
 const KEEP: Argument = Argument::Option {
     name: "keep",
     value_name: "DIR",
-    help: "Keeps saved states in files of this folder, which has to be there, and not in memory; a save that fails is not told",
+    help: "Keeps checkpoints in files of this folder, which has to exist, and not in memory. Failed saves are reported on standard error when the job ends",
+};
+
+const RESUME: Argument = Argument::Flag {
+    name: "resume",
+    help: "Begins with the newest checkpoint in the folder of `--keep`. It has to be of the same module and graph",
 };
 
 const LOSE: Argument = Argument::Option {
@@ -114,7 +126,7 @@ const PARTS: Argument = Argument::Setting {
 const WORKERS: Argument = Argument::Setting {
     name: "workers",
     otherwise: "1",
-    help: "How many workers there are, from 1 to 64; more than there are parts have nothing to do",
+    help: "How many worker threads there are, from 1 to 64. More than there are parts have nothing to do",
 };
 
 const EVERY: Argument = Argument::Setting {
@@ -138,6 +150,39 @@ const LEASE: Argument = Argument::Setting {
 const UNITS: Argument = Argument::Flag {
     name: "units",
     help: "Tells the units of each superstep too",
+};
+
+const ALL_CORES: Argument = Argument::Flag {
+    name: "all-cores",
+    help: "Uses as many workers as the machine has processors, up to 64, and four times as many parts. A number given by `--workers` or `--parts` stays",
+};
+
+const PROGRESS: Argument = Argument::Flag {
+    name: "progress",
+    help: "Shows progress on standard error, also where that is no terminal",
+};
+
+const QUIET: Argument = Argument::Flag {
+    name: "quiet",
+    help: "Shows neither progress nor warnings, also on a terminal. It outweighs `--progress`",
+};
+
+const REPORT: Argument = Argument::Option {
+    name: "report",
+    value_name: "FILE",
+    help: "Writes a report of the run to this file, as JSON",
+};
+
+const PLOT: Argument = Argument::Option {
+    name: "plot",
+    value_name: "FILE",
+    help: "Writes a chart of the run's supersteps to this file, as SVG",
+};
+
+const MAX_SIZE: Argument = Argument::Number {
+    name: "max-size",
+    value_name: "S",
+    help: "Refuses a module whose size, with calls inlined, is greater than S. `pregel verify` prints the size",
 };
 
 const EDGES: Argument = Argument::Positional {
@@ -189,17 +234,18 @@ const EXPLAIN: Argument = Argument::Flag {
 const VERSION: &str = "0.3.0, proved with rattle-kit-13f logic dac8208d650f15bf";
 
 // The commands except `console`, in the order of the help.
-static COMMANDS: [Usage; 8] = [
+static COMMANDS: [Usage; 9] = [
     Usage {
         name: "call",
         about: "Makes one compute call of one vertex, and prints its outcome",
-        arguments: &[MODULE, INPUT, EXPLAIN],
+        arguments: &[MODULE, INPUT, MAX_SIZE, EXPLAIN],
     },
     Usage {
         name: "run",
         about: "Runs a module's job over a graph, and prints the vertices' values",
         arguments: &[
-            MODULE, GRAPH, KEEP, LOSE, AGAIN, PARTS, WORKERS, EVERY, LIMIT, LEASE, UNITS, EXPLAIN,
+            MODULE, GRAPH, KEEP, RESUME, LOSE, AGAIN, PARTS, WORKERS, EVERY, LIMIT, LEASE, UNITS,
+            ALL_CORES, PROGRESS, QUIET, REPORT, PLOT, MAX_SIZE, EXPLAIN,
         ],
     },
     Usage {
@@ -220,6 +266,11 @@ static COMMANDS: [Usage; 8] = [
         arguments: &[MODULE_IN, BINARY],
     },
     Usage {
+        name: "fit",
+        about: "Rewrites a valid module so that `verify` may accept it, in WebAssembly's binary format",
+        arguments: &[MODULE_IN, BINARY],
+    },
+    Usage {
         name: "print",
         about: "Prints a module in WebAssembly's text format",
         arguments: &[MODULE_IN],
@@ -227,7 +278,7 @@ static COMMANDS: [Usage; 8] = [
     Usage {
         name: "verify",
         about: "Tells the bounds of a module's calls, where they are known to have any",
-        arguments: &[MODULE, EXPLAIN],
+        arguments: &[MODULE, MAX_SIZE, EXPLAIN],
     },
     Usage {
         name: "graph",
@@ -246,7 +297,7 @@ pub(crate) fn pregel<'a>(alloc: Global) -> Result<Command<'a>, AllocError>
         .bin_name("pregel")?
         .about("Computes over graphs by programs of one vertex, each a WebAssembly module")
         .version(VERSION)
-        .after_help("A module whose file's name ends in `.wat` is text, any other is binary.")
+        .after_help(after_help::PREGEL)
         .subcommand_required(true)
         .arg_required_else_help(true);
     let command = with_commands(alloc, command, COMMANDS.as_slice())?;
@@ -272,7 +323,9 @@ fn with_commands<'a>(
 fn leaf<'a>(alloc: Global, usage: &Usage) -> Result<Command<'a>, AllocError>
     ensures { IfOk result (IsLeaf (shape_in usage.now)) }
 {
-    let command = Command::new(alloc, usage.name).about(usage.about);
+    let command = Command::new(alloc, usage.name)
+        .about(usage.about)
+        .after_help(after_help::of(usage.name));
     with_arguments(alloc, command, usage.arguments)
 }
 
@@ -306,6 +359,11 @@ impl Argument {
                 value_name,
                 help,
             } => option(alloc, name, value_name, help),
+            Argument::Number {
+                name,
+                value_name,
+                help,
+            } => bound(alloc, name, value_name, help),
             Argument::Flag { name, help } => flag(alloc, name, help),
             Argument::Setting {
                 name,
@@ -323,9 +381,7 @@ fn console<'a>(alloc: Global) -> Command<'a>
         .about(
             "Serves a session of named modules, graphs and jobs: lines of commands in, replies out",
         )
-        .after_help(
-            "Commands: `module NAME PATH`, `graph NAME PATH`, `job NAME MODULE GRAPH PARTS WORKERS EVERY LIMIT`, `run NAME`, `status NAME`, `values NAME`, `drop module NAME` (also `graph`, `job`), `quit`.",
-        )
+        .after_help(after_help::CONSOLE)
 }
 
 // Makes an argument that is given by its place.
@@ -346,6 +402,13 @@ fn option<'a>(alloc: Global, name: &'a str, value_name: &'a str, help: &'a str) 
         .long(name)
         .value_name(value_name)
         .help(help)
+}
+
+// Makes an option with a number that may be left out.
+fn bound<'a>(alloc: Global, name: &'a str, value_name: &'a str, help: &'a str) -> Arg<'a>
+    ensures { IsArg (bound name.entry.now) result }
+{
+    option(alloc, name, value_name, help).value_parser(value_parser!(u32))
 }
 
 // Makes an option with no value.

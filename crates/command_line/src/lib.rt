@@ -1,9 +1,13 @@
 //! The words of the command line, and what they ask for.
 #![tactic(auto)]
 
+mod after_help;
 mod command_line;
 mod commands;
+mod machine;
 mod request;
 
 pub use command_line::options;
-pub use request::{ImportRequest, JobRequest, Options, Request, RunRequest};
+pub use request::{
+    Cores, ImportRequest, JobRequest, ModuleRequest, Options, Progress, Request, RunRequest,
+};

@@ -7,7 +7,7 @@ use Rattle.clap.specs.declared.builder.command.Command.TheViews.{out-Command}
 use Rattle.clap.specs.declared.error.Error.{Error}
 use Rattle.clap.specs.declared.error.kind.ErrorKind.TheVariants.{MissingSubcommand, OutOfMemory, ValueValidation}
 use Rattle.clap.specs.declared.parser.matches.ArgMatches.{ArgMatches}
-use Rattle.command_line.specs.CommandLine.{AskedIn, command, flag, has_plus_in, option, positional, setting}
+use Rattle.command_line.specs.CommandLine.{AskedIn, bound, command, flag, has_plus_in, option, positional, setting}
 use Rattle.command_line.specs.declared.commands.Argument.{Argument}
 use Rattle.command_line.specs.declared.commands.Argument.TheVariants as argument
 use Rattle.command_line.specs.declared.commands.Usage.{Usage}
@@ -48,6 +48,7 @@ AddsCommands old shapes new =
 abbrev pub rule_in : Argument → Rule
 rule_in (argument.Positional name value_name help) = positional name.now
 rule_in (argument.Option name value_name help) = option name.now
+rule_in (argument.Number name value_name help) = bound name.now
 rule_in (argument.Flag name help) = flag name.now
 rule_in (argument.Setting name otherwise help) = setting (name.now, otherwise.now)
 
@@ -59,7 +60,7 @@ shape_in usage = command usage.name.now (map rule_in usage.arguments.now)
 abbrev pub rows_in : ArgMatches → List Row
 rows_in matches = rows_of (found_of matches)
 
--- Memory ran out, or a setting of the command that was met has a `+`, or what was met asks for nothing.
+-- Memory ran out, or a number of the command that was met has a `+`, or what was met asks for nothing.
 abbrev pub IsRefusedIn : (met : Option (Text × List Row)) → Error → Type 0
 IsRefusedIn met e = (kind_of e ≡ OutOfMemory)
     ⊎ (((has_plus_in met ≡ true) × (kind_of e ≡ ValueValidation))

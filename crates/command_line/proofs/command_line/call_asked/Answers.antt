@@ -6,18 +6,18 @@ use Rattle.command_line.proofs.command_line.call_asked.Goals as goal
 pub returns : goal.returns
 returns c = (
   refl,
-  text_given c.args.entries.now (codes "module") c.get_str.result c.in_ok-module.«module» c.get_str.ensures c.in_ok-module.was,
-  text_given c.args.entries.now (codes "input") c.get_str-2.result c.in_ok-input.input c.get_str-2.ensures c.in_ok-input.was,
+  c.in_ok-module.ensures,
+  text_given c.args.entries.now (codes "input") c.get_str.result c.in_ok-input.input c.get_str.ensures c.in_ok-input.was,
 )
 
 pub returns-in_err-module : goal.returns-in_err-module
 returns-in_err-module c =
     none_is _ _ c.from_residual.ensures (λ asked asks.
     let gives = asks_call (rows_in c.args.entries.now) asked asks in
-    lacking c.args.entries.now (codes "module") c.get_str.result c.get_str.ensures c.in_err-module.was gives.0 gives.2)
+    c.in_err-module.ensures gives.0 gives.2)
 
 pub returns-in_err-input : goal.returns-in_err-input
 returns-in_err-input c =
     none_is _ _ c.from_residual-in_err-input.ensures (λ asked asks.
     let gives = asks_call (rows_in c.args.entries.now) asked asks in
-    lacking c.args.entries.now (codes "input") c.get_str-2.result c.get_str-2.ensures c.in_err-input.was gives.1 gives.3)
+    lacking c.args.entries.now (codes "input") c.get_str.result c.get_str.ensures c.in_err-input.was gives.1 gives.3)

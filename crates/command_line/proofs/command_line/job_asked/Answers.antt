@@ -4,19 +4,19 @@ use Rattle.command_line.proofs.command_line.job_asked.Goals as goal
 
 pub returns : goal.returns
 returns c = record {
-  module_path = text_given c.args.entries.now (codes "module") c.get_str.result c.in_ok-module.«module» c.get_str.ensures c.in_ok-module.was;
-  graph_path = text_given c.args.entries.now (codes "graph") c.get_str-2.result c.in_ok-graph.graph c.get_str-2.ensures c.in_ok-graph.was;
+  module_file = c.in_ok-module.ensures;
+  graph_path = text_given c.args.entries.now (codes "graph") c.get_str.result c.in_ok-graph.graph c.get_str.ensures c.in_ok-graph.was;
   settings = c.in_ok-settings.ensures;
   units = c.is_set-tells_units.ensures;
 }
 
 pub returns-in_err-module : goal.returns-in_err-module
 returns-in_err-module c =
-    none_is _ _ c.from_residual.ensures (λ job asks. lacking c.args.entries.now (codes "module") c.get_str.result c.get_str.ensures c.in_err-module.was job.«module» asks.module_path)
+    none_is _ _ c.from_residual.ensures (λ job asks. c.in_err-module.ensures _ asks.module_file)
 
 pub returns-in_err-graph : goal.returns-in_err-graph
 returns-in_err-graph c =
-    none_is _ _ c.from_residual-in_err-graph.ensures (λ job asks. lacking c.args.entries.now (codes "graph") c.get_str-2.result c.get_str-2.ensures c.in_err-graph.was job.graph asks.graph_path)
+    none_is _ _ c.from_residual-in_err-graph.ensures (λ job asks. lacking c.args.entries.now (codes "graph") c.get_str.result c.get_str.ensures c.in_err-graph.was job.graph asks.graph_path)
 
 pub returns-in_err-settings : goal.returns-in_err-settings
 returns-in_err-settings c =

@@ -5,9 +5,14 @@ use Rattle.command_line.proofs.command_line.run_asked.Goals as goal
 pub returns : goal.returns
 returns c = record {
   job = c.in_ok-job.ensures;
+  cores = c.cores_asked.ensures;
   keep = text_read c.args.entries.now (codes "keep") c.get_str.result c.get_str.ensures;
+  resume = c.is_set.ensures;
   lose = text_read c.args.entries.now (codes "lose") c.get_str-2.result c.get_str-2.ensures;
-  again = c.is_set.ensures;
+  again = c.is_set-2.ensures;
+  progress = c.progress_asked.ensures;
+  report = text_read c.args.entries.now (codes "report") c.get_str-3.result c.get_str-3.ensures;
+  plot = text_read c.args.entries.now (codes "plot") c.get_str-4.result c.get_str-4.ensures;
 }
 
 pub returns-in_err-job : goal.returns-in_err-job

@@ -5,7 +5,7 @@ use Rattle.clap.specs.Simple.{app_of_fields, on_top}
 use Rattle.clap.specs.declared.builder.command.Command.{Command}
 use Rattle.clap.specs.declared.builder.command.Command.TheOpen.{Command-F}
 use Rattle.clap.specs.declared.builder.command.Command.TheViews.{out-Command}
-use Rattle.command_line.specs.CommandLine.{asm, call, console, graph, pregel, print, replay, run, upgrade, verify}
+use Rattle.command_line.specs.CommandLine.{asm, call, console, fit, graph, pregel, print, replay, run, upgrade, verify}
 use Rattle.command_line.specs.inside.Commands.{IsCommand, shape_in, with_shapes}
 use Rattle.command_line.proofs.CommandRules.{one_below}
 use Rattle.command_line.proofs.commands.pregel.Goals as goal
@@ -24,7 +24,7 @@ shows_help = on_top (λ (s : Shape). record s { arg_required_else_help = true })
 
 -- the commands of the table
 abbrev leaves : List Shape
-leaves = call ∷ run ∷ replay ∷ upgrade ∷ asm ∷ print ∷ verify ∷ graph ∷ []
+leaves = call ∷ run ∷ replay ∷ upgrade ∷ asm ∷ fit ∷ print ∷ verify ∷ graph ∷ []
 
 pub returns : goal.returns
 returns c =

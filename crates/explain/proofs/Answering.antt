@@ -1,10 +1,9 @@
 -- What an answer says, case by case.
-use Rattle.std.proofs.Common.{◌≡◌, Bool, true, false, Option, Some, None, Result, Ok, Err, refl, sym}
+use Rattle.std.proofs.Common.{◌≡◌, Option, Some, None, Result, Ok, Err, sym}
 use Rattle.std.specs.Prelude.{IfOk, IfSome, String, is_some, string_bytes}
 use Rattle.std.specs.Borrow.{Bor}
-use Rattle.sources.specs.declared.sources.Source.{Source}
+use Rattle.sources.specs.declared.file_contents.Source.{Source}
 use Rattle.sources.specs.declared.fault.CommandFault.{CommandFault}
-use Rattle.sources.specs.declared.fault.CommandFault.TheVariants as command
 use Rattle.explain.specs.Explanation.{Explains, is_explained}
 use Rattle.explain.specs.inside.Told.{Answers}
 

@@ -1,4 +1,4 @@
--- What the explanation of a refusal says and shows.
+-- What the explanation of an error says and shows.
 use Rattle.std.specs.Prelude.{◌≡◌, ◌⊎◌, ◌==◌, ℕ, Bool, true, false, List, [], ◌∷◌, ◌++◌, Option, Some, None, codes, length, Contains, if◌then◌else◌}
 use Rattle.std.specs.Borrow.{Bor}
 use Rattle.std.specs.Str.Lines.{lines}
@@ -10,16 +10,16 @@ use Rattle.validate.specs.declared.fault.Place.{Place}
 use Rattle.validate.specs.declared.fault.ValidFault.TheVariants as valid
 use Rattle.bounded_profile.specs.FaultText.{rule_word}
 use Rattle.bounded_profile.specs.declared.fault.ProfileFault.TheVariants as profile
-use Rattle.sources.specs.declared.sources.Source.{Source}
+use Rattle.sources.specs.declared.file_contents.Source.{Source}
 use Rattle.sources.specs.declared.fault.CommandFault.{CommandFault}
 use Rattle.sources.specs.declared.fault.CommandFault.TheVariants as command
-use Rattle.sources.specs.Lines.{line}
+use Rattle.sources.specs.OutputLines.{line}
 use Rattle.sources.specs.Modules.{MeansBy}
 use Rattle.sources.specs.Source.{content, is_text}
 use Rattle.explain.specs.declared.advice.Advice.{Advice}
 use Rattle.explain.specs.Listing.{IsListing, IsStretch}
 
--- whether a fault is explained: one of the module's own, which is not want of memory
+-- whether a fault is explained: one of the module's own, except an allocation that failed
 abbrev pub is_explained : CommandFault → Bool
 is_explained (command.Unbounded profile.OutOfMemory) = false
 is_explained (command.Unbounded fault) = true
@@ -39,11 +39,11 @@ beginning (command.Unbounded (profile.Breaks rule place)) = codes "Rule " ++ rul
 beginning (command.Unbounded (profile.Cycle functions)) = codes "Rule P12: "
 beginning fault = []
 
--- what is said for a language, where anything is; 58 is a colon
+-- the advice for a language, if there is any; 58 is a colon
 abbrev pub part_text : (language said : List ℕ) → List ℕ
 part_text language said = if length said == 0 then [] else 10 ∷ [] ++ language ++ 58 ∷ 10 ∷ [] ++ said
 
--- the sentence, and what is said for each language
+-- the sentence, and the advice for each language
 abbrev pub advice_text : Advice → List ℕ
 advice_text advice =
     advice.sentence.now ++ 10 ∷ []
@@ -59,14 +59,14 @@ place_of (command.Unbounded (profile.Breaks rule place)) = Some place
 place_of (command.Invalid (valid.Breaks rule place)) = Some place
 place_of fault = None
 
--- a line among these is shown
+-- one of these lines is shown
 pub record IsLineShown (all : List (List ℕ)) (shown : List ℕ) : Type 0 where
   pub heading : List ℕ
   pub text : List ℕ
   pub is_line : Contains all text
   pub joined : shown ≡ heading ++ line text
 
--- lines of a body are listed that stand together among these
+-- adjacent lines of a body among these are listed
 pub record IsBodyShown (all : List (List ℕ)) (marked : Option ℕ) (shown : List ℕ) : Type 0 where
   pub body : List (List ℕ)
   pub inside : IsStretch all body
@@ -79,7 +79,7 @@ pub record IsBodyShown (all : List (List ℕ)) (marked : Option ℕ) (shown : Li
 abbrev pub ShowsLines : List (List ℕ) → (marked : Option ℕ) → (shown : List ℕ) → Type 0
 ShowsLines all marked shown = (shown ≡ []) ⊎ (IsLineShown all shown ⊎ IsBodyShown all marked shown)
 
--- the source means this module, and lines of its text are shown
+-- the source is this module, and lines of its text are shown
 pub record ShowsModule (source : Source) (marked : Option ℕ) (shown : List ℕ) : Type 0 where
   pub m : Module
   pub means : MeansBy (is_text source) (content source) m
@@ -90,12 +90,12 @@ abbrev pub ShowsPlace : Option (Bor Source) → Place → (shown : List ℕ) →
 ShowsPlace None place shown = shown ≡ []
 ShowsPlace (Some source) place shown = (shown ≡ []) ⊎ ShowsModule source.now place.instruction shown
 
--- the same where a place is named; what is shown of a text or bytes is left open
+-- the same where a place is named; otherwise anything, as for a text or bytes
 abbrev pub MayShow : Option (Bor Source) → Option Place → (shown : List ℕ) → Type 0
 MayShow source None shown = Unit {0}
 MayShow source (Some place) shown = ShowsPlace source place shown
 
--- What is told of a fault: how it begins, a piece of advice, and then the place.
+-- The explanation of a fault: its beginning, a piece of advice, and then the place.
 pub record Explains (source : Option (Bor Source)) (fault : CommandFault) (told : List ℕ) : Type 0 where
   pub advice : Advice
   pub shown : List ℕ

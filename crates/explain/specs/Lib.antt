@@ -1,5 +1,5 @@
 -- What a reader has to believe: what an explanation says and shows.
 pub mod Explanation
 pub mod Listing
--- what only mirrors the code, for its proofs
+-- definitions that mirror the code, only for its proofs
 pub mod inside

@@ -1,8 +1,8 @@
--- How lines of a module's text are listed.
+-- The listing of lines of a module's text.
 use Rattle.std.specs.Prelude.{◌≡◌, ℕ, ◌+◌, ◌^◌, ◌-◌, ◌||◌, Bool, true, false, not, nat_eq, List, [], ◌∷◌, ◌++◌, Option, Some, None, codes, count_by, if◌then◌else◌}
 use Rattle.std.specs.Fmt.{format_spec, styled_decimal}
 use Rattle.std.specs.Str.{bytes_eq, trim_start}
-use Rattle.sources.specs.Lines.{line}
+use Rattle.sources.specs.OutputLines.{line}
 
 -- whether a line of a function has an instruction, and so a number
 abbrev pub is_numbered : List ℕ → Bool
@@ -21,7 +21,8 @@ mark false = codes " "
 abbrev pub column : ℕ → List ℕ
 column number = styled_decimal (format_spec 32 0 0 6 (2 ^ 64 - 1)) number
 
--- a line: that of an instruction behind its number, and a mark where it is the one that is named; any other as far in
+-- a line: an instruction after its number, with a mark if it is the one that is named; any other line with the same
+-- indent
 abbrev pub listed_line : Option ℕ → ℕ → List ℕ → List ℕ
 listed_line marked number text = if is_numbered text
     then line (mark (is_marked number marked) ++ codes " " ++ column number ++ codes " " ++ text)
@@ -31,19 +32,19 @@ listed_line marked number text = if is_numbered text
 abbrev pub next_number : ℕ → List ℕ → ℕ
 next_number number text = if is_numbered text then number + 1 else number
 
--- lines, one after another; this is the number of the first instruction among them
+-- lines, one after another; `number` is that of the first instruction among them
 abbrev pub listed : Option ℕ → ℕ → List (List ℕ) → List ℕ
 listed marked number [] = []
 listed marked number (text ∷ more) = listed_line marked number text ++ listed marked (next_number number text) more
 
--- a part of a list, whose elements stand there one after another
+-- a part of a list: adjacent elements
 pub record IsStretch {T : Type 0} (all part : List T) : Type 0 where
   pub before : List T
   pub after : List T
   pub joined : all ≡ before ++ (part ++ after)
 
--- Lines of a function's body are listed, which stand there one after another, each instruction behind its number: as many
--- instructions stand before it in the body.
+-- Adjacent lines of a function's body are listed, each instruction after its number: the number of instructions
+-- before it in the body.
 pub record IsListing (body : List (List ℕ)) (marked : Option ℕ) (told : List ℕ) : Type 0 where
   pub before : List (List ℕ)
   pub part : List (List ℕ)

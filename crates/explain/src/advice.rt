@@ -1,12 +1,12 @@
-//! What is said of each kind of refusal: one table for the program, `pregel-cc` and the tests.
+//! The advice on each kind of error: one table for the program, `pregel-cc` and the tests.
 
 pub mod bytes;
 pub mod profile;
 pub mod texts;
 pub mod validity;
 
-/// What is said of a kind of refusal. Each of the last three is some lines, two blanks in, or nothing where it can't come
-/// from there.
+/// The advice on a kind of error. Each of the last three fields is some lines, indented by two blanks. It is empty
+/// where the error cannot come from that language.
 #[derive(Clone, Copy)]
 pub struct Advice {
     /// The rule, or what is wrong, in a sentence.

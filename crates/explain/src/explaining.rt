@@ -1,11 +1,11 @@
-//! The explanation of a refusal.
+//! The explanation of an error.
 
 ghost use Rattle.std.specs.Prelude.{◌≡◌, ◌++◌, codes, IfOk, IfSome, OnOk, is_some, string_bytes};
 ghost use Rattle.bounded_profile.specs.FaultText.{rule_word};
 ghost use Rattle.bounded_profile.specs.declared.fault.ProfileFault.TheVariants as profile_fault;
 ghost use Rattle.validate.specs.declared.fault.ValidFault.TheVariants as valid_fault;
 ghost use Rattle.sources.specs.declared.fault.CommandFault.TheVariants as command;
-ghost use Rattle.sources.specs.Lines.{Gains, IfTold};
+ghost use Rattle.sources.specs.OutputLines.{Gains, IfText};
 ghost use Rattle.explain.specs.Explanation.{Explains, advice_text, is_explained, part_text};
 ghost use Rattle.explain.specs.inside.Told.{Answers, NamesRecursion, Tells};
 
@@ -19,10 +19,15 @@ use validate::{Place, Rule, ValidFault};
 use wasm_decode::DecodeFault;
 use wat_asm::{Position, TextFault};
 
-/// Explains why the module in a source is refused: the rule in a sentence, what usually breaks it in WebAssembly text, in C and in
-/// Rust, what to write instead, and the place. A place in a function is shown as lines of what `print` writes, each instruction
-/// behind the number that the refusal counts by; one in a text as its line, and one in bytes as those around it. Where the
-/// source is not at hand, no place is shown. A fault that is not of a module's own, and want of memory, are not explained.
+/// Explains why the module in a source is refused. The text has the rule in a sentence, what usually breaks it in
+/// WebAssembly text, in C and in Rust, what to write instead, and the place.
+///
+/// A place in a function is shown as lines of what `print` writes, each instruction after the number that the error
+/// counts by. A place in a text is shown as its line, and a place in bytes as the bytes around it. No place is shown
+/// where there is no source.
+///
+/// It returns `None` for a fault that is not the module's own, and for one that is an allocation that failed. The
+/// only error is that an allocation fails.
 pub fn explanation(
     alloc: Global,
     source: Option<&Source>,
@@ -35,7 +40,7 @@ pub fn explanation(
     answer(alloc, source, fault)
 }
 
-/// Whether a fault is explained: one of the module's own, which is not want of memory.
+/// Decides whether a fault is explained: one of the module's own, except an allocation that failed.
 pub fn is_explained(fault: &CommandFault) -> bool
     ensures { result ≡ is_explained fault.now }
 {
@@ -102,16 +107,16 @@ fn broken(
     ruled(alloc, rule, &advice, seen.text.as_str())
 }
 
-// The functions call each other.
+// Explains why functions call each other.
 fn recursive(alloc: Global, functions: &[u32]) -> Result<String, AllocError>
-    ensures { IfTold result NamesRecursion }
+    ensures { IfText result NamesRecursion }
 {
     let calls = cycle_text(alloc, functions)?;
     let advice = profile::recursion();
     ruled(alloc, ProfileRule::P12, &advice, calls.as_str())
 }
 
-// A rule's name, what is said of it, and a place.
+// Joins the name of a rule, the advice on it, and a place.
 fn ruled(
     alloc: Global,
     rule: ProfileRule,
@@ -129,7 +134,7 @@ fn ruled(
     Ok(told)
 }
 
-// The rule's name.
+// Returns the name of the rule.
 fn word_of(rule: ProfileRule) -> &'static str
     ensures { result.now ≡ rule_word rule }
 {
@@ -151,7 +156,7 @@ fn word_of(rule: ProfileRule) -> &'static str
     }
 }
 
-// Puts the sentence behind a text, and what is said for each language.
+// Appends the sentence to a text, and the advice for each language.
 fn push_advice(told: &mut String, advice: &Advice) -> Result<(), AllocError>
     ensures { OnOk result (Gains told.old told.new (advice_text advice.now)) }
 {
@@ -171,7 +176,7 @@ fn push_part(told: &mut String, language: &str, said: &str) -> Result<(), AllocE
     write!(told, "\n{language}:\n{said}")
 }
 
-// What is said of a fault that is not of the profile, and a place.
+// Joins the advice on a fault that is not one of the profile, and a place.
 fn plain(alloc: Global, advice: &Advice, place: &str) -> Result<String, AllocError>
     ensures { IfOk result (λ told. string_bytes told
         ≡ advice_text advice.now ++ place.now) }
@@ -210,7 +215,7 @@ fn wrong(
     plain(alloc, &advice, seen.text.as_str())
 }
 
-// Explains why a text is no module.
+// Explains why a text is not a module.
 fn no_text(
     alloc: Global,
     source: Option<&Source>,
@@ -230,7 +235,7 @@ fn no_text(
     Ok(Some(told))
 }
 
-// The place of a fault, where it has one.
+// Returns the place of a fault, if it has one.
 fn position_of(fault: TextFault) -> Option<Position>
     ensures { is_some result ≡ is_explained (command.Text fault) }
 {
@@ -247,7 +252,7 @@ fn position_of(fault: TextFault) -> Option<Position>
     }
 }
 
-// Explains why bytes are no module.
+// Explains why bytes are not a module.
 fn no_module(
     alloc: Global,
     source: Option<&Source>,

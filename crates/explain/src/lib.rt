@@ -1,4 +1,5 @@
-//! Why a module is refused, for who wrote it: the rule, what usually breaks it, what to write instead, and the place.
+//! Explanations of refused modules, for their authors: the rule, what usually breaks it, what to write instead, and
+//! the place.
 #![tactic(auto)]
 
 mod advice;

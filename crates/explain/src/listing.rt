@@ -1,41 +1,41 @@
-//! The lines of a module's text around a place.
+//! The lines around a place in the text of a module.
 
 ghost use Rattle.std.specs.Prelude.{◌≡◌, ◌+◌, ◌<◌, ◌≤◌, ◌^◌, Contains, IfOk, IfSome, OnOk, count_by, length};
 ghost use Rattle.std.specs.Str.Lines.{lines};
-ghost use Rattle.sources.specs.Lines.{Gains};
+ghost use Rattle.sources.specs.OutputLines.{Gains};
 ghost use Rattle.explain.specs.Listing.{IsStretch, is_marked, is_numbered, listed, listed_line, mark, next_number};
 ghost use Rattle.explain.specs.inside.Shown.{Cuts, ListsPart, texts};
 
 use std::alloc::{AllocError, Global};
 
-/// The text of a module, as `print` writes it, by its lines.
+/// The lines of the text of a module, as `print` writes it.
 #[derive(Drop)]
 pub struct Printed<'a> {
     pub lines: Vec<&'a str>,
-    /// Which of them import functions, in their order.
+    /// The indices of the lines that import functions, in order.
     pub imports: Vec<usize>,
 }
 
-/// What can be seen at a place.
+/// The kind of code at a place.
 #[derive(Clone, Copy)]
 pub enum Sight {
-    /// There is no place.
+    /// No code: there is no place.
     Nothing,
     /// A loop that takes a message or an edge.
     TakesItems,
-    /// A function with global variables, which compilers keep a stack by.
+    /// A function with global variables. Compilers keep a stack with them.
     HasGlobals,
-    /// Nothing of these.
+    /// Any other code.
     Other,
 }
 
-// How many lines are shown before the place, and how many in all.
+// The number of lines before the place, and of all lines that are shown.
 const BEFORE: usize = 5;
 
 const SHOWN: usize = 11;
 
 impl<'a> Printed<'a> {
-    /// The lines of a text.
+    /// Splits a text into lines, and finds those that import functions. The only error is that an allocation fails.
     pub fn new(alloc: Global, text: &'a str) -> Result<Printed<'a>, AllocError>
         ensures { IfOk result (λ printed. texts printed.lines.items ≡ lines text.now) }
     {
@@ -44,7 +44,7 @@ impl<'a> Printed<'a> {
         Ok(Printed { lines, imports })
     }
 
-    /// The line of an imported function.
+    /// Returns the line of an imported function.
     pub fn import(&self, function: u32) -> Option<&'a str>
         ensures { IfSome result (Contains self.now.lines.items) }
     {
@@ -52,7 +52,7 @@ impl<'a> Printed<'a> {
         self.lines.get(*at).copied()
     }
 
-    /// The lines of the body of a function that the module defines.
+    /// Returns the lines of the body of a function that the module defines.
     pub fn body(&self, function: u32) -> Option<&[&'a str]>
         ensures { IfSome result (λ body. IsStretch self.now.lines.items body.now) }
     {
@@ -60,7 +60,7 @@ impl<'a> Printed<'a> {
         body_in(self.lines.as_slice(), number)
     }
 
-    /// What can be seen at an instruction of a body.
+    /// Finds the kind of code at an instruction of a body.
     pub fn sight(&self, body: &[&str], instruction: u32) -> Sight {
         let Some(at) = place_in(body, instruction) else {
             return Sight::Other;
@@ -71,7 +71,7 @@ impl<'a> Printed<'a> {
         }
     }
 
-    // What can be seen at a loop, from its line on, which begins with so many blanks.
+    // Finds the kind of a loop from its line on; `outside` is the number of blanks that its line begins with.
     fn sight_of_loop(&self, lines: &[&str], outside: usize) -> Sight {
         let lines = behind(lines, 1);
         let end = lines.iter().position(|line| depth(line) <= outside);
@@ -83,7 +83,7 @@ impl<'a> Printed<'a> {
         }
     }
 
-    // Whether a line calls `next_message` or `next_edge`.
+    // Decides whether a line calls `next_message` or `next_edge`.
     fn takes_item(&self, line: &str) -> bool {
         match called(line) {
             Some(function) => self.import(function).is_some_and(imports_cursor),
@@ -92,14 +92,14 @@ impl<'a> Printed<'a> {
     }
 }
 
-// The lines of a text.
+// Splits a text into lines.
 fn lines_in<'a>(alloc: Global, text: &'a str) -> Result<Vec<&'a str>, AllocError>
     ensures { IfOk result (λ found. texts found.items ≡ lines text.now) }
 {
     text.lines().collect(alloc)
 }
 
-// Which lines import functions.
+// Finds the lines that import functions.
 fn imports_in(alloc: Global, text: &str) -> Result<Vec<usize>, AllocError> {
     text.lines()
         .enumerate()
@@ -108,7 +108,7 @@ fn imports_in(alloc: Global, text: &str) -> Result<Vec<usize>, AllocError> {
         .collect(alloc)
 }
 
-// Whether a line is a function's import. What stands behind the last quote is no part of a name.
+// Decides whether a line is the import of a function. What follows the last quote is not part of a name.
 fn imports_function(line: &str) -> bool {
     if !line.starts_with("  (import ") {
         return false;
@@ -123,7 +123,7 @@ fn imports_cursor(line: &str) -> bool {
     line.starts_with("  (import \"pregel\" \"next_")
 }
 
-// The function that a line calls.
+// Returns the number of the function that a line calls.
 fn called(line: &str) -> Option<u32> {
     line.trim_start().strip_prefix("call ")?.parse::<u32>().ok()
 }
@@ -132,7 +132,7 @@ fn begins_loop(line: &str) -> bool {
     line.trim_start().starts_with("loop")
 }
 
-// What can be seen of a function's body.
+// Finds the kind of code in the body of a function.
 fn sight_of(body: &[&str]) -> Sight {
     if body.iter().any(|line| uses_global(line)) {
         Sight::HasGlobals
@@ -145,12 +145,12 @@ fn uses_global(line: &str) -> bool {
     line.trim_start().starts_with("global.")
 }
 
-// How many blanks a line begins with.
+// Counts the blanks that a line begins with.
 fn depth(line: &str) -> usize {
     line.len().saturating_sub(line.trim_start().len())
 }
 
-// Whether a line of a body has an instruction, and so a number.
+// Decides whether a line of a body has an instruction, and so a number.
 fn is_numbered(line: &str) -> bool
     ensures { result ≡ is_numbered line.now }
 {
@@ -158,7 +158,7 @@ fn is_numbered(line: &str) -> bool
     !(word == "end" || word == "else")
 }
 
-// The first lines, so many at most.
+// Returns the first lines, at most this many.
 fn front<'a, 'b>(lines: &'b [&'a str], count: usize) -> &'b [&'a str]
     ensures { IsStretch lines.now result.now }
 {
@@ -166,7 +166,7 @@ fn front<'a, 'b>(lines: &'b [&'a str], count: usize) -> &'b [&'a str]
     front
 }
 
-// The lines behind the first ones, so many at most.
+// Returns the lines after the first `count` lines.
 fn behind<'a, 'b>(lines: &'b [&'a str], count: usize) -> &'b [&'a str]
     ensures { IsStretch lines.now result.now }
 {
@@ -174,7 +174,7 @@ fn behind<'a, 'b>(lines: &'b [&'a str], count: usize) -> &'b [&'a str]
     behind
 }
 
-// The body of a function: the lines behind its first one that lie deeper than that.
+// Returns the body of a function: the lines after its first one that are indented deeper.
 fn body_in<'a, 'b>(lines: &'b [&'a str], number: usize) -> Option<&'b [&'a str]>
     ensures { IfSome result (λ body. IsStretch lines.now body.now) }
 {
@@ -184,7 +184,7 @@ fn body_in<'a, 'b>(lines: &'b [&'a str], number: usize) -> Option<&'b [&'a str]>
     Some(front(rest, end.unwrap_or(rest.len())))
 }
 
-// The first line of the function of this number among those that are defined.
+// Finds the first line of the function with this number, among those that are defined.
 fn header_in(lines: &[&str], number: usize) -> Option<usize> {
     let (header, _) = lines
         .iter()
@@ -194,7 +194,7 @@ fn header_in(lines: &[&str], number: usize) -> Option<usize> {
     Some(header)
 }
 
-// The line of an instruction, counted from 0 in the body.
+// Finds the line of an instruction, counted from 0 in the body.
 fn place_in(body: &[&str], instruction: u32) -> Option<usize> {
     let (line, _) = body
         .iter()
@@ -204,7 +204,7 @@ fn place_in(body: &[&str], instruction: u32) -> Option<usize> {
     Some(line)
 }
 
-/// Puts the lines of a body around an instruction behind a text, or its last ones where none is named.
+/// Appends the lines of a body around an instruction to a text, or its last lines where no instruction is named.
 pub fn push_around(
     text: &mut String,
     body: &[&str],
@@ -216,7 +216,7 @@ pub fn push_around(
     push_lines(text, shown.lines, shown.first, instruction)
 }
 
-// The first line that is shown.
+// Finds the first line that is shown.
 fn first_shown(body: &[&str], instruction: Option<u32>) -> usize {
     match instruction {
         Some(instruction) => place_in(body, instruction)
@@ -226,14 +226,14 @@ fn first_shown(body: &[&str], instruction: Option<u32>) -> usize {
     }
 }
 
-// Lines that are shown, and the number of the first instruction among them.
+// The lines that are shown, and the number of the first instruction among them.
 #[derive(Clone, Copy)]
 struct Shown<'a, 'b> {
     lines: &'b [&'a str],
     first: u64,
 }
 
-// How many lines have an instruction.
+// Counts the lines with an instruction.
 fn instructions_in(lines: &[&str]) -> usize
     ensures counted { result ≡ count_by (λ l. is_numbered l.now) lines.now }
     ensures few { result ≤ length lines.now }
@@ -241,7 +241,7 @@ fn instructions_in(lines: &[&str]) -> usize
     lines.iter().filter(|line| is_numbered(line)).count()
 }
 
-// What is shown of a body from a line on.
+// Finds what is shown of a body from a line on.
 fn shown_of<'a, 'b>(body: &'b [&'a str], from: usize) -> Shown<'a, 'b>
     ensures cut { Cuts body.now result }
     ensures small { result.first + length result.lines.now < 2 ^ 64 }
@@ -252,7 +252,8 @@ fn shown_of<'a, 'b>(body: &'b [&'a str], from: usize) -> Shown<'a, 'b>
     Shown { lines, first }
 }
 
-// Puts lines behind a text, each instruction behind its number, the first of which this is. `>` marks the one that is named.
+// Appends lines to a text, each instruction after its number. `first` is the number of the first instruction, and `>`
+// marks the instruction that is named.
 fn push_lines(
     text: &mut String,
     lines: &[&str],
@@ -269,7 +270,7 @@ fn push_lines(
     Ok(())
 }
 
-// Puts a line behind a text, and answers the number of the next instruction.
+// Appends a line to a text, and returns the number of the next instruction.
 fn push_line(
     text: &mut String,
     number: u64,

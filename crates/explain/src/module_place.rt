@@ -1,10 +1,10 @@
-//! A place in a module's function.
+//! Places in a module's functions.
 
 ghost use Rattle.std.specs.Prelude.{◌≡◌, [], IfOk, OnOk, string_bytes};
 ghost use Rattle.std.specs.Str.Lines.{lines};
 ghost use Rattle.wasm_ast.specs.Limits.{IsWithinLimits};
 ghost use Rattle.wat_asm.specs.Layout.{layout};
-ghost use Rattle.sources.specs.Lines.{Gains, IfTold, line};
+ghost use Rattle.sources.specs.OutputLines.{Gains, IfText, line};
 ghost use Rattle.explain.specs.Explanation.{ShowsLines};
 ghost use Rattle.explain.specs.inside.Shown.{texts};
 ghost use Rattle.explain.specs.inside.Told.{Sees, SeesPlace, ShowsBody, ShowsLine};
@@ -16,14 +16,14 @@ use validate::Place;
 use wasm_ast::Module;
 use wat_asm::print;
 
-/// What can be seen at a place, and the text that shows it.
+/// The kind of code at a place, and the text that shows it.
 #[derive(Drop)]
 pub struct Seen {
     pub sight: Sight,
     pub text: String,
 }
 
-/// What can be seen at a place of the module in a source, where that is at hand.
+/// Finds what is at a place of the module in a source, if there is one.
 pub fn seen_at(alloc: Global, source: Option<&Source>, place: Place) -> Result<Seen, AllocError>
     ensures { IfOk result (SeesPlace source.entry place) }
 {
@@ -33,7 +33,7 @@ pub fn seen_at(alloc: Global, source: Option<&Source>, place: Place) -> Result<S
     }
 }
 
-// What can be seen at a place of the module in a source, which may be none.
+// Finds what is at a place of the module in a source, which may have none.
 fn seen_of(alloc: Global, source: &Source, place: Place) -> Result<Seen, AllocError>
     ensures { IfOk result (Sees source.now place) }
 {
@@ -43,7 +43,7 @@ fn seen_of(alloc: Global, source: &Source, place: Place) -> Result<Seen, AllocEr
     }
 }
 
-// What is known of a place without its module.
+// Returns what is known of a place without its module.
 fn unseen(alloc: Global, place: Place) -> Seen
     ensures { string_bytes result.text ≡ [] }
 {
@@ -60,7 +60,7 @@ fn sight_without(place: Place) -> Sight {
     }
 }
 
-// What can be seen at a place of a module.
+// Finds what is at a place of a module.
 fn seen_in(alloc: Global, module: &Module, place: Place) -> Result<Seen, AllocError>
     requires { IsWithinLimits «module».now }
     ensures { IfOk result (λ seen. ShowsLines (lines (layout «module».now)) place.instruction
@@ -83,9 +83,9 @@ fn sight_at(printed: &Printed, place: Place) -> Sight {
     }
 }
 
-// The text that shows a place.
+// Makes the text that shows a place.
 fn place_text(alloc: Global, printed: &Printed, place: Place) -> Result<String, AllocError>
-    ensures { IfTold result
+    ensures { IfText result
         (ShowsLines (texts printed.now.lines.items) place.instruction) }
 {
     let Some(function) = place.function else {
@@ -100,9 +100,9 @@ fn place_text(alloc: Global, printed: &Printed, place: Place) -> Result<String, 
     }
 }
 
-// The line of an imported function.
+// Makes the text that shows an imported function.
 fn import_text(alloc: Global, function: u32, whole: &str) -> Result<String, AllocError>
-    ensures { IfTold result (ShowsLine whole.now) }
+    ensures { IfText result (ShowsLine whole.now) }
 {
     let mut text = import_heading(alloc, function)?;
     push_whole(&mut text, whole)?;
@@ -119,21 +119,21 @@ fn push_whole(text: &mut String, whole: &str) -> Result<(), AllocError>
     writeln!(text, "{whole}")
 }
 
-// The lines of a body around an instruction.
+// Makes the text that shows the lines of a body around an instruction.
 fn body_text(
     alloc: Global,
     function: u32,
     body: &[&str],
     instruction: Option<u32>,
 ) -> Result<String, AllocError>
-    ensures { IfTold result (ShowsBody (texts body.now) instruction) }
+    ensures { IfText result (ShowsBody (texts body.now) instruction) }
 {
     let mut text = heading_of(alloc, function, instruction)?;
     push_around(&mut text, body, instruction)?;
     Ok(text)
 }
 
-// What stands above the lines.
+// Makes the heading above the lines.
 fn heading_of(
     alloc: Global,
     function: u32,
@@ -147,7 +147,7 @@ fn heading_of(
     }
 }
 
-// What the numbers of a listing are.
+// Returns what the numbers of a listing are.
 const COUNTING: &str = "\
 Functions are counted from 0, the imported ones first; instructions from 0, in the order
 of the lines that `pregel print` writes, without `end` and `else`:

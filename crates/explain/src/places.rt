@@ -1,20 +1,20 @@
-//! A place in a text or in bytes.
+//! Places in a text or in bytes.
 
 use std::alloc::{AllocError, Global};
 use wat_asm::Position;
 
-// How many characters of a line are shown before the place, and how many in all.
+// The number of characters of a line before the place, and of all that are shown.
 const BEFORE_COLUMN: usize = 60;
 
 const SHOWN_COLUMNS: usize = 120;
 
-// How many bytes are shown before the place, and how many in all.
+// The number of bytes before the place, and of all that are shown.
 const BEFORE_BYTE: usize = 8;
 
 const SHOWN_BYTES: usize = 17;
 
-/// The line of a place in a text, and under it a mark at the column. Of a long line only the part around the place is shown; tabs
-/// and other control characters are shown as blanks.
+/// Shows the line of a place in a text, and under it a mark at the column. Of a long line only the part around the
+/// place is shown. Tabs and other control characters are shown as blanks.
 pub fn line_text(alloc: Global, source: &str, place: Position) -> Result<String, AllocError> {
     let mut text = String::new(alloc);
     let Some(line) = source.lines().nth(place.line.saturating_sub(1)) else {
@@ -28,7 +28,7 @@ pub fn line_text(alloc: Global, source: &str, place: Position) -> Result<String,
     Ok(text)
 }
 
-// Puts letters of a line behind a text, from this one on.
+// Appends the characters of a line to a text, from this one on.
 fn push_letters(text: &mut String, line: &str, from: usize) -> Result<(), AllocError> {
     text.push_str("  ")?;
     for letter in line.chars().skip(from).take(SHOWN_COLUMNS) {
@@ -37,7 +37,7 @@ fn push_letters(text: &mut String, line: &str, from: usize) -> Result<(), AllocE
     text.push_str("\n")
 }
 
-// Puts a line with a mark behind a text, behind so many blanks.
+// Appends a line with a mark to a text, after this many blanks.
 fn push_mark(text: &mut String, blanks: usize) -> Result<(), AllocError> {
     text.push_str("  ")?;
     for _ in 0..blanks {
@@ -46,7 +46,7 @@ fn push_mark(text: &mut String, blanks: usize) -> Result<(), AllocError> {
     text.push_str("^\n")
 }
 
-/// The bytes around a place, in hexadecimal digits, and under them a mark at the place.
+/// Shows the bytes around a place as hexadecimal digits, and under them a mark at the place.
 pub fn byte_text(alloc: Global, bytes: &[u8], place: usize) -> Result<String, AllocError> {
     let mut text = String::new(alloc);
     if place >= bytes.len() {
@@ -59,7 +59,7 @@ pub fn byte_text(alloc: Global, bytes: &[u8], place: usize) -> Result<String, Al
     Ok(text)
 }
 
-// Puts bytes behind a text, from this one on.
+// Appends bytes to a text, from this one on.
 fn push_digits(text: &mut String, bytes: &[u8], from: usize) -> Result<(), AllocError> {
     text.push_str(" ")?;
     for byte in bytes.iter().skip(from).take(SHOWN_BYTES) {
@@ -68,7 +68,7 @@ fn push_digits(text: &mut String, bytes: &[u8], from: usize) -> Result<(), Alloc
     text.push_str("\n")
 }
 
-/// The calls of functions, each of which calls the next, and the last the first.
+/// Shows the calls of functions, each of which calls the next one, and the last the first.
 pub fn cycle_text(alloc: Global, functions: &[u32]) -> Result<String, AllocError> {
     let mut text = String::from_str(alloc, "\nThe calls: ")?;
     for function in functions {

@@ -14,9 +14,9 @@ use Rattle.sources.specs.Disk.{Disk, unknown as any_disk}
 use Rattle.sources.specs.Source.{RefusesLoad}
 use Rattle.sources.specs.Jobs.{IsJobOf, RefusesSettings}
 use Rattle.sources.specs.Reading.{IsLoadedAt, IsNoGraphAt, IsReadAt, IsRefusedAt}
-use Rattle.session.specs.declared.held.Ending.{Ending}
-use Rattle.session.specs.declared.held.Ending.TheVariants as ending
-use Rattle.session.specs.declared.held.HeldJob.{HeldJob}
+use Rattle.session.specs.declared.held_job.RunState.{RunState}
+use Rattle.session.specs.declared.held_job.RunState.TheVariants as state
+use Rattle.session.specs.declared.held_job.HeldJob.{HeldJob}
 use Rattle.session.specs.declared.reply.Reply.{Reply}
 use Rattle.rollback.specs.declared.report.Report.{Report}
 use Rattle.session.specs.Commands.{add_module, add_graph, add_job, run, status, values}
@@ -25,8 +25,8 @@ use Rattle.session.specs.Maps.{Maps}
 use Rattle.session.specs.Runs.{Runs}
 use Rattle.session.specs.Replies.{graph_line, job_line, memory_line, not_waiting_line, refusal_line, status_line, taken_line, unknown_line, values_text}
 use Rattle.session.specs.Transcript.{Answers}
-use Rattle.session.specs.inside.Answered.{GivesName, IsSet, IsSoundAt, NamesJob, TellsHeldValues, is_waiting, never}
-use Rattle.session.specs.inside.Seen.{IsModuleLine, IsReplyOf, IsToldOf, IsToldOrNoMemory, end_line, ending_of, reply_text}
+use Rattle.session.specs.inside.Answered.{GivesName, IsSet, IsSoundAt, NamesJob, ReportsHeldValues, is_waiting, never}
+use Rattle.session.specs.inside.Seen.{IsModuleLine, IsReplyOf, IsToldOf, IsToldOrNoMemory, run_end_line, state_of, reply_text}
 
 -- ---- what is found
 
@@ -151,17 +151,17 @@ module _ (maps : Maps) (name module_name graph_name : List ℕ) (settings : Sett
 
 -- ---- runs
 
-waits_then : (end : Ending) → is_waiting end ≡ true → end ≡ ending.Waiting
-waits_then ending.Waiting waits = refl
-waits_then (ending.Ended report) waits = cc
-waits_then (ending.Failed fault) waits = cc
+waits_then : (end : RunState) → is_waiting end ≡ true → end ≡ state.Waiting
+waits_then state.Waiting waits = refl
+waits_then (state.Ended report) waits = cc
+waits_then (state.Failed fault) waits = cc
 
-ran_then : (end : Ending) → is_waiting end ≡ false → end ≢ ending.Waiting
-ran_then ending.Waiting ran = λ e. cc
-ran_then (ending.Ended report) ran = λ e. cc
-ran_then (ending.Failed fault) ran = λ e. cc
+ran_then : (end : RunState) → is_waiting end ≡ false → end ≢ state.Waiting
+ran_then state.Waiting ran = λ e. cc
+ran_then (state.Ended report) ran = λ e. cc
+ran_then (state.Failed fault) ran = λ e. cc
 
-pub sound_end : (work : Work) (end : Result Report JobFault) → IfOk end (λ report. IsEndOf work report.ended) → IsSound work (ending_of end)
+pub sound_end : (work : Work) (end : Result Report JobFault) → IfOk end (λ report. IsEndOf work report.ended) → IsSound work (state_of end)
 sound_end work (Ok report) ends = λ other e. let same : report ≡ other = cc in subst (λ (told : Report). IsEndOf work told.ended) same ends
 sound_end work (Err fault) ends = λ other e. cc
 
@@ -169,20 +169,20 @@ module _ (runs : Runs) (maps : Maps) (name reply : List ℕ) where
   pub run_unknown : maps.jobs name ≡ None → reply ≡ unknown_line → Answers any_disk runs maps (run name) reply maps
   run_unknown none told = inr (refl, inl (inl (record { none = none; told = told })))
 
-  pub run_again : (held : HeldJob) → maps.jobs name ≡ Some held → is_waiting held.ending ≡ false → reply ≡ not_waiting_line
+  pub run_again : (held : HeldJob) → maps.jobs name ≡ Some held → is_waiting held.state ≡ false → reply ≡ not_waiting_line
       → Answers any_disk runs maps (run name) reply maps
-  run_again held is_held ran told = inr (refl, inl (inr (record { held = held; is_held = is_held; ran = ran_then held.ending ran; told = told })))
+  run_again held is_held ran told = inr (refl, inl (inr (record { held = held; is_held = is_held; ran = ran_then held.state ran; told = told })))
 
   pub run_untold : reply ≡ memory_line → Answers any_disk runs maps (run name) reply maps
   run_untold memory = inr (refl, inr memory)
 
-  pub job_ran : (held : HeldJob) (end : Result Report JobFault) (jobs : List ℕ → Option HeldJob) → maps.jobs name ≡ Some held → is_waiting held.ending ≡ true
-      → runs.may_end held.job end → IfOk end (λ report. IsEndOf held.job report.ended) → reply ≡ end_line name end → IsSet maps.jobs jobs name (ending_of end)
+  pub job_ran : (held : HeldJob) (end : Result Report JobFault) (jobs : List ℕ → Option HeldJob) → maps.jobs name ≡ Some held → is_waiting held.state ≡ true
+      → runs.may_end held.job end → IfOk end (λ report. IsEndOf held.job report.ended) → reply ≡ run_end_line name end → IsSet maps.jobs jobs name (state_of end)
       → Answers any_disk runs maps (run name) reply (record maps { jobs = jobs })
   job_ran held (Ok report) jobs is_held waits may_end ends told set = let so = set held is_held in inl (inl (record {
     held = held;
     is_held = is_held;
-    waits = waits_then held.ending waits;
+    waits = waits_then held.state waits;
     report = report;
     may_end = may_end;
     ends = ends;
@@ -195,7 +195,7 @@ module _ (runs : Runs) (maps : Maps) (name reply : List ℕ) where
   job_ran held (Err fault) jobs is_held waits may_end ends told set = let so = set held is_held in inl (inr (record {
     held = held;
     is_held = is_held;
-    waits = waits_then held.ending waits;
+    waits = waits_then held.state waits;
     fault = fault;
     may_end = may_end;
     told = told;
@@ -208,7 +208,7 @@ module _ (runs : Runs) (maps : Maps) (name reply : List ℕ) where
 -- ---- what is told of a job
 
 module _ (maps : Maps) (name reply : List ℕ) where
-  pub status_told : (held : HeldJob) → maps.jobs name ≡ Some held → IsToldOrNoMemory (status_line name held.ending) reply
+  pub status_told : (held : HeldJob) → maps.jobs name ≡ Some held → IsToldOrNoMemory (status_line name held.state) reply
       → Answers any_disk never maps (status name) reply maps
   status_told held is_held (inl told) = (refl, inl (record { held = held; is_held = is_held; told = told }))
   status_told held is_held (inr memory) = (refl, inr (inr memory))
@@ -216,7 +216,7 @@ module _ (maps : Maps) (name reply : List ℕ) where
   pub status_unknown : maps.jobs name ≡ None → reply ≡ unknown_line → Answers any_disk never maps (status name) reply maps
   status_unknown none told = (refl, inr (inl (record { none = none; told = told })))
 
-  pub values_told : (held : HeldJob) → maps.jobs name ≡ Some held → TellsHeldValues held reply → Answers any_disk never maps (values name) reply maps
+  pub values_told : (held : HeldJob) → maps.jobs name ≡ Some held → ReportsHeldValues held reply → Answers any_disk never maps (values name) reply maps
   values_told held is_held (inl tells) =
       (refl, inl (record { held = held; is_held = is_held; report = tells.report; ended = tells.ended; ends = tells.ends; told = tells.told }))
   values_told held is_held (inr (inl none)) = (refl, inr (inr (inl (record { held = held; is_held = is_held; none = none.none; told = none.told }))))
@@ -241,26 +241,26 @@ reply_of line (Err error) told same is = inr (ap reply_text is)
 
 -- a job gets a name
 pub names_job : (name : List ℕ) (job : Work) (held : HeldJob) (before after : List ℕ → Option HeldJob) (text reply : List ℕ) → text ≡ job_line name
-    → GivesName (λ told. told ≡ text) name held before after reply → held.job ≡ job → held.ending ≡ ending.Waiting → NamesJob name job before after reply
+    → GivesName (λ told. told ≡ text) name held before after reply → held.job ≡ job → held.state ≡ state.Waiting → NamesJob name job before after reply
 names_job name job held before after text reply line gives same waits =
     (held, record { same = same; waits = waits }, gives_told (λ told. told ≡ job_line name) name held before after text reply line gives)
 
 -- or there is no memory for what is told
 pub names_no_job : (name : List ℕ) (job : Work) (before : List ℕ → Option HeldJob) → NamesJob name job before before memory_line
 names_no_job name job before =
-    (record { job = job; ending = ending.Waiting; sound = λ report e. cc }, record { same = refl; waits = refl }, inr (refl, refl))
+    (record { job = job; state = state.Waiting; sound = λ report e. cc }, record { same = refl; waits = refl }, inr (refl, refl))
 
 -- the values of a job that ended
-pub ended_told : {Z E : Type 0} (held : HeldJob) (report : Report) (text : Result (String Z) E) (told : Reply) → held.ending ≡ ending.Ended report
-    → IfOk text (λ t. string_bytes t ≡ values_text report.ended) → IsReplyOf text told → TellsHeldValues held (reply_text told)
+pub ended_told : {Z E : Type 0} (held : HeldJob) (report : Report) (text : Result (String Z) E) (told : Reply) → held.state ≡ state.Ended report
+    → IfOk text (λ t. string_bytes t ≡ values_text report.ended) → IsReplyOf text told → ReportsHeldValues held (reply_text told)
 ended_told held report text told is same of = elim (reply_of (values_text report.ended) text told same of) [
   | inl line ↦ inl (record { report = report; ended = is; ends = held.sound report is; told = line })
   | inr memory ↦ inr (inr memory)
 ]
 
 -- how a job may end, of what its run may answer
-pub sound_of : (jobs : List ℕ → Option HeldJob) (name : List ℕ) (found : HeldJob) (end : Result Report JobFault) (ended : Ending) → jobs name ≡ Some found
-    → IfOk end (λ report. IsEndOf found.job report.ended) → ended ≡ ending_of end → IsSoundAt jobs name ended
+pub sound_of : (jobs : List ℕ → Option HeldJob) (name : List ℕ) (found : HeldJob) (end : Result Report JobFault) (ended : RunState) → jobs name ≡ Some found
+    → IfOk end (λ report. IsEndOf found.job report.ended) → ended ≡ state_of end → IsSoundAt jobs name ended
 sound_of jobs name found end ended is ends same = λ held is_held.
     let at : found ≡ held = some_same found held (sym is ∙ is_held) in
     subst (IsSound held.job) (sym same) (sound_end held.job end (subst (λ (it : HeldJob). IfOk end (λ report. IsEndOf it.job report.ended)) at ends))

@@ -5,19 +5,19 @@ use Rattle.wasm_ast.specs.declared.module.Module.{Module}
 use Rattle.interp.specs.Call.{Outcome}
 use Rattle.interp.specs.Outcomes.{AreOutcomes, Given}
 use Rattle.graph.specs.Entry.{Entry}
-use Rattle.superstep.specs.declared.run.Ended.{Ended}
+use Rattle.superstep.specs.declared.ending.JobEnd.{JobEnd}
 use Rattle.superstep.specs.declared.settings.Settings.{Settings}
 use Rattle.superstep.specs.Ending.{IsEndOf, answer_of}
 use Rattle.superstep.specs.Job.{Meaning, Work}
 use Rattle.superstep.specs.PlainRun.{Answer, IsAnswer, IsEnd, state_at}
 use Rattle.superstep.specs.Snapshot.{values_of}
 use Rattle.graph.specs.Print.{value_lines}
-use Rattle.sources.specs.Lines.{line}
+use Rattle.sources.specs.OutputLines.{line}
 use Rattle.sources.specs.Jobs.{IsJobOf}
 use Rattle.session.specs.Maps.{Maps}
-use Rattle.session.specs.declared.held.HeldJob.{HeldJob}
+use Rattle.session.specs.declared.held_job.HeldJob.{HeldJob}
 use Rattle.session.specs.Replies.{values_text}
-use Rattle.session.specs.Transcript.{TellsValues}
+use Rattle.session.specs.Transcript.{ReportsValues}
 
 -- no job ends at one superstep and at a later one
 not_later : (outcomes : Given → Outcome) (graph : List Entry) (limit : ℕ) (f g : Bool) (s t : ℕ) → IsEnd outcomes graph limit f s → IsEnd outcomes graph limit g t
@@ -51,7 +51,7 @@ meaning_of m graph settings work is outcomes are =
     record { graph = graph; is_graph = is.over; outcomes = outcomes; are = subst (λ n. AreOutcomes n outcomes) (sym is.calls) are }
 
 ended_values : (m : Module) (graph : List Entry) (settings : Settings) (work : Work) (is : IsJobOf m graph settings work) (outcomes : Given → Outcome)
-    (are : AreOutcomes m outcomes) (ended : Ended) → IsEndOf work ended → IsAnswer outcomes graph settings.limit (answer_of ended)
+    (are : AreOutcomes m outcomes) (ended : JobEnd) → IsEndOf work ended → IsAnswer outcomes graph settings.limit (answer_of ended)
 ended_values m graph settings work is outcomes are ended ends =
     subst (λ (s : Settings). IsAnswer outcomes graph s.limit (answer_of ended)) is.how (ends (meaning_of m graph settings work is outcomes are)).answer
 
@@ -59,7 +59,7 @@ some_same : {X : Type 0} (x y : X) → Some x ≡ Some y → x ≡ y
 some_same x y e = cc
 
 -- the job that has a name
-pub held_is : (maps : Maps) (name told : List ℕ) (held : HeldJob) → maps.jobs name ≡ Some held → (tells : TellsValues maps name told) → tells.held ≡ held
+pub held_is : (maps : Maps) (name told : List ℕ) (held : HeldJob) → maps.jobs name ≡ Some held → (tells : ReportsValues maps name told) → tells.held ≡ held
 held_is maps name told held is tells = some_same tells.held held (sym tells.is_held ∙ is)
 
 -- how values are told
@@ -67,7 +67,7 @@ abbrev told_of : List (ℕ × ℤ) → List ℕ
 told_of values = value_lines values ++ line (codes ".")
 
 pub same_told : (m : Module) (graph : List Entry) (settings others : Settings) (outcomes : Given → Outcome) → AreOutcomes m outcomes → settings.limit ≡ others.limit
-    → (one two : Work) → IsJobOf m graph settings one → IsJobOf m graph others two → (first second : Ended) → IsEndOf one first → IsEndOf two second
+    → (one two : Work) → IsJobOf m graph settings one → IsJobOf m graph others two → (first second : JobEnd) → IsEndOf one first → IsEndOf two second
     → values_text first ≡ values_text second
 same_told m graph settings others outcomes are same one two is_one is_two first second ends_one ends_two =
     let a = ended_values m graph settings one is_one outcomes are first ends_one in

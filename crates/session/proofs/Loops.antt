@@ -5,7 +5,7 @@ use Rattle.std.specs.Io.KnownBytes.{Consumes, IsAtEnd, Keeps}
 use Rattle.std.proofs.KnownBytes.{Consumes-kept, Consumes-nil, Consumes-trans}
 use Rattle.std.proofs.lemmas.List.{append-nil, map-append, take_all}
 use Rattle.std.proofs.Math.Seq.{take-append-add, take-append_seam}
-use Rattle.graph.proofs.Writing.{appends_nothing}
+use Rattle.line_text.proofs.Writing.{appends_nothing}
 use Rattle.sources.specs.Disk.{Disk, Stays}
 use Rattle.sources.proofs.Disks.{stays_again, stays_same}
 use Rattle.session.specs.declared.serving.ServeFault.{ServeFault}

@@ -10,8 +10,8 @@ use Rattle.std.specs.Ordering.{nat_cmp}
 use Rattle.std.proofs.lemmas.Map.Text.{btree_map_updates_text}
 use Rattle.wasm_ast.specs.declared.module.Module.{Module}
 use Rattle.graph.specs.Entry.{Entry}
-use Rattle.session.specs.declared.held.HeldJob.{HeldJob}
-use Rattle.session.specs.declared.held.Ending.{Ending}
+use Rattle.session.specs.declared.held_job.HeldJob.{HeldJob}
+use Rattle.session.specs.declared.held_job.RunState.{RunState}
 use Rattle.session.specs.Maps.{Maps, nothing, put}
 use Rattle.session.specs.inside.Answered.{IsSet}
 
@@ -49,8 +49,8 @@ some_same : {X : Type 0} (x y : X) → Some x ≡ Some y → x ≡ y
 some_same x y e = cc
 
 -- a job that has a name, of which it is written how it ended
-pub ends_so : {Y : Type 0} (name : List ℕ) (jobs after : BTreeMap (String Y) HeldJob) (end : Ending) (found next : HeldJob) → get_by_text jobs name ≡ Some found
-    → UpdatesBy string_cmp (λ key. slice_cmp nat_cmp name (string_bytes key)) jobs after (Some next) → next.job ≡ found.job → next.ending ≡ end
+pub ends_so : {Y : Type 0} (name : List ℕ) (jobs after : BTreeMap (String Y) HeldJob) (end : RunState) (found next : HeldJob) → get_by_text jobs name ≡ Some found
+    → UpdatesBy string_cmp (λ key. slice_cmp nat_cmp name (string_bytes key)) jobs after (Some next) → next.job ≡ found.job → next.state ≡ end
     → IsSet (get_by_text jobs) (get_by_text after) name end
 ends_so name jobs after end found next is updates same ended = λ held is_held.
     let e : found ≡ held = some_same found held (sym is ∙ is_held) in
@@ -62,8 +62,8 @@ ends_so name jobs after end found next is updates same ended = λ held is_held.
     }
 
 -- the same, of what a map becomes as the value that was lent ends
-pub ends_as : {Y : Type 0} (name : List ℕ) (jobs : BTreeMap (String Y) HeldJob) (lender : HeldJob → BTreeMap (String Y) HeldJob) (end : Ending) (found next : HeldJob)
+pub ends_as : {Y : Type 0} (name : List ℕ) (jobs : BTreeMap (String Y) HeldJob) (lender : HeldJob → BTreeMap (String Y) HeldJob) (end : RunState) (found next : HeldJob)
     → get_by_text jobs name ≡ Some found
     → ((last : HeldJob) → UpdatesBy string_cmp (λ key. slice_cmp nat_cmp name (string_bytes key)) jobs (lender last) (Some last))
-    → next.job ≡ found.job → next.ending ≡ end → IsSet (get_by_text jobs) (get_by_text (lender next)) name end
+    → next.job ≡ found.job → next.state ≡ end → IsSet (get_by_text jobs) (get_by_text (lender next)) name end
 ends_as name jobs lender end found next is updates same ended = ends_so name jobs (lender next) end found next is (updates next) same ended

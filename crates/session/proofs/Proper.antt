@@ -8,7 +8,7 @@ use Rattle.sources.specs.Modules.{IsVerified}
 use Rattle.superstep.specs.Job.{Work}
 use Rattle.session.specs.declared.command.Kind.{Kind}
 use Rattle.session.specs.declared.command.Kind.TheVariants as kind
-use Rattle.session.specs.declared.held.HeldJob.{HeldJob}
+use Rattle.session.specs.declared.held_job.HeldJob.{HeldJob}
 use Rattle.session.specs.Commands.{Asked, add_module, add_graph, add_job, run, status, values, drop, quit, unknown}
 use Rattle.session.specs.Maps.{Maps, nothing, put, with_job, with_module}
 use Rattle.session.specs.Runs.{Runs}

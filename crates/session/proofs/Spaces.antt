@@ -8,7 +8,7 @@ use Rattle.std.specs.List.{All, slice_split}
 use Rattle.std.proofs.lemmas.List.Elements.{All-from_get_or}
 use Rattle.std.proofs.lemmas.List.Splits.{slice_split_at, slice_split_none}
 use Rattle.std.proofs.lemmas.Bool.{ne_eqb}
-use Rattle.graph.specs.Fields.{is_filled}
+use Rattle.line_text.specs.Fields.{is_filled}
 use Rattle.session.specs.Words.{words_of}
 
 abbrev is_space : ℕ → Bool

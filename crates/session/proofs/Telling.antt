@@ -1,8 +1,8 @@
 -- What is told to commands one after another.
 use Rattle.std.proofs.Common.{inl, inr, ◌≡◌, ℕ, true, false, Bool, List, [], ◌∷◌, ◌++◌, Option, Ok, Err, refl, ap, sym, subst, ◌∙◌, append_assoc, MatchBool}
 use Rattle.std.specs.Io.KnownBytes.{Appends}
-use Rattle.graph.specs.Output.{HasBegun}
-use Rattle.graph.proofs.Writing.{appends_more, appends_nothing, begun_piece}
+use Rattle.line_text.specs.Output.{HasBegun}
+use Rattle.line_text.proofs.Writing.{appends_more, appends_nothing, begun_piece}
 use Rattle.std.proofs.lemmas.List.{append-nil}
 use Rattle.sources.specs.declared.fault.CommandFault.{CommandFault}
 use Rattle.sources.specs.Disk.{Disk, Stays}

@@ -1,8 +1,8 @@
--- What a line asks for.
+-- The command that a line asks for.
 use Rattle.std.specs.Prelude.{ℕ, nat_lt, Bool, true, false, ◌&&◌, List, [], ◌∷◌, length, map, Option, Some, None, codes, if◌then◌else◌}
 use Rattle.std.specs.Str.{bytes_eq, is_utf8}
 use Rattle.superstep.specs.declared.settings.Settings.{Settings}
-use Rattle.sources.specs.InputLine.{small_of}
+use Rattle.sources.specs.InputLine.{u32_of}
 use Rattle.session.specs.declared.command.Kind.{Kind}
 use Rattle.session.specs.declared.command.Kind.TheVariants as kind
 use Rattle.session.specs.Lines.{lines_of}
@@ -22,7 +22,7 @@ pub data Asked : Type 0 where
   -- it is no command
   unknown : Asked
 
--- this is asked for, if the name may be one
+-- this command, if the name is allowed
 abbrev pub if_named : List ℕ → Asked → Asked
 if_named name asked = if is_name name then asked else unknown
 
@@ -34,7 +34,7 @@ settings_by (Some parts) (Some workers) (Some every) (Some limit) =
 settings_by _ _ _ _ = None
 
 abbrev pub settings_of : List (List ℕ) → Option Settings
-settings_of (parts ∷ workers ∷ every ∷ limit ∷ []) = settings_by (small_of parts) (small_of workers) (small_of every) (small_of limit)
+settings_of (parts ∷ workers ∷ every ∷ limit ∷ []) = settings_by (u32_of parts) (u32_of workers) (u32_of every) (u32_of limit)
 settings_of _ = None
 
 -- ---- words
@@ -70,7 +70,7 @@ abbrev pub job_with : (name module_name graph_name : List ℕ) → Option Settin
 job_with name module_name graph_name (Some settings) = add_job name module_name graph_name settings
 job_with name module_name graph_name None = unknown
 
--- the name of a job, of its module and of its graph, and the words of its settings
+-- the names of a job, its module and its graph, and the words of its settings
 abbrev pub asked_job : (name module_name graph_name : List ℕ) → List (List ℕ) → Asked
 asked_job name module_name graph_name numbers = job_with name module_name graph_name (settings_of numbers)
 
@@ -88,11 +88,12 @@ asked_by (word ∷ name ∷ module_name ∷ graph_name ∷ numbers) = asked_of_m
 
 -- ---- lines
 
--- a text in UTF-8
+-- the command of a line in UTF-8
 abbrev pub asked_by_text : List ℕ → Asked
 asked_by_text text = if is_utf8 text then asked_by (words_of text) else unknown
 
--- A line of at most 4,096 bytes. Of its bytes only spaces part words: a tab or a carriage return belongs to its word.
+-- The command of a line, which has at most 4,096 bytes. Only spaces separate words: a tab or a carriage return is part of
+-- its word.
 abbrev pub asked_of : List ℕ → Asked
 asked_of line = if nat_lt 4096 (length line) then unknown else asked_by_text line
 
@@ -100,6 +101,6 @@ abbrev pub is_quit : Asked → Bool
 is_quit quit = true
 is_quit _ = false
 
--- what the lines in these bytes ask for
+-- the commands of the lines in these bytes
 abbrev pub asked_in : List ℕ → List Asked
 asked_in bytes = map asked_of (lines_of bytes)

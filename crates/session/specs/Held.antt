@@ -1,11 +1,11 @@
--- A job, and how its run ended.
+-- A job that a session holds.
 use Rattle.std.specs.Prelude.{◌≡◌}
 use Rattle.superstep.specs.Job.{Work}
 use Rattle.superstep.specs.Ending.{IsEndOf}
 use Rattle.rollback.specs.declared.report.Report.{Report}
-use Rattle.session.specs.declared.held.Ending.{Ending}
-use Rattle.session.specs.declared.held.Ending.TheVariants as ending
+use Rattle.session.specs.declared.held_job.RunState.{RunState}
+use Rattle.session.specs.declared.held_job.RunState.TheVariants as state
 
--- what the job ended with is what the plain run on one machine ends with
-abbrev pub IsSound : Work → Ending → Type 0
-IsSound work end = (report : Report) → end ≡ ending.Ended report → IsEndOf work report.ended
+-- if the job ended, then as the plain run on one machine does
+abbrev pub IsSound : Work → RunState → Type 0
+IsSound work end = (report : Report) → end ≡ state.Ended report → IsEndOf work report.ended

@@ -1,15 +1,15 @@
--- What a reader has to believe, in this order: the lines of what is read, their words, and what a line asks for.
+-- The definitions to read, in this order: the lines of the input, their words, and the command of a line.
 pub mod Lines
 pub mod Words
 pub mod Commands
--- how runs of jobs may end, what a session holds, and how replies are written
+-- how runs may end, what a session holds, and the texts of replies
 pub mod Runs
 pub mod Held
 pub mod Maps
 pub mod Replies
--- and what is answered, what serving a session leaves, and what two sessions have in common
+-- the replies to commands, the whole of serving a session, and what two sessions have in common
 pub mod Transcript
 pub mod Serving
 pub mod Same
--- what only mirrors the code, for its proofs
+-- for proofs only: definitions that follow the code
 pub mod inside

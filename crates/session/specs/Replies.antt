@@ -1,4 +1,4 @@
--- How replies are written, each on its line.
+-- The replies, each on its line.
 use Rattle.std.specs.Prelude.{ℕ, List, [], ◌∷◌, ◌++◌, Option, Some, None, codes, if◌then◌else◌}
 use Rattle.std.specs.Fmt.{decimal}
 use Rattle.std.specs.Str.{bytes_eq}
@@ -7,18 +7,18 @@ use Rattle.serde_json.specs.Written.{compact_text}
 use Rattle.graph.specs.Print.{value_lines}
 use Rattle.superstep.specs.declared.fault.JobFault.{JobFault}
 use Rattle.superstep.specs.declared.fault.JobFault.TheVariants as job_fault
-use Rattle.superstep.specs.declared.run.Ended.{Ended}
+use Rattle.superstep.specs.declared.ending.JobEnd.{JobEnd}
 use Rattle.superstep.specs.Ending.{is_finished}
 use Rattle.sources.specs.declared.fault.CommandFault.{CommandFault}
 use Rattle.sources.specs.declared.fault.CommandFault.TheVariants as command
-use Rattle.sources.specs.Lines.{end_word, line}
+use Rattle.sources.specs.OutputLines.{end_word, line}
 use Rattle.sources.specs.Refusal.{fault_text}
-use Rattle.session.specs.declared.held.Ending.{Ending}
-use Rattle.session.specs.declared.held.Ending.TheVariants as ending
-use Rattle.session.specs.declared.standing.Numbers.{Numbers}
+use Rattle.session.specs.declared.held_job.RunState.{RunState}
+use Rattle.session.specs.declared.held_job.RunState.TheVariants as state
+use Rattle.session.specs.declared.status.Numbers.{Numbers}
 use Rattle.session.specs.Words.{words_of}
 
--- ---- what was done
+-- ---- replies to what was done
 
 abbrev pub module_line : (name : List ℕ) → (size : ℕ) → List ℕ
 module_line name size = line (codes "ok module " ++ name ++ codes " " ++ decimal size)
@@ -30,11 +30,11 @@ abbrev pub job_line : (name : List ℕ) → List ℕ
 job_line name = line (codes "ok job " ++ name)
 
 -- how a job ended, and in which superstep
-abbrev pub run_line : (name : List ℕ) → Ended → List ℕ
+abbrev pub run_line : (name : List ℕ) → JobEnd → List ℕ
 run_line name ended = line (codes "ok run " ++ name ++ codes " " ++ end_word (is_finished ended.how) ++ codes " " ++ decimal ended.superstep)
 
--- the values of all vertices, each on its line, and a point
-abbrev pub values_text : Ended → List ℕ
+-- the values of all vertices, one a line, and a line with a point
+abbrev pub values_text : JobEnd → List ℕ
 values_text ended = value_lines ended.values.items ++ line (codes ".")
 
 abbrev pub drop_line : List ℕ
@@ -43,12 +43,12 @@ drop_line = line (codes "ok drop")
 abbrev pub bye_line : List ℕ
 bye_line = line (codes "ok bye")
 
--- ---- how a job stands
+-- ---- the state of a job
 
-abbrev pub state_word : Ending → List ℕ
-state_word ending.Waiting = codes "waiting"
-state_word (ending.Ended report) = end_word (is_finished report.ended.how)
-state_word (ending.Failed fault) = codes "fault"
+abbrev pub state_word : RunState → List ℕ
+state_word state.Waiting = codes "waiting"
+state_word (state.Ended report) = end_word (is_finished report.ended.how)
+state_word (state.Failed fault) = codes "fault"
 
 abbrev pub fault_word : JobFault → List ℕ
 fault_word (job_fault.OutOfMemory place) = codes "OutOfMemory"
@@ -57,14 +57,14 @@ fault_word (job_fault.Settings setting) = codes "Settings"
 fault_word job_fault.ThreadRefused = codes "ThreadRefused"
 fault_word job_fault.Closed = codes "Closed"
 
--- the fault with which a job ended, or nothing
-abbrev pub fault_data : Ending → Data
-fault_data (ending.Failed fault) = string (fault_word fault)
+-- the word of the fault that a job ended with, or null
+abbrev pub fault_data : RunState → Data
+fault_data (state.Failed fault) = string (fault_word fault)
 fault_data _ = null
 
--- the numbers of what a job ended with; without an answer all are 0
-abbrev pub numbers_of : Ending → Numbers
-numbers_of (ending.Ended report) = record {
+-- the numbers of the report that a job ended with; all are 0 if there is none
+abbrev pub numbers_of : RunState → Numbers
+numbers_of (state.Ended report) = record {
   superstep = report.ended.superstep;
   units = report.ended.units;
   dropped = report.ended.dropped;
@@ -74,8 +74,8 @@ numbers_of (ending.Ended report) = record {
 }
 numbers_of _ = record { superstep = 0; units = 0; dropped = 0; epoch = 0; missed = 0; restarts = 0 }
 
--- the members of the JSON object that tells how a job stands
-abbrev pub status_data : (name : List ℕ) → Ending → Data
+-- the JSON object of the state of a job
+abbrev pub status_data : (name : List ℕ) → RunState → Data
 status_data name end =
     let numbers = numbers_of end in
     object (member (codes "dropped") (string (decimal numbers.dropped))
@@ -88,13 +88,13 @@ status_data name end =
     (member (codes "superstep") (number (unsigned numbers.superstep))
     (member (codes "units") (string (decimal numbers.units)) no_members)))))))))
 
--- as compact JSON
-abbrev pub status_line : (name : List ℕ) → Ending → List ℕ
+-- the reply with the state of a job as compact JSON
+abbrev pub status_line : (name : List ℕ) → RunState → List ℕ
 status_line name end = line (codes "ok " ++ compact_text (status_data name end))
 
 -- ---- refusals
 
--- the number and the word of a refusal
+-- the reply with the number and the word of a refusal
 abbrev pub no_line : List ℕ → List ℕ
 no_line text = line (codes "no " ++ text)
 
@@ -116,14 +116,14 @@ not_waiting_line = no_line (codes "11 NotWaiting")
 abbrev pub not_ended_line : List ℕ
 not_ended_line = no_line (codes "12 NotEnded")
 
--- a job ended by a fault
+-- the reply to a run that ended with a fault
 abbrev pub failed_line : JobFault → List ℕ
 failed_line fault = no_line (codes "13 " ++ fault_word fault)
 
 abbrev pub memory_line : List ℕ
 memory_line = no_line (codes "14 OutOfMemory")
 
--- the word of a fault is the third of the line that the program prints of it
+-- the word of a fault is the third word of the line that the program prints for it
 abbrev pub third : List (List ℕ) → List ℕ
 third (first ∷ second ∷ word ∷ rest) = word
 third _ = []
@@ -131,12 +131,12 @@ third _ = []
 abbrev pub word_of : CommandFault → List ℕ
 word_of fault = third (words_of (fault_text fault))
 
--- a refusal with a word, unless that word tells of want of memory
+-- a refusal with a word; if the word is `OutOfMemory`, it is `no 14 OutOfMemory`
 abbrev pub with_word : (code word : List ℕ) → List ℕ
 with_word code word =
     if bytes_eq word (codes "OutOfMemory") then memory_line else no_line (code ++ codes " " ++ word)
 
--- the number of a refusal that has a word of its own
+-- the number of the refusals of this kind, if their reply has a word
 abbrev pub number_of : CommandFault → Option (List ℕ)
 number_of (command.Decode fault) = Some (codes "5")
 number_of (command.Text fault) = Some (codes "6")
@@ -150,7 +150,7 @@ abbrev pub refusal_by : Option (List ℕ) → (word : List ℕ) → List ℕ
 refusal_by None word = memory_line
 refusal_by (Some code) word = with_word code word
 
--- how it is told that a file gives no module or no graph, or that settings give no job
+-- the reply that refuses a file, or the settings of a job
 abbrev pub refusal_line : CommandFault → List ℕ
 refusal_line (command.Unread path) = file_line
 refusal_line fault = refusal_by (number_of fault) (word_of fault)

@@ -1,21 +1,21 @@
--- What may be said of how jobs run.
+-- What contracts say of how jobs run.
 use Rattle.std.specs.Prelude.{◌≡◌, [], Result, Ok, Err}
 use Rattle.superstep.specs.declared.fault.JobFault.{JobFault}
 use Rattle.superstep.specs.declared.fault.JobFault.TheVariants as job_fault
 use Rattle.superstep.specs.Ending.{IsEndOf}
 use Rattle.superstep.specs.Job.{Work}
-use Rattle.workers.specs.Answers.{IsRunFault}
+use Rattle.workers.specs.JobAnswers.{IsRunFault}
 use Rattle.rollback.specs.declared.report.Report.{Report}
 use Rattle.session.specs.declared.runner.JobRunner.{JobRunner}
 use Rattle.session.specs.declared.runner.JobRunner.TheVariants as way
 
--- how the run of a job may end
+-- the possible ends of a job's run
 pub record Runs : Type 1 where
   pub may_end : Work → Result Report JobFault → Type 0
 
 -- ---- runs on one machine
 
--- what the plain run ends with is told, and no loss
+-- the report has the end of the plain run, and no losses
 pub record IsPlainReport (work : Work) (report : Report) : Type 0 where
   pub ends : IsEndOf work report.ended
   pub epoch : report.epoch ≡ 0
@@ -23,7 +23,7 @@ pub record IsPlainReport (work : Work) (report : Report) : Type 0 where
   pub restarts : report.restarts ≡ 0
   pub spent : report.spent.items ≡ []
 
--- or there is no memory
+-- a run on one machine ends with such a report, or runs out of memory
 abbrev pub IsPlainEnd : Work → Result Report JobFault → Type 0
 IsPlainEnd work (Ok report) = IsPlainReport work report
 IsPlainEnd work (Err (job_fault.OutOfMemory place)) = Unit {0}
@@ -34,8 +34,8 @@ plain = record { may_end = IsPlainEnd }
 
 -- ---- runs in threads
 
--- What the plain run ends with is told, with the units of each superstep from the first on; or a fault that only a run in
--- threads ends by.
+-- A run in threads ends with the end of the plain run and the units of each superstep from the first on, or with a fault of
+-- a run in threads.
 abbrev pub IsThreadedEnd : Work → Result Report JobFault → Type 0
 IsThreadedEnd work (Ok report) = IsEndOf work report.ended × (report.ended.since ≡ 0)
 IsThreadedEnd work (Err fault) = IsRunFault fault

@@ -1,4 +1,4 @@
--- What the steps of the code answer. No contract of a public function cites these.
+-- Definitions that follow the steps of the code. No public contract cites these.
 pub mod Cutting
 pub mod Seen
 pub mod Answered

@@ -1,22 +1,22 @@
-//! What a line asks for.
+//! The command that a line asks for.
 
 ghost use Rattle.std.specs.Prelude.{◌≡◌, Option};
-ghost use Rattle.sources.specs.InputLine.{small_of};
+ghost use Rattle.sources.specs.InputLine.{u32_of};
 ghost use Rattle.session.specs.Words.{words_of};
 ghost use Rattle.session.specs.Commands.{asked_alone, asked_by, asked_job, asked_of, asked_of_drop, asked_of_name, asked_of_two, settings_by, settings_of};
 ghost use Rattle.session.specs.inside.Seen.{asked};
 
 use crate::word::{first_word, is_name};
-use sources::small_of;
+use sources::u32_of;
 use superstep::Settings;
 
-/// How many bytes a line may have, without its line feed.
+/// The most bytes of a line, without its line feed.
 pub const LONGEST_LINE: usize = 4_096;
 
-// How many ticks a worker of a session's job may take for a task.
+// The lease of a session's jobs: how many ticks a worker has for a task.
 const LEASE: u32 = 1_000_000;
 
-/// What may be dropped.
+/// The kinds of things that `drop` removes.
 #[derive(Clone, Copy)]
 pub enum Kind {
     Module,
@@ -24,40 +24,41 @@ pub enum Kind {
     Job,
 }
 
-/// What a line asks for.
+/// A command.
 #[derive(Clone, Copy)]
 pub enum Command<'a> {
-    /// The module in a file gets a name.
+    /// Names the module in a file.
     AddModule {
         name: &'a str,
         path: &'a str,
     },
-    /// The graph in a file gets a name.
+    /// Names the graph in a file.
     AddGraph {
         name: &'a str,
         path: &'a str,
     },
-    /// A job of a module over a graph gets a name.
+    /// Makes a job of a module and a graph, and names it.
     AddJob {
         name: &'a str,
         module: &'a str,
         graph: &'a str,
         settings: Settings,
     },
-    /// Run a job.
+    /// Runs a job.
     Run(&'a str),
-    /// Tell how a job stands.
+    /// Reports the state of a job.
     Status(&'a str),
-    /// Tell the values that a job ended with.
+    /// Reports the values that a job ended with.
     Values(&'a str),
-    /// Let go what has a name.
+    /// Removes a name and what it names.
     Drop(Kind, &'a str),
     Quit,
     /// It is no command.
     Unknown,
 }
 
-/// What a line asks for, which stands without its line feed. A tab or a carriage return belongs to its word.
+/// Reads a line, without its line feed, as a command. Only spaces separate words: a tab or a carriage return is part of its
+/// word.
 pub fn command_of(line: &[u8]) -> Command<'_>
     ensures { asked result ≡ asked_of line.now }
 {
@@ -70,7 +71,7 @@ pub fn command_of(line: &[u8]) -> Command<'_>
     }
 }
 
-// What the words of a line ask for.
+// Reads the words of a line as a command.
 fn command_by(line: &str) -> Command<'_>
     ensures { asked result ≡ asked_by (words_of line.now) }
 {
@@ -103,7 +104,7 @@ fn command_alone(word: &str) -> Command<'_>
     }
 }
 
-// A word and a name.
+// Reads a command of a word and a name.
 fn command_of_name<'a>(word: &str, name: &'a str) -> Command<'a>
     ensures { asked result ≡ asked_of_name word.now name.now }
 {
@@ -118,7 +119,7 @@ fn command_of_name<'a>(word: &str, name: &'a str) -> Command<'a>
     }
 }
 
-// A word and two more.
+// Reads a command of a word and two more.
 fn command_of_two<'a>(word: &str, first: &'a str, second: &'a str) -> Command<'a>
     ensures { asked result ≡ asked_of_two word.now first.now second.now }
 {
@@ -141,7 +142,7 @@ fn command_of_two<'a>(word: &str, first: &'a str, second: &'a str) -> Command<'a
     }
 }
 
-// The kind of what is dropped, and its name.
+// Reads the kind and the name of what is to be dropped.
 fn command_of_drop<'a>(kind: &str, name: &'a str) -> Command<'a>
     ensures { asked result ≡ asked_of_drop kind.now name.now }
 {
@@ -156,7 +157,7 @@ fn command_of_drop<'a>(kind: &str, name: &'a str) -> Command<'a>
     }
 }
 
-// The names of a job, of its module and of its graph, and the words of its settings.
+// Reads the names of a job, its module and its graph, and the words of its settings.
 fn job<'a>(name: &'a str, module: &'a str, graph: &'a str, numbers: &str) -> Command<'a>
     ensures { asked result ≡ asked_job name.now «module».now graph.now (words_of numbers.now) }
 {
@@ -171,7 +172,7 @@ fn job<'a>(name: &'a str, module: &'a str, graph: &'a str, numbers: &str) -> Com
     }
 }
 
-// Four numbers: the parts, the workers, how often a state is saved, and the limit.
+// Reads four numbers: the parts, the workers, the supersteps from one save to the next, and the limit.
 fn settings_of(numbers: &str) -> Option<Settings>
     ensures { result ≡ settings_of (words_of numbers.now) }
 {
@@ -186,14 +187,14 @@ fn settings_of(numbers: &str) -> Option<Settings>
 }
 
 fn settings_by(parts: &str, workers: &str, every: &str, limit: &str) -> Option<Settings>
-    ensures { result ≡ settings_by (small_of parts.now) (small_of workers.now) (small_of every.now)
-        (small_of limit.now) }
+    ensures { result ≡ settings_by (u32_of parts.now) (u32_of workers.now) (u32_of every.now)
+        (u32_of limit.now) }
 {
     Some(Settings {
-        parts: small_of(parts.as_bytes())?,
-        workers: small_of(workers.as_bytes())?,
-        every: small_of(every.as_bytes())?,
-        limit: small_of(limit.as_bytes())?,
+        parts: u32_of(parts.as_bytes())?,
+        workers: u32_of(workers.as_bytes())?,
+        every: u32_of(every.as_bytes())?,
+        limit: u32_of(limit.as_bytes())?,
         lease: LEASE,
     })
 }

@@ -1,4 +1,4 @@
-//! What holds of all sessions.
+//! A law of all sessions.
 
 ghost use Rattle.session.specs.Runs.{runs_of};
 ghost use Rattle.session.specs.Same.{HaveSameValues};
@@ -8,8 +8,8 @@ use interp::calls_are_a_function;
 use sources::Files;
 use workers::Gate;
 
-/// Whatever files they read, however they run jobs and whatever else they were asked, two sessions tell the same values of two
-/// jobs of one module over one graph with one limit.
+/// Shows that two sessions report the same values of two jobs, if these have the same module, graph and limit. The files,
+/// the way of running jobs and the other commands do not matter.
 pub fn same_values<F: Files, G: Files, P: Gate + Sync, Q: Gate + Sync>(
     files: &F,
     runner: &JobRunner<'_, P>,

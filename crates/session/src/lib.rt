@@ -1,8 +1,9 @@
-//! Sessions of named modules, graphs and jobs: lines of commands in, replies out.
+//! The session that `pregel console` serves: it reads commands, one a line, and writes a reply to each. It holds modules,
+//! graphs and jobs by name.
 #![tactic(auto)]
 
 mod command;
-mod held;
+mod held_job;
 mod laws;
 mod lines;
 mod maps;
@@ -12,7 +13,7 @@ mod reply;
 mod runner;
 mod serving;
 mod sessions;
-mod standing;
+mod status;
 mod texts;
 mod word;
 

@@ -1,4 +1,4 @@
-//! Lines of what is read.
+//! The lines of the bytes that a session reads.
 
 ghost use Rattle.std.specs.Prelude.{◌≡◌, ◌≤◌, ◌<◌, ◌++◌, length, take, vec_len, IfSome, MatchOption, OnErr, OnOk};
 ghost use Rattle.std.specs.List.{position_or_len};
@@ -7,10 +7,10 @@ ghost use Rattle.session.specs.inside.Cutting.{BeginsWithLine, HasNoLine};
 
 use std::alloc::AllocError;
 
-/// How many bytes of a line are kept: one more than a line may have.
+/// How many bytes of a line are kept: one more than the longest line, so that a longer one is noticed.
 pub const KEPT: usize = 4_097;
 
-/// The bytes before the first line feed, and those behind it.
+/// Splits bytes at the first line feed.
 pub fn cut_line(bytes: &[u8]) -> Option<(&[u8], &[u8])>
     ensures cut { MatchOption result (HasNoLine bytes.now)
         (λ cut. BeginsWithLine bytes.now cut.0.now cut.1.now) }
@@ -24,7 +24,7 @@ pub fn cut_line(bytes: &[u8]) -> Option<(&[u8], &[u8])>
     Some((line, &rest[1..]))
 }
 
-// Where the first line feed stands, or how many bytes there are where there is none.
+// Returns the place of the first line feed, or the number of bytes if there is none.
 fn feed_place(bytes: &[u8]) -> usize
     ensures place { result ≡ position_or_len is_feed bytes.now }
     ensures within { result ≤ length bytes.now }
@@ -35,7 +35,7 @@ fn feed_place(bytes: &[u8]) -> usize
         .unwrap_or(bytes.len())
 }
 
-/// Adds a piece to the bytes that are kept of a line.
+/// Adds bytes to the beginning of a line, of which at most `KEPT` bytes are kept.
 pub fn keep(line: &mut Vec<u8>, piece: &[u8]) -> Result<(), AllocError>
     requires { vec_len line.old ≤ KEPT }
     ensures kept { OnOk result (line.new.items ≡ take KEPT (line.old.items ++ piece.now)) }

@@ -1,4 +1,4 @@
-//! What has names.
+//! Things by name.
 
 ghost use Rattle.std.specs.Prelude.{◌≡◌, false, Some, None, OnErr, OnOk, is_some};
 ghost use Rattle.std.specs.BTreeMap.{get_by_text};
@@ -7,7 +7,7 @@ ghost use Rattle.session.specs.Maps.{put};
 use std::alloc::{AllocError, Global};
 use std::collections::BTreeMap;
 
-/// Whether something has the name.
+/// Returns whether something has the name.
 pub fn is_held<V>(name: &str, map: &BTreeMap<String, V>) -> bool
     ensures { result ≡ is_some (get_by_text map.now name.now) }
 {
@@ -30,7 +30,7 @@ pub fn hold<V: Drop>(
     Ok(())
 }
 
-/// Takes the name of what has it, and tells whether something had it.
+/// Removes a name and what it names. Returns whether something had the name.
 pub fn let_go<V: Drop>(name: &str, map: &mut BTreeMap<String, V>) -> bool
     ensures found { result ≡ is_some (get_by_text map.old name.now) }
     ensures gone { get_by_text map.new ≡ put name.now None (get_by_text map.old) }

@@ -1,4 +1,4 @@
-//! What files have of modules and graphs.
+//! Modules and graphs from files.
 
 ghost use Rattle.std.specs.Prelude.{MatchResult};
 ghost use Rattle.sources.specs.Disk.{Stays};
@@ -13,8 +13,8 @@ use graph::Graph;
 use sources::{Files, load_file, read_graph};
 use std::alloc::Global;
 
-/// The module in a file, verified, or the reply where there is none. A file whose path ends in `.wat` has its text, and any
-/// other its bytes.
+/// Loads the module in a file, or returns the reply that refuses it. If the path ends in `.wat`, the file is text; any
+/// other file is binary.
 pub fn module_at<F: Files>(alloc: Global, path: &str, files: &mut F) -> Result<Verified, Reply>
     ensures found { MatchResult result (IsLoadedAt (F.disk files.old) path.now)
         (λ reply. IsToldOf (IsRefusedAt (F.disk files.old) path.now RefusesLoad)
@@ -27,7 +27,7 @@ pub fn module_at<F: Files>(alloc: Global, path: &str, files: &mut F) -> Result<V
     }
 }
 
-/// The graph in a file, or the reply where there is none.
+/// Reads the graph in a file, or returns the reply that refuses it.
 pub fn graph_at<F: Files>(alloc: Global, path: &str, files: &mut F) -> Result<Graph, Reply>
     ensures found { MatchResult result (IsReadAt (F.disk files.old) path.now)
         (λ reply. IsToldOf (IsNoGraphAt (F.disk files.old) path.now) (reply_text reply)) }

@@ -1,4 +1,4 @@
-//! How it is told that a file gives no module or no graph, or that settings give no job.
+//! The replies that refuse a file or the settings of a job.
 
 ghost use Rattle.std.specs.Prelude.{◌≡◌, ◌++◌, IfOk, MatchOption, None, Some, codes, string_bytes};
 ghost use Rattle.sources.specs.Refusal.{fault_text};
@@ -11,7 +11,7 @@ use crate::word::first_word;
 use sources::CommandFault;
 use std::alloc::{AllocError, Global};
 
-/// What is told of a fault: the number and the word of its refusal.
+/// Returns the reply to a fault: the number of the refusal and a word.
 pub fn refusal(alloc: Global, fault: &CommandFault) -> Reply
     ensures { IsToldOrNoMemory (refusal_line fault.now) (reply_text result) }
 {
@@ -24,7 +24,7 @@ pub fn refusal(alloc: Global, fault: &CommandFault) -> Reply
     }
 }
 
-// The number of the refusal, where its word is told.
+// Returns the number of the refusals of this kind, if their reply has a word.
 fn number_of(fault: &CommandFault) -> Option<&'static str>
     ensures { MatchOption result (number_of fault.now ≡ None)
         (λ number. number_of fault.now ≡ Some number.now) }
@@ -49,7 +49,7 @@ fn numbered(alloc: Global, number: &str, fault: &CommandFault) -> Reply
     }
 }
 
-// The line that the program prints of a fault, without its end.
+// Writes the line that the program prints for a fault, without its line feed.
 fn displayed(alloc: Global, fault: &CommandFault) -> Result<String, AllocError>
     ensures { IfOk result (λ text. string_bytes text ≡ fault_text fault.now) }
 {

@@ -1,14 +1,14 @@
-//! What is told to a line.
+//! The reply to a line.
 
 ghost use Rattle.std.specs.Prelude.{◌≡◌};
 ghost use Rattle.session.specs.inside.Seen.{IsReplyOf, reply_text};
 
 use std::alloc::AllocError;
 
-/// What is told to a line.
+/// The reply to a line.
 #[derive(Drop)]
 pub enum Reply {
-    /// This, with its line feeds.
+    /// This text, with its line feeds.
     Text(String),
     Dropped,
     Bye,
@@ -22,7 +22,7 @@ pub enum Reply {
 }
 
 impl Reply {
-    /// A text, unless there was no memory for it.
+    /// Makes a reply of a text, or of an allocation that failed.
     pub fn of(text: Result<String, AllocError>) -> Reply
         ensures { IsReplyOf text result }
     {
@@ -32,7 +32,7 @@ impl Reply {
         }
     }
 
-    /// The bytes that are told.
+    /// Returns the bytes of the reply.
     pub fn as_bytes(&self) -> &[u8]
         ensures { result.now ≡ reply_text self.now }
     {

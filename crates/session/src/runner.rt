@@ -1,4 +1,4 @@
-//! What runs jobs.
+//! The ways of running the jobs of a session.
 
 ghost use Rattle.std.specs.Prelude.{◌≡◌, IfOk, IfErr, OnOk};
 ghost use Rattle.superstep.specs.Ending.{IsEndOf};
@@ -14,27 +14,27 @@ use std::thread::Threads;
 use superstep::{Job, JobFault, Place, one_machine};
 use workers::{Gate, run_in_threads};
 
-/// Runs the jobs of a session.
+/// A way of running the jobs of a session.
 #[derive(Drop)]
 pub enum JobRunner<'a, G: Gate + Sync> {
-    /// In threads, over a hub of each run's own: states are kept in memory, and workers lost as the gate says.
+    /// In threads. States are kept in memory, and workers are lost as the gate says.
     InThreads(&'a G),
-    /// On this machine, superstep after superstep: no worker is lost and no state is saved.
+    /// On this machine, superstep after superstep. No worker is lost, and no state is saved.
     OnOneMachine,
 }
 
 impl<'a, G: Gate + Sync> JobRunner<'a, G> {
-    /// Runs in threads, whose workers are lost as the gate says.
+    /// Makes a runner of threads whose workers are lost as the gate says.
     pub fn new(gate: &'a G) -> JobRunner<'a, G>
         ensures { result ≡ way.InThreads gate.entry }
     {
         JobRunner::InThreads(gate)
     }
 
-    /// Runs a job. What it ended with is what the plain run on one machine ends with.
+    /// Runs a job. Its report has the end of the plain run on one machine.
     ///
-    /// In threads it refuses as `run_in_threads` does; on one machine only for want of memory, which is told of `Call`, whatever
-    /// work it was wanted for.
+    /// In threads it fails as `run_in_threads` does. On one machine it fails only if memory runs out, always with the place
+    /// `Call`.
     pub fn run<R: Wait + Threads + Sync + Files + AllocGlobal>(
         &self,
         rt: &R,

@@ -1,8 +1,8 @@
-//! Serving sessions.
+//! The loop that serves a session.
 
 ghost use Rattle.std.specs.Prelude.{◌≡◌, ◌≤◌, [], vec_len, MatchResult};
 ghost use Rattle.std.specs.Io.KnownBytes.{Appends, Keeps};
-ghost use Rattle.graph.specs.Output.{HasBegun};
+ghost use Rattle.line_text.specs.Output.{HasBegun};
 ghost use Rattle.sources.specs.Disk.{Stays};
 ghost use Rattle.session.specs.declared.serving.ServeFault.TheVariants as fault;
 ghost use Rattle.session.specs.Commands.{asked_of, is_quit};
@@ -16,7 +16,7 @@ use crate::command::{Command, command_of};
 use crate::lines::{KEPT, cut_line, keep};
 use crate::runner::JobRunner;
 use crate::sessions::{Session, answer};
-use graph::{Unwritten, put};
+use line_text::{WriteFailure, write_all};
 use sources::Files;
 use std::alloc::{AllocError, Global};
 use std::io::{ErrorKind, Read, Write};
@@ -25,10 +25,10 @@ use std::thread::Threads;
 use thiserror::Error;
 use workers::Gate;
 
-// How many bytes are read at once, at most.
+// The most bytes of one read.
 const CHUNK: usize = 4_096;
 
-/// Why serving ended before the session did.
+/// The reason why serving stopped before the end of the session.
 #[derive(Clone, Copy, Debug, Error)]
 pub enum ServeFault {
     /// The reader failed, or its input did not end.
@@ -37,7 +37,7 @@ pub enum ServeFault {
     /// The writer failed.
     #[error("writing failed")]
     Write,
-    /// Memory ran out for what is read.
+    /// Memory ran out for the line that is being read.
     #[error("out of memory")]
     OutOfMemory,
 }
@@ -50,19 +50,19 @@ impl From<AllocError> for ServeFault {
     }
 }
 
-impl From<Unwritten> for ServeFault {
+impl From<WriteFailure> for ServeFault {
     ghost from_gives = { λ _ told. told ≡ fault.Write };
 
-    fn from(_: Unwritten) -> ServeFault {
+    fn from(_: WriteFailure) -> ServeFault {
         ServeFault::Write
     }
 }
 
-/// Serves a session: it reads lines and answers each, until one is `quit` or the input ends. Each reply is flushed.
+/// Serves a session: reads lines and answers each, until one is `quit` or the input ends. Each reply is flushed.
 ///
-/// A line has at most 4,096 bytes, without its line feed; a longer one is answered once, and bytes behind the last line feed
-/// are no line. It makes at most 18,446,744,073,709,551,615 reads, and fails with `Read` where the input has not ended by
-/// then. After a fault nothing more is read or written.
+/// A line has at most 4,096 bytes without its line feed. A longer one gets one reply, `no 1 Usage`. Bytes after the last
+/// line feed are no line. At most 18,446,744,073,709,551,615 reads are made; then it fails with `Read`. After a fault
+/// nothing more is read or written.
 pub fn serve<R: Read, W: Write, F: Files, G: Gate + Sync>(
     rt: &(impl Wait + Threads + Sync + std::rt::Files + AllocGlobal),
     alloc: Global,
@@ -89,7 +89,7 @@ pub fn serve<R: Read, W: Write, F: Files, G: Gate + Sync>(
     )
 }
 
-// Serves a session that has begun, where no part of a line was read.
+// Serves a session from the beginning of a line.
 fn serve_lines<R: Read, W: Write, F: Files, G: Gate + Sync>(
     rt: &(impl Wait + Threads + Sync + std::rt::Files + AllocGlobal),
     alloc: Global,
@@ -122,7 +122,7 @@ fn serve_lines<R: Read, W: Write, F: Files, G: Gate + Sync>(
     Err(ServeFault::Read)
 }
 
-// Reads some bytes, and tells how many: 0 at the end of the input, and none where reading was interrupted.
+// Reads some bytes and returns their number: 0 at the end of the input, and `None` if the read was interrupted.
 fn read_some<R: Read>(reader: &mut R, chunk: &mut [u8]) -> Result<Option<usize>, ServeFault>
     ensures { MatchResult result
         (GetsSome (R.remaining reader.old) (R.remaining reader.new) chunk.new)
@@ -135,8 +135,8 @@ fn read_some<R: Read>(reader: &mut R, chunk: &mut [u8]) -> Result<Option<usize>,
     }
 }
 
-// Answers the lines that end in these bytes, and keeps what stands behind them. It tells whether one was `quit`, and answers
-// none behind that.
+// Answers the lines that end in these bytes, up to `quit`, and keeps the bytes after the last line feed. Returns whether a
+// line was `quit`.
 fn answer_bytes<W: Write, F: Files, G: Gate + Sync>(
     rt: &(impl Wait + Threads + Sync + std::rt::Files + AllocGlobal),
     alloc: Global,
@@ -167,7 +167,7 @@ fn answer_bytes<W: Write, F: Files, G: Gate + Sync>(
     Ok(false)
 }
 
-// Answers a line, and tells whether it was `quit`.
+// Answers a line, and returns whether it was `quit`.
 fn answer_line<W: Write, F: Files, G: Gate + Sync>(
     rt: &(impl Wait + Threads + Sync + std::rt::Files + AllocGlobal),
     alloc: Global,
@@ -194,14 +194,14 @@ fn is_quit(command: Command<'_>) -> bool
     matches!(command, Command::Quit)
 }
 
-// Writes a reply, and flushes it.
+// Writes a reply and flushes it.
 fn tell<W: Write>(reply: &[u8], writer: &mut W) -> Result<(), ServeFault>
     ensures { MatchResult result
         (λ _. Appends (W.contents writer.old) (W.contents writer.new) reply.now)
         (λ told. (told ≡ fault.Write)
         × HasBegun (W.contents writer.old) (W.contents writer.new) reply.now) }
 {
-    put(reply, writer)?;
+    write_all(reply, writer)?;
     match writer.flush() {
         Ok(()) => Ok(()),
         Err(_) => Err(ServeFault::Write),

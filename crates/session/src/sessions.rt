@@ -1,4 +1,4 @@
-//! What a session holds, and what is answered to commands.
+//! A session and its answers to commands.
 
 ghost use Rattle.std.specs.Prelude.{◌≡◌, false, length, string_bytes, IfOk, MatchResult};
 ghost use Rattle.std.specs.BTreeMap.{get_by_text};
@@ -10,17 +10,17 @@ ghost use Rattle.session.specs.Maps.{nothing};
 ghost use Rattle.session.specs.Replies.{graph_line};
 ghost use Rattle.session.specs.Runs.{runs_of};
 ghost use Rattle.session.specs.Transcript.{Answers, holds, without};
-ghost use Rattle.session.specs.inside.Answered.{GivesName, IsSet, IsSoundAt, NamesJob, TellsHeldValues, is_waiting, never};
-ghost use Rattle.session.specs.inside.Seen.{IsModuleLine, IsToldOf, asked, ending_of, maps_of, reply_text};
+ghost use Rattle.session.specs.inside.Answered.{GivesName, IsSet, IsSoundAt, NamesJob, ReportsHeldValues, is_waiting, never};
+ghost use Rattle.session.specs.inside.Seen.{IsModuleLine, IsToldOf, asked, state_of, maps_of, reply_text};
 
 use crate::command::{Command, Kind};
-use crate::held::{Ending, HeldJob};
+use crate::held_job::{HeldJob, RunState};
 use crate::maps::{hold, is_held, let_go};
 use crate::reading::{graph_at, module_at};
 use crate::refusals::refusal;
 use crate::reply::Reply;
 use crate::runner::JobRunner;
-use crate::standing::status_text;
+use crate::status::status_text;
 use crate::texts::{end_text, graph_text, job_text, module_text, values_text};
 use bounded_profile::Verified;
 use graph::Graph;
@@ -33,7 +33,7 @@ use std::thread::Threads;
 use superstep::{Job, JobFault, Settings};
 use workers::Gate;
 
-/// What a session holds, by name.
+/// The modules, graphs and jobs of a session, by name.
 #[derive(Drop)]
 pub struct Session {
     modules: BTreeMap<String, Verified>,
@@ -42,7 +42,7 @@ pub struct Session {
 }
 
 impl Session {
-    /// It holds nothing.
+    /// Makes a session that holds nothing.
     pub fn new(alloc: Global) -> Session
         ensures { maps_of result ≡ nothing }
     {
@@ -54,7 +54,7 @@ impl Session {
     }
 }
 
-/// Does what a command asks for, and tells what is answered.
+/// Executes a command and returns the reply.
 pub fn answer<F: Files, G: Gate + Sync>(
     rt: &(impl Wait + Threads + Sync + std::rt::Files + AllocGlobal),
     alloc: Global,
@@ -77,8 +77,8 @@ pub fn answer<F: Files, G: Gate + Sync>(
             settings,
         } => add_job(alloc, name, module, graph, settings, session),
         Command::Run(name) => run_job(rt, alloc, name, session, runner),
-        Command::Status(name) => tell_status(alloc, name, session),
-        Command::Values(name) => tell_values(alloc, name, session),
+        Command::Status(name) => report_status(alloc, name, session),
+        Command::Values(name) => report_values(alloc, name, session),
         Command::Drop(kind, name) => drop_named(kind, name, session),
         Command::Quit => Reply::Bye,
         Command::Unknown => Reply::Usage,
@@ -107,7 +107,7 @@ fn add_module<F: Files>(
     }
 }
 
-// Gives a module a name. What is told is made before.
+// Names a module. The reply is made first, so that a failed allocation changes nothing.
 fn name_module(
     alloc: Global,
     name: &str,
@@ -123,7 +123,7 @@ fn name_module(
     }
 }
 
-// Gives a value a name, and tells this text.
+// Names a value, and replies with this text.
 fn named<V: Drop>(
     alloc: Global,
     name: &str,
@@ -160,7 +160,7 @@ fn add_graph<F: Files>(
     }
 }
 
-// Gives a graph a name. What is told is made before.
+// Names a graph. The reply is made first.
 fn name_graph(
     alloc: Global,
     name: &str,
@@ -205,7 +205,7 @@ fn add_job(
     }
 }
 
-// The job of copies of a module and a graph, or what is told where there is none.
+// Makes a job of copies of a module and a graph, or returns the reply that refuses it.
 fn job_of(
     alloc: Global,
     verified: &Verified,
@@ -240,7 +240,7 @@ fn open_copy(
     }
 }
 
-// Gives a job that waits a name. What is told is made before.
+// Names a new job, which waits. The reply is made first.
 fn name_job(alloc: Global, name: &str, job: Job, jobs: &mut BTreeMap<String, HeldJob>) -> Reply
     ensures { NamesJob name.now job (get_by_text jobs.old) (get_by_text jobs.new)
         (reply_text result) }
@@ -249,7 +249,7 @@ fn name_job(alloc: Global, name: &str, job: Job, jobs: &mut BTreeMap<String, Hel
         Ok(text) => {
             let held = HeldJob {
                 job,
-                ending: Ending::Waiting,
+                state: RunState::Waiting,
             };
             named(alloc, name, held, jobs, text)
         }
@@ -257,7 +257,7 @@ fn name_job(alloc: Global, name: &str, job: Job, jobs: &mut BTreeMap<String, Hel
     }
 }
 
-// Runs a job that waits. How it ended is kept where it is told.
+// Runs a job that waits. It keeps how the run ended, if that can be reported.
 fn run_job<G: Gate + Sync>(
     rt: &(impl Wait + Threads + Sync + std::rt::Files + AllocGlobal),
     alloc: Global,
@@ -271,55 +271,55 @@ fn run_job<G: Gate + Sync>(
     let Some(held) = session.jobs.get(name) else {
         return Reply::UnknownName;
     };
-    if !is_waiting(&held.ending) {
+    if !is_waiting(&held.state) {
         return Reply::NotWaiting;
     }
     let end = runner.run(rt, alloc, &held.job);
     match end_text(alloc, name, &end) {
         Ok(text) => {
-            set_ending(name, ending_of(end), &mut session.jobs);
+            set_state(name, state_of(end), &mut session.jobs);
             Reply::Text(text)
         }
         Err(_) => Reply::OutOfMemory,
     }
 }
 
-fn is_waiting(ending: &Ending) -> bool
-    ensures { result ≡ is_waiting ending.now }
+fn is_waiting(state: &RunState) -> bool
+    ensures { result ≡ is_waiting state.now }
 {
-    matches!(ending, Ending::Waiting)
+    matches!(state, RunState::Waiting)
 }
 
-fn ending_of(end: Result<Report, JobFault>) -> Ending
-    ensures { result ≡ ending_of end }
+fn state_of(end: Result<Report, JobFault>) -> RunState
+    ensures { result ≡ state_of end }
 {
     match end {
-        Ok(report) => Ending::Ended(report),
-        Err(fault) => Ending::Failed(fault),
+        Ok(report) => RunState::Ended(report),
+        Err(fault) => RunState::Failed(fault),
     }
 }
 
-// Keeps how the run of a job ended.
-fn set_ending(name: &str, ending: Ending, jobs: &mut BTreeMap<String, HeldJob>)
-    requires { IsSoundAt (get_by_text jobs.old) name.now ending }
-    ensures { IsSet (get_by_text jobs.old) (get_by_text jobs.new) name.now ending }
+// Sets the state of a job.
+fn set_state(name: &str, state: RunState, jobs: &mut BTreeMap<String, HeldJob>)
+    requires { IsSoundAt (get_by_text jobs.old) name.now state }
+    ensures { IsSet (get_by_text jobs.old) (get_by_text jobs.new) name.now state }
 {
     if let Some(held) = jobs.get_mut(name) {
-        held.ending = ending;
+        held.state = state;
     }
 }
 
-fn tell_status(alloc: Global, name: &str, session: &Session) -> Reply
+fn report_status(alloc: Global, name: &str, session: &Session) -> Reply
     ensures { Answers unknown never (maps_of session.now) (status name.now) (reply_text result)
         (maps_of session.now) }
 {
     match session.jobs.get(name) {
-        Some(held) => Reply::of(status_text(alloc, name, &held.ending)),
+        Some(held) => Reply::of(status_text(alloc, name, &held.state)),
         None => Reply::UnknownName,
     }
 }
 
-fn tell_values(alloc: Global, name: &str, session: &Session) -> Reply
+fn report_values(alloc: Global, name: &str, session: &Session) -> Reply
     ensures { Answers unknown never (maps_of session.now) (values name.now) (reply_text result)
         (maps_of session.now) }
 {
@@ -330,15 +330,15 @@ fn tell_values(alloc: Global, name: &str, session: &Session) -> Reply
 }
 
 fn values_of(alloc: Global, held: &HeldJob) -> Reply
-    ensures { TellsHeldValues held.now (reply_text result) }
+    ensures { ReportsHeldValues held.now (reply_text result) }
 {
-    match &held.ending {
-        Ending::Ended(report) => Reply::of(values_text(alloc, &report.ended)),
+    match &held.state {
+        RunState::Ended(report) => Reply::of(values_text(alloc, &report.ended)),
         _ => Reply::NotEnded,
     }
 }
 
-// ---- what is dropped
+// ---- what is removed
 
 fn drop_named(kind: Kind, name: &str, session: &mut Session) -> Reply
     ensures { Answers unknown never (maps_of session.old) (drop kind name.now)

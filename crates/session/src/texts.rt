@@ -3,20 +3,20 @@
 ghost use Rattle.std.specs.Prelude.{◌≡◌, ◌≤◌, IfOk, length, string_bytes};
 ghost use Rattle.bounded_profile.specs.Facts.{IsSizeOfCompute};
 ghost use Rattle.graph.specs.Entry.{edge_count, entries_of};
-ghost use Rattle.sources.specs.Lines.{IfTold};
+ghost use Rattle.sources.specs.OutputLines.{IfText};
 ghost use Rattle.session.specs.Replies.{fault_word, failed_line, graph_line, job_line, module_line, run_line, values_text};
-ghost use Rattle.session.specs.inside.Seen.{IsModuleLine, end_line};
+ghost use Rattle.session.specs.inside.Seen.{IsModuleLine, run_end_line};
 
 use bounded_profile::Verified;
 use graph::{Graph, MAX_EDGES, Vertex};
 use rollback::Report;
-use sources::{how_word, push_values};
+use sources::{end_word, push_values};
 use std::alloc::{AllocError, Global};
-use superstep::{Ended, JobFault};
+use superstep::{JobEnd, JobFault};
 
-/// `ok module NAME S`, with the size of the module.
+/// Writes `ok module NAME S`, with the size of the module.
 pub fn module_text(alloc: Global, name: &str, verified: &Verified) -> Result<String, AllocError>
-    ensures { IfTold result (IsModuleLine name.now verified.now) }
+    ensures { IfText result (IsModuleLine name.now verified.now) }
 {
     sized_text(alloc, name, verified.size())
 }
@@ -29,7 +29,7 @@ fn sized_text(alloc: Global, name: &str, size: u32) -> Result<String, AllocError
     Ok(text)
 }
 
-/// `ok graph NAME VERTICES EDGES`.
+/// Writes `ok graph NAME VERTICES EDGES`.
 pub fn graph_text(alloc: Global, name: &str, graph: &Graph) -> Result<String, AllocError>
     ensures { IfOk result (λ text. string_bytes text
         ≡ graph_line name.now (length graph.now) (edge_count graph.now)) }
@@ -38,7 +38,7 @@ pub fn graph_text(alloc: Global, name: &str, graph: &Graph) -> Result<String, Al
     counted_text(alloc, name, vertices.len(), count_edges(vertices))
 }
 
-// How many edges the vertices have.
+// Counts the edges of all vertices.
 fn count_edges(vertices: &[Vertex]) -> usize
     requires { edge_count (entries_of vertices.now) ≤ MAX_EDGES }
     ensures { result ≡ edge_count (entries_of vertices.now) }
@@ -63,7 +63,7 @@ fn counted_text(
     Ok(text)
 }
 
-/// `ok job NAME`.
+/// Writes `ok job NAME`.
 pub fn job_text(alloc: Global, name: &str) -> Result<String, AllocError>
     ensures { IfOk result (λ text. string_bytes text ≡ job_line name.now) }
 {
@@ -72,13 +72,13 @@ pub fn job_text(alloc: Global, name: &str) -> Result<String, AllocError>
     Ok(text)
 }
 
-/// How a run ended: `ok run NAME finished S`, `ok run NAME limit S`, or the word of its fault.
+/// Writes how a run ended: `ok run NAME finished S`, `ok run NAME limit S`, or `no 13 WORD` with the word of its fault.
 pub fn end_text(
     alloc: Global,
     name: &str,
     end: &Result<Report, JobFault>,
 ) -> Result<String, AllocError>
-    ensures { IfOk result (λ text. string_bytes text ≡ end_line name.now end.now) }
+    ensures { IfOk result (λ text. string_bytes text ≡ run_end_line name.now end.now) }
 {
     match end {
         Ok(report) => run_text(alloc, name, &report.ended),
@@ -86,10 +86,10 @@ pub fn end_text(
     }
 }
 
-fn run_text(alloc: Global, name: &str, ended: &Ended) -> Result<String, AllocError>
+fn run_text(alloc: Global, name: &str, ended: &JobEnd) -> Result<String, AllocError>
     ensures { IfOk result (λ text. string_bytes text ≡ run_line name.now ended.now) }
 {
-    let how = how_word(ended.how);
+    let how = end_word(ended.how);
     let superstep = ended.superstep;
     let mut text = String::new(alloc);
     writeln!(text, "ok run {name} {how} {superstep}")?;
@@ -105,7 +105,7 @@ fn failed_text(alloc: Global, fault: JobFault) -> Result<String, AllocError>
     Ok(text)
 }
 
-/// The word of the fault that a job ended with.
+/// Returns the word of the fault that a job ended with.
 pub fn fault_word(fault: JobFault) -> &'static str
     ensures { result.now ≡ fault_word fault }
 {
@@ -118,8 +118,8 @@ pub fn fault_word(fault: JobFault) -> &'static str
     }
 }
 
-/// The values that a job ended with, each on its line, and a point.
-pub fn values_text(alloc: Global, ended: &Ended) -> Result<String, AllocError>
+/// Writes the values that a job ended with, one a line, and a line with a point.
+pub fn values_text(alloc: Global, ended: &JobEnd) -> Result<String, AllocError>
     ensures { IfOk result (λ text. string_bytes text ≡ values_text ended.now) }
 {
     let mut text = String::new(alloc);

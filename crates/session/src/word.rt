@@ -4,7 +4,7 @@ ghost use Rattle.std.specs.Prelude.{◌≡◌, ◌∷◌, [], MatchOption};
 ghost use Rattle.std.specs.List.{list_all};
 ghost use Rattle.session.specs.Words.{is_name, is_name_byte, words_of};
 
-/// The first word of a line, and what stands behind it.
+/// Splits off the first word of a line.
 pub fn first_word(line: &str) -> Option<(&str, &str)>
     ensures { MatchOption result (words_of line.now ≡ [])
         (λ found. words_of line.now ≡ found.0.now ∷ words_of found.1.now) }
@@ -23,7 +23,7 @@ pub fn first_word(line: &str) -> Option<(&str, &str)>
     }
 }
 
-/// Whether a word may name a module, a graph or a job: 1 to 32 ASCII letters, digits, `_` and `-`.
+/// Returns whether a word may be a name: 1 to 32 ASCII letters, digits, `_` and `-`.
 pub fn is_name(word: &str) -> bool
     ensures { result ≡ is_name word.now }
 {

@@ -5,7 +5,7 @@ use Rattle.wasm_ast.specs.Limits.{IsWithinLimits, max_module_bytes}
 use Rattle.wasm_decode.specs.declared.fault.DecodeFault.{DecodeFault}
 use Rattle.sources.specs.declared.fault.CommandFault.{CommandFault}
 use Rattle.sources.specs.declared.fault.CommandFault.TheVariants as command
-use Rattle.sources.specs.declared.sources.Source.{Source}
+use Rattle.sources.specs.declared.file_contents.Source.{Source}
 use Rattle.sources.specs.Disk.{Disk, HoldsAt, Stays, Tries, Writes}
 use Rattle.sources.specs.Modules.{IsModuleAt, MeansBy, is_text_path}
 use Rattle.sources.specs.Source.{RefusesModule, content, is_text}

@@ -14,7 +14,7 @@ use Rattle.sources.specs.declared.input.InputFault.TheVariants as fault
 use Rattle.sources.specs.declared.input_line.Line.{Line}
 use Rattle.sources.specs.declared.input_line.Line.TheVariants.{Skipped, Id, Superstep, Count, Value, Message, Edge, Aggregate, Bad}
 use Rattle.sources.specs.InputLine.{line_of}
-use Rattle.host_calls.specs.Slots.{slot_starts}
+use Rattle.host_calls.specs.Aggregators.{aggregator_starts}
 use Rattle.sources.specs.InputSays.{AreInput, lines_of, is_good, set_slot, slots_after, all_ids, all_supersteps, all_counts, all_values, all_slots, id_by, superstep_by, count_by, value_by, message_by, edge_by, slot_by}
 use Rattle.sources.specs.Input.{Says}
 use Rattle.sources.specs.inside.Adding.{Adds, fits}
@@ -42,8 +42,8 @@ says_push before line old new says adds = record {
   aggregated =
       adds.aggregated
       ∙ ap (λ slots. slots_after slots (slot_by line)) says.aggregated
-      ∙ sym (fold-append set_slot slot_starts (all_slots before) (slot_by line))
-      ∙ ap (λ said. slots_after slot_starts said) (sym (flat_map-push slot_by before line));
+      ∙ sym (fold-append set_slot aggregator_starts (all_slots before) (slot_by line))
+      ∙ ap (λ said. slots_after aggregator_starts said) (sym (flat_map-push slot_by before line));
 }
 
 -- ---- what may be said once

@@ -1,20 +1,21 @@
--- What the text of an input means.
+-- The input that a text means.
 use Rattle.std.specs.Prelude.{◌≡◌, ℕ, pos, true, List, [], ◌∷◌, unwrap_or}
 use Rattle.std.specs.Option.{option_to_list}
 use Rattle.std.specs.List.{All}
 use Rattle.host_calls.specs.declared.call.CallInput.{CallInput}
 use Rattle.sources.specs.declared.input.Input.{Input}
 use Rattle.sources.specs.declared.input_line.Line.{Line}
-use Rattle.host_calls.specs.Slots.{slot_starts}
+use Rattle.host_calls.specs.Aggregators.{aggregator_starts}
 use Rattle.sources.specs.InputSays.{AreInput, lines_of, is_good, all_ids, all_supersteps, all_counts, all_values, all_messages, all_edges, all_slots, slots_after}
 
--- what was said, or else this
+-- the first value of a list, or a default
 abbrev pub said_or : {A : Type 0} → A → List A → A
 said_or other [] = other
 said_or other (said ∷ more) = said
 
--- The text means this input: the one id, superstep, count and value that its lines say, or else 0, 0, 1 and 0; their
--- messages and edges in the order of the lines; and what each slot is last said to be, or else the start of its fold.
+-- The text means this input. Its lines are those of an input. The id, the superstep, the count and the value are the
+-- declared ones, or else 0, 0, 1 and 0. Messages and edges are in the order of their lines. Each aggregator has the value
+-- that is declared last, or else its start.
 pub record Means (text : List ℕ) (input : CallInput) : Type 0 where
   pub are_input : AreInput (lines_of text)
   pub id : input.id ≡ said_or 0 (all_ids (lines_of text))
@@ -23,11 +24,11 @@ pub record Means (text : List ℕ) (input : CallInput) : Type 0 where
   pub value : input.value ≡ said_or (pos 0) (all_values (lines_of text))
   pub messages : input.messages.now ≡ all_messages (lines_of text)
   pub edges : input.edges.now ≡ all_edges (lines_of text)
-  pub aggregated : input.aggregated ≡ slots_after slot_starts (all_slots (lines_of text))
+  pub aggregated : input.aggregated ≡ slots_after aggregator_starts (all_slots (lines_of text))
 
--- ---- an input as it is kept
+-- ---- an input as it is stored
 
--- what is kept is what the lines say
+-- the stored input is what the lines declare
 pub record Says (lines : List Line) (input : Input) : Type 0 where
   pub good : All (λ line. is_good line ≡ true) lines
   pub id : option_to_list input.id ≡ all_ids lines
@@ -36,9 +37,9 @@ pub record Says (lines : List Line) (input : Input) : Type 0 where
   pub value : option_to_list input.value ≡ all_values lines
   pub messages : input.messages.items ≡ all_messages lines
   pub edges : input.edges.items ≡ all_edges lines
-  pub aggregated : input.aggregated ≡ slots_after slot_starts (all_slots lines)
+  pub aggregated : input.aggregated ≡ slots_after aggregator_starts (all_slots lines)
 
--- what is lent for a call is what is kept, and where that is nothing, 0, or a count of 1
+-- the input of the call is the stored one, with the default 1 for a count and 0 for the others
 pub record Lends (kept : Input) (input : CallInput) : Type 0 where
   pub id : input.id ≡ unwrap_or kept.id 0
   pub superstep : input.superstep ≡ unwrap_or kept.superstep 0
@@ -48,7 +49,7 @@ pub record Lends (kept : Input) (input : CallInput) : Type 0 where
   pub edges : input.edges.now ≡ kept.edges.items
   pub aggregated : input.aggregated ≡ kept.aggregated
 
--- the same values
+-- all values of the two inputs are the same
 pub record SameInput (a b : CallInput) : Type 0 where
   pub id : a.id ≡ b.id
   pub superstep : a.superstep ≡ b.superstep

@@ -1,11 +1,11 @@
--- Why a text gives no input.
+-- The reasons why a text is no input.
 use Rattle.std.specs.Prelude.{◌≡◌, ◌<◌, ◌+◌, ℕ, List, length, take}
 use Rattle.sources.specs.declared.input.InputFault.{InputFault}
 use Rattle.sources.specs.declared.input.InputFault.TheVariants as fault
 use Rattle.sources.specs.declared.input_line.Line.{Line}
 use Rattle.sources.specs.InputSays.{AreInput}
 
--- the lines before the one of this number, from 1, are those of an input, and with it they are not
+-- this is the number of the first bad line, from 1: the lines before it are those of an input, and with it they are not
 pub record IsFirstBad (lines : List Line) (number : ℕ) : Type 0 where
   pub before : ℕ
   pub counted : number ≡ before + 1

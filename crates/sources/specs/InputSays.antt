@@ -1,18 +1,18 @@
--- What lines say, one after another.
+-- What the lines of an input declare together.
 use Rattle.std.specs.Prelude.{◌≡◌, ◌≤◌, ℕ, ℤ, nat_lt, Bool, true, false, List, [], ◌∷◌, map, length, slice_set}
 use Rattle.std.specs.List.{All, flat_map, fold}
 use Rattle.std.specs.Str.Lines.{lines}
-use Rattle.host_calls.specs.declared.call.TheConstants.{SLOTS}
+use Rattle.host_calls.specs.declared.call.TheConstants.{AGGREGATORS}
 use Rattle.sources.specs.InputLine.{line_of}
 use Rattle.sources.specs.declared.input_line.Line.{Line}
 use Rattle.sources.specs.declared.input_line.Line.TheVariants.{Id, Superstep, Count, Value, Message, Edge, Aggregate, Bad}
 
--- what the lines of a text say, from the top: a line ends with a line feed, and a carriage return before that belongs to
--- the end; the last line may have no end
+-- The meanings of the lines of a text, from the top. A line ends with a line feed, with or without a carriage return before
+-- it. The last line may have no end.
 abbrev pub lines_of : List ℕ → List Line
 lines_of text = map line_of (lines text)
 
--- ---- what a line says of each
+-- ---- what one line declares of each kind
 
 abbrev pub id_by : Line → List ℕ
 id_by (Id id) = id ∷ []
@@ -42,13 +42,13 @@ abbrev pub slot_by : Line → List (ℕ × ℤ)
 slot_by (Aggregate slot value) = (slot, value) ∷ []
 slot_by _ = []
 
--- a line that says something or is skipped, and names a slot that there is
+-- the line is not bad, and its aggregator exists
 abbrev pub is_good : Line → Bool
 is_good Bad = false
-is_good (Aggregate slot value) = nat_lt slot SLOTS
+is_good (Aggregate slot value) = nat_lt slot AGGREGATORS
 is_good _ = true
 
--- ---- what lines say
+-- ---- what the lines declare of each kind
 
 abbrev pub all_ids : List Line → List ℕ
 all_ids lines = flat_map id_by lines
@@ -74,11 +74,11 @@ all_slots lines = flat_map slot_by lines
 abbrev pub set_slot : List ℤ → ℕ × ℤ → List ℤ
 set_slot slots said = slice_set slots said.0 said.1
 
--- the slots from these on, each as the last that is said of it
+-- the aggregators after these declarations, of which the last one for each counts
 abbrev pub slots_after : List ℤ → List (ℕ × ℤ) → List ℤ
 slots_after slots said = fold set_slot slots said
 
--- The lines are those of an input: each is good, and what may be said once is not said twice.
+-- The lines are those of an input: each is good, and what may be declared once is not declared twice.
 pub record AreInput (lines : List Line) : Type 0 where
   pub good : All (λ line. is_good line ≡ true) lines
   pub one_id : length (all_ids lines) ≤ 1

@@ -1,4 +1,4 @@
--- The graph that a text means, the job of a module over it, and why there is none.
+-- The graph that a text means, the job of a module over it, and the reasons why there is none.
 use Rattle.std.specs.Prelude.{◌≡◌, ℕ, List, Some, None}
 use Rattle.wasm_ast.specs.declared.module.Module.{Module}
 use Rattle.graph.specs.Entry.{Entry}
@@ -10,12 +10,12 @@ use Rattle.superstep.specs.Job.{IsGraphOf, Work}
 use Rattle.sources.specs.declared.fault.CommandFault.{CommandFault}
 use Rattle.sources.specs.declared.fault.CommandFault.TheVariants as command
 
--- the text means this graph, and has no more vertices and edges than a graph may have
+-- the text means this graph, which is within the limits
 pub record IsGraphIn (text : List ℕ) (graph : List Entry) : Type 0 where
   pub means : IsGraphText text graph
   pub within : IsWithinLimits text
 
--- the job of a module over a graph, with these settings, each of which is in its range
+-- this is the job of the module over the graph with these settings, each of which is in its range
 pub record IsJobOf (m : Module) (graph : List Entry) (settings : Settings) (job : Work) : Type 0 where
   pub calls : job.«module» ≡ m
   pub over : IsGraphOf job graph
@@ -24,12 +24,12 @@ pub record IsJobOf (m : Module) (graph : List Entry) (settings : Settings) (job 
 
 -- ---- refusals
 
--- what a fault says of a text where no graph is read of it; want of memory says nothing
+-- the fault is a true reason why the text gives no graph; running out of memory needs no reason
 abbrev pub RefusesGraph : List ℕ → CommandFault → Type 0
 RefusesGraph text (command.Graph fault) = (graph : List Entry) → IsGraphIn text graph → fault ≡ graph_fault.OutOfMemory
 RefusesGraph text _ = ⊥
 
--- what it says of settings: which one is the first that is out of its range
+-- the fault is a true reason why the settings give no job: it names the first setting that is out of its range
 abbrev pub RefusesSettings : Settings → CommandFault → Type 0
 RefusesSettings settings (command.Settings setting) = first_bad settings ≡ Some setting
 RefusesSettings settings command.OutOfMemory = first_bad settings ≡ None

@@ -1,18 +1,17 @@
--- What a reader has to believe, in this order: what the lines of an input say, and which input its text means and why it
--- means none.
+-- The definitions to read, in this order: the lines of an input, the input that a text means, and why it means none.
 pub mod InputLine
 pub mod InputSays
 pub mod Input
 pub mod InputFaults
--- files, the modules in them, and why no module is loaded of what they have
+-- files, the modules in them, and why no module is loaded from a file
 pub mod Disk
 pub mod Modules
 pub mod Source
--- graphs and jobs, and what reading a file gives
+-- graphs and jobs, and the results of reading a file
 pub mod Jobs
 pub mod Reading
--- what is told of a call's outcome, of a job's end and of a fault
-pub mod Lines
+-- the lines of a call's outcome, of a job's end and of a fault
+pub mod OutputLines
 pub mod Refusal
--- what only mirrors the code, for its proofs
+-- for proofs only: definitions that follow the code
 pub mod inside

@@ -1,4 +1,4 @@
--- Which module a file means, by its path and its content.
+-- The module that a file means, by its path and its content.
 use Rattle.std.specs.Prelude.{◌≡◌, ℕ, nat_eq, Bool, true, false, List, codes}
 use Rattle.std.specs.List.{ends_with}
 use Rattle.wasm_ast.specs.declared.module.Module.{Module}
@@ -10,28 +10,28 @@ use Rattle.validate.specs.Modules.{IsTyped}
 use Rattle.bounded_profile.specs.Profile.{IsBounded}
 use Rattle.sources.specs.Disk.{Disk, HoldsAt}
 
--- a file whose path ends in `.wat` has a module's text, and any other its bytes
+-- if the path of a module's file ends in `.wat`, it is text; any other file is binary
 abbrev pub is_text_path : List ℕ → Bool
 is_text_path path = ends_with nat_eq path (codes ".wat")
 
--- the text is what is printed of this module, which is within the limits and such as a program can hold
+-- the text is what `print` writes of this module, which is within the limits and such as a program can hold
 pub record IsLayoutOf (m : Module) (text : List ℕ) : Type 0 where
   pub within : IsWithinLimits m
   pub representable : IsRepresentable m
   pub printed : text ≡ layout m
 
--- The text may be taken for this module: the module is within the limits, and where the text is what is printed of a
--- module, it is that one. Of texts that a person writes, this leaves open which module they are.
+-- The text may be read as this module: the module is within the limits, and if the text is what `print` writes of a module,
+-- it is that one. For other texts this leaves open which module they mean.
 pub record IsTakenFor (m : Module) (text : List ℕ) : Type 0 where
   pub within : IsWithinLimits m
   pub is_printed : (n : Module) → IsLayoutOf n text → m ≡ n
 
--- what is written, a text or not, means this module
+-- the content, a text or bytes, means this module
 abbrev pub MeansBy : (is_text : Bool) → List ℕ → Module → Type 0
 MeansBy true text m = IsTakenFor m text
 MeansBy false bytes m = Spells bytes m
 
--- what is written is a spelling of this module, and so of no other
+-- the content spells this module, and so no other
 abbrev pub IsSpelledBy : (is_text : Bool) → List ℕ → Module → Type 0
 IsSpelledBy true text m = IsLayoutOf m text
 IsSpelledBy false bytes m = Spells bytes m
@@ -42,15 +42,15 @@ pub record IsVerified (m : Module) : Type 0 where
   pub within : IsWithinLimits m
   pub bounded : IsBounded m
 
--- what is written means this module, which is verified
+-- the content means this module, which is verified
 pub record Loads (is_text : Bool) (content : List ℕ) (m : Module) : Type 0 where
   pub means : MeansBy is_text content m
   pub verified : IsVerified m
 
--- a file of this path and with this content means the module
+-- a file with this path and content means the module
 abbrev pub IsModuleOf : (path content : List ℕ) → Module → Type 0
 IsModuleOf path content m = MeansBy (is_text_path path) content m
 
--- the file at the path is this module's
+-- the file at the path means the module
 abbrev pub IsModuleAt : Disk → (path : List ℕ) → Module → Type 0
 IsModuleAt disk path m = HoldsAt disk path (λ content. IsModuleOf path content m)

@@ -1,4 +1,4 @@
--- How a fault of a command is told: the status of the process, and the line without its end.
+-- How a fault is reported: the status of the process, and the line without its line feed.
 use Rattle.std.specs.Prelude.{ℕ, List, ◌++◌, codes}
 use Rattle.std.specs.Fmt.{decimal}
 use Rattle.wasm_decode.specs.Faults.{fault_text as decode_text}
@@ -15,14 +15,14 @@ use Rattle.superstep.specs.declared.fault.JobFault.{JobFault}
 use Rattle.superstep.specs.declared.fault.JobFault.TheVariants as job
 use Rattle.superstep.specs.declared.settings.Setting.{Setting}
 use Rattle.superstep.specs.declared.settings.Setting.TheVariants as setting
-use Rattle.checkpoint.specs.declared.fault.CheckFault.{CheckFault}
-use Rattle.checkpoint.specs.declared.fault.CheckFault.TheVariants as checkpoint
+use Rattle.checkpoint.specs.declared.fault.CheckpointFault.{CheckpointFault}
+use Rattle.checkpoint.specs.declared.fault.CheckpointFault.TheVariants as checkpoint
 use Rattle.sources.specs.declared.input.InputFault.{InputFault}
 use Rattle.sources.specs.declared.input.InputFault.TheVariants as input
 use Rattle.sources.specs.declared.fault.CommandFault.{CommandFault}
 use Rattle.sources.specs.declared.fault.CommandFault.TheVariants as command
 
--- a file's fault is a mistake of another kind than a refusal, and so is a job's end by a fault
+-- the exit status: 4 for a fault of a file, 3 for a job that ended with a fault, 1 for any other
 abbrev pub status_of : CommandFault → ℕ
 status_of (command.Job fault) = 3
 status_of (command.Unread path) = 4
@@ -31,7 +31,7 @@ status_of _ = 1
 
 -- ---- the line
 
--- a word, and a place in a text
+-- a word, and a line and a column
 abbrev pub word_at_position : List ℕ → Position → List ℕ
 word_at_position word place = word ++ codes " " ++ decimal place.line ++ codes " " ++ decimal place.column
 
@@ -46,12 +46,12 @@ text_fault_text (text.Unsupported place) = word_at_position (codes "Unsupported"
 text_fault_text (text.OverLimit place) = word_at_position (codes "OverLimit") place
 text_fault_text text.OutOfMemory = codes "OutOfMemory - -"
 
--- the number of the line that an input may not have
+-- the number of the first bad line
 abbrev pub input_text : InputFault → List ℕ
 input_text (input.Line number) = codes "no input " ++ decimal number
 input_text input.OutOfMemory = codes "no memory"
 
--- a word, and the number of the line
+-- a word, and a number of a line
 abbrev pub word_of_line : List ℕ → ℕ → List ℕ
 word_of_line word number = codes "no graph " ++ word ++ codes " " ++ decimal number
 
@@ -70,7 +70,7 @@ setting_word setting.Every = codes "every"
 setting_word setting.Limit = codes "limit"
 setting_word setting.Lease = codes "lease"
 
--- how a job without an answer ended
+-- the word of the fault that a job ended with
 abbrev pub job_text : JobFault → List ℕ
 job_text (job.OutOfMemory place) = codes "end fault OutOfMemory"
 job_text job.NoWorkers = codes "end fault NoWorkers"
@@ -78,7 +78,7 @@ job_text (job.Settings which) = codes "end fault Settings"
 job_text job.ThreadRefused = codes "end fault ThreadRefused"
 job_text job.Closed = codes "end fault Closed"
 
-abbrev pub checkpoint_text : CheckFault → List ℕ
+abbrev pub checkpoint_text : CheckpointFault → List ℕ
 checkpoint_text checkpoint.Header = codes "no checkpoint Header"
 checkpoint_text checkpoint.Version = codes "no checkpoint Version"
 checkpoint_text checkpoint.Truncated = codes "no checkpoint Truncated"
@@ -86,7 +86,7 @@ checkpoint_text checkpoint.Digest = codes "no checkpoint Digest"
 checkpoint_text checkpoint.Order = codes "no checkpoint Order"
 checkpoint_text checkpoint.OutOfMemory = codes "no checkpoint OutOfMemory"
 
--- the module has no spelling that is short enough
+-- the module has no encoding that is short enough
 abbrev pub encode_text : EncodeFault → List ℕ
 encode_text encode.OverLimit = codes "no encode OverLimit"
 encode_text encode.OutOfMemory = codes "no encode OutOfMemory"
@@ -104,6 +104,8 @@ fault_text command.Run = codes "no run OutOfMemory"
 fault_text command.Loss = codes "no input lose"
 fault_text (command.Graph fault) = graph_text fault
 fault_text (command.Settings which) = codes "no settings " ++ setting_word which
+fault_text command.MaxSize = codes "no settings max-size"
+fault_text command.Resume = codes "no settings resume"
 fault_text (command.Job fault) = job_text fault
 fault_text (command.Checkpoint fault) = checkpoint_text fault
 fault_text (command.Encode fault) = encode_text fault

@@ -1,4 +1,4 @@
-//! Why a command is not carried out.
+//! The faults of commands.
 
 ghost use Rattle.std.specs.Prelude.{◌≡◌};
 ghost use Rattle.sources.specs.Refusal.{status_of};
@@ -6,7 +6,7 @@ ghost use Rattle.sources.specs.declared.fault.CommandFault.TheVariants as comman
 
 use crate::input::InputFault;
 use bounded_profile::ProfileFault;
-use checkpoint::CheckFault;
+use checkpoint::CheckpointFault;
 use graph::GraphFault;
 use std::alloc::AllocError;
 use superstep::{JobFault, Setting};
@@ -14,43 +14,48 @@ use validate::ValidFault;
 use wasm_decode::{DecodeFault, EncodeFault};
 use wat_asm::TextFault;
 
-/// Why a command is not carried out. Each step tells its own want of memory. It is displayed as the line that tells of it,
-/// without its end.
+/// The reason why a command is refused or fails. Every step can run out of memory, and reports that as its own fault. Its
+/// `Display` is the line that is printed, without the line feed.
 #[derive(Drop)]
 pub enum CommandFault<'a> {
     /// The bytes spell no module.
     Decode(DecodeFault),
-    /// The text is no module's.
+    /// The text is no module.
     Text(TextFault),
     /// The module is not valid.
     Invalid(ValidFault),
     /// The module is not in the bounded profile.
     Unbounded(ProfileFault),
-    /// The text means no input.
+    /// The text is no input of a call.
     Input(InputFault),
-    /// Memory ran out in the call.
+    /// Memory ran out during the call.
     Run,
-    /// The text `W:S` of a worker that is lost is none.
+    /// The text of the worker to lose is not `W:S`.
     Loss,
-    /// The text means no graph.
+    /// The text is no graph.
     Graph(GraphFault),
-    /// This setting is the first that is out of its range.
+    /// This is the first setting that is out of its range.
     Settings(Setting),
+    /// The module's size is greater than it may be.
+    MaxSize,
+    /// The states that are kept in a folder are none with which the job may go on.
+    Resume,
     /// The job ended by this fault.
     Job(JobFault),
     /// The bytes are no checkpoint.
-    Checkpoint(CheckFault),
-    /// The module is not spelled: its shortest spelling takes more than 1,048,576 bytes.
+    Checkpoint(CheckpointFault),
+    /// The shortest encoding of the module takes more than 1,048,576 bytes.
     Encode(EncodeFault),
-    /// The file at this path cannot be read, or is not the text that it should be.
+    /// The file at this path cannot be read, or is not in UTF-8 where it has to be.
     Unread(&'a str),
     /// The file at this path cannot be written.
     Unwritable(&'a str),
-    /// Memory ran out for a file, or for what is to be told.
+    /// Memory ran out for the content of a file or for the answer.
     OutOfMemory,
 }
 
-/// The status of the process: 4 for a file's fault, 3 for a job's end by a fault, and 1 for any other.
+/// Returns the exit status of the process: 4 for a fault of a file, 3 for a job that ended with a fault, and 1 for any
+/// other fault.
 pub fn status_of(fault: &CommandFault) -> u8
     ensures { result ≡ status_of fault.now }
 {
@@ -109,10 +114,10 @@ impl From<GraphFault> for CommandFault<'_> {
     }
 }
 
-impl From<CheckFault> for CommandFault<'_> {
+impl From<CheckpointFault> for CommandFault<'_> {
     ghost from_gives = { λ cause fault. fault ≡ command.Checkpoint cause };
 
-    fn from(cause: CheckFault) -> Self {
+    fn from(cause: CheckpointFault) -> Self {
         CommandFault::Checkpoint(cause)
     }
 }

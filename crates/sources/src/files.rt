@@ -1,4 +1,4 @@
-//! Where files come from, and where they go.
+//! The files that commands read and write.
 
 ghost use Rattle.std.specs.Prelude.{◌≡◌, Some, None, OnErr, OnOk, IfErr, MatchResult, take};
 ghost use Rattle.sources.specs.Disk.{Disk, HoldsAt, Stays, Tries, Writes, unknown};
@@ -8,10 +8,10 @@ use std::alloc::Global;
 use std::{fmt, io};
 use thiserror::Error;
 
-/// Why a file was not read or written.
+/// The reason why a file was not read or written.
 #[derive(Clone, Copy, Debug, Error)]
 pub enum FileFault {
-    /// It is not there, or reading or writing it failed.
+    /// The file does not exist, or the device failed.
     #[error("the file cannot be read or written")]
     Device,
     /// Memory ran out.
@@ -19,19 +19,19 @@ pub enum FileFault {
     OutOfMemory,
 }
 
-/// What files are read from and written to.
+/// A place to read files from and to write them to.
 pub trait Files {
-    /// What may be found at a path, where writing may fail, and what was written, in order.
+    /// The contents that may be found at a path, the paths where writing may fail, and all writes so far in order.
     ghost disk: { Self → Disk };
 
-    /// The bytes of the file at a path.
+    /// Reads the bytes of the file at a path.
     fn read(&mut self, alloc: Global, path: &str) -> Result<Vec<u8>, FileFault>
         ensures found { MatchResult result
             (λ bytes. (disk self.old).holds path.now (Some bytes.items))
             (λ fault. fault ≡ FileFault.Device → (disk self.old).holds path.now None) }
         ensures kept { Stays (disk self.old) (disk self.new) };
 
-    /// The first bytes of the file at a path, so many at most.
+    /// Reads at most `most` bytes from the beginning of the file at a path.
     fn read_front(&mut self, alloc: Global, path: &str, most: usize) -> Result<Vec<u8>, FileFault>
         ensures found { MatchResult result
             (λ bytes. HoldsAt (disk self.old) path.now (λ content. bytes.items ≡ take most content))
@@ -47,23 +47,23 @@ pub trait Files {
         }
     }
 
-    /// Makes these bytes the file at a path, in place of what it held. After a fault the file may hold some of them.
+    /// Writes these bytes to the file at a path, in place of its old content. After a fault the file may hold a beginning
+    /// of them.
     fn write(&mut self, path: &str, bytes: &[u8]) -> Result<(), FileFault>
         ensures written { OnOk result (Writes path.now bytes.now (disk self.old) (disk self.new)) }
         ensures tried { OnErr result (Tries path.now bytes.now (disk self.old) (disk self.new)) }
         ensures refused { IfErr result
             (λ fault. fault ≡ FileFault.Device → (disk self.old).refuses path.now) };
 
-    /// Tells who runs the program what its answers do not say. Here it goes unsaid.
+    /// Shows a warning to the user, outside of the answer. This default shows nothing.
     fn warn<D: fmt::Display + Drop>(&mut self, _warning: D)
         ensures kept { Stays (disk self.old) (disk self.new) }
     {}
 }
 
-/// The files of the system. What goes wrong with them is told on standard error, a line each, where that is wanted.
+/// The files of the operating system. Their errors are printed on standard error, one line each, if the owner wants that.
 ///
-/// A file that is written holds all of the bytes afterwards, or what it held before. Only what is no file of its own, as a
-/// device or a pipe, is written where it lies.
+/// A regular file holds either all bytes after a write, or its old content. Devices and pipes are written in place.
 #[derive(Drop)]
 pub struct SystemFiles<'a, R> {
     rt: &'a R,
@@ -71,13 +71,13 @@ pub struct SystemFiles<'a, R> {
 }
 
 impl<'a, R> SystemFiles<'a, R> {
-    /// The files that are reached through a runtime, and whether it is told what goes wrong with them.
+    /// Makes the files that a runtime reaches. With `tells`, their errors are printed.
     pub fn new(rt: &'a R, tells: bool) -> SystemFiles<'a, R> {
         SystemFiles { rt, tells }
     }
 }
 
-// Nothing can be said of what the system's files hold.
+// The contents of these files are unknown to the contracts.
 impl<R: std::rt::Files + Eprint + AllocGlobal> Files for SystemFiles<'_, R> {
     ghost disk = { λ _. unknown };
 
@@ -112,7 +112,7 @@ impl<R: std::rt::Files + Eprint + AllocGlobal> Files for SystemFiles<'_, R> {
     }
 }
 
-// What a failure of the system's is for a command. The device's is told where that is wanted.
+// Returns the fault for an error of the system. With `tells`, an error that is not an allocation's is printed.
 fn fault_of(rt: &impl Eprint, tells: bool, path: &str, error: &io::Error) -> FileFault {
     if error.kind() == io::ErrorKind::OutOfMemory {
         return FileFault::OutOfMemory;

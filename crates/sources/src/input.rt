@@ -1,4 +1,4 @@
-//! The text of an input.
+//! The text of a call's input.
 
 ghost use Rattle.std.specs.Prelude.{◌≡◌, ◌≢◌, true, false, IfErr, IfOk, OnOk, MatchResult};
 ghost use Rattle.std.specs.Option.{is_some};
@@ -10,14 +10,14 @@ ghost use Rattle.sources.specs.inside.Adding.{Adds, fits};
 ghost use Rattle.sources.specs.InputFaults.{IsInputFault};
 
 use crate::input_line::{Line, line_of};
-use host_calls::{CallInput, SLOTS, slot_starts};
+use host_calls::{AGGREGATORS, CallInput, aggregator_starts};
 use std::alloc::{AllocError, AllocFailed, Global};
 use thiserror::Error;
 
-/// Why a text gives no input.
+/// The reason why a text is no input.
 #[derive(Clone, Copy, Debug, Error)]
 pub enum InputFault {
-    /// The first line, counted from 1, that an input may not have.
+    /// The number of the first bad line. Lines count from 1.
     #[error("line {0} is not one that an input may have")]
     Line(usize),
     /// Memory ran out.
@@ -41,7 +41,7 @@ impl<T: Drop> From<AllocFailed<T>> for InputFault {
     }
 }
 
-/// The input of a compute call, as a text says it.
+/// The input of a compute call, read from a text.
 #[derive(Drop)]
 pub struct Input {
     id: Option<u64>,
@@ -54,16 +54,18 @@ pub struct Input {
 }
 
 impl Input {
-    /// The input that a text means.
+    /// Reads the input that a text declares.
     ///
-    /// Lines and fields are cut as a graph file's, and a line of blanks only and one that begins with `#` say nothing.
-    /// `id N`, `superstep N`, `count N` and `value V` stand once at most; where one is absent, it is 0, and the count 1.
-    /// `message V` and `edge TARGET V` add one at the end. `aggregate SLOT V` says what a slot from 0 to 7 was aggregated
-    /// to, its last line; a slot without one has the start of its fold. Numbers are decimal digits, values with a `-`
-    /// before them or none: ids and targets to 9,223,372,036,854,775,807, a superstep and a count of 32 bits, values of
-    /// an `i64`.
+    /// Lines and fields are cut as in a graph file. Blank lines and lines that begin with `#` are skipped. The others are:
+    /// * `id N`, `superstep N`, `count N` and `value V`: each at most once. The defaults are 0, 0, 1 and 0.
+    /// * `message V` and `edge TARGET V`: each adds one at the end.
+    /// * `aggregate SLOT V`: the value of aggregator 0 to 7, where the last line counts. Without one, the aggregator has
+    ///   its start.
     ///
-    /// `Line` tells the first line that is none of these, is one more than may stand, or has a number out of its range.
+    /// Numbers are decimal digits; a value may have a `-` before them. Ids and targets go up to 9,223,372,036,854,775,807,
+    /// supersteps and counts have 32 bits, and values are in the range of an `i64`.
+    ///
+    /// `Line` reports the first line that is none of these, comes once too often, or has a number out of its range.
     pub fn read(alloc: Global, text: &str) -> Result<Input, InputFault>
         ensures says { IfOk result (Says (lines_of text.now)) }
         ensures refused { IfErr result (IsInputFault (lines_of text.now)) }
@@ -75,7 +77,7 @@ impl Input {
         Ok(input)
     }
 
-    /// The input as a call takes it. It takes no memory, and copies neither messages nor edges.
+    /// Returns the input of the call. This allocates nothing and copies neither messages nor edges.
     pub fn call_input(&self) -> CallInput<'_>
         ensures { Lends self.now result }
     {
@@ -90,7 +92,7 @@ impl Input {
         }
     }
 
-    // The input of no lines.
+    // Makes the input of no lines.
     fn new(alloc: Global) -> Input
         ensures { Says [] result }
     {
@@ -101,11 +103,11 @@ impl Input {
             value: None,
             messages: Vec::new(alloc),
             edges: Vec::new(alloc),
-            aggregated: slot_starts(),
+            aggregated: aggregator_starts(),
         }
     }
 
-    // Adds what the line of this number says.
+    // Adds what the line of this number declares.
     fn add(&mut self, number: usize, line: Line) -> Result<(), InputFault>
         ensures added { OnOk result (Adds line self.old self.new) }
         ensures refused { IfErr result (λ fault. fault ≢ InputFault.OutOfMemory
@@ -126,7 +128,7 @@ impl Input {
                 Ok(())
             }
             Line::Aggregate(slot, value) => {
-                if slot >= SLOTS {
+                if slot >= AGGREGATORS {
                     return Err(InputFault::Line(number));
                 }
                 self.aggregated[slot as usize] = value;
@@ -137,7 +139,7 @@ impl Input {
     }
 }
 
-// Says what may be said once.
+// Sets what may be declared once.
 fn say_once<T: Drop>(place: &mut Option<T>, said: T, number: usize) -> Result<(), InputFault>
     ensures { MatchResult result (λ _. (place.old ≡ None) × (place.new ≡ Some said))
         (λ fault. (fault ≡ told.Line number) × (is_some place.old ≡ true)

@@ -1,14 +1,14 @@
-//! What one line of an input says.
+//! One line of an input.
 
 ghost use Rattle.std.specs.Prelude.{◌≡◌};
-ghost use Rattle.sources.specs.InputLine.{line_of, long_line, short_line, small_of};
+ghost use Rattle.sources.specs.InputLine.{line_of, long_line, short_line, u32_of};
 
-use graph::{Fields, id_of, number_of};
+use line_text::{Fields, id_of, number_of};
 
-/// What a line says.
+/// The meaning of a line.
 #[derive(Clone, Copy)]
 pub enum Line {
-    /// It is blank, or a comment.
+    /// It is blank or a comment.
     Skipped,
     /// `id N`.
     Id(u64),
@@ -22,13 +22,13 @@ pub enum Line {
     Message(i64),
     /// `edge TARGET V`.
     Edge(u64, i64),
-    /// `aggregate SLOT V`. There may be no such slot.
+    /// `aggregate SLOT V`. The number may be past the last aggregator.
     Aggregate(u32, i64),
     /// It is no line of an input.
     Bad,
 }
 
-/// What a line says, without its end.
+/// Reads a line, without its line feed.
 pub fn line_of(line: &str) -> Line
     ensures { result ≡ line_of line.now }
 {
@@ -51,7 +51,7 @@ pub fn line_of(line: &str) -> Line
     long_line(name, first, second)
 }
 
-// A line of a name and one number.
+// Reads a line of a name and one number.
 fn short_line(name: &[u8], number: &[u8]) -> Line
     ensures { result ≡ short_line name.now number.now }
 {
@@ -59,10 +59,10 @@ fn short_line(name: &[u8], number: &[u8]) -> Line
         return id_of(number).map_or(Line::Bad, Line::Id);
     }
     if name == b"superstep".as_slice() {
-        return small_of(number).map_or(Line::Bad, Line::Superstep);
+        return u32_of(number).map_or(Line::Bad, Line::Superstep);
     }
     if name == b"count".as_slice() {
-        return small_of(number).map_or(Line::Bad, Line::Count);
+        return u32_of(number).map_or(Line::Bad, Line::Count);
     }
     if name == b"value".as_slice() {
         return number_of(number).map_or(Line::Bad, Line::Value);
@@ -73,7 +73,7 @@ fn short_line(name: &[u8], number: &[u8]) -> Line
     Line::Bad
 }
 
-// A line of a name and two numbers.
+// Reads a line of a name and two numbers.
 fn long_line(name: &[u8], first: &[u8], second: &[u8]) -> Line
     ensures { result ≡ long_line name.now first.now second.now }
 {
@@ -84,14 +84,14 @@ fn long_line(name: &[u8], first: &[u8], second: &[u8]) -> Line
         return id_of(first).map_or(Line::Bad, |target| Line::Edge(target, value));
     }
     if name == b"aggregate".as_slice() {
-        return small_of(first).map_or(Line::Bad, |slot| Line::Aggregate(slot, value));
+        return u32_of(first).map_or(Line::Bad, |slot| Line::Aggregate(slot, value));
     }
     Line::Bad
 }
 
-/// The number that a field writes: decimal digits of a number of 32 bits.
-pub fn small_of(field: &[u8]) -> Option<u32>
-    ensures { result ≡ small_of field.now }
+/// Reads decimal digits as a number of 32 bits.
+pub fn u32_of(field: &[u8]) -> Option<u32>
+    ensures { result ≡ u32_of field.now }
 {
     let number = id_of(field)?;
     u32::try_from(number).ok()

@@ -1,4 +1,4 @@
-//! What bytes and a text mean.
+//! The meaning of a file is unique.
 
 ghost use Rattle.std.specs.Prelude.{◌≡◌, true, false, List, ℕ};
 ghost use Rattle.wasm_ast.specs.declared.module.Module.{Module as AnyModule};
@@ -8,12 +8,12 @@ ghost use Rattle.sources.specs.Modules.{IsLayoutOf, IsModuleOf, is_text_path};
 
 use wasm_decode::spells_one_module;
 
-/// A text means one input.
+/// Shows that a text means one input.
 pub fn means_what_lines_say()
     ensures { (text : List ℕ) (a b : AnyInput) → Means text a → Means text b → SameInput a b }
 {}
 
-/// A binary file means one module, and so does a text that is what is printed of a module: it means that one.
+/// Shows that a binary file means one module, and that a text as `print` writes it means the module that was printed.
 pub fn means_one_module()
     ensures binary { (path content : List ℕ) (m n : AnyModule) → is_text_path path ≡ false
         → IsModuleOf path content m → IsModuleOf path content n → m ≡ n }

@@ -1,4 +1,4 @@
-//! The module that a text or bytes spell, and whether it is verified.
+//! Modules as text or bytes, and their verification.
 
 ghost use Rattle.std.specs.Prelude.{◌≡◌, IfErr, IfOk, MatchResult, false, string_bytes, true};
 ghost use Rattle.wasm_ast.specs.declared.module.Module.{Module as AnyModule};
@@ -6,7 +6,7 @@ ghost use Rattle.sources.specs.Modules.{IsSpelledBy, IsVerified, Loads, MeansBy}
 ghost use Rattle.sources.specs.Source.{IsWant, RefusesLoad, RefusesModule, content, is_text};
 
 use crate::fault::CommandFault;
-use crate::sources::Source;
+use crate::file_contents::Source;
 use bounded_profile::{Verified, verify};
 use std::alloc::Global;
 use validate::validate;
@@ -14,11 +14,12 @@ use wasm_ast::Module;
 use wasm_decode::decode;
 use wat_asm::assemble;
 
-/// The module that a text or bytes spell, where it is valid (Core 1.0, section 3) and in the bounded profile. It is
-/// refused by `Decode` or `Text`, then by `Invalid`, then by `Unbounded`, and by no other fault.
+/// Loads the module that a text or bytes spell, if it is valid (Core 1.0, section 3) and in the bounded profile.
+///
+/// It fails with `Decode` or `Text`, then `Invalid`, then `Unbounded`, in this order, and with no other fault.
 pub fn load<'a>(alloc: Global, source: &Source) -> Result<Verified, CommandFault<'a>>
     ensures loaded { IfOk result (Loads (is_text source.now) (content source.now)) }
-    // The one module that is spelled so is loaded where it is verified, unless memory runs out.
+    // The module that is spelled so is loaded if it is verified, unless memory runs out.
     ensures only { (m : AnyModule) → IsSpelledBy (is_text source.now) (content source.now) m
         → IsVerified m → MatchResult result (λ verified. verified ≡ m) IsWant }
     ensures refused { IfErr result (RefusesLoad (is_text source.now) (content source.now)) }
@@ -29,11 +30,11 @@ pub fn load<'a>(alloc: Global, source: &Source) -> Result<Verified, CommandFault
     Ok(verified)
 }
 
-/// The module that a text or bytes spell.
+/// Reads the module that a text or bytes spell.
 pub fn module_of<'a>(alloc: Global, source: &Source) -> Result<Module, CommandFault<'a>>
     ensures found { MatchResult result (MeansBy (is_text source.now) (content source.now))
         (RefusesModule (is_text source.now) (content source.now)) }
-    // The one module that is spelled so is found, unless memory runs out.
+    // The module that is spelled so is found, unless memory runs out.
     ensures only { (m : AnyModule) → IsSpelledBy (is_text source.now) (content source.now) m
         → MatchResult result (λ x. x ≡ m) IsWant }
 {

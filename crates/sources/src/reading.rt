@@ -7,15 +7,15 @@ ghost use Rattle.sources.specs.Reading.{IsLoadedAt, IsNoGraphAt, IsReadAt, IsRef
 ghost use Rattle.sources.specs.Source.{RefusesLoad, RefusesModule};
 
 use crate::fault::CommandFault;
+use crate::file_contents::{read_source, read_text};
 use crate::files::Files;
 use crate::modules::{load, module_of};
-use crate::sources::{read_source, read_text};
 use bounded_profile::Verified;
 use graph::Graph;
 use std::alloc::Global;
 use wasm_ast::Module;
 
-/// The module in a file.
+/// Reads the module in a file.
 pub fn read_module<'a, F: Files>(
     alloc: Global,
     path: &'a str,
@@ -29,7 +29,7 @@ pub fn read_module<'a, F: Files>(
     module_of(alloc, &source)
 }
 
-/// The module in a file, verified.
+/// Loads the module in a file: reads and verifies it.
 pub fn load_file<'a, F: Files>(
     alloc: Global,
     path: &'a str,
@@ -43,7 +43,7 @@ pub fn load_file<'a, F: Files>(
     load(alloc, &source)
 }
 
-/// The graph in a file.
+/// Reads the graph in a file.
 pub fn read_graph<'a, F: Files>(
     alloc: Global,
     path: &'a str,

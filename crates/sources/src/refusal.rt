@@ -1,13 +1,13 @@
-//! How a refusal is told.
+//! The line of a refusal.
 
 ghost use Rattle.std.specs.Prelude.{◌≡◌, ◌++◌, IfOk, Some, codes, string_bytes};
 ghost use Rattle.std.specs.Fmt.{DisplaysOnOk};
-ghost use Rattle.sources.specs.Lines.{line};
+ghost use Rattle.sources.specs.OutputLines.{line};
 ghost use Rattle.sources.specs.Refusal.{checkpoint_text, encode_text, fault_text, file_text, graph_text, input_text, job_text, setting_word, text_fault_text, word_at_position, word_of_line};
 
 use crate::fault::CommandFault;
 use crate::input::InputFault;
-use checkpoint::CheckFault;
+use checkpoint::CheckpointFault;
 use graph::GraphFault;
 use std::alloc::{AllocError, Global};
 use std::fmt;
@@ -15,10 +15,13 @@ use superstep::{JobFault, Setting};
 use wasm_decode::EncodeFault;
 use wat_asm::{Position, TextFault};
 
-/// The line that tells of a fault, with its end: `no decode WORD PLACE`, `no text WORD LINE COLUMN`,
-/// `no valid WORD FUNC INSTR`, `no profile RULE FUNC INSTR`, `no profile P12` and the numbers of the cycle, `no input LINE`, `no input lose`,
-/// `no run OutOfMemory`, `no graph WORD LINE`, `no settings WHICH`, `end fault WORD`, `no checkpoint WORD`, `no encode WORD`,
-/// `no file PATH` or `no memory`. FUNC, INSTR, PLACE and the LINE of a graph are `-` where there is none.
+/// Writes the line of a fault, with its line feed. It is one of:
+/// * `no decode WORD PLACE`, `no text WORD LINE COLUMN` or `no encode WORD`;
+/// * `no valid WORD FUNC INSTR`, `no profile RULE FUNC INSTR`, or `no profile P12` and the functions of the cycle;
+/// * `no input LINE`, `no input lose`, `no run OutOfMemory`, `no graph WORD LINE` or `no settings WHICH`;
+/// * `end fault WORD`, `no checkpoint WORD`, `no file PATH` or `no memory`.
+///
+/// FUNC, INSTR, PLACE and the LINE of a graph are `-` if there is none.
 pub fn refusal_line(alloc: Global, fault: &CommandFault) -> Result<String, AllocError>
     ensures { IfOk result (λ text. string_bytes text ≡ line (fault_text fault.now)) }
 {
@@ -41,6 +44,8 @@ impl fmt::Display for CommandFault<'_> {
             CommandFault::Loss => f.write_str("no input lose"),
             CommandFault::Graph(fault) => tell_graph_fault(*fault, f),
             CommandFault::Settings(setting) => tell_setting(*setting, f),
+            CommandFault::MaxSize => f.write_str("no settings max-size"),
+            CommandFault::Resume => f.write_str("no settings resume"),
             CommandFault::Job(fault) => f.write_str(job_line(*fault)),
             CommandFault::Checkpoint(fault) => f.write_str(checkpoint_line(*fault)),
             CommandFault::Encode(fault) => f.write_str(encode_line(*fault)),
@@ -65,7 +70,7 @@ fn tell_text_fault<W: fmt::Write>(fault: &TextFault, f: &mut fmt::Formatter<W>) 
     tell_text_word(fault, f)
 }
 
-// The fault's word and its place in the text.
+// Writes the word of the fault and its place in the text.
 fn tell_text_word<W: fmt::Write>(fault: &TextFault, f: &mut fmt::Formatter<W>) -> fmt::Result
     ensures { DisplaysOnOk W.write_str_gives f.old result (Some (text_fault_text fault.now)) f.new }
 {
@@ -93,7 +98,7 @@ fn tell_word_at<W: fmt::Write>(
     write!(f, "{word} {} {}", place.line, place.column)
 }
 
-// The number of the line, or want of memory.
+// Writes the number of the bad line, or that memory ran out.
 fn tell_input_fault<W: fmt::Write>(fault: InputFault, f: &mut fmt::Formatter<W>) -> fmt::Result
     ensures { DisplaysOnOk W.write_str_gives f.old result (Some (input_text fault)) f.new }
 {
@@ -158,16 +163,16 @@ fn job_line(fault: JobFault) -> &'static str
     }
 }
 
-fn checkpoint_line(fault: CheckFault) -> &'static str
+fn checkpoint_line(fault: CheckpointFault) -> &'static str
     ensures { result.now ≡ checkpoint_text fault }
 {
     match fault {
-        CheckFault::Header => "no checkpoint Header",
-        CheckFault::Version => "no checkpoint Version",
-        CheckFault::Truncated => "no checkpoint Truncated",
-        CheckFault::Digest => "no checkpoint Digest",
-        CheckFault::Order => "no checkpoint Order",
-        CheckFault::OutOfMemory => "no checkpoint OutOfMemory",
+        CheckpointFault::Header => "no checkpoint Header",
+        CheckpointFault::Version => "no checkpoint Version",
+        CheckpointFault::Truncated => "no checkpoint Truncated",
+        CheckpointFault::Digest => "no checkpoint Digest",
+        CheckpointFault::Order => "no checkpoint Order",
+        CheckpointFault::OutOfMemory => "no checkpoint OutOfMemory",
     }
 }
 

@@ -1,4 +1,4 @@
-//! The files of the system.
+//! The files of the operating system.
 
 use checkpoint::replace;
 use std::alloc::{AllocError, Global};
@@ -7,7 +7,8 @@ use std::io::{ErrorKind, Read};
 use std::rt::Files;
 use std::{fs, io};
 
-/// The first bytes of a file, so many at most. Where the system knows how long the file is, room for them is made at once.
+/// Reads at most `most` bytes from the beginning of a file. If the system knows the length of the file, memory for it is
+/// allocated at once.
 pub fn read_file<R: Files>(rt: &R, alloc: Global, path: &str, most: usize) -> io::Result<Vec<u8>> {
     let file = fs::open(rt, path)?;
     let room = file.metadata()?.len().min(most as u64);
@@ -16,11 +17,11 @@ pub fn read_file<R: Files>(rt: &R, alloc: Global, path: &str, most: usize) -> io
     Ok(bytes)
 }
 
-/// Makes these bytes the whole of the file that a path names. Where that fails the file holds what it held before.
+/// Replaces the whole content of the file at a path. If that fails, the file keeps its old content.
 ///
-/// What is no regular file, as a device or a pipe, is written where it lies; so is a link to one, to nothing, or to what a
-/// process has open (`/dev/stdout`), and a file in whose folder none can be made. Any other link stays one, and its file is
-/// replaced.
+/// The following are written in place: devices, pipes and other files that are not regular; links to such a file, to
+/// nothing, or to an open file of a process (`/dev/stdout`); and files whose folder allows no new file. Any other link
+/// stays a link, and its file is replaced.
 pub fn write_file<R: Files + AllocGlobal>(rt: &R, path: &str, bytes: &[u8]) -> io::Result<()> {
     if !is_link(rt, path) {
         return write_unlinked(rt, path, bytes);
@@ -41,11 +42,11 @@ fn is_link<R: Files>(rt: &R, path: &str) -> bool {
     }
 }
 
-// Writes what is no link.
+// Writes a file that is no link.
 fn write_unlinked<R: Files + AllocGlobal>(rt: &R, path: &str, bytes: &[u8]) -> io::Result<()> {
     match fs::metadata(rt, path) {
         Ok(found) if found.is_file() => {
-            // (a file that may not be written is not replaced either)
+            // (a read-only file is not replaced either)
             let _ = OpenOptions::new().write(true).open(rt, path)?;
             write_beside(rt, path, Some(found.permissions()), bytes)
         }
@@ -54,7 +55,7 @@ fn write_unlinked<R: Files + AllocGlobal>(rt: &R, path: &str, bytes: &[u8]) -> i
     }
 }
 
-// Writes a part beside the file and puts it in the file's place, with the permissions that the file had.
+// Writes a new file beside the old one and renames it over that. It gets the permissions of the old file.
 fn write_beside<R: Files + AllocGlobal>(
     rt: &R,
     path: &str,
@@ -78,10 +79,10 @@ fn write_beside<R: Files + AllocGlobal>(
     replace(rt, &mut file, part.as_str(), path, bytes)
 }
 
-// So many names are tried for a part.
+// How many names are tried for a new file.
 const MOST_PARTS: u32 = 100;
 
-// A new file beside another, and its path.
+// Makes a new file beside another, and returns it with its path.
 fn make_part<R: Files + AllocGlobal>(rt: &R, path: &str) -> io::Result<(R::File, String)> {
     for number in 0..MOST_PARTS {
         let part = part_of(rt.alloc(), path, number)?;

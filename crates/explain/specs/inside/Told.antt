@@ -1,21 +1,21 @@
--- How an explanation is put together.
+-- How an explanation is composed.
 use Rattle.std.specs.Prelude.{◌≡◌, ◌⊎◌, ℕ, true, false, List, [], ◌++◌, codes, Option, Result, String, IfOk, MatchOption, string_bytes}
 use Rattle.std.specs.Borrow.{Bor}
 use Rattle.validate.specs.declared.fault.Place.{Place}
-use Rattle.sources.specs.Lines.{line}
-use Rattle.sources.specs.declared.sources.Source.{Source}
+use Rattle.sources.specs.OutputLines.{line}
+use Rattle.sources.specs.declared.file_contents.Source.{Source}
 use Rattle.sources.specs.declared.fault.CommandFault.{CommandFault}
 use Rattle.explain.specs.declared.module_place.Seen.{Seen}
 use Rattle.explain.specs.declared.advice.Advice.{Advice}
 use Rattle.explain.specs.Explanation.{Explains, ShowsModule, ShowsPlace, advice_text, is_explained}
 use Rattle.explain.specs.Listing.{IsListing}
 
--- a fault is explained, or it is none that is
+-- a fault is explained, or it is not one of those that are
 abbrev pub Answers : {Z E : Type 0} → Option (Bor Source) → CommandFault → Result (Option (String Z)) E → Type 0
 Answers source fault result = IfOk result (λ told. MatchOption told (is_explained fault ≡ false)
     (λ text. (is_explained fault ≡ true) × Explains source fault (string_bytes text)))
 
--- the text has these bytes, if there is one
+-- the text, if there is one, explains the fault
 abbrev pub Tells : {Z E : Type 0} → Option (Bor Source) → CommandFault → Result (String Z) E → Type 0
 Tells source fault result = IfOk result (λ text. Explains source fault (string_bytes text))
 
@@ -23,7 +23,7 @@ Tells source fault result = IfOk result (λ text. Explains source fault (string_
 abbrev pub NamesRecursion : List ℕ → Type 0
 NamesRecursion told = (advice : Advice) × (shown : List ℕ) × (told ≡ codes "Rule P12: " ++ (advice_text advice ++ shown))
 
--- the line is told behind a heading
+-- the line is shown after a heading
 abbrev pub ShowsLine : (text told : List ℕ) → Type 0
 ShowsLine text told = (heading : List ℕ) × (told ≡ heading ++ line text)
 
@@ -34,7 +34,7 @@ pub record ShowsBody (body : List (List ℕ)) (marked : Option ℕ) (told : List
   pub is_listing : IsListing body marked listing
   pub joined : told ≡ heading ++ listing
 
--- what is shown of a place is this
+-- the text shows this place
 abbrev pub SeesPlace : Option (Bor Source) → Place → Seen → Type 0
 SeesPlace source place seen = ShowsPlace source place (string_bytes seen.text)
 

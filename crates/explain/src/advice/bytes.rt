@@ -1,9 +1,9 @@
-//! Bytes that are no module.
+//! Advice on bytes that are not a module.
 
 use crate::advice::Advice;
 use wasm_decode::DecodeRule;
 
-/// What is said of bytes that break this rule.
+/// Returns the advice on bytes that break this rule.
 pub fn advice_of(rule: DecodeRule) -> Advice {
     match rule {
         DecodeRule::BadByte => BAD_BYTE,

@@ -1,10 +1,10 @@
-//! The rules of the bounded profile.
+//! Advice on the rules of the bounded profile.
 
 use crate::advice::Advice;
 use crate::listing::Sight;
 use bounded_profile::ProfileRule;
 
-/// What is said of a rule, by what the listing shows of the place.
+/// Returns the advice on a rule, by the kind of code at the place.
 pub fn advice_of(rule: ProfileRule, sight: Sight) -> Advice {
     match rule {
         ProfileRule::P1 => P1,
@@ -24,7 +24,7 @@ pub fn advice_of(rule: ProfileRule, sight: Sight) -> Advice {
     }
 }
 
-/// What is said of functions that call each other.
+/// Returns the advice on functions that call each other.
 pub fn recursion() -> Advice {
     P12
 }
@@ -213,7 +213,7 @@ const P10_PAGES: Advice = Advice {
 ",
 };
 
-// What is said of an address in text, whatever else the function has.
+// Returns the advice on an address in text, whatever else the function has.
 const ADDRESS_IN_TEXT: &str =
     "  Usual cause: the address comes from a local, a global, a block or arithmetic, or the access passes the memory's end.
   Write instead: a constant right before it, with `offset=` if you like, as (i32.load offset=8 (i32.const 0)). To choose among

@@ -1,9 +1,9 @@
-//! Texts that are no module.
+//! Advice on texts that are not a module.
 
 use crate::advice::Advice;
 use wat_asm::TextFault;
 
-/// What is said of a text with this fault, which comes from no compiler.
+/// Returns the advice on a text with this fault. No compiler writes such a text.
 pub fn advice_of(fault: TextFault) -> Advice {
     let (sentence, text) = words_of(fault);
     Advice {
@@ -14,7 +14,7 @@ pub fn advice_of(fault: TextFault) -> Advice {
     }
 }
 
-// What is wrong, and what to write.
+// Returns what is wrong, and what to write instead.
 fn words_of(fault: TextFault) -> (&'static str, &'static str) {
     match fault {
         TextFault::Lex(_) => (

@@ -1,9 +1,9 @@
-//! Modules that are not valid.
+//! Advice on modules that are not valid.
 
 use crate::advice::Advice;
 use validate::Rule;
 
-/// What is said of a module that breaks this rule of validity.
+/// Returns the advice on a module that breaks this rule of validity.
 pub fn advice_of(rule: Rule) -> Advice {
     let (sentence, text) = words_of(rule);
     Advice {
@@ -24,7 +24,7 @@ const IN_RUST: &str =
   Write instead: one declaration.
 ";
 
-// What is wrong, and what to write in text.
+// Returns what is wrong, and what to write in text.
 fn words_of(rule: Rule) -> (&'static str, &'static str) {
     match rule {
         Rule::TypeNumber => (

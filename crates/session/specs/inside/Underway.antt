@@ -2,7 +2,7 @@
 use Rattle.std.specs.Prelude.{◌≡◌, ◌≤◌, ◌<◌, ℕ, Bool, true, List, length, map, take, Option, Some, None, Result, MatchResult, MatchBool}
 use Rattle.std.specs.List.{list_any}
 use Rattle.std.specs.Io.KnownBytes.{Appends, Consumes, IsAtEnd, Keeps}
-use Rattle.graph.specs.Output.{HasBegun}
+use Rattle.line_text.specs.Output.{HasBegun}
 use Rattle.sources.specs.Disk.{Disk}
 use Rattle.session.specs.declared.serving.ServeFault.{ServeFault}
 use Rattle.session.specs.declared.serving.ServeFault.TheVariants as fault
@@ -13,7 +13,7 @@ use Rattle.session.specs.Maps.{Maps}
 use Rattle.session.specs.Runs.{Runs}
 use Rattle.session.specs.Transcript.{Answers, Reaches, Tells}
 
--- what was read: nothing where reading was interrupted
+-- what was read: nothing, if the read was interrupted
 abbrev pub GetsSome : (unread left : Option (List ℕ)) → (chunk : List ℕ) → Option ℕ → Type 0
 GetsSome unread left chunk None = Keeps unread left
 GetsSome unread left chunk (Some count) =
@@ -31,19 +31,19 @@ pub record AnswersLine (disk : Disk) (runs : Runs) (maps : Maps) (asked : Asked)
 
 -- ---- commands one after another
 
--- None is `quit`; they were answered, and all replies written.
+-- None of the commands is `quit`. They were answered, and all replies were written.
 pub record IsUnderway (disk : Disk) (runs : Runs) (maps : Maps) (asked : List Asked) (old new : Option (List ℕ)) (now : Maps) : Type 0 where
   pub told : List ℕ
   pub reaches : Reaches disk runs maps asked told now
   pub appends : Appends old new told
 
--- All replies that there are to these were written.
+-- All replies to these commands were written.
 pub record HasTold (disk : Disk) (runs : Runs) (maps : Maps) (asked : List Asked) (old new : Option (List ℕ)) : Type 0 where
   pub told : List ℕ
   pub tells : Tells disk runs maps asked told
   pub appends : Appends old new told
 
--- A beginning of the replies that there are to these was written.
+-- A beginning of the replies to these commands was written.
 pub record HasBroken (disk : Disk) (runs : Runs) (maps : Maps) (asked : List Asked) (old new : Option (List ℕ)) : Type 0 where
   pub told : List ℕ
   pub tells : Tells disk runs maps asked told
@@ -51,21 +51,21 @@ pub record HasBroken (disk : Disk) (runs : Runs) (maps : Maps) (asked : List Ask
 
 -- ---- bytes
 
--- what the lines ask for that end in these bytes, where so much of the first is kept
+-- the commands of the lines that end in these bytes, where these others of the first line are kept
 abbrev pub asked_from : (kept bytes : List ℕ) → List Asked
 asked_from kept bytes = map asked_of (lines_from kept bytes)
 
--- none is `quit`, and what stands behind them is kept
+-- none of them is `quit`, and the bytes after the last line feed are kept
 pub record GoesOn (disk : Disk) (runs : Runs) (maps : Maps) (kept bytes : List ℕ) (old new : Option (List ℕ)) (now : Maps) (left : List ℕ) : Type 0 where
   pub underway : IsUnderway disk runs maps (asked_from kept bytes) old new now
   pub keeps : left ≡ take KEPT (rest_from kept bytes)
 
--- one is
+-- one of them is `quit`
 pub record Quits (disk : Disk) (runs : Runs) (maps : Maps) (kept bytes : List ℕ) (old new : Option (List ℕ)) : Type 0 where
   pub told : HasTold disk runs maps (asked_from kept bytes) old new
   pub quits : list_any is_quit (asked_from kept bytes) ≡ true
 
--- so many of them were answered, where there is this fault
+-- these commands were answered if serving stopped with this fault
 abbrev pub BreaksAt : Disk → Runs → Maps → List Asked → (old new : Option (List ℕ)) → ServeFault → Type 0
 BreaksAt disk runs maps asked old new fault.Read = ⊥
 BreaksAt disk runs maps asked old new fault.Write = HasBroken disk runs maps asked old new

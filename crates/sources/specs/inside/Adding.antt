@@ -1,4 +1,4 @@
--- How a line is added to what is kept of an input.
+-- How a line is added to the stored input.
 use Rattle.std.specs.Prelude.{◌≡◌, Bool, true, ◌++◌, is_none}
 use Rattle.std.specs.Option.{option_to_list}
 use Rattle.sources.specs.declared.input.Input.{Input}
@@ -6,7 +6,7 @@ use Rattle.sources.specs.declared.input_line.Line.{Line}
 use Rattle.sources.specs.declared.input_line.Line.TheVariants.{Id, Superstep, Count, Value}
 use Rattle.sources.specs.InputSays.{is_good, id_by, superstep_by, count_by, value_by, message_by, edge_by, slot_by, slots_after}
 
--- a good line's saying was added to what is kept
+-- the declaration of a good line was added to the stored input
 pub record Adds (line : Line) (old new : Input) : Type 0 where
   pub good : is_good line ≡ true
   pub id : option_to_list new.id ≡ option_to_list old.id ++ id_by line
@@ -17,7 +17,7 @@ pub record Adds (line : Line) (old new : Input) : Type 0 where
   pub edges : new.edges.items ≡ old.edges.items ++ edge_by line
   pub aggregated : new.aggregated ≡ slots_after old.aggregated (slot_by line)
 
--- the line may be added: it is good, and what may be said once was not said
+-- the line may be added: it is good, and what may be declared once was not declared
 abbrev pub fits : Line → Input → Bool
 fits (Id id) input = is_none input.id
 fits (Superstep superstep) input = is_none input.superstep

@@ -1,7 +1,7 @@
 use Rattle.std.proofs.Common.{◌∙◌, subst, sym}
 use Rattle.sources.specs.Modules.{IsVerified}
 use Rattle.superstep.specs.Ending.{IsEndOf}
-use Rattle.session.specs.declared.held.HeldJob.{HeldJob}
+use Rattle.session.specs.declared.held_job.HeldJob.{HeldJob}
 use Rattle.session.proofs.Ends.{held_is, same_told}
 use Rattle.session.specs.Runs.{runs_of}
 use Rattle.session.proofs.Proper.{proper_from_nothing}

@@ -1,6 +1,6 @@
 use Rattle.std.proofs.Common.{◌∙◌, Err, ap, arith}
 use Rattle.sources.proofs.Faults.{is_fault}
-use Rattle.graph.proofs.Writing.{keeps}
+use Rattle.line_text.proofs.Writing.{keeps}
 use Rattle.session.specs.inside.Seen.{maps_of}
 use Rattle.session.proofs.Loops.{bytes_so, gets_none, gets_some, served_break, served_end, served_quit, served_read, serving_more}
 use Rattle.session.proofs.serving.serve_lines.Goals as goal

@@ -13,24 +13,24 @@ returns-then-not-is_waiting g c =
     let maps = maps_of c.args.session.now in
     let name = c.args.name.now in
     let held = c.in-Some.held.now in
-    let ran : is_waiting held.ending ≡ false = sym c.is_waiting.ensures ∙ c.if-not-is_waiting.true in
+    let ran : is_waiting held.state ≡ false = sym c.is_waiting.ensures ∙ c.if-not-is_waiting.true in
     run_again (runs_of c.args.runner.now) maps name not_waiting_line held
     (copied_some c.get.result c.in-Some.held (maps.jobs name) c.get.ensures.value c.in-Some.is) ran refl
 
-pub set_ending-requires : goal.set_ending-requires
-set_ending-requires g c =
+pub set_state-requires : goal.set_state-requires
+set_state-requires g c =
     let maps = maps_of c.args.session.now in
     let name = c.args.name.now in
-    sound_of maps.jobs name c.in-Some.held.now c.run-end.result c.ending_of.result
-    (copied_some c.get.result c.in-Some.held (maps.jobs name) c.get.ensures.value c.in-Some.is) c.run-end.ensures.answer c.ending_of.ensures
+    sound_of maps.jobs name c.in-Some.held.now c.run-end.result c.state_of.result
+    (copied_some c.get.result c.in-Some.held (maps.jobs name) c.get.ensures.value c.in-Some.is) c.run-end.ensures.answer c.state_of.ensures
 
 pub returns-in-Ok : goal.returns-in-Ok
 returns-in-Ok g c =
     let maps = maps_of c.args.session.now in
     let name = c.args.name.now in
     let held = c.in-Some.held.now in
-    let waits : is_waiting held.ending ≡ true = sym c.is_waiting.ensures ∙ c.if-not-is_waiting.false in
-    job_ran (runs_of c.args.runner.now) maps name (string_bytes c.in-Ok.text) held c.run-end.result (get_by_text c.set_ending.new.jobs)
+    let waits : is_waiting held.state ≡ true = sym c.is_waiting.ensures ∙ c.if-not-is_waiting.false in
+    job_ran (runs_of c.args.runner.now) maps name (string_bytes c.in-Ok.text) held c.run-end.result (get_by_text c.set_state.new.jobs)
     (copied_some c.get.result c.in-Some.held (maps.jobs name) c.get.ensures.value c.in-Some.is) waits c.run-end.ensures.end c.run-end.ensures.answer
     c.in-Ok.ensures
-    (subst (IsSet maps.jobs (get_by_text c.set_ending.new.jobs) name) c.ending_of.ensures c.set_ending.ensures)
+    (subst (IsSet maps.jobs (get_by_text c.set_state.new.jobs) name) c.state_of.ensures c.set_state.ensures)

@@ -1,7 +1,7 @@
 use Rattle.std.proofs.Common.{◌+◌, ◌<◌, length, arith}
 use Rattle.wasm_ast.specs.Limits.{max_module_bytes}
 use Rattle.sources.proofs.Disks.{too_long, whole}
-use Rattle.sources.proofs.sources.read_binary.Goals as goal
+use Rattle.sources.proofs.file_contents.read_binary.Goals as goal
 
 pub returns-then-len-gt-MAX_MODULE_BYTES-clause-found : goal.returns-then-len-gt-MAX_MODULE_BYTES-clause-found
 returns-then-len-gt-MAX_MODULE_BYTES-clause-found g c =

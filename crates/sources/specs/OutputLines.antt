@@ -1,4 +1,4 @@
--- What is told, and how a call's outcome and a job's end are printed.
+-- The lines of a call's outcome and of a job's end.
 use Rattle.std.specs.Prelude.{◌≡◌, ℕ, suc, ℤ, Bool, true, false, List, [], ◌∷◌, ◌++◌, codes, if◌then◌else◌, Result, String, string_bytes, IfOk}
 use Rattle.std.specs.List.{flat_map}
 use Rattle.std.specs.Fmt.{decimal, signed_decimal}
@@ -6,13 +6,13 @@ use Rattle.host_calls.specs.declared.call.CallOutcome.{CallOutcome}
 use Rattle.graph.specs.Print.{value_lines}
 use Rattle.superstep.specs.PlainRun.{Answer}
 use Rattle.superstep.specs.Ending.{answer_of}
-use Rattle.superstep.specs.declared.run.Ended.{Ended}
+use Rattle.superstep.specs.declared.ending.JobEnd.{JobEnd}
 
--- the bytes of the text that is answered have this property
-abbrev pub IfTold : {Z E : Type 0} → Result (String Z) E → (List ℕ → Type 0) → Type 0
-IfTold answer P = IfOk answer (λ text. P (string_bytes text))
+-- the bytes of the resulting text have this property
+abbrev pub IfText : {Z E : Type 0} → Result (String Z) E → (List ℕ → Type 0) → Type 0
+IfText answer P = IfOk answer (λ text. P (string_bytes text))
 
--- these bytes were put behind a text
+-- these bytes were appended to a text
 abbrev pub Gains : {Z : Type 0} → (old new : String Z) → List ℕ → Type 0
 Gains old new bytes = string_bytes new ≡ string_bytes old ++ bytes
 
@@ -44,35 +44,35 @@ outcome_lines outcome =
     ++ flat_map send_line outcome.sends.items
     ++ flat_map give_line outcome.contributions.items
 
--- how a job ended
+-- the word for how a job ended
 abbrev pub end_word : Bool → List ℕ
 end_word true = codes "finished"
 end_word false = codes "limit"
 
--- in which superstep, the units of all calls, and how many messages went to no vertex
+-- how the job ended and in which superstep, the units of all calls, and the number of messages to no vertex
 abbrev pub end_line : Answer → List ℕ
 end_line answer =
     line (codes "end " ++ end_word answer.finished ++ codes " supersteps " ++ decimal answer.superstep
     ++ codes " units " ++ decimal answer.units ++ codes " dropped " ++ decimal answer.dropped)
 
--- a word, a number and its units
+-- a word, a number and the units of that number
 abbrev pub numbered_line : (word : List ℕ) → (number units : ℕ) → List ℕ
 numbered_line word number units = line (word ++ codes " " ++ decimal number ++ codes " " ++ decimal units)
 
--- the units of a number and of those behind it, each on its line
+-- a line for each of these units, with rising numbers
 abbrev pub numbered_lines : (word : List ℕ) → (number : ℕ) → List ℕ → List ℕ
 numbered_lines word number [] = []
 numbered_lines word number (units ∷ rest) = numbered_line word number units ++ numbered_lines word (suc number) rest
 
--- the units of a superstep and of those behind it
+-- a line for each of these units, with rising supersteps
 abbrev pub units_lines : (superstep : ℕ) → List ℕ → List ℕ
 units_lines superstep units = numbered_lines (codes "units") superstep units
 
--- the values, the end, and, if they are told, the units of each superstep from this one on
+-- the values, the end, and, if asked for, the units of each superstep from this one on
 abbrev pub job_lines : (tells_units : Bool) → Answer → (since : ℕ) → List ℕ → List ℕ
 job_lines tells_units answer since units =
     value_lines answer.values ++ end_line answer ++ (if tells_units then units_lines since units else [])
 
--- the lines of what a job ended with, as it tells it
-abbrev pub ended_lines : (tells_units : Bool) → Ended → List ℕ
+-- the lines of what a job ended with
+abbrev pub ended_lines : (tells_units : Bool) → JobEnd → List ℕ
 ended_lines tells_units ended = job_lines tells_units (answer_of ended) ended.since ended.by_superstep.items

@@ -1,6 +1,6 @@
 use Rattle.session.specs.inside.Seen.{maps_of, reply_text}
 use Rattle.session.proofs.Answering.{copied_some, values_told}
-use Rattle.session.proofs.sessions.tell_values.Goals as goal
+use Rattle.session.proofs.sessions.report_values.Goals as goal
 
 pub returns-in-Some : goal.returns-in-Some
 returns-in-Some c =

@@ -1,20 +1,20 @@
-//! The lines of a call's outcome, and what is told of a job's end.
+//! The lines of a call's outcome, and the lines and words of a job's end.
 
 ghost use Rattle.std.specs.Prelude.{◌≡◌, IfOk, OnOk, string_bytes};
 ghost use Rattle.std.specs.List.{flat_map};
 ghost use Rattle.graph.specs.Print.{value_lines};
 ghost use Rattle.superstep.specs.Ending.{is_finished};
-ghost use Rattle.sources.specs.Lines.{Gains, active_digit, end_word, give_line, outcome_lines, send_line, state_lines};
+ghost use Rattle.sources.specs.OutputLines.{Gains, active_digit, end_word, give_line, outcome_lines, send_line, state_lines};
 
 use host_calls::CallOutcome;
 use std::alloc::{AllocError, Global};
-use superstep::How;
+use superstep::EndReason;
 
-/// What is printed of a call's outcome.
+/// Writes the outcome of a call as text.
 ///
-/// The first three lines are `value V`, `active 1`, or `active 0` where the vertex voted to halt, and `units U`. Then
-/// come `send TARGET VALUE` for each message and `give SLOT VALUE` for each contribution. Each line ends with a line
-/// feed. It fails only for want of memory.
+/// The first three lines are `value V`, `active 1`, or `active 0` if the vertex voted to halt, and `units U`. They are
+/// followed by `send TARGET VALUE` for each message and `give SLOT VALUE` for each contribution. Each line ends with a line
+/// feed. It fails only if memory runs out.
 pub fn outcome_text(alloc: Global, outcome: &CallOutcome) -> Result<String, AllocError>
     ensures { IfOk result (λ text. string_bytes text ≡ outcome_lines outcome.now) }
 {
@@ -25,7 +25,7 @@ pub fn outcome_text(alloc: Global, outcome: &CallOutcome) -> Result<String, Allo
     Ok(text)
 }
 
-// The lines that each outcome has.
+// Appends the lines that every outcome has.
 fn push_state(text: &mut String, value: i64, halted: bool, units: u128) -> Result<(), AllocError>
     ensures { OnOk result (Gains text.old text.new (state_lines value halted units)) }
 {
@@ -59,7 +59,7 @@ fn push_contributions(text: &mut String, contributions: &[(u32, i64)]) -> Result
     Ok(())
 }
 
-/// Puts a line `v ID VALUE` behind a text for each of these values.
+/// Appends a line `v ID VALUE` to a text for each value.
 pub fn push_values(text: &mut String, values: &[(u64, i64)]) -> Result<(), AllocError>
     ensures { OnOk result (Gains text.old text.new (value_lines values.now)) }
 {
@@ -69,12 +69,12 @@ pub fn push_values(text: &mut String, values: &[(u64, i64)]) -> Result<(), Alloc
     Ok(())
 }
 
-/// How a job ended, in a word.
-pub fn how_word(how: How) -> &'static str
+/// Returns the word for how a job ended.
+pub fn end_word(how: EndReason) -> &'static str
     ensures { result.now ≡ end_word (is_finished how) }
 {
     match how {
-        How::Finished => "finished",
-        How::Limit => "limit",
+        EndReason::Finished => "finished",
+        EndReason::Limit => "limit",
     }
 }

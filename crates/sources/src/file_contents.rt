@@ -1,4 +1,4 @@
-//! What a command reads of files, and writes to them.
+//! The contents of files: the text or bytes of a module, other texts, and other bytes.
 
 ghost use Rattle.std.specs.Prelude.{◌≡◌, Some, OnErr, OnOk, IfErr, MatchResult, false, string_bytes, take, true};
 ghost use Rattle.sources.specs.Disk.{HoldsAt, Stays, Tries, Writes};
@@ -11,7 +11,7 @@ use std::alloc::Global;
 use wasm_ast::MAX_MODULE_BYTES;
 use wasm_decode::{DecodeFault, DecodeRule};
 
-/// What a file has of a module.
+/// The content of a module's file.
 #[derive(Drop)]
 pub enum Source {
     /// Its text (Core 1.0, section 6).
@@ -20,8 +20,9 @@ pub enum Source {
     Binary(Vec<u8>),
 }
 
-/// What the file of a module has: one whose path ends in `.wat` has its text, and any other its bytes. Of more bytes than any
-/// module has no more is read, and they are refused as `decode` refuses them.
+/// Reads the file of a module. If its path ends in `.wat`, it is text; any other file is binary.
+///
+/// At most one byte more than the longest module is read. A longer file is refused with the fault that `decode` has for it.
 pub fn read_source<'a, F: Files>(
     alloc: Global,
     path: &'a str,
@@ -40,7 +41,7 @@ pub fn read_source<'a, F: Files>(
     }
 }
 
-// The bytes of a module's file.
+// Reads a module in the binary format.
 fn read_binary<'a, F: Files>(
     alloc: Global,
     path: &'a str,
@@ -58,10 +59,10 @@ fn read_binary<'a, F: Files>(
     Ok(bytes)
 }
 
-// What `decode` says of more bytes than a module has.
+// The fault of `decode` for more bytes than a module may have.
 const TOO_LONG: DecodeFault = DecodeFault::Refused(DecodeRule::OverLimit, MAX_MODULE_BYTES);
 
-// The first bytes of a file, so many at most.
+// Reads at most `most` bytes from the beginning of a file.
 fn read_front<'a, F: Files>(
     alloc: Global,
     path: &'a str,
@@ -81,7 +82,7 @@ fn read_front<'a, F: Files>(
         })
 }
 
-/// Whether the file of a module has its text: where its path ends in `.wat`.
+/// Returns whether the path ends in `.wat`: then the file of a module is text.
 #[tactic(auto, using(std::proofs::lemmas::Str::Pattern::ends_text))]
 pub fn is_text_path(path: &str) -> bool
     ensures { result ≡ is_text_path path.now }
@@ -89,7 +90,7 @@ pub fn is_text_path(path: &str) -> bool
     path.ends_with(".wat")
 }
 
-/// The text of a file, which has to be in UTF-8.
+/// Reads a file as text. It has to be in UTF-8.
 pub fn read_text<'a, F: Files>(
     alloc: Global,
     path: &'a str,
@@ -110,7 +111,7 @@ pub fn read_text<'a, F: Files>(
     }
 }
 
-/// The bytes of a file.
+/// Reads the bytes of a file.
 pub fn read_bytes<'a, F: Files>(
     alloc: Global,
     path: &'a str,
@@ -127,7 +128,7 @@ pub fn read_bytes<'a, F: Files>(
     })
 }
 
-/// Makes these bytes the file at a path.
+/// Writes a file, in place of its old content.
 pub fn write<'a, F: Files>(
     path: &'a str,
     bytes: &[u8],

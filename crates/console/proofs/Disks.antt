@@ -10,7 +10,7 @@ use Rattle.sources.specs.Source.{RefusesModule}
 use Rattle.sources.specs.Reading.{IsRefusedAt, IsUnwritable}
 use Rattle.sources.proofs.Disks.{holds_before, unread_before, unwritable_before, writes_then}
 use Rattle.console.specs.Steps.{RefusesSteps}
-use Rattle.console.specs.Program.{IsBeforeWriting, IsNoStepsAt, IsUnspelled, RefusesSpelled, TellsSpelling, TellsWritten}
+use Rattle.console.specs.FileCommands.{IsBeforeWriting, IsNoStepsAt, IsUnspelled, RefusesSpelled, PrintsSpelling, PrintsWritten}
 
 -- where no steps are found after a read, none were found before
 pub no_steps_before : (before after : Disk) (path : List ℕ) → Stays before after → (fault : CommandFault)
@@ -42,20 +42,20 @@ written_late disk path (command.Unwritable refused) P is before = absurd before
 written_late disk path command.OutOfMemory P is before = absurd before
 written_late disk path fault P is before = absurd is
 
-pub written_then : (before middle after : Disk) (bytes path told : List ℕ) → Stays before middle → TellsWritten middle after bytes path told
-    → TellsWritten before after bytes path told
+pub written_then : (before middle after : Disk) (bytes path told : List ℕ) → Stays before middle → PrintsWritten middle after bytes path told
+    → PrintsWritten before after bytes path told
 written_then before middle after bytes path told first is =
     record { written = writes_then path bytes before middle after first is.written; line_of_length = is.line_of_length }
 
 -- its length is told
 pub spelling_told : (before after : Disk) (binary_path bytes told : List ℕ) (m : Module) → bytes ≡ canonical m → length bytes ≤ max_module_bytes
-    → TellsWritten before after bytes binary_path told → TellsSpelling before after m binary_path told
+    → PrintsWritten before after bytes binary_path told → PrintsSpelling before after m binary_path told
 spelling_told before after binary_path bytes told m same small is = record {
   small = subst (λ bs. length bs ≤ max_module_bytes) same small;
-  tells = subst (λ bs. TellsWritten before after bs binary_path told) same is;
+  tells = subst (λ bs. PrintsWritten before after bs binary_path told) same is;
 }
 
 pub spelling_then : (before middle after : Disk) (binary_path told : List ℕ) (m : Module) → Stays before middle
-    → TellsSpelling middle after m binary_path told → TellsSpelling before after m binary_path told
+    → PrintsSpelling middle after m binary_path told → PrintsSpelling before after m binary_path told
 spelling_then before middle after binary_path told m first is =
     record { small = is.small; tells = written_then before middle after (canonical m) binary_path told first is.tells }

@@ -4,7 +4,7 @@ use Rattle.wasm_ast.specs.declared.module.Module.{Module}
 use Rattle.sources.specs.declared.fault.CommandFault.{CommandFault}
 use Rattle.sources.specs.declared.fault.CommandFault.TheVariants as command
 use Rattle.sources.specs.Source.{IsWant}
-use Rattle.console.specs.Engine.{IsWantOfCall, RefusesText}
+use Rattle.console.specs.ComputeCall.{IsWantOfCall, RefusesText}
 
 -- want of memory in a call is one of the wants
 pub want_of_call : (fault : CommandFault) → IsWantOfCall fault → IsWant fault

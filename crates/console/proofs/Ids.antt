@@ -5,7 +5,7 @@ use Rattle.std.specs.Option.{option_to_list}
 use Rattle.std.specs.List.{AllByRecursion, flat_map}
 use Rattle.std.specs.Str.{bytes_eq}
 use Rattle.host_calls.specs.declared.call.CallInput.{CallInput}
-use Rattle.graph.specs.Number.{id_of, number_of}
+use Rattle.line_text.specs.Number.{id_of, number_of}
 use Rattle.interp.specs.Bounded.{HasIds, max_id}
 use Rattle.sources.specs.declared.input.Input.{Input}
 use Rattle.sources.specs.declared.input_line.Line.{Line}
@@ -13,8 +13,8 @@ use Rattle.sources.specs.declared.input_line.Line.TheVariants.{Skipped, Id, Supe
 use Rattle.sources.specs.Input.{Lends, Says}
 use Rattle.sources.specs.InputLine.{line_of}
 use Rattle.sources.specs.InputSays.{lines_of, id_by, edge_by}
-use Rattle.sources.specs.InputLine.{says_number, small_of, edge_line, aggregate_line, short_line, long_line, line_of_fields}
-use Rattle.graph.specs.Fields.{fields, is_filled}
+use Rattle.sources.specs.InputLine.{says_number, u32_of, edge_line, aggregate_line, short_line, long_line, line_of_fields}
+use Rattle.line_text.specs.Fields.{fields, is_filled}
 use Rattle.std.specs.Str.{all_ascii_digits}
 use Rattle.std.specs.Str.Parse.{digits_value}
 use Rattle.std.specs.Str.Lines.{lines}
@@ -65,15 +65,15 @@ no_edge (Some n) (Some v) = tt
 short : (name number : List ℕ) → IsInRange (short_line name number)
 short name number =
     either (bytes_eq name (codes "id")) _ _ (some_id (id_of number) (id_in_range number))
-    (either (bytes_eq name (codes "superstep")) _ _ (no_id Superstep (λ n. tt) (small_of number))
-    (either (bytes_eq name (codes "count")) _ _ (no_id Count (λ n. tt) (small_of number))
+    (either (bytes_eq name (codes "superstep")) _ _ (no_id Superstep (λ n. tt) (u32_of number))
+    (either (bytes_eq name (codes "count")) _ _ (no_id Count (λ n. tt) (u32_of number))
     (either (bytes_eq name (codes "value")) _ _ (no_id Value (λ n. tt) (number_of number))
     (either (bytes_eq name (codes "message")) _ _ (no_id Message (λ n. tt) (number_of number)) tt))))
 
 long : (name first second : List ℕ) → IsInRange (long_line name first second)
 long name first second =
     either (bytes_eq name (codes "edge")) _ _ (some_edge (id_of first) (number_of second) (id_in_range first))
-    (either (bytes_eq name (codes "aggregate")) _ _ (no_edge (small_of first) (number_of second)) tt)
+    (either (bytes_eq name (codes "aggregate")) _ _ (no_edge (u32_of first) (number_of second)) tt)
 
 by_fields : (fs : List (List ℕ)) → IsInRange (line_of_fields fs)
 by_fields [] = tt

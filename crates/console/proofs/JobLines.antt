@@ -3,7 +3,7 @@ use Rattle.std.proofs.Common.{◌≡◌, ℕ, suc, ◌+◌, ◌-◌, ◌<◌, Bo
 use Rattle.std.specs.List.{range_with_len}
 use Rattle.std.proofs.lemmas.List.{append-nil, length-take-le, take_more}
 use Rattle.superstep.specs.declared.fault.JobFault.{JobFault}
-use Rattle.superstep.specs.declared.run.Ended.{Ended}
+use Rattle.superstep.specs.declared.ending.JobEnd.{JobEnd}
 use Rattle.superstep.specs.declared.settings.Settings.{Settings}
 use Rattle.superstep.specs.declared.settings.Setting.{Setting}
 use Rattle.superstep.specs.Ending.{Ends, answer_of}
@@ -11,7 +11,7 @@ use Rattle.superstep.specs.Job.{Meaning, Work}
 use Rattle.superstep.specs.PlainRun.{units_at}
 use Rattle.superstep.specs.Settings.{Refuses, first_bad}
 use Rattle.std.specs.Prelude.{Option, Some, None}
-use Rattle.sources.specs.Lines.{job_lines, numbered_line, numbered_lines}
+use Rattle.sources.specs.OutputLines.{job_lines, numbered_line, numbered_lines}
 use Rattle.sources.specs.Jobs.{RefusesSettings}
 use Rattle.console.specs.inside.Answering.{opening_fault}
 
@@ -45,7 +45,7 @@ numbered_more word n xs before i d below =
 minus_none : (n : ℕ) → n - 0 ≡ n
 minus_none n = omega arith
 
-pub ended_printed : (job : Work) (meaning : Meaning job) (tells_units : Bool) (ended : Ended) (told : List ℕ) → ended.since ≡ 0
+pub ended_printed : (job : Work) (meaning : Meaning job) (tells_units : Bool) (ended : JobEnd) (told : List ℕ) → ended.since ≡ 0
     → Ends job meaning ended → told ≡ job_lines tells_units (answer_of ended) ended.since ended.by_superstep.items
     → told ≡ job_lines tells_units (answer_of ended) 0
     (map (units_at meaning.outcomes meaning.graph) (range_with_len 0 ended.superstep))

@@ -1,9 +1,11 @@
 pub mod StepLines
+mod Fits
 pub mod Meanings
 pub mod Faults
 pub mod Ids
 pub mod Disks
-pub mod Telling
+pub mod Printing
 pub mod JobLines
+pub mod Folders
 pub mod Replays
 pub mod Writes

@@ -8,7 +8,7 @@ use Rattle.host_calls.specs.Host.{Host, host_of}
 use Rattle.interp.specs.Machine.{Machine, Running}
 use Rattle.interp.specs.Start.{Starts}
 use Rattle.interp.specs.Call.{IsOutcome, SameOutcome}
-use Rattle.sources.specs.Lines.{outcome_lines}
+use Rattle.sources.specs.OutputLines.{outcome_lines}
 use Rattle.sources.specs.Input.{Means, SameInput}
 use Rattle.sources.proofs.Meanings.{same_input}
 

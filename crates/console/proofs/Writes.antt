@@ -6,7 +6,7 @@ use Rattle.sources.specs.declared.fault.CommandFault.TheVariants as command
 use Rattle.sources.specs.Disk.{Disk, Stays, Tries, Writes}
 use Rattle.sources.specs.Reading.{IsUnwritable}
 use Rattle.console.specs.Importing.{IsBegun, IsUnwritten, TriesAll, WritesAll}
-use Rattle.console.specs.Program.{IsBeforeWriting}
+use Rattle.console.specs.FileCommands.{IsBeforeWriting}
 
 pub writes_none : (disk : Disk) → WritesAll [] disk disk
 writes_none disk = λ writes wrote. subst disk.wrote (sym (append-nil writes)) wrote

@@ -1,4 +1,4 @@
--- What is written of a file of edges, and why it is not.
+-- What is written of a file of edges, and why nothing is.
 use denote.Bor.{Bor}
 use Rattle.std.specs.Prelude.{◌≡◌, ◌⊎◌, ℕ, true, List, [], ◌∷◌, ◌++◌, take, Option, Some, None, String, codes, string_bytes}
 use Rattle.std.specs.Fmt.{decimal}
@@ -10,7 +10,7 @@ use Rattle.command_line.specs.declared.request.ImportRequest.{ImportRequest}
 use Rattle.sources.specs.declared.fault.CommandFault.{CommandFault}
 use Rattle.sources.specs.declared.fault.CommandFault.TheVariants as command
 use Rattle.sources.specs.Disk.{Disk, HoldsAt, Stays}
-use Rattle.sources.specs.Lines.{line}
+use Rattle.sources.specs.OutputLines.{line}
 use Rattle.sources.specs.Reading.{IsUnread}
 
 -- ---- more files than one
@@ -28,7 +28,7 @@ IsBegun (item ∷ items) begun =
     ⊎ (((count : ℕ) × (begun ≡ (item.0, take count item.1) ∷ []))
     ⊎ ((others : List (List ℕ × List ℕ)) × IsBegun items others × (begun ≡ item ∷ others)))
 
--- no more was written than that
+-- the files were begun, and nothing else was written
 abbrev pub TriesAll : List (List ℕ × List ℕ) → (before after : Disk) → Type 0
 TriesAll items before after =
     (writes : List (List ℕ × List ℕ)) → before.wrote writes
@@ -62,18 +62,18 @@ names_written (Some path) (Some names) = (path.now, string_bytes names) ∷ []
 abbrev pub files_of : ImportRequest → Imported → List (List ℕ × List ℕ)
 files_of asked made = names_written asked.names made.names ++ (asked.graph.now, string_bytes made.text) ∷ []
 
-abbrev pub counts_line : (vertices edges : ℕ) → List ℕ
-counts_line vertices edges = line (codes "ok " ++ decimal vertices ++ codes " " ++ decimal edges)
+abbrev pub import_line : (vertices edges : ℕ) → List ℕ
+import_line vertices edges = line (codes "ok " ++ decimal vertices ++ codes " " ++ decimal edges)
 
--- what was made is written to its files, and nothing else is, and the counts of vertices and edges are told
-pub record TellsMade (before after : Disk) (asked : ImportRequest) (made : Imported) (told : List ℕ) : Type 0 where
+-- the result is written to its files, and nothing else is, and the numbers of vertices and edges are printed
+pub record PrintsMade (before after : Disk) (asked : ImportRequest) (made : Imported) (told : List ℕ) : Type 0 where
   pub written : WritesAll (files_of asked made) before after
-  pub line_of_counts : told ≡ counts_line made.vertices made.edges
+  pub line_of_counts : told ≡ import_line made.vertices made.edges
 
--- what is made of a file's edges is written, and told
-abbrev pub TellsImport : (before after : Disk) → ImportRequest → List ℕ → Type 0
-TellsImport before after asked told =
-    (made : Imported) × IsImportedAt before asked made × TellsMade before after asked made told
+-- the result of importing a file's edges is written, and its numbers are printed
+abbrev pub PrintsImport : (before after : Disk) → ImportRequest → List ℕ → Type 0
+PrintsImport before after asked told =
+    (made : Imported) × IsImportedAt before asked made × PrintsMade before after asked made told
 
 -- ---- refusals
 
@@ -92,7 +92,7 @@ abbrev pub AreNamesAt : Option (Bor (List ℕ)) → (path : List ℕ) → Type 0
 AreNamesAt None path = ⊥
 AreNamesAt (Some names) path = path ≡ names.now
 
--- one of the files is not written, or there is no memory; what refuses the second is not said
+-- one of the files is not written, or memory ran out; this leaves open why the second file is not written
 abbrev pub IsUnwritten : ImportRequest → CommandFault → Type 0
 IsUnwritten asked (command.Unwritable refused) = (refused.now ≡ asked.graph.now) ⊎ AreNamesAt asked.names refused.now
 IsUnwritten asked command.OutOfMemory = Unit {0}
@@ -103,7 +103,7 @@ abbrev pub IsNotImported : Disk → ImportRequest → CommandFault → Type 0
 IsNotImported disk asked fault =
     IsNoImportAt disk asked fault ⊎ ((made : Imported) × IsImportedAt disk asked made × IsUnwritten asked fault)
 
--- the files are as they were, or those of what is made of the edges were begun
+-- the files are as they were, or those of the import were begun
 abbrev pub TriesImport : (before after : Disk) → ImportRequest → Type 0
 TriesImport before after asked =
     Stays before after ⊎ ((made : Imported) × IsImportedAt before asked made × TriesAll (files_of asked made) before after)

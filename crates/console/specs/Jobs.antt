@@ -1,12 +1,12 @@
--- What a job tells, and why it does not.
+-- The lines that a job prints, and why there are none.
 use denote.Bor.{Bor}
 use Rattle.std.specs.Prelude.{◌≡◌, ◌⊎◌, ℕ, Bool, List, map, Option, Some, None}
 use Rattle.std.specs.List.{range_with_len}
-use Rattle.superstep.specs.declared.run.Ended.{Ended}
+use Rattle.superstep.specs.declared.ending.JobEnd.{JobEnd}
 use Rattle.superstep.specs.Job.{Meaning, Work}
 use Rattle.superstep.specs.PlainRun.{Answer, IsAnswer, units_at}
-use Rattle.workers.specs.Answers.{IsRunFault}
-use Rattle.sources.specs.Lines.{ended_lines, job_lines}
+use Rattle.workers.specs.JobAnswers.{IsRunFault}
+use Rattle.sources.specs.OutputLines.{ended_lines, job_lines}
 use Rattle.sources.specs.declared.fault.CommandFault.{CommandFault}
 use Rattle.sources.specs.declared.fault.CommandFault.TheVariants as command
 
@@ -22,17 +22,17 @@ AreJobLines job tells_units lines = (meaning : Meaning job) → AreLinesOf job m
 
 -- the lines of what some job ends with
 abbrev pub AreEndLines : (tells_units : Bool) → List ℕ → Type 0
-AreEndLines tells_units lines = (ended : Ended) × (lines ≡ ended_lines tells_units ended)
+AreEndLines tells_units lines = (ended : JobEnd) × (lines ≡ ended_lines tells_units ended)
 
--- The lines of a run in threads: of the job's answer where its states are kept in memory, and of some end where they are kept
--- in a folder, since others may change its files.
+-- The lines of a run in threads. If states are kept in memory, they are those of the job's answer. If states are kept in a
+-- folder, they are those of some end, since others may change its files.
 abbrev pub AreRunLines : Work → (folder : Option (Bor (List ℕ))) → (tells_units : Bool) → List ℕ → Type 0
 AreRunLines job None tells_units lines = AreJobLines job tells_units lines
 AreRunLines job (Some folder) tells_units lines = AreEndLines tells_units lines
 
 -- ---- refusals
 
--- the job ended by a fault of its own or of threads, or there is no memory for the lines of what it ended with
+-- the job ended with a fault of its own or of threads, or there is no memory for its lines
 abbrev pub IsFaultOfRun : CommandFault → Type 0
 IsFaultOfRun (command.Job fault) = IsRunFault fault
 IsFaultOfRun command.OutOfMemory = Unit {0}
@@ -44,7 +44,7 @@ IsNoFolder folder (command.Unwritable refused) = refused.now ≡ folder
 IsNoFolder folder command.OutOfMemory = Unit {0}
 IsNoFolder folder _ = ⊥
 
--- the run came to a fault, or no file can be made in the folder where its states are to be kept
+-- the run ended with a fault, or no file can be made in the folder for its states
 abbrev pub IsFaultOfKept : (folder : Option (Bor (List ℕ))) → CommandFault → Type 0
 IsFaultOfKept None fault = IsFaultOfRun fault
 IsFaultOfKept (Some folder) fault = IsNoFolder folder.now fault ⊎ IsFaultOfRun fault

@@ -1,13 +1,17 @@
--- What a reader has to believe, in this order: the steps of a replay, and which of them a text means.
+-- The definitions to read, in this order: the steps of a replay, and the steps that a text means.
 pub mod StepLine
 pub mod Steps
--- which worker of a run is lost
+-- the lost worker of a run
 pub mod Loss
--- what a call answers, what a job and a replay tell, and what a command tells
-pub mod Engine
+-- what a call, a job and a replay print, and what a command prints
+pub mod ComputeCall
 pub mod Jobs
 pub mod Replays
 pub mod Importing
-pub mod Program
+-- which module a command takes
+pub mod Sizes
+pub mod FileCommands
+-- the report and the chart of a run
+pub mod Sheets
 -- what only mirrors the code, for its proofs
 pub mod inside

@@ -1,4 +1,4 @@
--- What a replay tells of a job's steps, and why it does not.
+-- What a replay of a job's steps prints, and why it prints nothing.
 use Rattle.std.specs.Prelude.{◌≡◌, ℕ, Bool, true, List, ◌++◌, codes, Ok, Err}
 use Rattle.std.specs.List.{flat_map}
 use Rattle.std.specs.Fmt.{decimal}
@@ -16,7 +16,7 @@ use Rattle.rollback.specs.declared.simulation.StepAnswer.TheVariants.{Handed, Id
 use Rattle.rollback.specs.declared.simulation.Trace.{Trace}
 use Rattle.sources.specs.declared.fault.CommandFault.{CommandFault}
 use Rattle.sources.specs.declared.fault.CommandFault.TheVariants as command
-use Rattle.sources.specs.Lines.{ended_lines, line, numbered_lines}
+use Rattle.sources.specs.OutputLines.{ended_lines, line, numbered_lines}
 
 -- ---- lines
 
@@ -28,7 +28,7 @@ said_line (RolledBack superstep) = line (codes "rolledback " ++ decimal superste
 said_line Stale = line (codes "stale")
 said_line answer.Ended = line (codes "ended")
 
--- what is answered to a step
+-- the answer to a step
 abbrev pub answer_line : StepAnswer → List ℕ
 answer_line Idle = line (codes "idle")
 answer_line (Handed part) = line (codes "handed " ++ decimal part)
@@ -46,25 +46,25 @@ report_lines tells_units report =
     ++ numbered_lines (codes "spent") 0 report.spent.items
 
 -- where the steps lead
-abbrev pub outcome_lines : (tells_units : Bool) → Outcome → List ℕ
-outcome_lines tells_units (outcome.Open superstep) = line (codes "open " ++ decimal superstep)
-outcome_lines tells_units (outcome.Ended report) = report_lines tells_units report
+abbrev pub replay_end_lines : (tells_units : Bool) → Outcome → List ℕ
+replay_end_lines tells_units (outcome.Open superstep) = line (codes "open " ++ decimal superstep)
+replay_end_lines tells_units (outcome.Ended report) = report_lines tells_units report
 
 -- a line for each step, and where they lead
 abbrev pub trace_lines : (tells_units : Bool) → Trace → List ℕ
-trace_lines tells_units trace = flat_map answer_line trace.answers.items ++ outcome_lines tells_units trace.outcome
+trace_lines tells_units trace = flat_map answer_line trace.answers.items ++ replay_end_lines tells_units trace.outcome
 
 -- ---- answers and refusals
 
--- The lines are those of what the control machine makes of these steps, over a Keep that is honest and never fails: what it
--- answers to each of them, and where they lead. A job that ends has the plain run's answer.
+-- The lines are those of the control model over these steps, with a Keep that is honest and never fails: its answer to each
+-- step, and where the steps lead. A job that ends has the plain run's answer.
 pub record AreReplayLines (job : Work) (tells_units : Bool) (steps : List Step) (lines : List ℕ) : Type 0 where
   pub trace : Trace
   pub ran : IsRun job true steps (Ok trace)
   pub calm : IsCalm trace.outcome
   pub printed : lines ≡ trace_lines tells_units trace
 
--- the control machine ends by this fault, or there is no memory to begin with; or there is none for the lines
+-- the control model ends with this fault, or there is no memory to begin with, or none for the lines
 abbrev pub IsFaultOfReplay : Work → List Step → CommandFault → Type 0
 IsFaultOfReplay job steps (command.Job fault) = IsSimulated job true steps (Err fault)
 IsFaultOfReplay job steps command.OutOfMemory = Unit {0}

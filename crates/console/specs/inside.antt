@@ -1,3 +1,3 @@
--- What the steps of the code answer. No contract of a public function cites these.
+-- Definitions that follow the steps of the code. No public contract cites these.
 pub mod Answering
 pub mod Stepping

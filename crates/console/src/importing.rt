@@ -1,10 +1,10 @@
-//! A file of edges, written as a graph file.
+//! The command that makes a graph file of a file of edges.
 
 ghost use Rattle.std.specs.Prelude.{◌≡◌, IfErr, IfOk, MatchResult, OnErr, OnOk, string_bytes};
 ghost use Rattle.sources.specs.Disk.{Stays};
-ghost use Rattle.sources.specs.Lines.{IfTold};
-ghost use Rattle.console.specs.Importing.{IsImportedAt, IsNoImportAt, IsNotImported, IsUnwritten, TellsImport, TellsMade, TriesAll, TriesImport, WritesAll, counts_line, files_of, names_written, plan_in};
-ghost use Rattle.console.specs.Program.{StaysBeforeWriting};
+ghost use Rattle.sources.specs.OutputLines.{IfText};
+ghost use Rattle.console.specs.Importing.{IsImportedAt, IsNoImportAt, IsNotImported, IsUnwritten, PrintsImport, PrintsMade, TriesAll, TriesImport, WritesAll, import_line, files_of, names_written, plan_in};
+ghost use Rattle.console.specs.FileCommands.{StaysBeforeWriting};
 
 use command_line::ImportRequest;
 use graph_import::{Imported, Plan, format_of, import};
@@ -17,8 +17,8 @@ pub(crate) fn import_file<'a, F: Files>(
     asked: ImportRequest<'a>,
     files: &mut F,
 ) -> Result<String, CommandFault<'a>>
-    ensures answered { IfTold result
-        (TellsImport (F.disk files.old) (F.disk files.new) asked.entry) }
+    ensures answered { IfText result
+        (PrintsImport (F.disk files.old) (F.disk files.new) asked.entry) }
     ensures refused { IfErr result (IsNotImported (F.disk files.old) asked.entry) }
     ensures before { IfErr result (StaysBeforeWriting (F.disk files.old) (F.disk files.new)) }
     ensures tried { OnErr result (TriesImport (F.disk files.old) (F.disk files.new) asked.entry) }
@@ -27,7 +27,7 @@ pub(crate) fn import_file<'a, F: Files>(
     write_made(alloc, &made, asked, files)
 }
 
-// What is made of the edges in a file.
+// Imports the edges in a file.
 fn made_in<'a, F: Files>(
     alloc: Global,
     asked: ImportRequest<'a>,
@@ -56,15 +56,15 @@ fn plan_of<'a>(asked: ImportRequest<'a>) -> Plan<'a>
     }
 }
 
-// Writes what was made, and tells how many vertices and edges there are.
+// Writes the result, and returns the answer with the numbers of vertices and edges.
 fn write_made<'a, F: Files>(
     alloc: Global,
     made: &Imported,
     asked: ImportRequest<'a>,
     files: &mut F,
 ) -> Result<String, CommandFault<'a>>
-    ensures answered { IfTold result
-        (TellsMade (F.disk files.old) (F.disk files.new) asked.entry made.now) }
+    ensures answered { IfText result
+        (PrintsMade (F.disk files.old) (F.disk files.new) asked.entry made.now) }
     ensures refused { IfErr result (IsUnwritten asked.entry) }
     ensures tried { OnErr result
         (TriesAll (files_of asked.entry made.now) (F.disk files.old) (F.disk files.new)) }
@@ -75,7 +75,7 @@ fn write_made<'a, F: Files>(
     Ok(told)
 }
 
-// Writes the names of the ends, where they have names.
+// Writes the names of the vertices, if they have names.
 fn write_names<'a, F: Files>(
     made: &Imported,
     asked: ImportRequest<'a>,
@@ -97,7 +97,7 @@ fn write_names<'a, F: Files>(
 }
 
 fn counts_text(alloc: Global, vertices: usize, edges: usize) -> Result<String, AllocError>
-    ensures { IfOk result (λ text. string_bytes text ≡ counts_line vertices edges) }
+    ensures { IfOk result (λ text. string_bytes text ≡ import_line vertices edges) }
 {
     let mut text = String::new(alloc);
     writeln!(text, "ok {vertices} {edges}")?;

@@ -1,22 +1,26 @@
 //! A job, from a module and a graph to printed lines.
 
-ghost use Rattle.std.specs.Prelude.{◌≡◌, true, IfOk, IfErr, MatchResult, OnOk, string_bytes};
+ghost use Rattle.std.specs.Prelude.{◌≡◌, ◌<◌, true, IfOk, IfErr, MatchResult, OnOk, Some, string_bytes};
+ghost use Rattle.rollback.specs.Saving.{HasLeft};
 ghost use Rattle.superstep.specs.Ending.{answer_of};
 ghost use Rattle.sources.specs.Disk.{Stays};
-ghost use Rattle.sources.specs.Lines.{Gains, IfTold, end_line, ended_lines, numbered_line, numbered_lines};
+ghost use Rattle.sources.specs.OutputLines.{Gains, IfText, end_line, ended_lines, numbered_line, numbered_lines};
 ghost use Rattle.sources.specs.Jobs.{IsJobOf, RefusesSettings};
 ghost use Rattle.console.specs.Jobs.{AreEndLines, AreJobLines, IsFaultOfRun};
 ghost use Rattle.console.specs.inside.Answering.{opening_fault};
 
+use crate::noting::RunNotes;
+use crate::view::{RunGate, View};
+use crate::warnings::warn_of_missed;
 use bounded_profile::Verified;
 use checkpoint::Keep;
 use graph::Graph;
-use sources::{CommandFault, Files, how_word, push_values};
+use sources::{CommandFault, Files, end_word, push_values};
 use std::alloc::{AllocError, Global};
 use std::sync::Wait;
 use std::thread::Threads;
-use superstep::{Ended, Job, JobFault, Settings};
-use workers::{Gate, run_in_threads};
+use superstep::{Job, JobEnd, JobFault, Settings};
+use workers::{resume_in_threads, run_in_threads};
 
 /// The job of a module over a graph. `Settings` names the first setting that is out of its range.
 pub fn open<'a>(
@@ -44,46 +48,85 @@ fn opening_fault<'a>(fault: JobFault) -> CommandFault<'a>
     }
 }
 
-/// What a job prints that is run in threads, its states kept here and its workers lost as the gate says: a line `v ID VALUE` for
-/// each vertex, by rising id, then `end finished supersteps S units U dropped D`, or `end limit ..` where the limit came
-/// before; and, where `tells_units` says so, a line `units S U` for each superstep. Saves that failed are a warning.
-pub fn run<'a, K: Keep + Drop, G: Gate + Sync, F: Files>(
+/// What a job prints that goes on where an earlier run of it has left off, before this superstep of the Keep's last save: the lines
+/// that `run` prints.
+pub fn resume<'a, K: Keep + Drop, V: View + Sync, F: Files>(
     rt: &(impl Wait + Threads + Sync + std::rt::Files + AllocGlobal),
     alloc: Global,
     job: &Job,
     keep: K,
-    gate: &G,
+    superstep: u32,
+    gate: &RunGate<'_, V>,
     files: &mut F,
+    notes: &mut RunNotes,
     tells_units: bool,
+    warns: bool,
 ) -> Result<String, CommandFault<'a>>
-    ensures told { IfTold result (AreEndLines tells_units) }
-    ensures answered { K.honest keep ≡ true → IfTold result (AreJobLines job.now tells_units) }
+    requires early { superstep < job.now.settings.limit }
+    requires saved { K.saved keep ≡ Some superstep }
+    requires left { K.honest keep ≡ true → HasLeft job.now (K.may_load keep) superstep }
+    ensures told { IfText result (AreEndLines tells_units) }
+    // Where the Keep is honest the job answers as if it had begun with superstep 0.
+    ensures answered { K.honest keep ≡ true → IfText result (AreJobLines job.now tells_units) }
     ensures kept { Stays (F.disk files.old) (F.disk files.new) }
     ensures refused { IfErr result IsFaultOfRun }
 {
-    match run_in_threads(rt, alloc, job, keep, gate) {
+    let answer = resume_in_threads(rt, alloc, job, keep, gate, superstep);
+    notes.note(rt, alloc, job, gate.watch(), &answer);
+    match answer {
         Ok(report) => {
-            warn_of_missed(report.missed, files);
+            gate.finish(Some(&report.ended));
+            warn_of_missed(report.missed, warns, files);
             let text = ended_text(alloc, &report.ended, tells_units)?;
             Ok(text)
         }
-        Err(fault) => Err(CommandFault::Job(fault)),
+        Err(fault) => {
+            gate.finish(None);
+            Err(CommandFault::Job(fault))
+        }
     }
 }
 
-// Warns of states that the device failed to save, where there are any.
-fn warn_of_missed<F: Files>(missed: u64, files: &mut F)
-    ensures { Stays (F.disk files.old) (F.disk files.new) }
+/// What a job prints that is run in threads, its states kept here and its workers lost as the gate says: a line `v ID VALUE` for
+/// each vertex, by rising id, then `end finished supersteps S units U dropped D`, or `end limit ..` where the limit came
+/// before; and, where `tells_units` says so, a line `units S U` for each superstep. Saves that failed are a warning, where
+/// `warns` says so.
+///
+/// Where the gate watches the job, what it was and did is noted, however it ended.
+pub fn run<'a, K: Keep + Drop, V: View + Sync, F: Files>(
+    rt: &(impl Wait + Threads + Sync + std::rt::Files + AllocGlobal),
+    alloc: Global,
+    job: &Job,
+    keep: K,
+    gate: &RunGate<'_, V>,
+    files: &mut F,
+    notes: &mut RunNotes,
+    tells_units: bool,
+    warns: bool,
+) -> Result<String, CommandFault<'a>>
+    ensures told { IfText result (AreEndLines tells_units) }
+    ensures answered { K.honest keep ≡ true → IfText result (AreJobLines job.now tells_units) }
+    ensures kept { Stays (F.disk files.old) (F.disk files.new) }
+    ensures refused { IfErr result IsFaultOfRun }
 {
-    match missed {
-        0 => {}
-        1 => files.warn("1 save failed; the job went on without it"),
-        _ => files.warn(format_args!("{missed} saves failed; the job went on without them")),
+    let answer = run_in_threads(rt, alloc, job, keep, gate);
+    notes.note(rt, alloc, job, gate.watch(), &answer);
+    match answer {
+        Ok(report) => {
+            gate.finish(Some(&report.ended));
+            warn_of_missed(report.missed, warns, files);
+            let text = ended_text(alloc, &report.ended, tells_units)?;
+            Ok(text)
+        }
+        Err(fault) => {
+            gate.finish(None);
+            Err(CommandFault::Job(fault))
+        }
     }
 }
 
 // The lines of what a job ended with.
-fn ended_text(alloc: Global, ended: &Ended, tells_units: bool) -> Result<String, AllocError>
+fn ended_text(alloc: Global, ended: &JobEnd, tells_units: bool) -> Result<String, AllocError>
     ensures { IfOk result (λ text. string_bytes text ≡ ended_lines tells_units ended.now) }
 {
     let mut text = String::new(alloc);
@@ -92,7 +135,7 @@ fn ended_text(alloc: Global, ended: &Ended, tells_units: bool) -> Result<String,
 }
 
 /// Puts the lines of what a job ended with behind a text.
-pub fn push_ended(text: &mut String, ended: &Ended, tells_units: bool) -> Result<(), AllocError>
+pub fn push_ended(text: &mut String, ended: &JobEnd, tells_units: bool) -> Result<(), AllocError>
     ensures { OnOk result (Gains text.old text.new (ended_lines tells_units ended.now)) }
 {
     push_values(text, &ended.values)?;
@@ -103,10 +146,10 @@ pub fn push_ended(text: &mut String, ended: &Ended, tells_units: bool) -> Result
     Ok(())
 }
 
-fn push_end(text: &mut String, ended: &Ended) -> Result<(), AllocError>
+fn push_end(text: &mut String, ended: &JobEnd) -> Result<(), AllocError>
     ensures { OnOk result (Gains text.old text.new (end_line (answer_of ended.now))) }
 {
-    let how = how_word(ended.how);
+    let how = end_word(ended.how);
     let (superstep, units, dropped) = (ended.superstep, ended.units, ended.dropped);
     writeln!(
         text,

@@ -1,19 +1,30 @@
-//! The console: a compute call, a job and its replay to printed lines, and the commands over files.
+//! The commands over files: what `pregel call`, `run`, `replay`, `verify`, `upgrade`, `asm`, `print` and `graph` read,
+//! print and write. The session of `pregel console` is in crate `session`.
 #![tactic(auto)]
 
-mod engine;
+mod compute_call;
+mod file_commands;
 mod importing;
 mod jobs;
+mod keeping;
 mod laws;
 mod loss;
-mod program;
+mod noting;
 mod replay;
+mod sheets;
+mod sizes;
 mod step_line;
 mod steps;
+mod view;
+mod warnings;
+mod watching;
 
-pub use engine::call;
+pub use compute_call::call;
+pub use file_commands::command;
 pub use laws::one_answer;
 pub use loss::{Loss, LossGate};
-pub use program::command;
+pub use noting::RunNotes;
 pub use replay::trace_text;
+pub use sheets::write_sheets;
 pub use steps::steps_of;
+pub use view::{NoView, View};

@@ -1,11 +1,13 @@
-//! The worker of a run that is lost.
+//! The worker that a run loses on purpose.
 
 ghost use Rattle.std.specs.Prelude.{◌≡◌};
 ghost use Rattle.console.specs.Loss.{is_due, loss_of};
 
-use sources::small_of;
+use crate::watching::Watch;
+use sources::u32_of;
+use std::sync::Wait;
 use std::sync::atomic::{AtomicBool, Ordering};
-use workers::{Gate, Turn};
+use workers::{Gate, Turn, Worked};
 
 /// A worker that is lost once, with the first task that it begins in this superstep or a later one.
 #[derive(Clone, Copy)]
@@ -17,17 +19,17 @@ pub struct Loss {
 }
 
 impl Loss {
-    /// The loss that a text `W:S` names. Both are numbers of 32 bits, in decimal digits.
+    /// Reads a loss `W:S`. Both are numbers of 32 bits, in decimal digits.
     pub fn read(text: &str) -> Option<Loss>
         ensures { result ≡ loss_of text.now }
     {
         let (worker, superstep) = text.split_once(':')?;
-        let worker = small_of(worker.as_bytes())?;
-        let superstep = small_of(superstep.as_bytes())?;
+        let worker = u32_of(worker.as_bytes())?;
+        let superstep = u32_of(superstep.as_bytes())?;
         Some(Loss { worker, superstep })
     }
 
-    /// Whether the worker is lost with a task of this superstep, if it was not lost before.
+    /// Returns whether the worker is lost with a task of this superstep, if it was not lost before.
     pub fn is_due(self, worker: u32, superstep: u32) -> bool
         ensures { result ≡ is_due self worker superstep }
     {
@@ -41,12 +43,15 @@ pub struct LossGate {
     pub loss: Option<Loss>,
     /// Whether the worker that is lost joins again.
     pub again: bool,
+    /// What is counted of the job, where it is watched.
+    pub watch: Option<Watch>,
     // Whether it was lost.
     is_over: AtomicBool,
 }
 
 impl LossGate {
-    /// The gate of a run in which nobody was lost yet: this worker is to be, or none, and joins again where `again` says so.
+    /// The gate of a run in which nobody was lost yet: this worker is to be, or none, and joins again where `again` says so. The
+    /// job is not watched.
     pub fn new(loss: Option<Loss>, again: bool) -> LossGate
         ensures loss { result.loss ≡ loss }
         ensures again { result.again ≡ again }
@@ -54,6 +59,7 @@ impl LossGate {
         LossGate {
             loss,
             again,
+            watch: None,
             is_over: AtomicBool::new(false),
         }
     }
@@ -76,5 +82,15 @@ impl Gate for LossGate {
 
     fn tick(&self, _n: u64) -> bool {
         false
+    }
+
+    fn counts(&self) -> bool {
+        self.watch.is_some()
+    }
+
+    fn worked<R: Wait>(&self, rt: &R, _worker: u32, work: Worked) {
+        if let Some(watch) = &self.watch {
+            watch.add(rt, work);
+        }
     }
 }

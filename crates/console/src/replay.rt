@@ -1,9 +1,9 @@
-//! A job over a list of steps, to printed lines.
+//! The replay of a job over a list of steps.
 
 ghost use Rattle.std.specs.Prelude.{◌≡◌, IfOk, IfErr, OnOk, string_bytes};
 ghost use Rattle.std.specs.List.{flat_map};
-ghost use Rattle.sources.specs.Lines.{Gains, IfTold};
-ghost use Rattle.console.specs.Replays.{AreReplayLines, IsFaultOfReplay, answer_line, outcome_lines, report_lines, said_line, trace_lines};
+ghost use Rattle.sources.specs.OutputLines.{Gains, IfText};
+ghost use Rattle.console.specs.Replays.{AreReplayLines, IsFaultOfReplay, answer_line, replay_end_lines, report_lines, said_line, trace_lines};
 
 use crate::jobs::{push_ended, push_numbered};
 use checkpoint::MemoryKeep;
@@ -14,11 +14,11 @@ use std::rt::Files;
 use std::thread::Threads;
 use superstep::Job;
 
-/// What a job over these steps prints, its states kept in memory: a line for each step, and then where they lead.
+/// Replays a job over these steps, with its states in memory. Returns a line for each step, and where the steps lead.
 ///
-/// A step's line is `idle`, `handed PART`, `taken`, `advanced S`, `rolledback S`, `stale` or `ended`. Where the job has ended,
-/// the lines of `run` follow, then `epoch E missed M restarts R`, and `spent W U` for each worker; else `open S`. The job's
-/// fault is told alone.
+/// The line of a step is `idle`, `handed PART`, `taken`, `advanced S`, `rolledback S`, `stale` or `ended`. If the job has
+/// ended, the lines of `run` follow, then `epoch E missed M restarts R`, and `spent W U` for each worker. Otherwise `open
+/// S` follows. A job that ends with a fault has no lines.
 pub fn replay<'a, R: Threads + Sync + Files + AllocGlobal>(
     rt: &R,
     alloc: Global,
@@ -26,7 +26,7 @@ pub fn replay<'a, R: Threads + Sync + Files + AllocGlobal>(
     steps: &[Step],
     tells_units: bool,
 ) -> Result<String, CommandFault<'a>>
-    ensures told { IfTold result (AreReplayLines job.now tells_units steps.now) }
+    ensures told { IfText result (AreReplayLines job.now tells_units steps.now) }
     ensures refused { IfErr result (IsFaultOfReplay job.now steps.now) }
 {
     let mut keep = MemoryKeep::new(alloc);
@@ -39,7 +39,7 @@ pub fn replay<'a, R: Threads + Sync + Files + AllocGlobal>(
     }
 }
 
-/// The lines of a replay: one for each step, and where they lead.
+/// Writes the lines of a replay: one for each step, and where the steps lead.
 pub fn trace_text(alloc: Global, trace: &Trace, tells_units: bool) -> Result<String, AllocError>
     ensures { IfOk result (λ text. string_bytes text ≡ trace_lines tells_units trace.now) }
 {
@@ -81,7 +81,7 @@ fn push_said(text: &mut String, answer: Answer) -> Result<(), AllocError>
 }
 
 fn push_outcome(text: &mut String, outcome: &Outcome, tells_units: bool) -> Result<(), AllocError>
-    ensures { OnOk result (Gains text.old text.new (outcome_lines tells_units outcome.now)) }
+    ensures { OnOk result (Gains text.old text.new (replay_end_lines tells_units outcome.now)) }
 {
     match outcome {
         Outcome::Open(superstep) => writeln!(text, "open {superstep}"),

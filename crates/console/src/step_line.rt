@@ -1,13 +1,13 @@
-//! What one line of a replay says.
+//! One line of a replay.
 
 ghost use Rattle.std.specs.Prelude.{◌≡◌};
 ghost use Rattle.console.specs.StepLine.{alone, of_worker, step_line_of};
 
-use graph::Fields;
+use line_text::Fields;
 use rollback::Step;
-use sources::small_of;
+use sources::u32_of;
 
-/// What a line says.
+/// The meaning of a line.
 #[derive(Clone, Copy)]
 pub enum StepLine {
     /// It is blank, or a comment.
@@ -18,7 +18,7 @@ pub enum StepLine {
     Bad,
 }
 
-/// What a line says, without its end.
+/// Reads a line, without its line feed.
 pub fn step_line_of(line: &str) -> StepLine
     ensures { result ≡ step_line_of line.now }
 {
@@ -38,7 +38,7 @@ pub fn step_line_of(line: &str) -> StepLine
     of_worker(name, worker)
 }
 
-// A line of a name alone.
+// Reads a line of a name alone.
 fn alone(name: &[u8]) -> StepLine
     ensures { result ≡ alone name.now }
 {
@@ -49,21 +49,21 @@ fn alone(name: &[u8]) -> StepLine
     }
 }
 
-// A line of a name and a worker.
+// Reads a line of a name and a worker.
 fn of_worker(name: &[u8], worker: &[u8]) -> StepLine
     ensures { result ≡ of_worker name.now worker.now }
 {
     if name == b"take".as_slice() {
-        return small_of(worker).map_or(StepLine::Bad, |w| StepLine::Says(Step::Take(w)));
+        return u32_of(worker).map_or(StepLine::Bad, |w| StepLine::Says(Step::Take(w)));
     }
     if name == b"work".as_slice() {
-        return small_of(worker).map_or(StepLine::Bad, |w| StepLine::Says(Step::Work(w)));
+        return u32_of(worker).map_or(StepLine::Bad, |w| StepLine::Says(Step::Work(w)));
     }
     if name == b"lose".as_slice() {
-        return small_of(worker).map_or(StepLine::Bad, |w| StepLine::Says(Step::Lose(w)));
+        return u32_of(worker).map_or(StepLine::Bad, |w| StepLine::Says(Step::Lose(w)));
     }
     if name == b"join".as_slice() {
-        return small_of(worker).map_or(StepLine::Bad, |w| StepLine::Says(Step::Join(w)));
+        return u32_of(worker).map_or(StepLine::Bad, |w| StepLine::Says(Step::Join(w)));
     }
     StepLine::Bad
 }

@@ -1,4 +1,4 @@
-//! The steps of a replay, as a text says them.
+//! The steps of a replay, read from a text.
 
 ghost use Rattle.std.specs.Prelude.{◌≡◌, ◌≢◌, Ok, MatchResult, OnOk, IfErr};
 ghost use Rattle.console.specs.Steps.{IsStepsFault, steps_of};
@@ -10,12 +10,12 @@ use rollback::Step;
 use sources::InputFault;
 use std::alloc::Global;
 
-/// The steps that a text means.
+/// Reads the steps of a text.
 ///
-/// Lines and fields are cut as a graph file's, and a line of blanks only and one that begins with `#` say nothing. Any other
-/// line is `take W`, `work W`, `lose W`, `tick` or `join W`, where W is a number of 32 bits in decimal digits.
+/// Lines and fields are cut as in a graph file. Blank lines and lines that begin with `#` are skipped. Any other line is
+/// `take W`, `work W`, `lose W`, `tick` or `join W`, where W is a number of 32 bits in decimal digits.
 ///
-/// `Line` tells the first line that is none of these.
+/// `Line` reports the first line that is none of these.
 pub fn steps_of(alloc: Global, text: &str) -> Result<Vec<Step>, InputFault>
     ensures { MatchResult result (λ steps. steps_of text.now ≡ Ok steps.items)
         (IsStepsFault text.now) }
@@ -27,7 +27,7 @@ pub fn steps_of(alloc: Global, text: &str) -> Result<Vec<Step>, InputFault>
     Ok(steps)
 }
 
-// Adds what the line of this number says.
+// Adds the step of the line with this number.
 fn add(steps: &mut Vec<Step>, number: usize, line: StepLine) -> Result<(), InputFault>
     ensures added { OnOk result (with_step steps.old.items line ≡ Ok steps.new.items) }
     ensures refused { IfErr result (λ fault. fault ≢ InputFault.OutOfMemory

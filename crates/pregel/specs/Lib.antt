@@ -1,2 +1,2 @@
--- What a reader has to believe: what the program does for what its command line asks.
+-- The definitions to read: what the program does for its command line.
 pub mod Program

@@ -4,35 +4,45 @@
 ghost use Rattle.std.specs.Prelude.{◌≡◌, ◌⊎◌, IfOk, OnErr};
 ghost use Rattle.std.specs.Process.{exit_status};
 
-mod noting;
+mod failure_recorder;
 mod program;
+mod progress_line;
 
-use crate::noting::Noting;
-use crate::program::carry_out;
+use crate::failure_recorder::FailureRecorder;
+use crate::program::execute;
+use crate::progress_line::ProgressLine;
 use clap::error::ErrorKind;
 use command_line::{Options, options};
 use session::ServeFault;
 use sources::{CommandFault, SystemFiles};
+use std::io::IsTerminal;
 use std::process::ExitCode;
 use std::rt::{Env, Files};
 use std::sync::Wait;
-use std::thread::Threads;
+use std::thread::{Threads, available_parallelism};
+use std::time::Clock;
 use std::{env, io};
 
 fn main(rt: HostRuntime) -> ExitCode {
-    let outcome = run(&rt);
+    let is_terminal = rt.stderr().is_terminal();
+    let outcome = run(&rt, is_terminal);
     exit_code(&rt, outcome)
 }
 
-// The status: 0 for an answer, 1 for a refusal, 2 for a mistake in the command line, 3 for a job that ended by a fault, 4
-// for a file that cannot be read or written.
+// Runs the program and returns its status:
+// * 0: an answer, a session that ended well, or help;
+// * 1: a refusal, also because memory ran out;
+// * 2: a mistake in the command line;
+// * 3: a job that ended with a fault;
+// * 4: a file, standard input or standard output that cannot be read or written, or a session that ran out of memory.
 fn run(
-    rt: &(impl Env + Input + Files + Print + Eprint + AllocGlobal + Threads + Wait + Sync),
+    rt: &(impl Clock + Env + Input + Files + Print + Eprint + AllocGlobal + Threads + Wait + Sync),
+    is_terminal: bool,
 ) -> io::Result<u8> {
     match env::args(rt) {
         Ok(arguments) => {
             let words: Vec<String> = arguments.collect(rt.alloc())?;
-            read_and_carry_out(rt, words.as_slice())
+            read_and_execute(rt, words.as_slice(), is_terminal)
         }
         Err(error) if error.kind() == io::ErrorKind::InvalidData => {
             eprintln!(rt; "error: an argument is not in UTF-8")?;
@@ -42,10 +52,11 @@ fn run(
     }
 }
 
-// Does what the words ask for; the first is the program's name.
-fn read_and_carry_out(
-    rt: &(impl Input + Files + Print + Eprint + AllocGlobal + Threads + Wait + Sync),
+// Does what the words ask for; the first is the program's name. Standard error is a terminal or is not.
+fn read_and_execute(
+    rt: &(impl Clock + Input + Files + Print + Eprint + AllocGlobal + Threads + Wait + Sync),
     words: &[String],
+    is_terminal: bool,
 ) -> io::Result<u8> {
     let alloc = rt.alloc();
     let options = match options(alloc, words) {
@@ -58,15 +69,26 @@ fn read_and_carry_out(
             return Ok(if error.use_stderr() { 2 } else { 0 });
         }
     };
-    // (what goes wrong with the files of a session is told by its replies alone)
+    // (failures of a session's files are only in its replies)
     let tells = matches!(options, Options::Command { .. });
+    let view = ProgressLine::new(rt, is_terminal);
     let mut files = SystemFiles::new(rt, tells);
-    let mut reader = Noting::new(rt.reader());
-    let mut writer = Noting::new(io::writer(rt));
-    match carry_out(rt, alloc, options, &mut files, &mut reader, &mut writer) {
+    let mut reader = FailureRecorder::new(rt.reader());
+    let mut writer = FailureRecorder::new(io::writer(rt));
+    let processors = processors(rt);
+    match execute(
+        rt,
+        alloc,
+        options,
+        processors,
+        &view,
+        &mut files,
+        &mut reader,
+        &mut writer,
+    ) {
         Ok(status) => Ok(status),
-        Err(ServeFault::Read) => Ok(unserved(rt, "standard input", reader.failure())),
-        Err(ServeFault::Write) => Ok(unserved(rt, "standard output", writer.failure())),
+        Err(ServeFault::Read) => Ok(report_failure(rt, "standard input", reader.failure())),
+        Err(ServeFault::Write) => Ok(report_failure(rt, "standard output", writer.failure())),
         Err(ServeFault::OutOfMemory) => {
             let _ = eprintln!(rt; "pregel: out of memory");
             Ok(4)
@@ -74,8 +96,16 @@ fn read_and_carry_out(
     }
 }
 
+// How many processors the program may use; 1 where that is not known.
+fn processors(rt: &impl Threads) -> u32 {
+    match available_parallelism(rt) {
+        Ok(count) => u32::try_from(count.get()).unwrap_or(u32::MAX),
+        Err(_) => 1,
+    }
+}
+
 // Tells which stream failed, and why where that is known. The status is 4.
-fn unserved(rt: &impl Eprint, stream: &str, failure: Option<io::Error>) -> u8
+fn report_failure(rt: &impl Eprint, stream: &str, failure: Option<io::Error>) -> u8
     ensures { result ≡ 4 }
 {
     let _ = match failure {
@@ -85,7 +115,7 @@ fn unserved(rt: &impl Eprint, stream: &str, failure: Option<io::Error>) -> u8
     4
 }
 
-// The process ends with the status; where there is none, with 1 for want of memory and 4 for a writer that failed.
+// Returns the exit code for the status. Without a status it is 1 if memory ran out, and 4 if a writer failed.
 fn exit_code(rt: &(impl Print + Eprint), outcome: io::Result<u8>) -> ExitCode
     ensures ended { IfOk outcome (λ status. exit_status result ≡ status) }
     ensures failed { OnErr outcome ((exit_status result ≡ 1) ⊎ (exit_status result ≡ 4)) }
@@ -96,16 +126,16 @@ fn exit_code(rt: &(impl Print + Eprint), outcome: io::Result<u8>) -> ExitCode
     }
 }
 
-// Want of memory is told on standard output, and what failed else on standard error: what else is asked of the system here is
-// to write there.
+// Reports that memory ran out on standard output. Any other failure is taken for one of standard output, and is reported on
+// standard error.
 fn failed(rt: &(impl Print + Eprint), error: &io::Error) -> ExitCode
     ensures { (exit_status result ≡ 1) ⊎ (exit_status result ≡ 4) }
 {
     if error.kind() != io::ErrorKind::OutOfMemory {
-        return ExitCode::from(unserved(rt, "standard output", Some(*error)));
+        return ExitCode::from(report_failure(rt, "standard output", Some(*error)));
     }
     match println!(rt; "{}", CommandFault::OutOfMemory) {
         Ok(()) => ExitCode::from(1),
-        Err(error) => ExitCode::from(unserved(rt, "standard output", Some(error))),
+        Err(error) => ExitCode::from(report_failure(rt, "standard output", Some(error))),
     }
 }

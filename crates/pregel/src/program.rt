@@ -1,11 +1,15 @@
 //! What the program does for its options.
 
-ghost use Rattle.std.specs.Prelude.{◌≡◌, false};
+ghost use Rattle.std.specs.Prelude.{◌≡◌, ℕ, List, false};
+ghost use Rattle.command_line.specs.Machine.{options_on};
 ghost use Rattle.sources.specs.Disk.{Stays};
-ghost use Rattle.pregel.specs.Program.{Does, may_write};
+ghost use Rattle.console.specs.FileCommands.{writes_file};
+ghost use Rattle.console.specs.Sheets.{asks_sheets};
+ghost use Rattle.pregel.specs.Program.{CommandTold, Does, IsCommandTold, may_write};
 
-use command_line::Options;
-use console::command;
+use command_line::{Options, Request};
+use console::{RunNotes, View, command, write_sheets};
+use line_text::WriteFailure;
 use session::{JobRunner, ServeFault, serve};
 use sources::Files;
 use std::alloc::Global;
@@ -14,21 +18,25 @@ use std::sync::Wait;
 use std::thread::Threads;
 use workers::NoLoss;
 
-/// Does what the options ask for, and answers the status for the process: it serves a session from the reader to the writer, whose
-/// jobs run in threads and lose no worker, and answers 0; or carries out a command, and answers what `console::command` does.
+/// Does what the options ask for on a machine that has so many processors, and answers the status for the process: it serves a
+/// session from the reader to the writer, whose jobs run in threads and lose no worker, and answers 0; or carries out a command,
+/// writes the report and the chart of a run where these are asked for, and answers what `console::command` and `write_sheets` do. A
+/// run shows in the view how far it has come.
 ///
 /// It fails as `serve` does, and with `Write` where the writer failed as a command was answered.
-pub fn carry_out<R: Read, W: Write, F: Files>(
+pub fn execute<R: Read, W: Write, F: Files, V: View + Sync>(
     rt: &(impl Wait + Threads + Sync + std::rt::Files + AllocGlobal),
     alloc: Global,
     options: Options<'_>,
+    processors: u32,
+    view: &V,
     files: &mut F,
     reader: &mut R,
     writer: &mut W,
 ) -> Result<u8, ServeFault>
-    ensures done { Does options.entry (F.disk files.old) (F.disk files.new)
-        (R.remaining reader.old) (R.remaining reader.new) (W.contents writer.old)
-        (W.contents writer.new) result }
+    ensures done { Does (options_on processors options.entry)
+        (F.disk files.old) (F.disk files.new) (R.remaining reader.old)
+        (R.remaining reader.new) (W.contents writer.old) (W.contents writer.new) result }
     // Only commands that are to write one of `files` write one.
     ensures kept { may_write options.entry ≡ false → Stays (F.disk files.old) (F.disk files.new) }
 {
@@ -38,8 +46,33 @@ pub fn carry_out<R: Read, W: Write, F: Files>(
             Ok(0)
         }
         Options::Command { request, explains } => {
-            let status = command(rt, alloc, request, explains, files, writer)?;
+            let asked = request.on_machine(processors);
+            let status = carry_out_command(rt, alloc, asked, explains, view, files, writer)?;
             Ok(status)
         }
     }
+}
+
+// Carries out a command, and writes the report and the chart of a run, where it asks for these.
+fn carry_out_command<W: Write, F: Files, V: View + Sync>(
+    rt: &(impl Wait + Threads + Sync + std::rt::Files + AllocGlobal),
+    alloc: Global,
+    request: Request<'_>,
+    explains: bool,
+    view: &V,
+    files: &mut F,
+    writer: &mut W,
+) -> Result<u8, WriteFailure>
+    ensures told { (status : ℕ) × (told : List ℕ)
+        × CommandTold (F.disk files.old) (F.disk files.new) request.entry status told
+        × IsCommandTold request.entry (W.contents writer.old) (W.contents writer.new)
+        status told result }
+    ensures kept { writes_file request.entry ≡ false → asks_sheets request.entry ≡ false
+        → Stays (F.disk files.old) (F.disk files.new) }
+{
+    let mut notes = RunNotes::new();
+    let status = command(
+        rt, alloc, request, explains, view, files, writer, &mut notes,
+    )?;
+    Ok(write_sheets(alloc, request, status, &notes, files))
 }

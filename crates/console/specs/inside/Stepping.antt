@@ -4,7 +4,7 @@ use Rattle.rollback.specs.declared.simulation.Step.{Step}
 use Rattle.console.specs.declared.step_line.StepLine.{StepLine}
 use Rattle.console.specs.declared.step_line.StepLine.TheVariants.{Skipped, Says, Bad}
 
--- the steps with what the line says; a bad line is not added
+-- the steps with the step of the line; a bad line is not added
 abbrev pub with_step : List Step → StepLine → Result (List Step) StepLine
 with_step steps Skipped = Ok steps
 with_step steps (Says step) = Ok (steps ++ step ∷ [])

@@ -1,5 +1,5 @@
 use Rattle.std.proofs.Common.{◌+◌, ◌++◌, ◌∙◌, ap, get_or, string_bytes}
-use Rattle.sources.specs.Lines.{numbered_line}
+use Rattle.sources.specs.OutputLines.{numbered_line}
 use Rattle.console.proofs.JobLines.{numbered_more}
 use Rattle.console.proofs.jobs.push_numbered.Goals as goal
 

@@ -1,6 +1,6 @@
 use Rattle.std.proofs.Common.{◌≡◌, ◌∙◌, subst, sym}
 use Rattle.wasm_ast.specs.declared.module.Module.{Module}
-use Rattle.console.specs.Engine.{Answers}
+use Rattle.console.specs.ComputeCall.{Answers}
 use Rattle.console.proofs.Meanings.{outcome_of_meaning, same_lines}
 use Rattle.console.proofs.laws.one_answer.Goals as goal
 

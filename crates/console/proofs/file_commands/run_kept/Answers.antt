@@ -1,0 +1,12 @@
+use Rattle.std.proofs.Common.{inl, inr}
+use Rattle.sources.proofs.Faults.{IfErr-along, is_fault}
+use Rattle.console.proofs.Folders.{nested}
+use Rattle.console.proofs.file_commands.run_kept.Goals as goal
+
+pub returns-in_err-keep-in-Some-clause-refused : goal.returns-in_err-keep-in-Some-clause-refused
+returns-in_err-keep-in-Some-clause-refused g c =
+    rw (is_fault _ _ c.from_residual.ensures.1, c.in-Some.is) (nested c.in_err-keep-in-Some.ensures.refused)
+
+pub returns-in_ok-keep-in-Some-clause-refused : goal.returns-in_ok-keep-in-Some-clause-refused
+returns-in_ok-keep-in-Some-clause-refused g c =
+    rw c.in-Some.is (IfErr-along c.run_in_folder.result (λ fault is. inr (inr is)) c.run_in_folder.ensures.refused)

@@ -1,0 +1,85 @@
+//! What a run shows while it goes on, beside its answer.
+
+use crate::loss::LossGate;
+use crate::watching::Watch;
+use std::sync::Wait;
+use superstep::JobEnd;
+use workers::{Gate, Turn, Worked};
+
+/// Where it is shown how far a run has come. Nothing is claimed of what it shows.
+pub trait View {
+    /// Whether somebody looks at it, as at a terminal.
+    fn is_watched(&self) -> bool;
+
+    /// A worker begins a task of this superstep. Workers tell so at the same time.
+    fn show(&self, superstep: u32);
+
+    /// The run is over, and this is what it ended with, where it has an answer.
+    fn finish(&self, ended: Option<&JobEnd>);
+}
+
+/// A view at which nobody looks.
+pub struct NoView;
+
+impl View for NoView {
+    fn is_watched(&self) -> bool {
+        false
+    }
+
+    fn show(&self, _superstep: u32) {}
+
+    fn finish(&self, _ended: Option<&JobEnd>) {}
+}
+
+/// The gate of a run that shows how far it has come, where there is a view.
+#[derive(Drop)]
+pub struct RunGate<'a, V> {
+    loss: LossGate,
+    view: Option<&'a V>,
+}
+
+impl<'a, V: View> RunGate<'a, V> {
+    /// A gate that loses workers as the other does.
+    pub fn new(loss: LossGate, view: Option<&'a V>) -> RunGate<'a, V> {
+        RunGate { loss, view }
+    }
+
+    /// The run is over, and this is what it ended with, where it has an answer.
+    pub fn finish(&self, ended: Option<&JobEnd>) {
+        if let Some(view) = self.view {
+            view.finish(ended);
+        }
+    }
+}
+
+impl<V> RunGate<'_, V> {
+    /// What is counted of the job, where it is watched.
+    pub fn watch(&self) -> Option<&Watch> {
+        self.loss.watch.as_ref()
+    }
+}
+
+impl<V: View> Gate for RunGate<'_, V> {
+    fn before(&self, worker: u32, superstep: u32, part: u32) -> Turn {
+        if let Some(view) = self.view {
+            view.show(superstep);
+        }
+        self.loss.before(worker, superstep, part)
+    }
+
+    fn again(&self, worker: u32) -> bool {
+        self.loss.again(worker)
+    }
+
+    fn tick(&self, n: u64) -> bool {
+        self.loss.tick(n)
+    }
+
+    fn counts(&self) -> bool {
+        self.loss.counts()
+    }
+
+    fn worked<R: Wait>(&self, rt: &R, worker: u32, work: Worked) {
+        self.loss.worked(rt, worker, work);
+    }
+}

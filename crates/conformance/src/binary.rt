@@ -1,10 +1,12 @@
 //! Modules in the binary format (Core 1.0, section 5).
 //!
-//! A file begins with a comment. Behind it a line `= QUESTION FRAME` asks a question of each case up to the next such
-//! line; the case's text stands where the frame has `..`. The question `decode` shows the module that the bytes spell,
-//! `alike` the fault that each of several bytes has in the frame, `encode` the shortest spelling of the same module,
-//! `length` how long that of a text's module is, and `damage` what becomes of the fronts of the bytes and of their
-//! changes.
+//! A file begins with a comment. A line `= QUESTION FRAME` asks a question of each case up to the next such line. The text
+//! of a case replaces `..` in the frame. The questions are:
+//! * `decode`: the module that the bytes spell;
+//! * `alike`: the fault that each of several bytes has in the frame;
+//! * `encode`: the shortest spelling of the same module;
+//! * `length`: the length of the shortest spelling of a text's module;
+//! * `damage`: what becomes of the fronts of the bytes, and of their changes.
 
 mod bounded;
 mod damage;
@@ -23,15 +25,15 @@ use std::rt::Files;
 use wasm_ast::Module;
 
 const FILES: [&str; 6] = [
-    "binary_modules.txt",
-    "binary_sections.txt",
-    "binary_code.txt",
-    "binary_limits.txt",
-    "binary_encoded.txt",
-    "binary_damaged.txt",
+    "wasm_decode/binary-modules.txt",
+    "wasm_decode/binary-sections.txt",
+    "wasm_decode/binary-code.txt",
+    "wasm_decode/binary-limits.txt",
+    "wasm_decode/binary-encoded.txt",
+    "wasm_decode/binary-damaged.txt",
 ];
 
-// From so many on, neighbouring words that are equal stand as one.
+// From this many on, equal words in a row are written as one.
 const MANY: usize = 10;
 
 type Answer = Result<String, CommandFault<'static>>;
@@ -79,7 +81,7 @@ fn show_file(rt: &(impl Files + Print + AllocGlobal), file: &str) -> Result<()> 
     Ok(())
 }
 
-// A question with its frame, and a line for each case behind it.
+// Shows a question with its frame, and a line for each case after it.
 fn show_part(rt: &(impl Print + AllocGlobal), part: &str) -> Result<()> {
     let (question, cases) = part.split_once('\n').unwrap_or((part, ""));
     let frame = Frame::new(question);
@@ -112,7 +114,7 @@ fn answer(alloc: Global, frame: Frame, text: &str) -> Answer {
     }
 }
 
-// The text of the module that the bytes spell.
+// Prints the module that the bytes spell.
 fn shown(alloc: Global, bytes: &[u8]) -> Answer {
     let module = decoded(alloc, bytes)?;
     Ok(printed_on_one_line(alloc, &module)?)
@@ -123,7 +125,7 @@ fn printed_on_one_line(alloc: Global, module: &Module) -> Result<String, AllocEr
     on_one_line(alloc, text.as_str())
 }
 
-// The words of a text with a blank between them.
+// Joins the words of a text by single blanks.
 fn on_one_line(alloc: Global, text: &str) -> Result<String, AllocError> {
     let mut line = String::new(alloc);
     let mut run = Run {
@@ -137,7 +139,7 @@ fn on_one_line(alloc: Global, text: &str) -> Result<String, AllocError> {
     Ok(line)
 }
 
-// Words that are equal, one behind another.
+// Equal words in a row.
 #[derive(Drop)]
 struct Run {
     word: String,
@@ -145,7 +147,7 @@ struct Run {
 }
 
 impl Run {
-    // Counts the word, or writes the run and begins one of this word.
+    // Counts the word if it is the same, or writes the row and begins one of this word.
     fn take(&mut self, word: &str, line: &mut String) -> Result<(), AllocError> {
         if word != self.word.as_str() {
             self.write(line)?;
@@ -157,7 +159,7 @@ impl Run {
         Ok(())
     }
 
-    // Appends the words, as `⟦N|WORD⟧` where they are many.
+    // Appends the words, as `⟦N|WORD⟧` if they are many.
     fn write(&self, line: &mut String) -> Result<(), AllocError> {
         if self.count >= MANY {
             push_blank(line)?;
@@ -171,7 +173,7 @@ impl Run {
     }
 }
 
-// Appends a blank where something stands before it.
+// Appends a blank if the line is not empty.
 fn push_blank(line: &mut String) -> Result<(), AllocError> {
     if line.is_empty() {
         Ok(())
@@ -180,7 +182,7 @@ fn push_blank(line: &mut String) -> Result<(), AllocError> {
     }
 }
 
-// What is told of each of the bytes in the frame, or the first byte of which something else is.
+// Returns the answer that each of the bytes has in the frame, or the first byte with another one.
 fn alike(alloc: Global, frame: Frame, text: &str) -> Answer {
     let (first, others) = text.split_once(' ').unwrap_or((text, ""));
     let told = told_of(alloc, frame, first)?;
@@ -217,7 +219,7 @@ fn told_of(alloc: Global, frame: Frame, text: &str) -> Result<String, AllocError
     }
 }
 
-// The shortest spelling of the module that the bytes spell.
+// Encodes the module that the bytes spell.
 fn encoded(alloc: Global, bytes: &[u8]) -> Answer {
     let module = decoded(alloc, bytes)?;
     spelled_again(alloc, &module, bytes)
@@ -240,7 +242,7 @@ fn in_hexadecimal(alloc: Global, bytes: &[u8]) -> Result<String, AllocError> {
     Ok(text)
 }
 
-// How many bytes the shortest spelling of a text's module takes.
+// Returns the length of the shortest spelling of a text's module.
 fn length(alloc: Global, frame: Frame, text: &str) -> Answer {
     let line = frame.filled(alloc, text)?;
     let text = spelled(alloc, line.as_str())?;

@@ -1,9 +1,9 @@
-//! Compute calls of modules as text (Core 1.0, section 4), answered by the slow walk over the valid module and, where it
-//! is in the bounded profile, by `interp` too.
+//! Compute calls of modules as text (Core 1.0, section 4). The reference call answers them over the valid module. If the
+//! module is in the bounded profile, `interp` answers them too.
 //!
-//! `BODY | with FIELDS | input LINES | within UNITS`, the body and the fields standing in the two holes `□` of the frame,
-//! which a line `frame: FILE` sets; a frame that is no file's name stands for itself. Without `input` the vertex is that
-//! of `calls-vertex.txt`, and without `within` a call may take 1000 units.
+//! A case is `BODY | with FIELDS | input LINES | within UNITS`. The body and the fields replace the two `□` of the frame. A
+//! line `frame: FILE` sets the frame; other text after `frame:` is the frame itself. Without `input` the vertex is that of
+//! `interp/calls-vertex.txt`. Without `within` a call may take 1000 units.
 
 pub mod alike;
 mod forms;
@@ -19,12 +19,12 @@ use std::fs;
 use std::rt::Files;
 
 const FILES: [&str; 6] = [
-    "calls-numbers.txt",
-    "calls-control.txt",
-    "calls-functions.txt",
-    "calls-memories.txt",
-    "calls-host.txt",
-    "calls-modules.txt",
+    "interp/calls-numbers.txt",
+    "interp/calls-control.txt",
+    "interp/calls-functions.txt",
+    "interp/calls-memories.txt",
+    "interp/calls-host.txt",
+    "interp/calls-modules.txt",
 ];
 
 const ENOUGH: u128 = 1000;
@@ -71,7 +71,7 @@ impl<'a> Case<'a> {
 }
 
 pub fn show(rt: &(impl Files + Print + AllocGlobal)) -> Result<()> {
-    let vertex = fs::read_to_string(rt, "calls-vertex.txt")?;
+    let vertex = fs::read_to_string(rt, "interp/calls-vertex.txt")?;
     for file in FILES {
         show_file(rt, file, vertex.as_str())?;
     }
@@ -91,7 +91,7 @@ fn show_lines(rt: &(impl Files + Print + AllocGlobal), text: &str, vertex: &str)
     Ok(())
 }
 
-// Shows a case in the frame, or makes another the frame.
+// Shows a case in the frame, or sets another frame.
 fn show_line(
     rt: &(impl Files + Print + AllocGlobal),
     line: &str,
@@ -131,7 +131,7 @@ fn answer_to(
     answer(alloc, frame, Case::new(text.as_str(), vertex))
 }
 
-/// Prints what is answered at a name, or the line of the fault.
+/// Prints the answer after a name, or the line of the fault.
 fn tell(
     rt: &(impl Print + AllocGlobal),
     name: &str,

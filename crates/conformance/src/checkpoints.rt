@@ -1,6 +1,6 @@
-//! States as bytes: `NAME: HEX` prints what is read of the bytes, how long it is written, and `alike` where those are the
-//! bytes that were read; or why they are no checkpoint. `NAME: fronts HEX` counts how many of the shorter fronts of the bytes are
-//! read, and `NAME: changes HEX` how many of the bytes with one of them changed.
+//! States as bytes. `NAME: HEX` prints the state that the bytes hold and how long it is written, with `alike` if that gives
+//! the same bytes; or why they are no checkpoint. `NAME: fronts HEX` counts the shorter fronts of the bytes that are read.
+//! `NAME: changes HEX` counts the changes of one byte with which the bytes are read.
 
 use anyhow::Result;
 use checkpoint::{read, write};
@@ -12,7 +12,7 @@ use superstep::{State, VertexState};
 pub fn show(rt: &(impl Files + Print + AllocGlobal)) -> Result<()> {
     show_cases(
         rt,
-        "checkpoints.txt",
+        "checkpoint/checkpoints.txt",
         |alloc, line| Ok(answer(alloc, named(line).1)?),
     )
 }
@@ -104,7 +104,7 @@ fn tell_written(
     write!(text, ", written {}{alike}", written.len())
 }
 
-/// What stands in a state, but for what its slots hold.
+/// Shows a state, except for the values of its aggregators.
 pub fn shown_state(alloc: Global, state: &State) -> Result<String, AllocError> {
     let mut text = String::new(alloc);
     tell_state(alloc, state, &mut text)?;

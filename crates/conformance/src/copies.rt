@@ -1,5 +1,5 @@
-//! Copies, and `==`: `NAME: PART | OTHER` compares the module of `whole.wat` with a copy of the one where OTHER stands in
-//! the place of PART.
+//! Copies, and `==`. `NAME: PART | OTHER` compares the module of `modules/whole.wat` with a copy of the module in which
+//! OTHER replaces PART.
 
 use crate::modules::assembled;
 use anyhow::Result;
@@ -10,12 +10,12 @@ use std::rt::Files;
 use wasm_ast::Module;
 
 pub fn show(rt: &(impl Files + Print + AllocGlobal)) -> Result<()> {
-    let whole = fs::read_to_string(rt, "whole.wat")?;
+    let whole = fs::read_to_string(rt, "modules/whole.wat")?;
     show_changes(rt, whole.as_str())
 }
 
 fn show_changes(rt: &(impl Files + Print + AllocGlobal), whole: &str) -> Result<()> {
-    let cases = fs::read_to_string(rt, "copies.txt")?;
+    let cases = fs::read_to_string(rt, "wasm_ast/copies.txt")?;
     for line in cases.as_str().lines() {
         if is_case(line) {
             let (name, case) = named(line);

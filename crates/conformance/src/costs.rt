@@ -1,19 +1,19 @@
-//! What functions cost: for each function of a module, the imported first, its size with its calls unfolded, `-` where it
-//! passes the limit, and then its rank; or functions that call each other.
+//! The costs of functions. For each function of a module, the imported ones first, it prints the size with calls inlined,
+//! `-` if that passes the limit, and then the rank. If functions call each other in a cycle, it prints these.
 
 ghost use Rattle.cost.specs.Ranks.{IsRanking};
 
 use crate::modules::of_valid;
 use anyhow::Result;
 use conformance_cases::show_texts;
-use cost::{CostFault, Ranks, ranks, unfolded};
+use cost::{CostFault, Ranks, inlined_size, ranks};
 use std::alloc::{AllocError, Global};
 use std::rt::Files;
 use validate::Valid;
 use wasm_ast::{ImportDescription, Module};
 
 pub fn show(rt: &(impl Files + Print + AllocGlobal)) -> Result<()> {
-    show_texts(rt, "costs.txt", answer)?;
+    show_texts(rt, "cost/costs.txt", answer)?;
     println!(rt; "want of memory: {}", CostFault::OutOfMemory)?;
     Ok(())
 }
@@ -35,7 +35,7 @@ fn sizes_and_ranks(alloc: Global, valid: &Valid, ranks: &Ranks) -> Result<String
     let count = function_count(valid.module());
     let mut text = String::from_str(alloc, "sizes")?;
     for function in 0..count {
-        match unfolded(valid, ranks, function) {
+        match inlined_size(valid, ranks, function) {
             Some(size) => write!(text, " {size}")?,
             None => text.push_str(" -")?,
         }

@@ -1,4 +1,4 @@
-//! Graph files: what texts mean, their limits, the parts of graphs, and values that are printed.
+//! Graph files: the graphs of texts, their limits, the parts of graphs, and printed values.
 
 mod fields;
 mod limits;
@@ -19,14 +19,14 @@ pub fn show(rt: &(impl Files + Print + AllocGlobal)) -> Result<()> {
     fields::show(rt)
 }
 
-/// The vertices of a graph, each as `ID VALUE` and then each edge as `TARGET:VALUE`, with `;` between them.
+/// Shows the vertices of a graph: `ID VALUE`, and `TARGET:VALUE` for each edge, with `;` between vertices.
 pub fn shown(alloc: Global, graph: &Graph) -> Result<String, AllocError> {
     let mut text = String::new(alloc);
     tell_vertices(graph.vertices(), &mut text)?;
     Ok(text)
 }
 
-/// Writes them as `shown` shows those of a graph.
+/// Writes vertices as `shown` does.
 pub fn tell_vertices(vertices: &[Vertex], text: &mut String) -> Result<(), AllocError> {
     if vertices.is_empty() {
         return text.push_str("no vertices");

@@ -1,5 +1,5 @@
-//! The functions of the host: `NAME` tells what the function takes and gives, and `(import ..)` which function an import
-//! brings in.
+//! The host functions. `NAME` prints the parameters and results of the function. `(import ..)` prints the function that an
+//! import names.
 
 use crate::modules::assembled;
 use anyhow::Result;
@@ -10,7 +10,7 @@ use std::rt::Files;
 use wasm_ast::{Import, ImportDescription, Module, ValType};
 
 pub fn show(rt: &(impl Files + Print + AllocGlobal)) -> Result<()> {
-    show_cases(rt, "host-functions.txt", answer)
+    show_cases(rt, "host_calls/host-functions.txt", answer)
 }
 
 fn answer(alloc: Global, case: &str) -> Result<String> {
@@ -23,7 +23,7 @@ fn answer(alloc: Global, case: &str) -> Result<String> {
     }
 }
 
-// What the function takes and gives, and its own name where that is another.
+// Shows the parameters and results of a function, and its own name if that is another.
 fn type_told(alloc: Global, name: &str, call: HostCall) -> Result<String, AllocError> {
     let mut text = String::new(alloc);
     tell_type(name, call, &mut text)?;
@@ -57,7 +57,7 @@ fn word_of(val_type: ValType) -> &'static str {
     }
 }
 
-// The name of the function that the import brings in.
+// Returns the name of the function that the import names.
 fn import_told(alloc: Global, import: &str) -> Result<String> {
     let text = format!(in alloc; "(module {import})")?;
     let name = match assembled(alloc, text.as_str()) {

@@ -1,5 +1,5 @@
-//! Inboxes: `NAME: IDS; FROM SEQ TO VALUE, FROM SEQ TO VALUE, ..` prints what stands in the inbox of each id, and how many
-//! letters are dropped.
+//! Inboxes. `NAME: IDS; FROM SEQ TO VALUE, FROM SEQ TO VALUE, ..` prints the inbox of each id, and the number of dropped
+//! letters.
 
 mod by_part;
 
@@ -17,7 +17,7 @@ use std::rt::Files;
 use std::thread::Threads;
 
 pub fn show(rt: &(impl Files + Print + AllocGlobal + Threads + Sync)) -> Result<()> {
-    show_cases(rt, "inboxes.txt", answer)?;
+    show_cases(rt, "inbox/inboxes.txt", answer)?;
     by_part::show(rt)
 }
 
@@ -59,7 +59,7 @@ fn letter_of(spelling: &str) -> Result<Letter, ParseIntError> {
     })
 }
 
-// The inboxes, where the ids rise and the letters are distinct.
+// Merges the letters, if the ids rise and the letters are distinct.
 fn merged(alloc: Global, letters: &[Letter], ids: &[u64]) -> Result<String> {
     ensure!(are_rising(ids), "the ids do not rise");
     ensure!(
@@ -94,7 +94,7 @@ fn are_distinct(letters: &[Letter]) -> bool
     true
 }
 
-// Whether one of the others is of the letter's source and has its number.
+// Returns whether one of the others has the source and the number of this letter.
 fn is_among(letter: &Letter, others: &[Letter]) -> bool
     ensures { result ≡ list_any (are_one letter.now) others.now }
 {

@@ -1,5 +1,5 @@
-//! Inputs of calls. `input TEXT` tells the id, the superstep, the count and the value, then the messages, and then the edges
-//! as `TARGET:VALUE`; `slots TEXT` tells what each slot was aggregated to; a text that means none tells its first bad line.
+//! Inputs of calls. `input TEXT` prints the id, the superstep, the count and the value, then the messages, then the edges
+//! as `TARGET:VALUE`. `slots TEXT` prints the value of each aggregator. A text that is no input prints its first bad line.
 
 use anyhow::Result;
 use conformance_cases::{show_cases, spelled};
@@ -8,7 +8,7 @@ use std::alloc::{AllocError, Global};
 use std::rt::Files;
 
 pub fn show(rt: &(impl Files + Print + AllocGlobal)) -> Result<()> {
-    show_cases(rt, "inputs.txt", answer)
+    show_cases(rt, "sources/inputs.txt", answer)
 }
 
 fn answer(alloc: Global, case: &str) -> Result<String> {

@@ -1,7 +1,8 @@
-//! Jobs on one machine: `NAME: PARTS WORKERS EVERY LIMIT LEASE; MODULE; GRAPH` prints the values, how the job ended and in which
-//! superstep, its units, those of each superstep, and how many messages went to no vertex; or the setting that is out of its
-//! range. Where `copied` stands behind the settings, the state after the first superstep is printed, made of copies of what came
-//! back of the parts.
+//! Jobs on one machine. `NAME: PARTS WORKERS EVERY LIMIT LEASE; MODULE; GRAPH` prints the values, how the job ended and in
+//! which superstep, its units, those of each superstep, and the number of messages to no vertex. If a setting is out of its
+//! range, it prints that one.
+//!
+//! With `copied` after the settings it prints the state after the first superstep, made of copies of the parts' results.
 
 mod by_hand;
 
@@ -11,10 +12,14 @@ use conformance_cases::{fault_told, job_in, named, show_cases};
 use std::alloc::{AllocError, Global};
 use std::rt::Files;
 use std::thread::Threads;
-use superstep::{Ended, How, Job, one_machine};
+use superstep::{EndReason, Job, JobEnd, one_machine};
 
 pub fn show(rt: &(impl Files + Print + AllocGlobal + Threads + Sync)) -> Result<()> {
-    show_cases(rt, "jobs.txt", |_, line| answer(rt, named(line).1))
+    show_cases(
+        rt,
+        "superstep/jobs.txt",
+        |_, line| answer(rt, named(line).1),
+    )
 }
 
 fn answer(rt: &(impl Files + AllocGlobal + Threads + Sync), case: &str) -> Result<String> {
@@ -37,19 +42,19 @@ fn ran(
     }
 }
 
-fn told(alloc: Global, ended: &Ended) -> Result<String, AllocError> {
+fn told(alloc: Global, ended: &JobEnd) -> Result<String, AllocError> {
     let mut text = String::new(alloc);
     tell(ended, &mut text)?;
     Ok(text)
 }
 
-fn tell(ended: &Ended, text: &mut String) -> Result<(), AllocError> {
+fn tell(ended: &JobEnd, text: &mut String) -> Result<(), AllocError> {
     for (id, value) in &ended.values {
         write!(text, "v {id} {value}, ")?;
     }
     let how = match ended.how {
-        How::Finished => "finished",
-        How::Limit => "limit",
+        EndReason::Finished => "finished",
+        EndReason::Limit => "limit",
     };
     let (superstep, units, dropped) = (ended.superstep, ended.units, ended.dropped);
     write!(

@@ -1,6 +1,6 @@
-//! Keeps: `NAME: PLACE; S BYTES, S BYTES, ..` saves the bytes before superstep S, one after another, in a Keep in a directory or
-//! in `memory`; it prints what a load answers after each, and how often the device failed. `S BYTES by FILE OTHERS` writes
-//! other bytes to a file before the load.
+//! Keeps. `NAME: PLACE; S BYTES, S BYTES, ..` saves the bytes of each superstep S, one after another, in a Keep in a
+//! directory or in `memory`. It prints the result of a load after each save, and how often the device failed. `S BYTES by
+//! FILE OTHERS` writes other bytes to a file before the load.
 
 use anyhow::Result;
 use checkpoint::{FileKeep, Keep, MemoryKeep};
@@ -10,7 +10,7 @@ use std::fs;
 use std::rt::Files;
 
 pub fn show(rt: &(impl Files + Print + AllocGlobal)) -> Result<()> {
-    show_cases(rt, "keeps.txt", |_, case| answer(rt, case))
+    show_cases(rt, "checkpoint/keeps.txt", |_, case| answer(rt, case))
 }
 
 fn answer(rt: &(impl Files + AllocGlobal), case: &str) -> Result<String> {
@@ -47,7 +47,7 @@ fn tell<R: Files + AllocGlobal, K: Keep>(
     write!(text, "failures {}", keep.failures())
 }
 
-// What is loaded after the bytes of a step were saved, and others written.
+// Saves the bytes of a step, writes the other bytes, and loads.
 fn kept<R: Files + AllocGlobal, K: Keep>(rt: &R, keep: &mut K, step: &str) -> Result<Vec<u8>> {
     let (saved, written) = step.split_once(" by ").unwrap_or((step, ""));
     let (superstep, spelling) = saved.split_once(' ').unwrap_or((saved, ""));

@@ -8,7 +8,7 @@ use std::fmt::Display;
 use std::rt::Files;
 
 pub fn show(rt: &(impl Files + Print + AllocGlobal)) -> Result<()> {
-    show_cases(rt, "leb.txt", answer)
+    show_cases(rt, "leb/leb.txt", answer)
 }
 
 fn answer(alloc: Global, case: &str) -> Result<String> {

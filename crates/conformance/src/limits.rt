@@ -1,5 +1,5 @@
-//! How large a module may be: both sides of each limit. Of a module it tells whether it is within the limits, and how much it
-//! holds.
+//! The limits of a module's size, from both sides. A case prints whether the module is within the limits, and the number of
+//! its parts.
 
 use crate::modules::of_module;
 use anyhow::Result;
@@ -9,14 +9,14 @@ use std::rt::Files;
 use wasm_ast::{Module, within_limits};
 
 pub fn show(rt: &(impl Files + Print + AllocGlobal)) -> Result<()> {
-    show_texts(rt, "limits.txt", answer)
+    show_texts(rt, "wasm_ast/limits.txt", answer)
 }
 
 fn answer(alloc: Global, text: &str) -> Result<String, AllocError> {
     of_module(alloc, text, sizes)
 }
 
-// Instructions that stand inside of others are not counted.
+// Shows the sizes of a module. Instructions inside of others are not counted.
 fn sizes(alloc: Global, module: &Module) -> Result<String, AllocError> {
     let limits = if within_limits(module) {
         "within"

@@ -1,8 +1,8 @@
-//! What the public calls on numbers, modules, compute calls, graphs, inboxes, jobs on one machine and checkpoints answer, case by
-//! case: each line of a file of `data/` is a case, and prints one line, which `stdout` has beforehand.
+//! The cases of the public functions on numbers, modules, compute calls, graphs, inboxes, jobs on one machine and
+//! checkpoints. Each line of a file of cases in `data/` prints one line, which `stdout` holds beforehand.
 //!
-//! With the words `FILE FIRST STEP` the program prints instead what becomes of the module in FILE, damaged in each way at the places
-//! FIRST, FIRST + STEP and so on.
+//! With the words `FILE FIRST STEP` the program damages the module in FILE instead, in each way at the places FIRST, FIRST
+//! + STEP and so on, and prints what becomes of it.
 #![tactic(auto)]
 
 mod binary;
@@ -21,8 +21,8 @@ mod limits;
 mod modules;
 mod numeric;
 mod profile;
+mod reference_call;
 mod samples;
-mod slow_walk;
 mod texts;
 mod validation;
 mod widths;
@@ -52,7 +52,7 @@ fn places_of(first: &str, step: &str) -> Result<Places, ParseIntError> {
     })
 }
 
-// All cases.
+// Shows all cases.
 fn show(rt: &(impl Files + Print + AllocGlobal + Threads + Sync)) -> Result<()> {
     syntax(rt)?;
     formats(rt)?;
@@ -61,7 +61,7 @@ fn show(rt: &(impl Files + Print + AllocGlobal + Threads + Sync)) -> Result<()> 
     states(rt)
 }
 
-// Values and copies of the syntax.
+// Shows values, and copies of the syntax.
 fn syntax(rt: &(impl Files + Print + AllocGlobal)) -> Result<()> {
     numeric::show(rt)?;
     widths::show(rt)?;
@@ -69,7 +69,7 @@ fn syntax(rt: &(impl Files + Print + AllocGlobal)) -> Result<()> {
     copies::show(rt)
 }
 
-// Modules as bytes and as text.
+// Shows modules as bytes and as text.
 fn formats(rt: &(impl Files + Print + AllocGlobal)) -> Result<()> {
     leb_numbers::show(rt)?;
     binary::show(rt)?;
@@ -77,14 +77,14 @@ fn formats(rt: &(impl Files + Print + AllocGlobal)) -> Result<()> {
     samples::show(rt)
 }
 
-// Which modules are valid, which are in the bounded profile, and what calls can cost.
+// Shows which modules are valid, which are in the bounded profile, and what calls can cost.
 fn judgements(rt: &(impl Files + Print + AllocGlobal)) -> Result<()> {
     validation::show(rt)?;
     profile::show(rt)?;
     costs::show(rt)
 }
 
-// Compute calls, graphs, inboxes, and inputs of calls.
+// Shows compute calls, graphs, inboxes, and inputs of calls.
 fn runs(rt: &(impl Files + Print + AllocGlobal + Threads + Sync)) -> Result<()> {
     host_functions::show(rt)?;
     calls::show(rt)?;
@@ -94,7 +94,7 @@ fn runs(rt: &(impl Files + Print + AllocGlobal + Threads + Sync)) -> Result<()> 
     inputs::show(rt)
 }
 
-// Jobs on one machine, their states as bytes, and where these are kept.
+// Shows jobs on one machine, their states as bytes, and where these are kept.
 fn states(rt: &(impl Files + Print + AllocGlobal + Threads + Sync)) -> Result<()> {
     jobs::show(rt)?;
     checkpoints::show(rt)?;

@@ -1,4 +1,4 @@
-//! Modules as cases spell them. Each is owned by one function here, and lent to what tells of it.
+//! Modules as cases spell them. One function here owns each module, and the functions that show it borrow it.
 
 use conformance_cases::bytes;
 use sources::CommandFault;
@@ -8,7 +8,8 @@ use wasm_ast::{Module, within_limits};
 use wasm_decode::{EncodeFault, decode, encode};
 use wat_asm::{assemble, print};
 
-/// The module that a text spells, or bytes, which begin with `00 61 73 6D`. It is in a box, so that it is let go by one call.
+/// Reads the module of a text, or of bytes in hexadecimal, which begin with `00 61 73 6D`. A box holds it, so that its drop
+/// is one call.
 pub fn module_of(alloc: Global, text: &str) -> Result<Box<Module>, CommandFault<'static>> {
     if text.starts_with("00 61 73 6D") {
         let bytes = bytes(alloc, text)?;
@@ -18,7 +19,7 @@ pub fn module_of(alloc: Global, text: &str) -> Result<Box<Module>, CommandFault<
     }
 }
 
-/// The module that the bytes spell.
+/// Decodes a module.
 pub fn decoded(alloc: Global, bytes: &[u8]) -> Result<Box<Module>, CommandFault<'static>> {
     match decode(alloc, bytes) {
         Ok(module) => Ok(boxed(alloc, module)?),
@@ -26,7 +27,7 @@ pub fn decoded(alloc: Global, bytes: &[u8]) -> Result<Box<Module>, CommandFault<
     }
 }
 
-/// The module of a text.
+/// Assembles a module.
 pub fn assembled(alloc: Global, text: &str) -> Result<Box<Module>, CommandFault<'static>> {
     match assemble(alloc, text) {
         Ok(module) => Ok(boxed(alloc, module)?),
@@ -38,7 +39,7 @@ fn boxed(alloc: Global, module: Module) -> Result<Box<Module>, AllocError> {
     Ok(Box::new(alloc, module)?)
 }
 
-/// The same, where it is valid.
+/// Reads a module and validates it.
 pub fn valid_of(alloc: Global, text: &str) -> Result<Valid, CommandFault<'static>> {
     let module = module_of(alloc, text)?;
     match validate(alloc, Box::into_inner(module)) {
@@ -47,7 +48,7 @@ pub fn valid_of(alloc: Global, text: &str) -> Result<Valid, CommandFault<'static
     }
 }
 
-/// What `answer` tells of the module that a text spells, or the console's line for its fault.
+/// Returns the answer for the module that a text spells, or the line of its fault.
 pub fn of_module<F: Fn(Global, &Module) -> Result<String, AllocError>>(
     alloc: Global,
     text: &str,
@@ -61,7 +62,7 @@ pub fn of_module<F: Fn(Global, &Module) -> Result<String, AllocError>>(
     }
 }
 
-/// What `answer` tells of the valid module that a text spells, or the console's line for its fault.
+/// Returns the answer for the valid module that a text spells, or the line of its fault.
 pub fn of_valid<F: Fn(Global, &Valid) -> Result<String, AllocError>>(
     alloc: Global,
     text: &str,
@@ -75,12 +76,12 @@ pub fn of_valid<F: Fn(Global, &Valid) -> Result<String, AllocError>>(
     }
 }
 
-/// The console's line for a fault.
+/// Returns the line that the program prints for a fault.
 pub fn line_of(alloc: Global, fault: CommandFault<'static>) -> Result<String, AllocError> {
     format!(in alloc; "{fault}")
 }
 
-/// The module as `print` has it.
+/// Prints the module as text.
 pub fn printed(alloc: Global, module: &Module) -> Result<String, AllocError> {
     if within_limits(module) {
         print(alloc, module)
@@ -89,7 +90,7 @@ pub fn printed(alloc: Global, module: &Module) -> Result<String, AllocError> {
     }
 }
 
-/// The module's shortest spelling.
+/// Encodes the module in its shortest spelling.
 pub fn spelling(alloc: Global, module: &Module) -> Result<Vec<u8>, EncodeFault> {
     if within_limits(module) {
         encode(alloc, module)
@@ -98,7 +99,7 @@ pub fn spelling(alloc: Global, module: &Module) -> Result<Vec<u8>, EncodeFault> 
     }
 }
 
-/// The console's line for a fault, and the words of the fault's own library where they are others.
+/// Returns the line of a fault, with the words of the fault's own crate if they are others.
 pub fn agreed(alloc: Global, line: String, own: String) -> Result<String, AllocError> {
     if line.as_str() == own.as_str() {
         Ok(line)

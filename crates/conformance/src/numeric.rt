@@ -1,7 +1,7 @@
 //! The value of each numeric instruction (Core 1.0, 4.3): `i32.add 1 2` prints `i32.add 1 2: 3`.
 //!
-//! An operand is decimal, with a sign or none, or hexadecimal after `0x`; i32 takes the low 32 bits. A value from -99 to
-//! 99, by its sign, is told in decimal, and any other in hexadecimal.
+//! An operand is decimal, with a sign or none, or hexadecimal after `0x`; i32 takes the low 32 bits. A signed value from
+//! -99 to 99 is printed in decimal, any other in hexadecimal.
 
 mod large;
 mod names;
@@ -18,7 +18,7 @@ use wasm_ast::{
     i64_extend_i32_u,
 };
 
-/// What an instruction gives, by the function of its name and by its enum.
+/// The value of an instruction, by the function of its name and by its enum.
 #[derive(Clone, Copy)]
 pub struct Given {
     pub by_function: Value,
@@ -26,7 +26,7 @@ pub struct Given {
 }
 
 impl Given {
-    // Of an instruction that has no enum with a method.
+    // Makes the value of an instruction that has no enum with a method.
     fn by_function_alone(value: Value) -> Given {
         Given {
             by_function: value,
@@ -36,7 +36,7 @@ impl Given {
 }
 
 pub fn show(rt: &(impl Files + Print + AllocGlobal)) -> Result<()> {
-    show_cases(rt, "numeric.txt", answer)
+    show_cases(rt, "wasm_ast/numeric.txt", answer)
 }
 
 fn answer(alloc: Global, case: &str) -> Result<String> {
@@ -48,7 +48,7 @@ fn answer(alloc: Global, case: &str) -> Result<String> {
     Ok(told(alloc, outcome(numeric, first, second))?)
 }
 
-// The operands, of which the second is 0 where there is one.
+// Reads the operands. The second is 0 if there is only one.
 fn operands_in(text: &str) -> Result<(u64, u64), ParseIntError> {
     let (first, second) = text.split_once(' ').unwrap_or((text, "0"));
     Ok((number_of(first)?, number_of(second)?))
@@ -64,7 +64,7 @@ fn number_of(text: &str) -> Result<u64, ParseIntError> {
     text.parse()
 }
 
-// What the instruction gives on these operands. There is none where it traps.
+// Returns the value of the instruction on these operands, or none if it traps.
 fn outcome(numeric: Numeric, x: u64, y: u64) -> Option<Given> {
     let (small_x, small_y) = (i32_wrap_i64(x), i32_wrap_i64(y));
     match numeric {
@@ -104,7 +104,7 @@ fn converted(conversion: Conversion, x: u64) -> Value {
     }
 }
 
-// The value, and both where the function and the enum do not agree.
+// Shows the value, or both values if the function and the enum do not agree.
 fn told(alloc: Global, given: Option<Given>) -> Result<String, AllocError> {
     let mut text = String::new(alloc);
     match given {

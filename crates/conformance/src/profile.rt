@@ -1,5 +1,5 @@
-//! The bounded profile: `ok` and how large a call of `compute` can get, or `no profile`, a rule that the module breaks and
-//! the place, or the cycle of functions that call each other. And what frames hold.
+//! The bounded profile. It prints `ok` and the bounds of a call of `compute`, or `no profile` with the broken rule and its
+//! place, or with the cycle of functions that call each other. Other cases print the sizes of frames.
 
 ghost use Rattle.std.specs.Prelude.{◌≡◌};
 ghost use Rattle.wasm_ast.specs.Limits.{imported_functions};
@@ -14,16 +14,16 @@ use std::rt::Files;
 use wasm_ast::{Import, ImportDescription};
 
 pub fn show(rt: &(impl Files + Print + AllocGlobal)) -> Result<()> {
-    show_texts(rt, "profile.txt", answer)?;
-    show_texts(rt, "profile-constants.txt", answer)?;
+    show_texts(rt, "bounded_profile/profile.txt", answer)?;
+    show_texts(rt, "bounded_profile/profile-constants.txt", answer)?;
     let told = told(rt.alloc(), ProfileFault::OutOfMemory)?;
     println!(rt; "want of memory: {told}")?;
     show_measures(rt)
 }
 
 fn show_measures(rt: &(impl Files + Print + AllocGlobal)) -> Result<()> {
-    show_texts(rt, "cells.txt", cells)?;
-    show_texts(rt, "reach.txt", reach)
+    show_texts(rt, "bounded_profile/cells.txt", cells)?;
+    show_texts(rt, "bounded_profile/reach.txt", reach)
 }
 
 fn answer(alloc: Global, text: &str) -> Result<String, AllocError> {
@@ -38,7 +38,7 @@ fn reach(alloc: Global, text: &str) -> Result<String, AllocError> {
     of_verified(alloc, text, reach_and_places)
 }
 
-// What `show` tells of the module, where it is in the profile.
+// Returns the answer of `show` for a module that is in the profile.
 fn of_verified<F: Fn(Global, &Verified) -> Result<String, AllocError>>(
     alloc: Global,
     text: &str,
@@ -55,7 +55,7 @@ fn of_verified<F: Fn(Global, &Verified) -> Result<String, AllocError>>(
     }
 }
 
-// What is told of a module and of its copy.
+// Shows the bounds of a module and of its copy.
 fn accepted(alloc: Global, verified: &Verified) -> Result<String, AllocError> {
     let copy = verified.copy(alloc)?;
     let word = if are_equal(&copy, verified) {
@@ -82,7 +82,7 @@ fn told(alloc: Global, fault: ProfileFault) -> Result<String, AllocError> {
     agreed(alloc, line, own)
 }
 
-// For each function that the module defines, how many parameters and locals it has and how high its own operands stand.
+// Shows for each defined function the number of its parameters and locals, and its greatest stack height.
 fn cells_of_each(alloc: Global, verified: &Verified) -> Result<String, AllocError> {
     let module = verified.module();
     let imported = imported_count(module.imports.as_slice());
@@ -96,7 +96,7 @@ fn cells_of_each(alloc: Global, verified: &Verified) -> Result<String, AllocErro
     Ok(text)
 }
 
-// How many bytes are reached, and how many of them lie below bytes 0, 2, 8 and 65,535.
+// Shows the number of reached bytes, and how many of them are below bytes 0, 2, 8 and 65,535.
 fn reach_and_places(alloc: Global, verified: &Verified) -> Result<String, AllocError> {
     let mut text = format!(in alloc; "reach {} places", verified.reach())?;
     for byte in [0, 2, 8, 65_535] {

@@ -1,5 +1,5 @@
-//! Whole programs in files: whether what is printed of a module spells that module again, and how long the module is in the
-//! binary format; and what becomes of its bytes when they are damaged.
+//! Whole programs in files: whether the printed text spells the same module, how long the module is in the binary format,
+//! and what becomes of its bytes when they are damaged.
 
 use crate::binary::sweep::{ALL, Places, SOME, swept};
 use crate::modules::{assembled, module_of, of_module, printed, spelling};
@@ -11,16 +11,16 @@ use std::rt::Files;
 use wasm_ast::Module;
 
 pub fn show(rt: &(impl Files + Print + AllocGlobal)) -> Result<()> {
-    show_texts(rt, "samples.txt", answer)?;
-    show_texts(rt, "samples-damaged.txt", damaged)
+    show_texts(rt, "wat_asm/samples.txt", answer)?;
+    show_texts(rt, "wat_asm/samples-damaged.txt", damaged)
 }
 
 fn answer(alloc: Global, text: &str) -> Result<String, AllocError> {
     of_module(alloc, text, again_and_length)
 }
 
-/// Prints what becomes of all damaged bytes of a file at these places. The file is a module's text, as its name says, or its
-/// bytes.
+/// Prints what becomes of a file's module, damaged at these places. A file whose name ends in `.wat` is text, any other is
+/// binary.
 pub fn show_damaged(
     rt: &(impl Files + Print + AllocGlobal),
     file: &str,
@@ -69,7 +69,7 @@ fn again_and_length(alloc: Global, module: &Module) -> Result<String, AllocError
     }
 }
 
-// Whether what is printed spells the module, of which the same is printed once more.
+// Returns whether the printed text spells the module, and whether that one is printed in the same way.
 fn again(alloc: Global, module: &Module) -> Result<&'static str, AllocError> {
     let text = printed(alloc, module)?;
     again_of_text(alloc, module, text.as_str())

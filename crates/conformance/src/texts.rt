@@ -1,5 +1,5 @@
-//! Texts of modules (Core 1.0, section 6): the module as it is printed, on one line or with `↵` for the end of each line; or
-//! what is wrong with the text and where.
+//! Texts of modules (Core 1.0, section 6). It prints the module again, on one line or with `↵` for the end of each line; or
+//! the fault of the text and its place.
 
 use crate::modules::{of_module, printed};
 use anyhow::Result;
@@ -9,8 +9,8 @@ use std::rt::Files;
 use wasm_ast::Module;
 
 pub fn show(rt: &(impl Files + Print + AllocGlobal)) -> Result<()> {
-    show_texts(rt, "texts.txt", on_a_line)?;
-    show_texts(rt, "layouts.txt", laid_out)
+    show_texts(rt, "wat_asm/texts.txt", on_a_line)?;
+    show_texts(rt, "wat_asm/layouts.txt", laid_out)
 }
 
 fn on_a_line(alloc: Global, text: &str) -> Result<String, AllocError> {
@@ -29,7 +29,7 @@ fn printed_with_ends(alloc: Global, module: &Module) -> Result<String, AllocErro
     one_line(alloc, printed(alloc, module)?.as_str())
 }
 
-// The end of a line and the blanks that the next one begins with are one blank.
+// Writes one blank in place of the end of a line and the blanks at the beginning of the next one.
 fn on_one_line(alloc: Global, printed: &str) -> Result<String, AllocError> {
     let mut text = String::new(alloc);
     for line in printed.lines() {

@@ -1,4 +1,4 @@
-//! Which modules are valid (Core 1.0, section 3): `ok`, or `no valid`, a rule that the module breaks and the place.
+//! The validity of modules (Core 1.0, section 3): `ok`, or `no valid` with the broken rule and its place.
 
 use crate::modules::{agreed, line_of, module_of};
 use anyhow::Result;
@@ -11,8 +11,8 @@ use validate::{ValidFault, validate};
 use wasm_ast::{Body, Function, Instr, Module, Sequence};
 
 pub fn show(rt: &(impl Files + Print + AllocGlobal)) -> Result<()> {
-    show_texts(rt, "validation.txt", answer)?;
-    show_texts(rt, "validation-in-a-block.txt", answer_in_a_block)?;
+    show_texts(rt, "validate/validation.txt", answer)?;
+    show_texts(rt, "validate/validation-in-a-block.txt", answer_in_a_block)?;
     let told = told(rt.alloc(), ValidFault::OutOfMemory)?;
     println!(rt; "want of memory: {told}")?;
     Ok(())
@@ -38,8 +38,7 @@ fn told(alloc: Global, fault: ValidFault) -> Result<String, AllocError> {
     agreed(alloc, line, own)
 }
 
-// The same of the module with each body in one block more. So blocks can stand deeper inside each other than any text or
-// bytes may have them.
+// Answers for the module with each body in one block more. So blocks can be nested deeper than any text or bytes allow.
 fn answer_in_a_block(alloc: Global, text: &str) -> Result<String, AllocError> {
     match module_of(alloc, text) {
         Ok(module) => validity_in_blocks(alloc, Box::into_inner(module)),

@@ -1,5 +1,5 @@
-//! How many bytes each load and store moves, and of which type its value is (Core 1.0, 2.4.4 and 3.3.4): `i32.load8_s`
-//! prints `i32.load8_s: 1 i32`. And the types of values, and what a local begins as (4.2.1, 4.4.7).
+//! The number of bytes of each load and store, and the type of its value (Core 1.0, 2.4.4 and 3.3.4): `i32.load8_s` prints
+//! `i32.load8_s: 1 i32`. Then the types of values, and the first value of a local (4.2.1, 4.4.7).
 
 use anyhow::{Result, bail};
 use conformance_cases::show_cases;
@@ -8,7 +8,7 @@ use std::rt::Files;
 use wasm_ast::{Load, Store, ValType, Value};
 
 pub fn show(rt: &(impl Files + Print + AllocGlobal)) -> Result<()> {
-    show_cases(rt, "widths.txt", answer)
+    show_cases(rt, "wasm_ast/widths.txt", answer)
 }
 
 fn answer(alloc: Global, case: &str) -> Result<String> {

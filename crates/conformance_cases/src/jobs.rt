@@ -11,8 +11,8 @@ use std::num::ParseIntError;
 use std::rt::Files;
 use superstep::{Job, JobFault, Settings};
 
-/// The job of `PARTS WORKERS EVERY LIMIT LEASE; MODULE; GRAPH`, or the setting that is out of its range. MODULE and GRAPH are
-/// files, or GRAPH is a text that stands there.
+/// Makes the job of `PARTS WORKERS EVERY LIMIT LEASE; MODULE; GRAPH`, or returns the setting that is out of its range.
+/// MODULE is a file. GRAPH is a file, or the text of a graph.
 pub fn job_in(rt: &(impl Files + AllocGlobal), case: &str) -> Result<Result<Job, JobFault>> {
     let (settings, rest) = case.split_once("; ").unwrap_or((case, ""));
     let (module, graph) = rest.split_once("; ").unwrap_or((rest, ""));
@@ -52,7 +52,7 @@ fn graph_in(rt: &(impl Files + AllocGlobal), graph: &str) -> Result<Graph> {
     Ok(Graph::read(rt.alloc(), text.as_str())?)
 }
 
-// The text of a file, or the text that stands there.
+// Reads the text of a file, or spells out the text itself.
 fn text_in(rt: &(impl Files + AllocGlobal), graph: &str) -> Result<String> {
     if graph.ends_with(".txt") {
         Ok(fs::read_to_string(rt, graph)?)
@@ -69,7 +69,7 @@ fn verified_in(rt: &(impl Files + AllocGlobal), path: &str) -> Result<Verified> 
     }
 }
 
-/// The words for a fault.
+/// Writes a fault in words.
 pub fn fault_told(alloc: Global, fault: JobFault) -> Result<String, AllocError> {
     match fault {
         JobFault::Settings(setting) => format!(in alloc; "settings {setting:?}"),

@@ -6,7 +6,7 @@ use std::alloc::{AllocError, Global};
 use std::fs;
 use std::rt::Files;
 
-/// Prints a line for each case of a file: its name, and what `answer` gives for the whole case.
+/// Prints a line for each case of a file: its name, and the answer for the whole line.
 pub fn show_cases<R: Files + Print + AllocGlobal, F: Fn(Global, &str) -> Result<String>>(
     rt: &R,
     path: &str,
@@ -44,8 +44,9 @@ fn show_line<R: Print + AllocGlobal, F: Fn(Global, &str) -> Result<String>>(
     show_case(rt, named(line).0, answer(rt.alloc(), line)?)
 }
 
-/// The same of a file of texts: `NAME: TEXT`, or a text that is its own name. `answer` is given the text as it is spelled, in
-/// the frame that the last line `within FRAME` has said. A text or a frame that ends in `.wat` is what that file has.
+/// Prints a line for each case of a file of texts: `NAME: TEXT`, or a text that is its own name. The answer is for the text
+/// as it is spelled, in the frame of the last line `within FRAME`. A text or a frame that ends in `.wat` is a file, whose
+/// content is used.
 pub fn show_texts<
     R: Files + Print + AllocGlobal,
     F: Fn(Global, &str) -> Result<String, AllocError>,
@@ -71,7 +72,7 @@ fn show_parts<R: Files + Print + AllocGlobal, F: Fn(Global, &str) -> Result<Stri
     Ok(())
 }
 
-// A frame, and the lines behind it.
+// Shows the lines after a frame in it.
 fn show_part<R: Files + Print + AllocGlobal, F: Fn(Global, &str) -> Result<String, AllocError>>(
     rt: &R,
     part: &str,
@@ -131,7 +132,7 @@ fn text_of(rt: &(impl Files + AllocGlobal), text: &str) -> Result<String> {
     }
 }
 
-// The text that a line spells where it stands in a frame, in the place of the frame's `…`.
+// Puts a line in the place of the frame's `…`, and spells out the whole.
 fn framed(alloc: Global, frame: &str, line: &str) -> Result<String, AllocError> {
     let (before, after) = frame.split_once('…').unwrap_or((frame, ""));
     let whole = format!(in alloc; "{before}{line}{after}")?;

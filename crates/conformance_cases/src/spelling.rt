@@ -2,18 +2,18 @@
 
 use std::alloc::{AllocError, Global};
 
-/// Whether a line of a file is a case. Blank lines and lines that begin with `#` are none.
+/// Returns whether a line is a case. Blank lines and lines that begin with `#` are none.
 pub fn is_case(line: &str) -> bool {
     !line.trim().is_empty() && !line.starts_with('#')
 }
 
-/// A case's name, and what stands after the first `: `.
+/// Splits a line into the case's name, and the text after the first `: `.
 pub fn named(line: &str) -> (&str, &str) {
     line.split_once(": ").unwrap_or((line, ""))
 }
 
-/// The text that a line spells: `↵`, `␍`, `⇥`, `␌` and `⍽` stand for LF, CR, a tab, a form feed and a blank that does not
-/// break, and `⟦N|TEXT⟧` for N times TEXT.
+/// Spells out a line: `↵`, `␍`, `⇥`, `␌` and `⍽` are LF, CR, a tab, a form feed and a no-break space, and `⟦N|TEXT⟧` is
+/// TEXT, N times.
 pub fn spelled(alloc: Global, line: &str) -> Result<String, AllocError> {
     let mut text = String::new(alloc);
     spell(line, &mut text)?;
@@ -29,7 +29,7 @@ fn spell(line: &str, text: &mut String) -> Result<(), AllocError> {
     Ok(())
 }
 
-// What is repeated, where a bracket ends it, and what stands behind it.
+// Spells out the repeated text, if a bracket ends it, and the text after it.
 fn spell_part(part: &str, text: &mut String) -> Result<(), AllocError> {
     let Some((repeated, rest)) = part.split_once('⟧') else {
         return append(part, text);
@@ -53,7 +53,7 @@ fn append(part: &str, text: &mut String) -> Result<(), AllocError> {
     Ok(())
 }
 
-// The character that this one stands for.
+// Returns the character that this one means.
 fn meant(character: char) -> char {
     match character {
         '↵' => '\n',
@@ -65,12 +65,12 @@ fn meant(character: char) -> char {
     }
 }
 
-/// A text on one line, with `↵` for each LF.
+/// Writes a text on one line, with `↵` for each LF.
 pub fn one_line(alloc: Global, text: &str) -> Result<String, AllocError> {
     text.replace(alloc, '\n', "↵")
 }
 
-/// The bytes that a line spells by two hexadecimal digits each, with blanks between them and `⟦N|..⟧` for N times.
+/// Reads bytes, two hexadecimal digits each, with blanks between them and `⟦N|..⟧` for N times.
 pub fn bytes(alloc: Global, line: &str) -> Result<Vec<u8>, AllocError> {
     let text = spelled(alloc, line)?;
     bytes_of_words(alloc, text.as_str())
@@ -95,7 +95,7 @@ pub fn push_digits(word: &str, bytes: &mut Vec<u8>) -> Result<(), AllocError> {
     Ok(())
 }
 
-// The value of a digit, and 0 of any other byte.
+// Returns the value of a digit, and 0 for any other byte.
 fn digit_of(digit: u8) -> u8 {
     match digit {
         b'0'..=b'9' => digit - b'0',

@@ -2,11 +2,11 @@
 use Rattle.std.proofs.Common.{◌≡◌, ◌<◌, ℕ, Option, Some, None, subst, sym}
 use Rattle.std.specs.Global.{Vec}
 use Rattle.workers.specs.Coordinator.{IsNewOn, staff_on}
-use Rattle.workers.specs.declared.ends.Ends.{Ends}
+use Rattle.workers.specs.declared.coordinator_ends.CoordinatorEnds.{CoordinatorEnds}
 use Rattle.workers.specs.declared.pass.TickPass.{TickPass}
 use Rattle.workers.specs.declared.pass.WorkerPass.{WorkerPass}
 
-pub staffed : {J : Type 0} (workers : ℕ) (ends : Option (Ends J)) (passes : Vec (WorkerPass J)) (ticker : TickPass J)
+pub staffed : {J : Type 0} (workers : ℕ) (ends : Option (CoordinatorEnds J)) (passes : Vec (WorkerPass J)) (ticker : TickPass J)
     → IsNewOn workers ends passes ticker → 0 < workers → 0 < staff_on ends
 staffed workers (Some ends) passes ticker new some = subst (λ n. 0 < n) (sym new.workers_are) some
 staffed workers None passes ticker new some = absurd new

@@ -1,10 +1,13 @@
-//! Command lines as they are typed after `pregel`, over lent files: the status and what is told, and then each file that
-//! was written; or why the words are refused. A session reads the lines of `SESSION`. A line that ends in ` into N` tells a
-//! writer that has room for N bytes, and shows what it took where it failed. A line that ends in ` keeps FILE` is carried out
-//! in a folder whose FILE is empty, and shows what FILE is then. Of an explanation the first words and the marked lines are shown.
-//!
-//! `body BODY` is `verify` of the module that has the body in the frame of `frame.wat`, and `engine MODULE INPUT` is what a
-//! call of a module's bytes with an input's text tells, or how it is refused.
+//! Command lines, as they are typed after `pregel`, over lent files. Each prints the status, the answer, and each file that
+//! was written; or why the words are refused. Of an explanation it prints the first line and the marked lines. There are
+//! some special forms:
+//! * A session reads the lines of `SESSION`.
+//! * A line that ends in ` into N` has a writer with room for N bytes. If the writer fails, the bytes that it took are
+//!   printed.
+//! * A line that ends in ` keeps FILE` is executed in a folder where FILE is empty, and prints the content of FILE
+//!   afterwards.
+//! * `body BODY` is `verify` of the module that has the body in the frame of `frame.wat`.
+//! * `engine MODULE INPUT` calls a module from bytes, with the text of an input, and prints the outcome or the refusal.
 
 pub mod lent_files;
 
@@ -12,7 +15,7 @@ use anyhow::{Result, bail};
 use clap::error::ErrorKind;
 use command_line::{Options, options};
 use conformance_cases::{is_case, one_line};
-use console::{call, command};
+use console::{NoView, RunNotes, call, command, write_sheets};
 use lent_files::{LentFiles, lent_files};
 use session::{JobRunner, ServeFault, serve};
 use sources::{Source, refusal_line};
@@ -23,6 +26,9 @@ use std::sync::Wait;
 use std::thread::Threads;
 use std::{fs, iter, str};
 use workers::NoLoss;
+
+// So many processors has the machine of each command.
+const PROCESSORS: u32 = 2;
 
 // What a session reads.
 const SESSION: &str = "\
@@ -43,7 +49,7 @@ fn show_cases(
     rt: &(impl Files + Print + AllocGlobal + Threads + Wait + Sync),
     files: &mut LentFiles,
 ) -> Result<()> {
-    let text = fs::read_to_string(rt, "commands.txt")?;
+    let text = fs::read_to_string(rt, "console/commands.txt")?;
     for case in text.as_str().lines().filter(|line| is_case(line)) {
         let answer = answer(rt, rt.alloc(), case, files)?;
         println!(rt; "{case}: {answer}")?;
@@ -71,7 +77,7 @@ fn answer(
     carried_out(rt, alloc, line, room, files)
 }
 
-// What a file has where it was empty before.
+// Empties a file, executes a command, and shows the file.
 fn kept(
     rt: &(impl Files + AllocGlobal + Threads + Wait + Sync),
     alloc: Global,
@@ -134,7 +140,7 @@ fn told(
     }
 }
 
-// What becomes of a command line.
+// The result of a command line.
 #[derive(Clone, Copy)]
 enum Fate {
     Status(u8),
@@ -142,7 +148,7 @@ enum Fate {
     Refused(ErrorKind),
 }
 
-// Does what the words ask for.
+// Executes a command.
 fn done<W: Write>(
     rt: &(impl Files + AllocGlobal + Threads + Wait + Sync),
     alloc: Global,
@@ -173,7 +179,10 @@ fn status_of<W: Write>(
             Ok(0)
         }
         Options::Command { request, explains } => {
-            Ok(command(rt, alloc, request, explains, files, out)?)
+            let asked = request.on_machine(PROCESSORS);
+            let mut notes = RunNotes::new();
+            let status = command(rt, alloc, asked, explains, &NoView, files, out, &mut notes)?;
+            Ok(write_sheets(alloc, asked, status, &notes, files))
         }
     }
 }
@@ -186,7 +195,8 @@ fn shown(alloc: Global, status: u8, out: &[u8], files: &LentFiles) -> Result<Str
     Ok(shown)
 }
 
-// The same with a writer that has room for so many bytes: the status, or the fault and what the writer took before.
+// Executes a command with a writer that has room for so many bytes. Shows the status, or the fault and the bytes that the
+// writer took.
 fn told_in(
     rt: &(impl Files + AllocGlobal + Threads + Wait + Sync),
     alloc: Global,

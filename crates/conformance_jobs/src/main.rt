@@ -1,5 +1,5 @@
-//! What the public calls on jobs that lose workers, commands and sessions answer, case by case: each line of a file of `data/` is
-//! a case, and prints one line, which `stdout` has beforehand.
+//! The cases of the public functions on jobs that lose workers, commands and sessions. Each line of a file of cases in
+//! `data/` prints one line, which `stdout` holds beforehand.
 #![tactic(auto)]
 
 mod commands;

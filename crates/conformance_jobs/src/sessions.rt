@@ -1,8 +1,13 @@
-//! Sessions over lent files: `NAME: WAY; LINES` prints what is told, and then why serving ended before the session did. WAY is
-//! `whole`; `by N`, where at most N bytes are read and written at a time; `reads N` and `writes N`, where the N-th read, and the
-//! N-th write or flush, fails; `bytes`, where the lines are spelled by hexadecimal digits; `counted`, where the count of the
-//! lines that are told is printed, and the last of them; `threads`, where jobs run in threads; `loses W:S`, where worker W is
-//! lost besides in superstep S; or `holds`, where part 0 is held besides until part 1 has begun.
+//! Sessions over lent files. `NAME: WAY; LINES` prints the replies, and the fault if serving stopped before the end. WAY is
+//! one of:
+//! * `whole`;
+//! * `by N`: at most N bytes are read and written at a time;
+//! * `reads N` or `writes N`: the N-th read fails, or the N-th write or flush;
+//! * `bytes`: the lines are spelled in hexadecimal digits;
+//! * `counted`: only the number of the replied lines and the last of them are printed;
+//! * `threads`: jobs run in threads;
+//! * `loses W:S`: jobs run in threads, and worker W is lost in superstep S;
+//! * `holds`: jobs run in threads, and part 0 is held until part 1 has begun.
 
 mod lines;
 
@@ -29,7 +34,7 @@ fn show_cases(
     rt: &(impl Files + Print + AllocGlobal + Wait + Threads + Sync),
     files: &mut LentFiles,
 ) -> Result<()> {
-    let text = fs::read_to_string(rt, "sessions.txt")?;
+    let text = fs::read_to_string(rt, "session/sessions.txt")?;
     for line in text.as_str().lines().filter(|line| is_case(line)) {
         show_case(rt, line, files)?;
     }

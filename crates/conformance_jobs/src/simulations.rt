@@ -1,11 +1,18 @@
-//! Jobs over steps of their workers: `NAME: KEEP; PARTS WORKERS EVERY LIMIT LEASE; MODULE; GRAPH; STEPS` prints the lines of a
-//! replay with the units of each superstep, or the job's fault; and then how many bytes were saved last, and the first of them.
-//! KEEP is `sound`, `fails N` where the device fails at the N-th call of save and load, `changes N` where byte N of what is loaded
-//! is another, or `loads HEX` where these bytes are loaded.
+//! Jobs over steps of their workers. `NAME: KEEP; PARTS WORKERS EVERY LIMIT LEASE; MODULE; GRAPH; STEPS` prints the lines
+//! of a replay with the units of each superstep, or the job's fault. Then it prints the number of bytes of the last save,
+//! and the first of them. KEEP is one of:
+//! * `sound`;
+//! * `fails N`: the device fails at the N-th call of save and load;
+//! * `changes N`: byte N of what is loaded is another;
+//! * `loads HEX`: these bytes are loaded.
 //!
-//! Where it is `doubled`, a copy of each result comes right behind it, and another one after the next loss. Where it is
-//! `losses`, a worker is lost before each of the steps, and the other works to the end. Where it is `drawn N`, so many lists of
-//! steps are drawn. It is told how many end as the run on one machine does.
+//! There are three other forms:
+//! * `doubled`: a copy of each result comes right after it, and another one after the next loss. The lines of the replay are
+//!   printed;
+//! * `losses`: a worker is lost before each of the steps, and the other works to the end;
+//! * `drawn N`: this many lists of steps are drawn.
+//!
+//! The last two print how many of their lists end as the run on one machine does.
 
 mod doubles;
 pub mod faulty_keep;
@@ -25,7 +32,11 @@ use superstep::{Job, JobFault};
 use sweeps::{drawn, losses};
 
 pub fn show(rt: &(impl Files + Print + AllocGlobal + Threads + Sync)) -> Result<()> {
-    show_cases(rt, "simulations.txt", |_, line| answer(rt, named(line).1))
+    show_cases(
+        rt,
+        "rollback/simulations.txt",
+        |_, line| answer(rt, named(line).1),
+    )
 }
 
 fn answer(rt: &(impl Files + AllocGlobal + Threads + Sync), case: &str) -> Result<String> {

@@ -1,11 +1,16 @@
-//! Jobs in threads: `NAME: GATE; PARTS WORKERS EVERY LIMIT LEASE; MODULE; GRAPH` prints how the job ends, beside the run on one
-//! machine.
+//! Jobs in threads. `NAME: GATE; PARTS WORKERS EVERY LIMIT LEASE; MODULE; GRAPH` prints how the job ends, compared with the
+//! run on one machine. GATE is one of:
+//! * `lets`: nobody is lost;
+//! * `W:S` or `W:S again`: worker W is lost in superstep S, and may join again;
+//! * `watched W:S` or `watched W:S again`: the same, and whether the worker has begun a task since is printed too;
+//! * `holds`: part 0 is held until part 1 has begun;
+//! * `ticks`: time passes;
+//! * `driven`: a coordinator is driven that has no thread beside it;
+//! * `led`: the calls of a coordinator and of a worker are made one after another;
+//! * `losses`: the worker that takes a part in a superstep is lost with it, for each part in each superstep; and a device
+//!   fails at each call in turn.
 //!
-//! GATE is `lets`; or `W:S` where worker W is lost in superstep S, and `W:S again` where it joins again; or `watched W:S` and
-//! `watched W:S again`, where it is told besides whether that worker has begun a task since; or `holds` where part 0 is held until
-//! part 1 has begun; or `ticks`; or `driven`, where a coordinator is driven that has no thread beside it; or `led`, where its calls and a
-//! worker's are made one after another; or `losses`, where whoever takes a part in a superstep is lost with it, for each part in each
-//! superstep, and a device fails at each call in turn. `N times GATE` runs the job so often.
+//! `N times GATE` runs the job N times.
 
 mod by_hand;
 pub mod gates;
@@ -22,14 +27,18 @@ use std::alloc::{AllocError, Global};
 use std::rt::Files;
 use std::sync::Wait;
 use std::thread::Threads;
-use superstep::{Ended, Job, JobFault, one_machine};
+use superstep::{Job, JobEnd, JobFault, one_machine};
 use workers::{Gate, NoLoss, run_in_threads};
 
 // How many calls of a device fail in turn.
 const CALLS: u64 = 4;
 
 pub fn show<R: Files + Print + AllocGlobal + Threads + Wait + Sync>(rt: &R) -> Result<()> {
-    show_cases(rt, "threads.txt", |_, line| answer(rt, named(line).1))
+    show_cases(
+        rt,
+        "workers/threads.txt",
+        |_, line| answer(rt, named(line).1),
+    )
 }
 
 fn answer<R: Files + AllocGlobal + Threads + Wait + Sync>(rt: &R, case: &str) -> Result<String> {
@@ -41,7 +50,7 @@ fn answer<R: Files + AllocGlobal + Threads + Wait + Sync>(rt: &R, case: &str) ->
     }
 }
 
-// How a job in threads ended, beside the run on one machine.
+// How a job in threads ended, compared with the run on one machine.
 #[derive(Clone, Copy)]
 enum End {
     Alike(Counts),
@@ -50,7 +59,7 @@ enum End {
     AnotherFault,
 }
 
-// What became of the workers of a job that has an answer.
+// The losses of a job that ended well.
 #[derive(Clone, Copy)]
 struct Counts {
     epoch: u64,
@@ -59,7 +68,7 @@ struct Counts {
 }
 
 impl End {
-    fn of(ended: &Result<Report, JobFault>, plain: &Ended) -> End {
+    fn of(ended: &Result<Report, JobFault>, plain: &JobEnd) -> End {
         match ended {
             Ok(report) => End::of_report(report, plain),
             Err(JobFault::NoWorkers) => End::NoWorkers,
@@ -67,7 +76,7 @@ impl End {
         }
     }
 
-    fn of_report(report: &Report, plain: &Ended) -> End {
+    fn of_report(report: &Report, plain: &JobEnd) -> End {
         let counts = Counts {
             epoch: report.epoch,
             missed: report.missed,
@@ -93,7 +102,7 @@ impl End {
         }
     }
 
-    // The word, with the counts of the report.
+    // Writes the word with the counts of the report.
     fn counted(self, alloc: Global) -> Result<String, AllocError> {
         let word = self.word();
         match self {
@@ -121,7 +130,7 @@ fn ran_beside<R: Files + AllocGlobal + Threads + Wait + Sync>(
     alloc: Global,
     gate: &str,
     job: &Job,
-    plain: &Ended,
+    plain: &JobEnd,
 ) -> Result<String> {
     if let Some((times, gate)) = gate.split_once(" times ") {
         let times = times.parse::<u32>()?;
@@ -138,7 +147,7 @@ fn ended_at<R: Files + AllocGlobal + Threads + Wait + Sync>(
     alloc: Global,
     gate: &str,
     job: &Job,
-    plain: &Ended,
+    plain: &JobEnd,
 ) -> Result<String, AllocError> {
     match gate {
         "holds" => held(rt, alloc, job, plain),
@@ -150,37 +159,37 @@ fn ended_at<R: Files + AllocGlobal + Threads + Wait + Sync>(
     }
 }
 
-// The end of a job whose states are in this Keep.
+// Runs a job whose states are in this Keep.
 fn end_with<K: Keep + Drop, G: Gate + Sync, R: Files + AllocGlobal + Threads + Wait + Sync>(
     rt: &R,
     alloc: Global,
     job: &Job,
     keep: K,
     gate: &G,
-    plain: &Ended,
+    plain: &JobEnd,
 ) -> End {
     let ended = run_in_threads(rt, alloc, job, keep, gate);
     End::of(&ended, plain)
 }
 
-// The end of a job whose states are in memory.
+// Runs a job whose states are in memory.
 fn end_of<G: Gate + Sync, R: Files + AllocGlobal + Threads + Wait + Sync>(
     rt: &R,
     alloc: Global,
     job: &Job,
     gate: &G,
-    plain: &Ended,
+    plain: &JobEnd,
 ) -> End {
     end_with(rt, alloc, job, MemoryKeep::new(alloc), gate, plain)
 }
 
-// The end of a job whose worker is lost as the words say.
+// Runs a job whose worker is lost as the words say.
 fn ended_by<R: Files + AllocGlobal + Threads + Wait + Sync>(
     rt: &R,
     alloc: Global,
     job: &Job,
     words: &str,
-    plain: &Ended,
+    plain: &JobEnd,
 ) -> End {
     let gate = gate_of(words);
     if gate.loss.is_some() {
@@ -190,7 +199,7 @@ fn ended_by<R: Files + AllocGlobal + Threads + Wait + Sync>(
     }
 }
 
-// The gate that the words name; nobody is lost where they name no worker.
+// Returns the gate that the words name. Nobody is lost if they name no worker.
 fn gate_of(words: &str) -> LossGate {
     let (loss, again) = words.split_once(' ').unwrap_or((words, ""));
     LossGate::new(Loss::read(loss), again == "again")
@@ -202,7 +211,7 @@ fn repeated<R: Files + AllocGlobal + Threads + Wait + Sync>(
     job: &Job,
     gate: &str,
     times: u32,
-    plain: &Ended,
+    plain: &JobEnd,
 ) -> Result<String, AllocError> {
     let mut alike = 0u32;
     for _ in 0..times {
@@ -216,20 +225,20 @@ fn held<R: Files + AllocGlobal + Threads + Wait + Sync>(
     rt: &R,
     alloc: Global,
     job: &Job,
-    plain: &Ended,
+    plain: &JobEnd,
 ) -> Result<String, AllocError> {
     let gate = PlannedGate::new(Plan::Holds);
     let end = end_of(rt, alloc, job, &gate, plain);
     format!(in alloc; "{}, {}", gate.how_met(), end.word())
 }
 
-// Whether a worker that is lost has come back.
+// Shows whether a lost worker has come back.
 fn watched<R: Files + AllocGlobal + Threads + Wait + Sync>(
     rt: &R,
     alloc: Global,
     job: &Job,
     words: &str,
-    plain: &Ended,
+    plain: &JobEnd,
 ) -> Result<String, AllocError> {
     let gate = WatchedGate::new(gate_of(words));
     let end = end_of(rt, alloc, job, &gate, plain);
@@ -241,12 +250,12 @@ fn watched<R: Files + AllocGlobal + Threads + Wait + Sync>(
     format!(in alloc; "{came}, {}", end.word())
 }
 
-// Whether a job ends alike, with no save missed, or without workers.
+// Shows whether a job ends alike, with no save missed, or without workers.
 fn ticked<R: Files + AllocGlobal + Threads + Wait + Sync>(
     rt: &R,
     alloc: Global,
     job: &Job,
-    plain: &Ended,
+    plain: &JobEnd,
 ) -> Result<String, AllocError> {
     let gate = PlannedGate::new(Plan::Ticks);
     let word = match end_of(rt, alloc, job, &gate, plain) {
@@ -261,7 +270,7 @@ fn driven<R: Files + AllocGlobal + Threads + Wait + Sync>(
     rt: &R,
     alloc: Global,
     job: &Job,
-    plain: &Ended,
+    plain: &JobEnd,
 ) -> Result<String, AllocError> {
     End::of(&by_hand::driven(rt, alloc, job), plain).counted(alloc)
 }
@@ -278,12 +287,12 @@ fn led<R: Files + AllocGlobal + Threads + Wait + Sync>(
     }
 }
 
-// Where whoever takes a part in a superstep is lost with it, for each part in each superstep.
+// Loses the worker that takes a part in a superstep, for each part in each superstep.
 fn lost_in_turn<R: Files + AllocGlobal + Threads + Wait + Sync>(
     rt: &R,
     alloc: Global,
     job: &Job,
-    plain: &Ended,
+    plain: &JobEnd,
 ) -> Result<String, AllocError> {
     let mut text = String::new(alloc);
     tell_losses(rt, alloc, job, plain, &mut text)?;
@@ -294,7 +303,7 @@ fn tell_losses<R: Files + AllocGlobal + Threads + Wait + Sync>(
     rt: &R,
     alloc: Global,
     job: &Job,
-    plain: &Ended,
+    plain: &JobEnd,
     text: &mut String,
 ) -> Result<(), AllocError> {
     for superstep in 0..plain.superstep {
@@ -306,13 +315,13 @@ fn tell_losses<R: Files + AllocGlobal + Threads + Wait + Sync>(
     write!(text, "of {CALLS} alike each")
 }
 
-// With how many devices that fail at one call a job ends alike.
+// Counts the devices failing at one call with which a job ends alike.
 fn failing<R: Files + AllocGlobal + Threads + Wait + Sync>(
     rt: &R,
     alloc: Global,
     job: &Job,
     plan: Plan,
-    plain: &Ended,
+    plain: &JobEnd,
 ) -> u64 {
     let mut alike = 0u64;
     for call in 0..CALLS {

@@ -1,4 +1,4 @@
-//! Whether calls of a module that the profile accepts end within their bound.
+//! Whether the calls of an accepted module end within their bound.
 
 ghost use Rattle.std.specs.Prelude.{◌≡◌};
 
@@ -15,7 +15,7 @@ const MESSAGES: [i64; 3] = [7, -8, 9];
 // The edges of both.
 const EDGES: [(u64, i64); 2] = [(5, 50), (6, -60)];
 
-/// Whether the module is not in the profile, or its calls are bounded.
+/// Returns whether the module is not in the profile, or its calls are bounded.
 pub fn is_bounded(alloc: Global, module: Module) -> bool {
     match validate(alloc, module) {
         Ok(valid) => is_valid_bounded(alloc, valid),
@@ -30,7 +30,7 @@ fn is_valid_bounded(alloc: Global, valid: Valid) -> bool {
     }
 }
 
-// Calls with no message and with three, over one scratch.
+// Calls it with no message and with three, over one scratch.
 fn are_calls_bounded(alloc: Global, verified: &Verified) -> bool {
     let Ok(mut scratch) = Scratch::new(alloc, verified) else {
         return false;
@@ -39,7 +39,7 @@ fn are_calls_bounded(alloc: Global, verified: &Verified) -> bool {
         && is_call_bounded(alloc, verified, &MESSAGES, &mut scratch)
 }
 
-// Whether a call takes no more units than its size for each message, for each edge and once more.
+// Returns whether a call takes at most (1 + messages + edges) times its size in units.
 fn is_call_bounded(
     alloc: Global,
     verified: &Verified,

@@ -1,4 +1,4 @@
-//! Damaged bytes: their proper fronts, and each change of one byte to another.
+//! Damaged bytes: proper fronts, and each change of one byte to another.
 
 use super::Answer;
 use super::bounded::is_bounded;
@@ -8,7 +8,7 @@ use std::fmt;
 use wasm_ast::Module;
 use wasm_decode::{DecodeFault, DecodeRule, decode};
 
-/// What becomes of the bytes, damaged in each way.
+/// Shows what becomes of the bytes, damaged in each way.
 pub fn damaged(alloc: Global, bytes: &[u8]) -> Answer {
     let fronts = Fronts::of(alloc, bytes)?;
     let changes = Changes::of(alloc, bytes)?;
@@ -18,14 +18,14 @@ pub fn damaged(alloc: Global, bytes: &[u8]) -> Answer {
     )?)
 }
 
-// How the proper fronts are answered.
+// The answers to the proper fronts.
 #[derive(Drop)]
 struct Fronts {
-    // the lengths of those that are modules, which their shortest spelling gives back
+    // the lengths of those that are modules, and whose shortest spelling is a spelling of the same module
     modules: Vec<usize>,
     // the lengths of those that lack the bodies of their functions
     without_bodies: Vec<usize>,
-    // how many end within a part, and are told so
+    // how many end within a part, and are reported as truncated
     truncated: usize,
 }
 
@@ -51,7 +51,7 @@ impl Fronts {
         Ok(fronts)
     }
 
-    // Takes what becomes of the front of this length.
+    // Counts the fate of the front of this length.
     fn take(&mut self, length: usize, fate: Fate) -> Result<(), AllocError> {
         match fate {
             Fate::Kept => self.modules.push(length)?,
@@ -69,17 +69,17 @@ impl Fronts {
     }
 }
 
-/// What becomes of bytes.
+/// The fate of bytes.
 #[derive(Clone, Copy)]
 pub enum Fate {
     Refused(DecodeFault),
-    /// They are a module that its shortest spelling gives back and, where it is in the profile, whose calls are bounded.
+    /// They are a module that its shortest spelling gives back, and whose calls are bounded if it is in the profile.
     Kept,
     /// They are another module, or memory runs out.
     Lost,
 }
 
-// How many changes come to which fate.
+// How many changes have which fate.
 #[derive(Clone, Copy)]
 struct Changes {
     refused: usize,
@@ -108,7 +108,7 @@ impl Changes {
         Ok(changes)
     }
 
-    // Every other byte at this place.
+    // Tries every other byte at this place.
     fn take_at(&mut self, alloc: Global, bytes: &mut [u8], place: usize) {
         for difference in 1..=255 {
             change(bytes, place, difference);
@@ -126,14 +126,14 @@ impl Changes {
     }
 }
 
-/// Changes the byte at this place, if there is one. The same change once more gives it back.
+/// Changes the byte at this place, if there is one. The same change a second time undoes it.
 pub fn change(bytes: &mut [u8], place: usize, difference: u8) {
     if let Some(byte) = bytes.get_mut(place) {
         *byte ^= difference;
     }
 }
 
-/// What becomes of these bytes.
+/// Returns the fate of these bytes.
 pub fn fate_of(alloc: Global, bytes: &[u8]) -> Fate {
     match decode(alloc, bytes) {
         Ok(module) => fate_of_module(alloc, module),
@@ -150,7 +150,7 @@ fn fate_of_module(alloc: Global, module: Module) -> Fate {
     }
 }
 
-// Whether the shortest spelling of the module spells it.
+// Returns whether the shortest spelling of the module spells it.
 fn comes_back(alloc: Global, module: &Module) -> bool {
     match spelling(alloc, module) {
         Ok(bytes) => is_spelled(alloc, module, &bytes),

@@ -5,8 +5,8 @@ use leb::write_u32;
 use std::alloc::{AllocError, Global};
 use std::mem;
 
-/// The bytes that a line spells, as `conformance_cases::bytes` has it, where `[ .. ]` is the number of the bytes in it, in LEB128,
-/// and those bytes. Brackets stand between blanks.
+/// Reads the bytes of a line as `conformance_cases::bytes` does. In addition `[ .. ]` is the number of bytes inside, in
+/// LEB128, followed by them. Brackets have blanks around them.
 pub fn sized_bytes(alloc: Global, line: &str) -> Result<Vec<u8>, AllocError> {
     let text = spelled(alloc, line)?;
     of_words(alloc, text.as_str())
@@ -34,14 +34,14 @@ fn take(
     }
 }
 
-// Puts aside the bytes that stand outside.
+// Stores the bytes outside of a bracket.
 fn open(alloc: Global, outside: &mut Vec<Vec<u8>>, bytes: &mut Vec<u8>) -> Result<(), AllocError> {
     let before = mem::replace(bytes, Vec::new(alloc));
     outside.push(before)?;
     Ok(())
 }
 
-// Puts the bytes behind those outside, and their number between.
+// Appends the number of the bytes in a bracket, and the bytes, to those outside.
 fn close(outside: &mut Vec<Vec<u8>>, bytes: &mut Vec<u8>) -> Result<(), AllocError> {
     let Some(mut before) = outside.pop() else {
         return Ok(());

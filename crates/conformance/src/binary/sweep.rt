@@ -1,9 +1,10 @@
-//! A module's bytes, damaged: each proper front, and each byte changed to others.
+//! The bytes of a module, damaged: each proper front, and each byte changed to others.
 
 use super::damage::{Fate, change, fate_of};
 use std::alloc::{AllocError, Global};
 
-/// Which other bytes are tried at a place: how many, and how far they are apart. The first differs in the last bit alone.
+/// The other bytes that are tried at a place: their number, and the distance between them. The first differs in the last
+/// bit only.
 #[derive(Clone, Copy)]
 pub struct Others {
     count: u8,
@@ -16,13 +17,13 @@ pub const ALL: Others = Others {
     stride: 1,
 };
 
-/// Each 16th.
+/// Every 16th of them.
 pub const SOME: Others = Others {
     count: 16,
     stride: 16,
 };
 
-// How many bytes were tried, and how many of them were lost.
+// The number of tried bytes, and of lost ones among them.
 #[derive(Clone, Copy)]
 struct Tally {
     tried: u64,
@@ -42,7 +43,7 @@ impl Tally {
     }
 }
 
-/// The places from a first one on, each so many behind the one before.
+/// Places from a first one on, at equal distances.
 #[derive(Clone, Copy)]
 pub struct Places {
     pub first: usize,
@@ -50,13 +51,13 @@ pub struct Places {
 }
 
 impl Places {
-    /// Whether this place is one of them.
+    /// Returns whether this place is one of them.
     fn has(self, place: usize) -> bool {
         place.checked_rem(self.step) == Some(self.first)
     }
 }
 
-/// How many fronts that end at these places and how many changes there are tried, and how many of them are lost.
+/// Tries the fronts that end at these places and the changes there. Returns their numbers, and how many are lost.
 pub fn swept(
     alloc: Global,
     bytes: &mut [u8],

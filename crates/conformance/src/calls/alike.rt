@@ -1,5 +1,5 @@
-//! Whole programs: `NAME`, of a file `NAME.wat`, or `NAME: TEXT` tells for how many inputs both forms of a call answer the
-//! same. The inputs have 0 to 4 messages and 0 to 4 edges, the first of those in `alike-input.txt`.
+//! Whole programs. `NAME`, of a file `modules/NAME.wat`, or `NAME: TEXT` prints for how many inputs both forms of a call
+//! give the same answer. The inputs have 0 to 4 messages and 0 to 4 edges, the first ones of `interp/alike-input.txt`.
 
 use super::forms::{fast_answer, slow_answer};
 use super::tell;
@@ -21,7 +21,7 @@ pub fn show(rt: &(impl Files + Print + AllocGlobal)) -> Result<()> {
 }
 
 fn show_programs(rt: &(impl Files + Print + AllocGlobal), input: &CallInput) -> Result<()> {
-    let programs = fs::read_to_string(rt, "alike.txt")?;
+    let programs = fs::read_to_string(rt, "interp/alike.txt")?;
     show_lines(rt, programs.as_str(), input)
 }
 
@@ -39,7 +39,7 @@ fn show_lines(
 }
 
 fn read_input(rt: &(impl Files + AllocGlobal)) -> Result<Input> {
-    let lines = fs::read_to_string(rt, "alike-input.txt")?;
+    let lines = fs::read_to_string(rt, "interp/alike-input.txt")?;
     Ok(Input::read(rt.alloc(), lines.as_str())?)
 }
 
@@ -57,7 +57,7 @@ fn text_of(rt: &(impl Files + AllocGlobal), name: &str, text: &str) -> Result<St
     if !text.is_empty() {
         return Ok(spelled(rt.alloc(), text)?);
     }
-    let path = format!(in rt.alloc(); "{name}.wat")?;
+    let path = format!(in rt.alloc(); "modules/{name}.wat")?;
     Ok(fs::read_to_string(rt, path.as_str())?)
 }
 
@@ -92,7 +92,7 @@ fn alike_count(alloc: Global, verified: &Verified, input: &CallInput) -> Result<
     Ok(alike)
 }
 
-// The input with only so many of its messages and edges.
+// Returns the input with only the first of its messages and edges.
 fn shortened<'a>(input: &CallInput<'a>, messages: usize, edges: usize) -> CallInput<'a> {
     CallInput {
         messages: input.messages.get(..messages).unwrap_or(&[]),

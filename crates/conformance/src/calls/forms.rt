@@ -1,6 +1,7 @@
-//! The forms of a compute call, each with its answer on one line: the outcome's lines, or why there is none.
+//! The two forms of a compute call: the reference call, and that of `interp`. Each answer is one line: the lines of the
+//! outcome, or why there is none.
 
-use crate::slow_walk;
+use crate::reference_call;
 use bounded_profile::{Verified, verify};
 use host_calls::{CallInput, CallOutcome};
 use interp::{Scratch, has_ids, run};
@@ -10,8 +11,8 @@ use std::fmt::Debug;
 use validate::Valid;
 use wasm_ast::Module;
 
-/// The answer of both forms, where the module is in the bounded profile, and else of the slow form, which alone stops at a
-/// budget.
+/// Returns the answer of both forms if the module is in the bounded profile. Otherwise it returns that of the reference
+/// call, which alone stops at a budget.
 pub fn both_answers(
     alloc: Global,
     valid: Valid,
@@ -48,10 +49,10 @@ pub fn slow_answer(
     input: &CallInput,
     budget: u128,
 ) -> Result<String, AllocError> {
-    told(alloc, slow_walk::run(alloc, module, input, budget))
+    told(alloc, reference_call::run(alloc, module, input, budget))
 }
 
-/// The answer of the second of two calls, to which the first leaves its room.
+/// Returns the answer of `interp` to the second of two calls, which uses the buffers of the first.
 pub fn fast_answer(
     alloc: Global,
     verified: &Verified,

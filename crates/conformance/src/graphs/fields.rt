@@ -1,14 +1,14 @@
-//! The fields of lines: `fields LINE` prints each in parentheses, `number FIELD` and `id FIELD` what one means.
+//! The fields of lines. `fields LINE` prints each in parentheses; `number FIELD` and `id FIELD` print the number.
 
 use anyhow::Result;
 use conformance_cases::{show_cases, spelled};
-use graph::{Fields, id_of, number_of};
+use line_text::{Fields, id_of, number_of};
 use std::alloc::{AllocError, Global};
 use std::fmt::Display;
 use std::rt::Files;
 
 pub fn show(rt: &(impl Files + Print + AllocGlobal)) -> Result<()> {
-    show_cases(rt, "fields.txt", answer)
+    show_cases(rt, "graph/fields.txt", answer)
 }
 
 fn answer(alloc: Global, case: &str) -> Result<String> {

@@ -1,5 +1,5 @@
-//! How large a graph may be: `2 vertices, 5 edges` prints how many the graph of such a text has, or why there is none. Behind
-//! `, vertex 0 again on line 2` that line declares vertex 0 in the place of its own.
+//! The limits of a graph. `2 vertices, 5 edges` prints the size of the graph of such a text, or why there is none. With `,
+//! vertex 0 again on line 2` that line declares vertex 0 instead of its own.
 
 use anyhow::Result;
 use conformance_cases::show_cases;
@@ -9,7 +9,7 @@ use std::num::ParseIntError;
 use std::rt::Files;
 
 pub fn show(rt: &(impl Files + Print + AllocGlobal)) -> Result<()> {
-    show_cases(rt, "graph_limits.txt", answer)
+    show_cases(rt, "graph/graph-limits.txt", answer)
 }
 
 fn answer(alloc: Global, case: &str) -> Result<String> {
@@ -33,7 +33,7 @@ fn count_before(text: &str, unit: &str) -> Result<u64, ParseIntError> {
     text.strip_suffix(unit).unwrap_or(text).parse()
 }
 
-// So many vertices from 0 on, of which the one on that line is 0 again, and so many edges from 0 to itself.
+// Writes a text with these vertices from 0 on, of which the one on line `again` is 0, and these edges from 0 to itself.
 fn text_of(alloc: Global, vertices: u64, edges: u64, again: u64) -> Result<String, AllocError> {
     let mut text = String::new(alloc);
     for line in 0..vertices {

@@ -1,5 +1,5 @@
-//! The parts of graphs. `FILE in 3 parts` prints how many vertices each part of a file's graph has, and the graph that
-//! the parts join to; `FILE copied` prints a copy; `7 among 3 parts` prints the part of an id.
+//! The parts of graphs. `FILE in 3 parts` prints the number of vertices of each part of a file's graph, and the graph that
+//! the parts join to. `FILE copied` prints a copy. `7 among 3 parts` prints the part of an id.
 
 ghost use Rattle.std.specs.Prelude.{◌<◌, IfOk};
 
@@ -12,7 +12,7 @@ use std::fs;
 use std::rt::Files;
 
 pub fn show(rt: &(impl Files + Print + AllocGlobal)) -> Result<()> {
-    show_cases(rt, "parts.txt", |_, case| answer(rt, case))
+    show_cases(rt, "graph/parts.txt", |_, case| answer(rt, case))
 }
 
 fn answer(rt: &(impl Files + AllocGlobal), case: &str) -> Result<String> {
@@ -37,7 +37,7 @@ fn read(rt: &(impl Files + AllocGlobal), path: &str) -> Result<Graph> {
     Ok(Graph::read(rt.alloc(), &text)?)
 }
 
-// The number before the word `parts`.
+// Reads the number before the word `parts`.
 fn count_in(text: &str) -> Result<u32>
     ensures { IfOk result (λ count. 0 < count) }
 {
@@ -63,7 +63,7 @@ fn shown_in_parts(alloc: Global, graph: Graph, count: u32) -> Result<String>
     Ok(text)
 }
 
-// How many vertices each part has.
+// Writes the number of vertices of each part.
 fn tell_counts(parts: &[Part], text: &mut String) -> Result<(), AllocError> {
     for part in parts {
         write!(text, "{} ", part.vertices.len())?;

@@ -1,4 +1,4 @@
-//! What texts mean as graphs: `NAME: TEXT` prints the graph, or why there is none.
+//! The graphs of texts: `NAME: TEXT` prints the graph, or why there is none.
 
 use super::shown;
 use anyhow::Result;
@@ -8,7 +8,7 @@ use std::alloc::{AllocError, Global};
 use std::rt::Files;
 
 pub fn show(rt: &(impl Files + Print + AllocGlobal)) -> Result<()> {
-    show_cases(rt, "graphs.txt", answer)
+    show_cases(rt, "graph/graphs.txt", answer)
 }
 
 fn answer(alloc: Global, case: &str) -> Result<String> {

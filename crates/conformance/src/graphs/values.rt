@@ -1,8 +1,8 @@
-//! Values, printed: `NAME: CALLS | TEXT` prints what a writer has taken of the values of a text's graph, with `↵` for each
-//! line feed, and the fault if there is one.
+//! Printed values. `NAME: CALLS | TEXT` prints the values of a text's graph to a writer, and shows what the writer took,
+//! with `↵` for each line feed, and the fault if there is one.
 //!
-//! Of the calls to the writer, the words before `|` tell what each does: it takes so many bytes at most, it is
-//! `interrupted`, or it `fails`. It takes all bytes of each call after those.
+//! The words before `|` say what each call of the writer does: it takes at most so many bytes, it is `interrupted`, or it
+//! `fails`. Each later call takes all bytes.
 
 ghost use Rattle.std.specs.Prelude.{◌≡◌, IfOk, map};
 ghost use Rattle.graph.specs.Entry.{IsProper, entries_of};
@@ -14,7 +14,7 @@ use std::alloc::{AllocError, Global};
 use std::io::{self, ErrorKind, Write};
 use std::rt::Files;
 
-/// A writer, and the words of the calls that are still to come.
+/// A writer, and the words of its next calls.
 #[derive(Drop)]
 struct Device<'a> {
     calls: &'a str,
@@ -42,7 +42,7 @@ impl Write for Device<'_> {
 }
 
 pub fn show(rt: &(impl Files + Print + AllocGlobal)) -> Result<()> {
-    show_cases(rt, "values.txt", answer)
+    show_cases(rt, "graph/values.txt", answer)
 }
 
 fn answer(alloc: Global, case: &str) -> Result<String> {
@@ -65,7 +65,7 @@ fn printed(alloc: Global, calls: &str, vertices: &[Vertex]) -> Result<String, Al
     told(alloc, &device.taken, outcome)
 }
 
-// The vertices without their edges.
+// Returns the vertices without their edges.
 fn values_of(alloc: Global, vertices: &[Vertex]) -> Result<Vec<(u64, i64)>, AllocError>
     ensures { IfOk result (λ values.
         values.items ≡ map (λ vertex. (vertex.id, vertex.value)) vertices.now) }

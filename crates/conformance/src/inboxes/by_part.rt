@@ -1,6 +1,5 @@
-//! Inboxes of parts: `NAME: IDS | IDS ..; LETTERS | LETTERS ..` prints what stands in the inboxes
-//! of each part, and how many letters are dropped; or `not in order`, where an id stands twice or
-//! two letters of one source have one number.
+//! Inboxes of parts. `NAME: IDS | IDS ..; LETTERS | LETTERS ..` prints the inboxes of each part, and the number of dropped
+//! letters. If an id comes twice, or two letters of one source have the same number, it prints `not in order`.
 
 ghost use Rattle.std.specs.Prelude.{IfOk, IsTrue, nat_eq};
 ghost use Rattle.std.specs.List.{IsDistinct};
@@ -17,7 +16,7 @@ use std::thread::Threads;
 pub fn show(rt: &(impl Files + Print + AllocGlobal + Threads + Sync)) -> Result<()> {
     show_cases(
         rt,
-        "inboxes-by-part.txt",
+        "inbox/inboxes-by-part.txt",
         |alloc, case| answer(rt, alloc, case),
     )
 }
@@ -92,7 +91,7 @@ fn are_in_order(alloc: Global, lists: &[Vec<Letter>], ids: &[Vec<u64>]) -> Resul
     Ok(are_distinct_ids(alloc, ids)? && are_distinct_together(alloc, lists)?)
 }
 
-// Whether no id stands twice, in one part or in two.
+// Returns whether no id comes twice, in one part or in two.
 fn are_distinct_ids(alloc: Global, ids: &[Vec<u64>]) -> Result<bool, AllocError>
     ensures { IfOk result (λ distinct. IsTrue distinct → IsDistinct nat_eq (all_of ids.now)) }
 {
@@ -101,7 +100,7 @@ fn are_distinct_ids(alloc: Global, ids: &[Vec<u64>]) -> Result<bool, AllocError>
     Ok(are_rising(&all))
 }
 
-// Whether no two letters of all lists are of one source and have one number.
+// Returns whether no two letters of all lists have the same source and number.
 fn are_distinct_together(alloc: Global, lists: &[Vec<Letter>]) -> Result<bool, AllocError>
     ensures { IfOk result (λ distinct. IsTrue distinct → IsDistinct are_one (all_of lists.now)) }
 {
@@ -116,7 +115,7 @@ fn told(alloc: Global, parts: &[Vec<Inbox>], dropped: u128) -> Result<String, Al
     Ok(text)
 }
 
-// The inboxes of each part, with a bar before those of each but the first.
+// Writes the inboxes of each part, with a bar between parts.
 fn tell_parts(parts: &[Vec<Inbox>], text: &mut String) -> Result<(), AllocError> {
     for (place, inboxes) in parts.iter().enumerate() {
         text.push_str(if place == 0 { "" } else { "| " })?;

@@ -1,4 +1,4 @@
-//! The first superstep of a job, by hand, with a copy in the place of what comes back of each part.
+//! The first superstep of a job, made step by step, with a copy in place of each part's result.
 
 ghost use Rattle.std.specs.Prelude.{◌≡◌, false, IfOk};
 ghost use Rattle.superstep.specs.Tasks.{IsRow, stamps_of};
@@ -11,7 +11,7 @@ use std::marker::Brand;
 use std::thread::Threads;
 use superstep::{Done, Job, Origin, Slice, State, Task, Totals, barrier, run_task, slices};
 
-/// What stands after the superstep.
+/// Shows the state after the superstep.
 pub fn first_superstep(
     rt: &(impl Threads + Sync),
     alloc: Global,
@@ -33,7 +33,7 @@ fn state_of_copies<J: Origin>(
     requires honest { J.honest ≡ false }
     requires fits { scratch.old ≡ job.now.«module» }
 {
-    // Each of them is in its range: so superstep 0 comes before the limit.
+    // Each setting is in its range, so superstep 0 comes before the limit.
     let _settings = job.settings();
     let state = State::first(alloc, job)?;
     let totals = Totals::of(alloc, &state)?;
@@ -43,7 +43,7 @@ fn state_of_copies<J: Origin>(
     barrier(rt, alloc, job, totals, copies)
 }
 
-// A copy of what comes back of each slice.
+// Runs each slice and copies its result.
 fn copies<J: Origin>(
     alloc: Global,
     job: &Job,
@@ -65,7 +65,7 @@ fn copies<J: Origin>(
     Ok(copies)
 }
 
-// A copy of what comes back of a slice.
+// Runs a slice and copies its result.
 fn copy_of<J: Origin>(
     alloc: Global,
     job: &Job,

@@ -2,7 +2,7 @@
 
 use wasm_ast::{Binary, Comparison, Conversion, Division, Numeric, Unary, ValType};
 
-/// The instruction of this name.
+/// Returns the instruction of this name.
 pub fn numeric_named(name: &str) -> Option<Numeric> {
     if let Some(conversion) = conversion_named(name) {
         return Some(Numeric::Conversion(conversion));
@@ -14,7 +14,7 @@ pub fn numeric_named(name: &str) -> Option<Numeric> {
     }
 }
 
-// The instruction whose name goes on like this after that of its type.
+// Returns the instruction of this type whose name goes on like this.
 fn named_at(val_type: ValType, rest: &str) -> Option<Numeric> {
     if rest == "eqz" {
         return Some(Numeric::Eqz(val_type));

@@ -59,7 +59,7 @@ pub fn comparison_given(comparison: Comparison, x: u32, y: u32) -> Given {
     }
 }
 
-/// There is none where the operands trap.
+/// Returns the value, or none if the operands trap.
 pub fn division_given(division: Division, x: u32, y: u32) -> Option<Given> {
     if division.traps_i32(x, y) {
         return None;

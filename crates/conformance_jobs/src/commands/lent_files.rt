@@ -8,7 +8,7 @@ use sources::{FileFault, Files};
 use std::alloc::{AllocError, Global};
 use std::{fmt, fs};
 
-/// A file by its name.
+/// A file with its name.
 #[derive(Drop)]
 struct NamedFile {
     name: String,
@@ -22,7 +22,7 @@ impl NamedFile {
     }
 }
 
-/// Files that can be read, those that were written, and what was said beside answers. `locked.wasm` cannot be written.
+/// Files to read, the files that were written, and the warnings. `locked.wasm` cannot be written.
 #[derive(Drop)]
 pub struct LentFiles {
     alloc: Global,
@@ -59,7 +59,7 @@ impl LentFiles {
         self.said.clear();
     }
 
-    /// Tells of each file that was written which lent file it equals.
+    /// Writes for each file that was written which lent file it equals.
     pub fn tell_written(&self, text: &mut String) -> Result<(), AllocError> {
         for file in self.written.as_slice() {
             self.tell_file(file.name.as_str(), file.bytes.as_slice(), text)?;
@@ -67,7 +67,7 @@ impl LentFiles {
         Ok(())
     }
 
-    /// Tells of an explanation its first line, and those that are marked.
+    /// Writes the first line and the marked lines of an explanation.
     pub fn tell_explained(&self, text: &mut String) -> Result<(), AllocError> {
         if !self.said.as_str().contains("\nIn WebAssembly text:\n") {
             return Ok(());
@@ -80,13 +80,13 @@ impl LentFiles {
         Ok(())
     }
 
-    /// Tells of a file that has these bytes which lent file it equals.
+    /// Writes which lent file has these bytes.
     pub fn tell_file(&self, name: &str, bytes: &[u8], text: &mut String) -> Result<(), AllocError> {
         let (equal, length) = (self.name_of(bytes), bytes.len());
         write!(text, " {name} is {equal} of {length} bytes")
     }
 
-    // The name of the first lent file that has these bytes.
+    // Returns the name of the first lent file that has these bytes.
     fn name_of(&self, bytes: &[u8]) -> &str {
         match self.lent.iter().find(|file| file.bytes.as_slice() == bytes) {
             Some(file) => file.name.as_str(),
@@ -122,10 +122,10 @@ fn written(alloc: Global, path: &str, bytes: &[u8]) -> Result<NamedFile, AllocEr
     NamedFile::new(alloc, path, bytes)
 }
 
-/// The files that `command-files.txt` names: `NAME` is the data file, `NAME as OTHER` has what a file before it has, and
-/// `NAME text TEXT` and `NAME bytes BYTES` have what is spelled.
+/// Makes the files that `console/command-files.txt` names. `NAME at FILE` has the content of that file of `data/`. `NAME as
+/// OTHER` has the content of an earlier file. `NAME text TEXT` and `NAME bytes BYTES` have the content that is spelled.
 pub fn lent_files(rt: &(impl std::rt::Files + AllocGlobal)) -> Result<LentFiles> {
-    let text = fs::read_to_string(rt, "command-files.txt")?;
+    let text = fs::read_to_string(rt, "console/command-files.txt")?;
     let mut files = LentFiles::new(rt.alloc());
     for line in text.as_str().lines().filter(|line| is_case(line)) {
         lend_line(rt, line, &mut files)?;
@@ -139,14 +139,13 @@ fn lend_line(
     files: &mut LentFiles,
 ) -> Result<()> {
     let (name, spelling) = line.split_once(' ').unwrap_or((line, ""));
-    let bytes = content(rt, name, spelling, files)?;
+    let bytes = content(rt, spelling, files)?;
     files.lend(name, bytes)?;
     Ok(())
 }
 
 fn content(
     rt: &(impl std::rt::Files + AllocGlobal),
-    name: &str,
     spelling: &str,
     files: &mut LentFiles,
 ) -> Result<Vec<u8>> {
@@ -154,7 +153,7 @@ fn content(
     match kind {
         "as" => Ok(files.read(rt.alloc(), rest)?),
         "text" | "bytes" => Ok(spelled_bytes(rt.alloc(), kind, rest)?),
-        _ => Ok(fs::read(rt, name)?),
+        _ => Ok(fs::read(rt, rest)?),
     }
 }
 

@@ -1,14 +1,14 @@
-//! Where a session's lines come from, and where its replies go.
+//! The readers and writers of sessions.
 
 use std::alloc::Global;
 use std::io;
 use std::io::{ErrorKind, Read, Write};
 
-/// Gives at most so many bytes at a time. Each read but the failing one is interrupted before.
+/// A reader that gives at most so many bytes at a time. Each read except the failing one is interrupted before.
 #[derive(Drop)]
 pub struct Given<'a> {
     rest: &'a [u8],
-    /// How many bytes a read gives, at most.
+    /// The most bytes of a read.
     pub most: u32,
     /// The read that fails, from 1, or 0 where none does.
     pub left: u32,
@@ -43,11 +43,11 @@ impl Read for Given<'_> {
     }
 }
 
-/// Takes at most so many bytes at a time.
+/// A writer that takes at most so many bytes at a time.
 #[derive(Drop)]
 pub struct Taken {
     pub bytes: Vec<u8>,
-    /// How many bytes a write takes, at most.
+    /// The most bytes of a write.
     pub most: u32,
     /// The write or flush that fails, from 1, or 0 where none does.
     pub left: u32,
@@ -81,7 +81,7 @@ impl Write for Taken {
     }
 }
 
-// Whether this is the call that fails.
+// Returns whether this is the call that fails.
 fn fails(left: &mut u32) -> bool {
     if *left == 0 {
         return false;

@@ -1,13 +1,13 @@
-//! Results that come twice.
+//! Results that come more than once.
 
 ghost use Rattle.std.specs.Prelude.{◌≡◌, false};
-ghost use Rattle.rollback.specs.Keeping.{KeepsFor};
+ghost use Rattle.rollback.specs.Saving.{KeepsFor};
 
 use anyhow::{Result, bail};
 use checkpoint::{Keep, MemoryKeep};
 use console::trace_text;
 use interp::Scratch;
-use rollback::{Answer, Book, End, Event, Outcome, Report, Step, StepAnswer, Trace};
+use rollback::{Answer, Book, Event, JobStatus, Outcome, Report, Step, StepAnswer, Trace};
 use std::alloc::{AllocError, Global};
 use std::marker::Brand;
 use std::mem;
@@ -15,27 +15,27 @@ use std::rt::Files;
 use std::thread::Threads;
 use superstep::{Done, Job, Origin, Task, run_task};
 
-// What tasks are done with, what was answered so far, and the copies that are still to come.
+// The tools to do tasks with, the answers so far, and the copies that have not come yet.
 #[derive(Drop)]
 struct Hand<'a, J: Origin> {
     alloc: Global,
     job: &'a Job,
     scratch: Scratch<'a>,
     answers: Vec<StepAnswer>,
-    // those that come right behind their results
+    // the copies that come right after their results
     again: Vec<Copied<J>>,
-    // those that come after the next loss
+    // the copies that come after the next loss
     late: Vec<Copied<J>>,
 }
 
-// A copy of what a worker brought back.
+// A copy of a worker's result.
 #[derive(Drop)]
 struct Copied<J: Origin> {
     worker: u32,
     done: Done<J>,
 }
 
-/// What becomes of these works and losses. A copy of each result comes right behind it, and another one after the next loss.
+/// Runs a job over these works and losses. A copy of each result comes right after it, and another one after the next loss.
 pub fn doubled<R: Files + AllocGlobal + Threads + Sync>(
     rt: &R,
     alloc: Global,
@@ -45,7 +45,7 @@ pub fn doubled<R: Files + AllocGlobal + Threads + Sync>(
     doubled_as::<Brand, MemoryKeep, R>(rt, alloc, job, &mut MemoryKeep::new(alloc), steps)
 }
 
-// The same for a job that a type names, whose Keep is not trusted.
+// Runs it for a job that a type names, whose Keep is not trusted.
 fn doubled_as<J: Origin, K: Keep, R: Files + AllocGlobal + Threads + Sync>(
     rt: &R,
     alloc: Global,
@@ -62,7 +62,7 @@ fn doubled_as<J: Origin, K: Keep, R: Files + AllocGlobal + Threads + Sync>(
     }
 }
 
-// The same over the open book.
+// Runs it over the open book.
 fn doubled_in<J: Origin, K: Keep, R: Files + AllocGlobal + Threads + Sync>(
     rt: &R,
     alloc: Global,
@@ -79,7 +79,7 @@ fn doubled_in<J: Origin, K: Keep, R: Files + AllocGlobal + Threads + Sync>(
     told(alloc, answers, book)
 }
 
-// What is answered to the steps.
+// Returns the answers to the steps.
 fn answers_of<J: Origin, K: Keep, R: Files + AllocGlobal + Threads + Sync>(
     rt: &R,
     alloc: Global,
@@ -132,7 +132,7 @@ fn go_over<J: Origin, K: Keep, R: Files + AllocGlobal + Threads + Sync>(
     Ok(())
 }
 
-// The worker's next task is done, and its result comes twice. One more copy is left.
+// Does the worker's next task. Its result comes twice, and one more copy is left.
 fn work<J: Origin, K: Keep, R: Files + AllocGlobal + Threads + Sync>(
     rt: &R,
     hand: &mut Hand<J>,
@@ -158,7 +158,7 @@ fn work<J: Origin, K: Keep, R: Files + AllocGlobal + Threads + Sync>(
     come(rt, hand, book, keep, &mut again)
 }
 
-// The worker is lost, and the copies that were left come.
+// Loses the worker. Then the copies that are left come.
 fn lose<J: Origin, K: Keep, R: Files + AllocGlobal + Threads + Sync>(
     rt: &R,
     hand: &mut Hand<J>,
@@ -180,7 +180,7 @@ fn lose<J: Origin, K: Keep, R: Files + AllocGlobal + Threads + Sync>(
     come(rt, hand, book, keep, &mut late)
 }
 
-// The result of a task, of which two copies are left.
+// Makes the result of a task, of which two copies are left.
 fn done_with<J: Origin>(hand: &mut Hand<J>, worker: u32, task: Task<J>) -> Result<Done<J>>
     requires job { J.work ≡ hand.old.job.now }
     requires fits { hand.old.scratch ≡ hand.old.job.now.«module» }
@@ -207,7 +207,7 @@ fn push_copy<J: Origin>(
     Ok(())
 }
 
-// The copies come, the last one first.
+// Brings the copies, the last one first.
 fn come<J: Origin, K: Keep, R: Files + AllocGlobal + Threads + Sync>(
     rt: &R,
     hand: &mut Hand<J>,
@@ -230,7 +230,7 @@ fn come<J: Origin, K: Keep, R: Files + AllocGlobal + Threads + Sync>(
     Ok(())
 }
 
-// What is answered to an event, with a fault as the end.
+// Returns the answer to an event. A fault is the end.
 fn tell<J: Origin, K: Keep, R: Files + AllocGlobal + Threads + Sync>(
     rt: &R,
     hand: &mut Hand<J>,
@@ -266,7 +266,7 @@ fn told<J: Origin>(alloc: Global, answers: Vec<StepAnswer>, book: Book<J>) -> Re
 
 fn ended<J: Origin>(book: Book<J>) -> Result<Report> {
     match book.status().end {
-        End::Finished | End::Limit => match book.report() {
+        JobStatus::Finished | JobStatus::Limit => match book.report() {
             Ok(report) => Ok(report),
             Err(fault) => bail!("{fault}"),
         },

@@ -1,4 +1,4 @@
-//! A Keep that is no honest one.
+//! A Keep that is not honest.
 
 ghost use Rattle.std.specs.Prelude.{◌≡◌, ◌≤◌, true};
 ghost use Rattle.checkpoint.specs.Keep.{HasFailed};
@@ -42,12 +42,12 @@ impl FaultyKeep {
         }
     }
 
-    /// The bytes of the last good save.
+    /// Returns the bytes of the last good save.
     pub fn last(&self) -> &[u8] {
         self.last.as_slice()
     }
 
-    // Whether the device fails at this call.
+    // Returns whether the device fails at this call.
     fn fails(&mut self) -> bool
         ensures memory { self.new.memory ≡ self.old.memory }
         ensures later { self.old.failures ≤ self.new.failures }
@@ -68,7 +68,7 @@ impl FaultyKeep {
         }
     }
 
-    // What is answered where these bytes were saved.
+    // Returns the bytes to load in place of the saved ones.
     fn loaded(&self, mut saved: Vec<u8>) -> Result<Vec<u8>, AllocError> {
         match &self.wrong {
             Wrong::Loads(bytes) => Vec::from_slice(self.alloc, bytes.as_slice()),

@@ -6,9 +6,9 @@ use rollback::{Outcome, Step, simulate};
 use std::alloc::{AllocError, Global};
 use std::rt::Files;
 use std::thread::Threads;
-use superstep::{Ended, How, Job, JobFault, one_machine};
+use superstep::{EndReason, Job, JobEnd, JobFault, one_machine};
 
-// How many steps a list of the second sweep has.
+// How many steps a drawn list has.
 const STEPS: usize = 64;
 
 // Where a list of steps leads.
@@ -53,7 +53,7 @@ impl Tally {
     }
 }
 
-/// Before each of the steps worker 0 or 1 is lost, and then the other works for as long as it takes.
+/// Loses worker 0 or 1 before each of the steps; then the other works as long as it takes.
 pub fn losses<R: Files + AllocGlobal + Threads + Sync>(
     rt: &R,
     alloc: Global,
@@ -69,7 +69,7 @@ fn losses_beside<R: Files + AllocGlobal + Threads + Sync>(
     alloc: Global,
     job: &Job,
     steps: &[Step],
-    plain: &Ended,
+    plain: &JobEnd,
 ) -> Result<String> {
     let mut tally = Tally::new();
     for place in 0..steps.len() {
@@ -81,7 +81,7 @@ fn losses_beside<R: Files + AllocGlobal + Threads + Sync>(
     Ok(format!(in alloc; "{} of {} end alike", tally.alike, tally.lists)?)
 }
 
-// The steps, a loss of the worker, and works of the other to the end.
+// Makes a list of the steps, a loss of the worker, and works of the other to the end.
 fn lossy(alloc: Global, steps: &[Step], worker: u32) -> Result<Vec<Step>, AllocError> {
     let mut lossy = Vec::from_slice(alloc, steps)?;
     lossy.push(Step::Lose(worker))?;
@@ -90,13 +90,13 @@ fn lossy(alloc: Global, steps: &[Step], worker: u32) -> Result<Vec<Step>, AllocE
     Ok(lossy)
 }
 
-// Where the steps lead, beside the run on one machine.
+// Returns where the steps lead, compared with the run on one machine.
 fn way_of<R: Files + AllocGlobal + Threads + Sync>(
     rt: &R,
     alloc: Global,
     job: &Job,
     steps: &[Step],
-    plain: &Ended,
+    plain: &JobEnd,
 ) -> Way {
     let mut keep = MemoryKeep::new(alloc);
     match simulate(rt, alloc, job, &mut keep, steps) {
@@ -106,7 +106,7 @@ fn way_of<R: Files + AllocGlobal + Threads + Sync>(
     }
 }
 
-fn way_to(outcome: &Outcome, plain: &Ended) -> Way {
+fn way_to(outcome: &Outcome, plain: &JobEnd) -> Way {
     match outcome {
         Outcome::Open(_) => Way::Open,
         Outcome::Ended(report) if are_alike(&report.ended, plain) => Way::Alike,
@@ -114,8 +114,8 @@ fn way_to(outcome: &Outcome, plain: &Ended) -> Way {
     }
 }
 
-/// Whether a job ended as another.
-pub fn are_alike(ended: &Ended, plain: &Ended) -> bool {
+/// Returns whether a job ended like another.
+pub fn are_alike(ended: &JobEnd, plain: &JobEnd) -> bool {
     have_finished(ended) == have_finished(plain)
         && ended.superstep == plain.superstep
         && ended.values.as_slice() == plain.values.as_slice()
@@ -124,11 +124,11 @@ pub fn are_alike(ended: &Ended, plain: &Ended) -> bool {
         && ended.by_superstep.as_slice() == plain.by_superstep.as_slice()
 }
 
-fn have_finished(ended: &Ended) -> bool {
-    matches!(ended.how, How::Finished)
+fn have_finished(ended: &JobEnd) -> bool {
+    matches!(ended.how, EndReason::Finished)
 }
 
-/// So many lists of steps drawn by a fixed seed.
+/// Draws lists of steps by a fixed seed.
 pub fn drawn<R: Files + AllocGlobal + Threads + Sync>(
     rt: &R,
     alloc: Global,
@@ -144,7 +144,7 @@ fn drawn_beside<R: Files + AllocGlobal + Threads + Sync>(
     alloc: Global,
     job: &Job,
     lists: u32,
-    plain: &Ended,
+    plain: &JobEnd,
 ) -> Result<String, AllocError> {
     let mut draw = Draw { state: 1 };
     let mut tally = Tally::new();
@@ -190,7 +190,7 @@ impl Draw {
         Ok(steps)
     }
 
-    // Works are most likely. There are two workers, and now and then a third is named.
+    // Draws a step. Works are most likely. Of the workers 0 and 1 exist, and 2 is named now and then.
     fn step(&mut self) -> Step {
         let worker = self.worker();
         match self.below(16) {

@@ -13,7 +13,7 @@ use std::thread::Threads;
 use superstep::{Job, JobFault, Origin, Place};
 use workers::{Coordinator, Hub, Message, WorkerPass};
 
-/// What the coordinator of a job with no vertices is driven to. The worker and the ticker have said bye before.
+/// Drives the coordinator of a job with no vertices. The worker and the ticker have said bye before.
 pub fn driven<R: Wait + Threads + Sync + Files + AllocGlobal>(
     rt: &R,
     alloc: Global,
@@ -44,14 +44,14 @@ fn driven_as<J: Origin, R: Wait + Threads + Sync + Files + AllocGlobal>(
         None => Err(JobFault::NoWorkers),
     };
     let driven = coordinator.drive(rt, book, &mut keep);
-    // (their ends are there as long as the coordinator sends)
+    // (their ends live as long as the coordinator sends)
     drop(ticked);
     drop(worked);
     driven
 }
 
-/// The words of what becomes of the first task of the only worker: it is offered and taken, the worker fails, is stopped, and
-/// says bye.
+/// Returns what becomes of the first task of the only worker, in words: it is offered and taken, the worker fails, is
+/// stopped, and says bye.
 pub fn led<R: Wait + Threads + Sync + Files + AllocGlobal>(
     rt: &R,
     alloc: Global,
@@ -114,7 +114,7 @@ fn offer<J: Origin, R: Wait>(
     }
 }
 
-// Takes the task, and hands in that there was no memory for it.
+// Takes the task, and reports that there was no memory for it.
 fn fail<J: Origin, R: Wait>(rt: &R, pass: &mut WorkerPass<J>, words: &mut Vec<&'static str>) {
     note(words, order_word(pass, rt));
     let failed = Event::Failed(pass.worker(), Place::Call);

@@ -1,17 +1,17 @@
-//! Gates that do what a case asks for.
+//! Gates that do what a case says.
 
 use console::LossGate;
 use std::sync::atomic::{AtomicBool, Ordering};
 use std::thread::yield_now;
 use workers::{Gate, Turn};
 
-// How often part 0 lets others go on while it is held.
+// How often part 0 yields while it is held.
 const YIELDS: u32 = 100_000;
 
-// How often a task lets others go on while a lost worker is waited for.
+// How often a task yields while a lost worker is awaited.
 const YIELDS_A_TASK: u32 = 1_000;
 
-/// What a gate does.
+/// The actions of a gate.
 #[derive(Clone, Copy)]
 pub enum Plan {
     /// Part 0 is held until part 1 has begun.
@@ -41,7 +41,7 @@ impl PlannedGate {
         }
     }
 
-    /// Whether part 1 has begun while part 0 was held, in words.
+    /// Returns in words whether part 1 has begun while part 0 was held.
     pub fn how_met(&self) -> &'static str {
         if self.has_met.load(Ordering::SeqCst) {
             "both at once"
@@ -93,7 +93,7 @@ impl Gate for PlannedGate {
     }
 }
 
-/// A gate that loses a worker, and whether that worker has come back. Where it is to join again, the others let it.
+/// A gate that loses a worker and watches whether it comes back. If it is to join again, the other workers give it time.
 #[derive(Drop)]
 pub struct WatchedGate {
     gate: LossGate,
@@ -123,7 +123,7 @@ impl WatchedGate {
         }
     }
 
-    // Lets the worker that is lost join again.
+    // Gives the lost worker time to join again.
     fn wait(&self) {
         for _ in 0..YIELDS_A_TASK {
             if self.has_come_back() {

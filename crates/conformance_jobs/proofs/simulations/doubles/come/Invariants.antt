@@ -1,5 +1,5 @@
 use Rattle.std.proofs.Common.{◌≡◌, vec_len}
-use Rattle.rollback.specs.Keeping.{KeepsFor}
+use Rattle.rollback.specs.Saving.{KeepsFor}
 use Rattle.conformance_jobs.proofs.simulations.doubles.come.Given as goal
 
 abbrev pub invariant-loop-copy : goal.invariant-loop-copy

@@ -1,0 +1,54 @@
+//! The bytes of a memory (Core 1.0, 4.2.8 and 4.4.4).
+
+use wasm_ast::{Load, Store, Value, i32_wrap_i64};
+
+/// How many bytes a page has (Core 1.0, 4.2.8).
+pub const PAGE_SIZE: usize = 65_536;
+
+/// Returns the number of pages.
+pub fn size(memory: &[u8]) -> u32 {
+    u32::try_from(memory.len() / PAGE_SIZE).unwrap_or(u32::MAX)
+}
+
+/// Returns the value of a load from a place, if all its bytes exist.
+pub fn load(memory: &[u8], op: Load, place: u64) -> Option<Value> {
+    let number = read(memory, place, op.width())?;
+    Some(match op {
+        Load::I32 | Load::I32From8U | Load::I32From16U => Value::I32(i32_wrap_i64(number)),
+        Load::I32From8S => Value::I32(i32_wrap_i64(extended(number, 0x80))),
+        Load::I32From16S => Value::I32(i32_wrap_i64(extended(number, 0x8000))),
+        Load::I64 | Load::I64From8U | Load::I64From16U | Load::I64From32U => Value::I64(number),
+        Load::I64From8S => Value::I64(extended(number, 0x80)),
+        Load::I64From16S => Value::I64(extended(number, 0x8000)),
+        Load::I64From32S => Value::I64(extended(number, 0x8000_0000)),
+    })
+}
+
+/// Writes the lowest bytes of a number at a place, if all of these exist.
+pub fn store(memory: &mut [u8], op: Store, place: u64, number: u64) -> Option<()> {
+    let bytes = number.to_le_bytes();
+    lay(memory, place, bytes.get(..op.width() as usize)?)
+}
+
+/// Writes bytes from a place on, if all of these exist.
+pub fn lay(memory: &mut [u8], place: u64, bytes: &[u8]) -> Option<()> {
+    let start = usize::try_from(place).ok()?;
+    let places = memory.get_mut(start..start.checked_add(bytes.len())?)?;
+    for (old, new) in places.iter_mut().zip(bytes) {
+        *old = *new;
+    }
+    Some(())
+}
+
+// Reads the number in `width` bytes from a place on, the lowest first.
+fn read(memory: &[u8], place: u64, width: u32) -> Option<u64> {
+    let start = usize::try_from(place).ok()?;
+    let bytes = memory.get(start..start.checked_add(width as usize)?)?;
+    let bytes = bytes.iter().rev();
+    Some(bytes.fold(0, |number: u64, byte| (number << 8) | u64::from(*byte)))
+}
+
+// Extends the sign of a number, which is this bit (Core 1.0, 4.3.4, extend_s).
+fn extended(number: u64, sign: u64) -> u64 {
+    (number ^ sign).wrapping_sub(sign)
+}

@@ -1,4 +1,4 @@
--- The program's command line, and what is asked for by it.
+-- The program's command line, and the request in its words.
 use Rattle.std.specs.Prelude.{◌≡◌, ◌⊎◌, ◌<◌, ◌^◌, ℕ, Bool, true, false, List, [], ◌∷◌, ◌++◌, Option, None, Some, map, codes, pos, option_map, option_and_then, find, if◌then◌else◌, slice_index, ◌==◌, IsSomeAnd}
 use Rattle.std.specs.List.{list_any}
 use Rattle.std.specs.Option.{option_map_or}
@@ -29,7 +29,7 @@ use Rattle.command_line.specs.declared.request.RunRequest.{RunRequest}
 
 -- ---- the arguments, of five kinds
 
--- `NAME`, by its place, which has to be given
+-- `NAME`, a required word, known by its place
 abbrev pub positional : Text → Rule
 positional name = record (new_rule name) { value_names = 1; required = true }
 
@@ -41,27 +41,27 @@ option name = record (new_rule name) { long = Some name; value_names = 1 }
 abbrev pub flag : Text → Rule
 flag name = record (new_rule name) { long = Some name; action = Some SetTrue }
 
--- a number of 32 bits
+-- a number from 0 to 2^32 - 1
 abbrev pub number : ValueParser
 number = Signed (pos 0) (pos 4294967295)
 
--- `--name N`, a number that may be left out
+-- `--name N`, a number without a default
 abbrev pub bound : Text → Rule
 bound name = record (option name) { parser = Some number }
 
--- `--name N`, which is `otherwise` where it is not given
+-- `--name N`, a number that is `otherwise` by default
 abbrev pub setting : (Text × Text) → Rule
 setting (name, otherwise) = record (option name) { defaults = otherwise ∷ []; parser = Some number }
 
--- what a command takes that may explain why its module is refused
+-- the flag of commands that can explain why a module is refused
 abbrev pub explain : Rule
 explain = flag (codes "explain")
 
--- what a command takes that may refuse a module for its size
+-- the option of commands that can refuse a module for its size
 abbrev pub max_size : Rule
 max_size = bound (codes "max-size")
 
--- the settings of a job, with what each is otherwise
+-- the settings of a job, with their defaults
 abbrev pub settings : List (Text × Text)
 settings = (codes "parts", codes "1")
     ∷ (codes "workers", codes "1")
@@ -72,11 +72,11 @@ settings = (codes "parts", codes "1")
 
 -- ---- the commands
 
--- a command with these arguments and no subcommand
+-- a command with these arguments and without subcommands
 abbrev pub command : Text → List Rule → Shape
 command name rules = record (new_shape name) { rules = rules }
 
--- what any command over a job takes last
+-- the last arguments of each command that runs a job
 abbrev pub job_rules : List Rule
 job_rules = map setting settings ++ flag (codes "units") ∷ []
 
@@ -117,7 +117,7 @@ graph = command (codes "graph")
 abbrev pub console : Shape
 console = command (codes "console") []
 
--- the program takes one of these commands, has a version, and shows its help where it is given no word
+-- the program has these commands and a version, requires a command, and shows its help if there are no words
 abbrev pub pregel : App
 pregel = record {
   top = record (new_shape (codes "pregel")) {
@@ -129,7 +129,7 @@ pregel = record {
   subs = call ∷ run ∷ replay ∷ upgrade ∷ asm ∷ fit ∷ print ∷ verify ∷ graph ∷ console ∷ [];
 }
 
--- ---- what is asked for by a command and the entries of its arguments
+-- ---- the request in a command and the entries of its arguments
 
 -- the argument's entry has this text
 abbrev pub Gives : List Row → (name : Text) → Bor Text → Type 0
@@ -143,16 +143,16 @@ MayGive rows name text = first_of name rows ≡ option_map (λ t. t.now) text
 abbrev pub is_set : List Row → (name : Text) → Bool
 is_set rows name = option_map_or (bytes_eq (codes "true")) (one_of name rows) false
 
--- the words gave it, and not its default
+-- the entry is from the words, and is no default
 abbrev pub is_from_words : Option ValueSource → Bool
 is_from_words (Some CommandLine) = true
 is_from_words source = false
 
--- the argument's entry is from the words
+-- the words give the argument
 abbrev pub is_given : List Row → (name : Text) → Bool
 is_given rows name = is_from_words (option_and_then (λ row. row.source) (find (λ row. bytes_eq row.id name) rows))
 
--- the argument's entry is this number of 32 bits, in decimal digits
+-- the argument's entry is this number, in decimal digits and below 2^32
 abbrev pub GivesNumber : List Row → (name : Text) → ℕ → Type 0
 GivesNumber rows name n =
     let digits : Text → Text = without_leading_plus in
@@ -171,32 +171,32 @@ pub record GivesSettings (rows : List Row) (given : Settings) : Type 0 where
   pub limit : GivesNumber rows (codes "limit") given.limit
   pub lease : GivesNumber rows (codes "lease") given.lease
 
--- the entries ask for this module
+-- the entries have this module
 pub record AsksModule (rows : List Row) (asked : ModuleRequest) : Type 0 where
   pub path : Gives rows (codes "module") asked.path
   pub max_size : MayGiveNumber rows (codes "max-size") asked.max_size
 
--- the entries ask for this job
+-- the entries have this job
 pub record AsksJob (rows : List Row) (job : JobRequest) : Type 0 where
   pub module_file : AsksModule rows job.«module»
   pub graph_path : Gives rows (codes "graph") job.graph
   pub settings : GivesSettings rows job.settings
   pub units : job.tells_units ≡ is_set rows (codes "units")
 
--- the entries ask for these of the machine's processors
+-- the entries say how many of the machine's processors the job uses
 pub record AsksCores (rows : List Row) (asked : Cores) : Type 0 where
   pub all : asked.all ≡ is_set rows (codes "all-cores")
   pub workers : asked.workers_given ≡ is_given rows (codes "workers")
   pub parts : asked.parts_given ≡ is_given rows (codes "parts")
 
--- when the entries ask that progress is shown
+-- when to show progress, by the entries
 abbrev pub progress_in : List Row → Progress
 progress_in rows =
     if is_set rows (codes "quiet") then Never
     else if is_set rows (codes "progress") then Always
     else OnTerminal
 
--- the entries ask for this run
+-- the entries have this run
 pub record AsksRun (rows : List Row) (asked : RunRequest) : Type 0 where
   pub job : AsksJob rows asked.job
   pub cores : AsksCores rows asked.cores
@@ -208,7 +208,7 @@ pub record AsksRun (rows : List Row) (asked : RunRequest) : Type 0 where
   pub report : MayGive rows (codes "report") asked.report
   pub plot : MayGive rows (codes "plot") asked.plot
 
--- the entries ask for this graph file
+-- the entries have this import
 pub record AsksImport (rows : List Row) (asked : ImportRequest) : Type 0 where
   pub edges_path : Gives rows (codes "edges") asked.edges
   pub graph_path : Gives rows (codes "binary") asked.graph
@@ -219,7 +219,7 @@ pub record AsksImport (rows : List Row) (asked : ImportRequest) : Type 0 where
   pub share : asked.share ≡ is_set rows (codes "share")
   pub names : MayGive rows (codes "names") asked.names
 
--- the command over files of this name asks for this
+-- the command of this name, other than `console`, has this request
 abbrev pub AsksFor : (name : Text) → List Row → Request → Type 0
 AsksFor name rows (request.Call m input) = (name ≡ codes "call") × AsksModule rows m × Gives rows (codes "input") input
 AsksFor name rows (request.Run asked) = (name ≡ codes "run") × AsksRun rows asked
@@ -232,22 +232,22 @@ AsksFor name rows (request.Print m) = (name ≡ codes "print") × Gives rows (co
 AsksFor name rows (request.Verify m) = (name ≡ codes "verify") × AsksModule rows m
 AsksFor name rows (request.Import asked) = (name ≡ codes "graph") × AsksImport rows asked
 
--- the command of this name asks for this
+-- the command of this name has this request
 abbrev pub Asks : (name : Text) → List Row → Options → Type 0
 Asks name rows options.Session = name ≡ codes "console"
 Asks name rows (options.Command request explains) = AsksFor name rows request × (explains ≡ is_set rows (codes "explain"))
 
--- the command that was met, with its entries, asks for this
+-- the command that clap finds, with its entries, has this request
 abbrev pub AskedIn : (met : Option (Text × List Row)) → Options → Type 0
 AskedIn met given = IsSomeAnd met (λ command. Asks command.0 command.1 given)
 
--- the words of a command line, the program's name first, ask for this
+-- the words of a command line have this request; the first word is the program's name
 abbrev pub AskedBy : (words : List Text) → Options → Type 0
 AskedBy words = AskedIn (subcommand_of pregel words)
 
--- ---- a sign, which `clap` takes before a number
+-- ---- a `+`, which `clap` accepts before a number
 
--- the options whose value is a number that `clap` reads
+-- the options with a number, which `clap` reads
 abbrev pub numbers : List Text
 numbers = map (λ s. s.0) settings ++ codes "max-size" ∷ []
 
@@ -259,7 +259,7 @@ begins_with_plus text = slice_index text 0 == 43
 abbrev pub is_signed : List Row → (name : Text) → Bool
 is_signed rows name = option_map_or begins_with_plus (first_of name rows) false
 
--- a number of the command that was met is
+-- a number of the command that clap finds is
 abbrev pub has_plus_in : (met : Option (Text × List Row)) → Bool
 has_plus_in met = option_map_or (λ command. list_any (is_signed command.1) numbers) met false
 
@@ -269,11 +269,11 @@ has_plus words = has_plus_in (subcommand_of pregel words)
 
 -- ---- refusals
 
--- the words ask for no options at all
+-- the words have no request
 abbrev pub AsksNothing : (words : List Text) → Type 0
 AsksNothing words = (given : Options) → AskedBy words given → ⊥
 
--- Memory ran out, or `clap` refuses the words, or it takes them and a number has a `+`, or what it takes asks for nothing.
+-- memory ran out, or `clap` finds a fault in the words; or it finds none, and a number has a `+` or there is no request in the words
 abbrev pub IsRefusal : (words : List Text) → Error → Type 0
 IsRefusal words e = HasKind (fault_of pregel words) e
     ⊎ ((fault_of pregel words ≡ [])

@@ -1,6 +1,6 @@
--- What a reader has to believe: the program's command line, and what is asked for by it.
+-- The definitions to read: the program's command line, and the request in its words.
 pub mod CommandLine
--- what it asks for on a machine
+-- the request on a machine
 pub mod Machine
--- what only mirrors the code, for its proofs
+-- for proofs only: definitions that follow the code
 pub mod inside

@@ -1,4 +1,4 @@
--- What is asked for on a machine that has so many processors.
+-- The request on a machine with this many processors.
 use Rattle.std.specs.Prelude.{ℕ, ◌*◌, Bool, min, if◌then◌else◌}
 use Rattle.superstep.specs.declared.settings.Settings.{Settings}
 use Rattle.command_line.specs.declared.request.Cores.{Cores}
@@ -8,11 +8,11 @@ use Rattle.command_line.specs.declared.request.Request.{Request}
 use Rattle.command_line.specs.declared.request.Request.TheVariants as request
 use Rattle.command_line.specs.declared.request.RunRequest.{RunRequest}
 
--- a number that was given stays
+-- a number that the words give, or else the other
 abbrev pub chosen : (given : Bool) → (number otherwise : ℕ) → ℕ
 chosen given number otherwise = if given then number else otherwise
 
--- a worker for each processor, and four parts, as far as a job may have so many
+-- a worker for each processor, at most 64, and four parts for each worker, where the words do not give these numbers
 abbrev pub on_all : (processors : ℕ) → Cores → Settings → Settings
 on_all processors cores settings = record settings {
   parts = chosen cores.parts_given settings.parts (min processors 64 * 4);
@@ -25,7 +25,7 @@ settings_on processors cores settings = if cores.all then on_all processors core
 abbrev pub run_on : (processors : ℕ) → RunRequest → RunRequest
 run_on processors asked = record asked { job = record asked.job { settings = settings_on processors asked.cores asked.job.settings } }
 
--- a run has the settings of that machine, and all else is as it is asked for
+-- only the settings of a run depend on the machine
 abbrev pub request_on : (processors : ℕ) → Request → Request
 request_on processors (request.Run asked) = request.Run (run_on processors asked)
 request_on processors asked = asked

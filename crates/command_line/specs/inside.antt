@@ -1,2 +1,2 @@
--- What the commands of the code are to `clap`. No contract of a public function cites it.
+-- The models of the code's commands in `clap`. No contract of a public function cites them.
 pub mod Commands

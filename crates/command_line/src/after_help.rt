@@ -1,6 +1,6 @@
-//! What each command's help shows below its options: output, statuses, formats, limits and an example.
+//! The end of each command's help, below its options: output, exit statuses, formats, limits and an example.
 
-/// Below the help of the program.
+/// The end of the program's help.
 pub(crate) const PREGEL: &str = "\
 Exit statuses:
   0  an answer
@@ -15,7 +15,7 @@ A module whose file's name ends in `.wat` is text, any other is binary.
 Example:
   pregel run examples/max.wat examples/line.txt --workers 2 --parts 4";
 
-/// Below the help of `console`.
+/// The end of the help of `console`.
 pub(crate) const CONSOLE: &str = "\
 Commands, one a line, and their replies:
   module NAME PATH      ok module NAME SIZE
@@ -40,7 +40,7 @@ Limits: a name has 1 to 32 letters, digits, `_` and `-`. A line has at most 4,09
 Example:
   printf 'module m examples/max.wat\\nquit\\n' | pregel console";
 
-/// What the help of the command over files of this name shows.
+/// Returns the end of the help of the command of this name. It is empty for `fit`, `console` and any other name.
 pub(crate) fn of(name: &str) -> &'static str {
     match name {
         "call" => CALL,

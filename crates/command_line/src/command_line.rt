@@ -1,4 +1,4 @@
-//! The command line.
+//! Reading of the command line's words.
 
 ghost use Rattle.std.specs.Prelude.{◌≡◌, ◌∷◌, [], IfErr, IfOk, IsErrAnd, MatchResult, OnOk, codes, false, map};
 ghost use Rattle.std.specs.List.{list_any};
@@ -17,12 +17,17 @@ use std::alloc::Global;
 use std::convert::AsStr;
 use superstep::Settings;
 
-// The names of the options whose value is a number that `clap` reads.
+// The names of the options with a number, which `clap` reads.
 static NUMBERS: [&str; 6] = ["parts", "workers", "every", "limit", "lease", "max-size"];
 
-/// Reads the words of a command line, the program's name first. A refusal is clap's, with its text and status; help
-/// that is asked for comes as one too. A number that is written with a `+`, which clap takes, is refused. Words in
-/// which clap finds no fault, with no `+`, that ask for something, are refused for want of memory alone.
+/// Reads the words of a command line. The first is the program's name.
+///
+/// An `Err` is clap's error, with its text and exit status. It has one of these kinds:
+///
+/// * the kind of the first fault that clap finds in the words; a request for help or for the version is one;
+/// * `ValueValidation`: a number is written with a `+`, which clap accepts;
+/// * `MissingSubcommand`: the words have no command;
+/// * `OutOfMemory`: an allocation fails.
 pub fn options<'a, S: AsStr>(alloc: Global, words: &'a [S]) -> Result<Options<'a>, Error>
     ensures asked { IfOk result (AskedBy (map S.text words.entry.now)) }
     ensures unsigned { OnOk result (has_plus (map S.text words.entry.now) ≡ false) }
@@ -36,7 +41,7 @@ pub fn options<'a, S: AsStr>(alloc: Global, words: &'a [S]) -> Result<Options<'a
     options
 }
 
-// Reads the words by what a command takes.
+// Reads the words by the command's arguments.
 fn options_by<'a, S: AsStr>(command: &mut Command<'a>, words: &'a [S]) -> Result<Options<'a>, Error>
     requires { app_of command.old ≡ pregel }
     ensures asked { IfOk result (AskedBy (map S.text words.entry.now)) }
@@ -48,7 +53,7 @@ fn options_by<'a, S: AsStr>(command: &mut Command<'a>, words: &'a [S]) -> Result
     options_in(command, &matches)
 }
 
-// Finds the options in the matches. A number with a `+` and a missing command are errors.
+// Finds the request in clap's matches. Fails if a number has a `+` or the command is missing, or if memory runs out.
 fn options_in<'a>(command: &mut Command<'a>, matches: &ArgMatches<'a>) -> Result<Options<'a>, Error>
     ensures asked { IfOk result (AskedIn (subcommand_rows_of matches.now)) }
     ensures unsigned { OnOk result (has_plus_in (subcommand_rows_of matches.now) ≡ false) }
@@ -67,7 +72,7 @@ fn options_in<'a>(command: &mut Command<'a>, matches: &ArgMatches<'a>) -> Result
     }
 }
 
-// Makes an error of the command.
+// Makes clap's error of this kind, with this message.
 fn refusal<'a>(
     command: &mut Command<'a>,
     kind: ErrorKind,
@@ -79,7 +84,7 @@ fn refusal<'a>(
     Err(error)
 }
 
-// Whether a number has a `+`, which `clap` takes before a number.
+// Tests whether a number is written with a `+`, which `clap` accepts.
 fn has_plus(matches: &ArgMatches) -> bool
     ensures { result ≡ has_plus_in (subcommand_rows_of matches.now) }
 {
@@ -176,7 +181,7 @@ fn cores_asked(entries: &ArgMatches) -> Cores
     }
 }
 
-// When progress is shown; `--quiet` outweighs `--progress`.
+// Returns when to show progress. `--quiet` outweighs `--progress`.
 fn progress_asked(entries: &ArgMatches) -> Progress
     ensures { result ≡ progress_in (rows_in entries.now) }
 {
@@ -274,14 +279,14 @@ fn settings_of(entries: &ArgMatches) -> Option<Settings>
     })
 }
 
-// The number of a setting.
+// Returns the number of a setting, given or by default.
 fn number_of(entries: &ArgMatches, name: &str) -> Option<u32>
     ensures { Finds (GivesNumber (rows_in entries.now) name.now) result }
 {
     entries.get_one(name)
 }
 
-// The number of an option that may be left out.
+// Returns the number of an option without a default. The inner `None` says that the words leave it out.
 fn bound_of(entries: &ArgMatches, name: &str) -> Option<Option<u32>>
     ensures { Finds (MayGiveNumber (rows_in entries.now) name.now) result }
 {
@@ -291,7 +296,7 @@ fn bound_of(entries: &ArgMatches, name: &str) -> Option<Option<u32>>
     }
 }
 
-// Whether the words give an option. Its default does not count.
+// Tests whether the words give an option. Its default does not count.
 fn is_given(entries: &ArgMatches, name: &str) -> bool
     ensures { result ≡ is_given (rows_in entries.now) name.now }
 {
@@ -302,7 +307,7 @@ fn is_given(entries: &ArgMatches, name: &str) -> bool
     }
 }
 
-// Whether a flag is given.
+// Tests whether a flag is given.
 fn is_set(entries: &ArgMatches, name: &str) -> bool
     ensures { result ≡ is_set (rows_in entries.now) name.now }
 {

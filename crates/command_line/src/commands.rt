@@ -1,4 +1,4 @@
-//! The program's commands: the arguments of each, and its help.
+//! The program's commands, with the arguments and the help of each.
 
 ghost use Rattle.std.specs.Prelude.{IfOk, map};
 ghost use Rattle.command_line.specs.CommandLine.{bound, console, flag, option, positional, pregel, setting};
@@ -11,7 +11,7 @@ use std::alloc::{AllocError, Global};
 // An argument of a command, with its help.
 #[derive(Clone, Copy)]
 enum Argument {
-    // One that is given by its place.
+    // A required word, known by its place.
     Positional {
         name: &'static str,
         value_name: &'static str,
@@ -23,18 +23,18 @@ enum Argument {
         value_name: &'static str,
         help: &'static str,
     },
-    // An option with a number that may be left out.
+    // An option with a number of 32 bits, and no default.
     Number {
         name: &'static str,
         value_name: &'static str,
         help: &'static str,
     },
-    // An option with no value.
+    // An option without a value.
     Flag {
         name: &'static str,
         help: &'static str,
     },
-    // A setting of a job.
+    // A setting of a job: an option with a number of 32 bits, and a default.
     Setting {
         name: &'static str,
         otherwise: &'static str,
@@ -42,7 +42,7 @@ enum Argument {
     },
 }
 
-// A command with no subcommand, as the table has it.
+// A command without subcommands: a row of the table.
 #[derive(Clone, Copy)]
 struct Usage {
     name: &'static str,
@@ -230,10 +230,10 @@ const EXPLAIN: Argument = Argument::Flag {
     help: "Explains on standard error why the module is refused: the rule, its usual causes, what to write instead, and the place",
 };
 
-// The program's version, and the kit that it is proved with, which `rt version` prints.
+// The program's version, and the kit that proves it. `rt version` prints the kit.
 const VERSION: &str = "0.3.0, proved with rattle-kit-13f logic dac8208d650f15bf";
 
-// The commands except `console`, in the order of the help.
+// The commands except `console`, in the help's order.
 static COMMANDS: [Usage; 9] = [
     Usage {
         name: "call",
@@ -289,7 +289,7 @@ static COMMANDS: [Usage; 9] = [
     },
 ];
 
-/// Makes the program's command, with its subcommands.
+/// Makes the program's command, with its subcommands. Fails only if memory runs out.
 pub(crate) fn pregel<'a>(alloc: Global) -> Result<Command<'a>, AllocError>
     ensures { IfOk result (IsCommand pregel) }
 {
@@ -304,7 +304,7 @@ pub(crate) fn pregel<'a>(alloc: Global) -> Result<Command<'a>, AllocError>
     command.subcommand(console(alloc))
 }
 
-// Adds these commands to a command.
+// Adds these commands to a command, in order.
 fn with_commands<'a>(
     alloc: Global,
     mut command: Command<'a>,
@@ -319,7 +319,7 @@ fn with_commands<'a>(
     Ok(command)
 }
 
-// Makes a command with no subcommand.
+// Makes a command without subcommands.
 fn leaf<'a>(alloc: Global, usage: &Usage) -> Result<Command<'a>, AllocError>
     ensures { IfOk result (IsLeaf (shape_in usage.now)) }
 {
@@ -329,7 +329,7 @@ fn leaf<'a>(alloc: Global, usage: &Usage) -> Result<Command<'a>, AllocError>
     with_arguments(alloc, command, usage.arguments)
 }
 
-// Adds these arguments to a command.
+// Adds these arguments to a command, in order.
 fn with_arguments<'a>(
     alloc: Global,
     mut command: Command<'a>,
@@ -344,7 +344,7 @@ fn with_arguments<'a>(
 }
 
 impl Argument {
-    // Makes the argument for `clap`.
+    // Makes clap's argument.
     fn arg<'a>(self, alloc: Global) -> Arg<'a>
         ensures { IsArg (rule_in self) result }
     {
@@ -384,7 +384,7 @@ fn console<'a>(alloc: Global) -> Command<'a>
         .after_help(after_help::CONSOLE)
 }
 
-// Makes an argument that is given by its place.
+// Makes a required argument, known by its place.
 fn positional<'a>(alloc: Global, name: &'a str, value_name: &'a str, help: &'a str) -> Arg<'a>
     ensures { IsArg (positional name.entry.now) result }
 {
@@ -404,14 +404,14 @@ fn option<'a>(alloc: Global, name: &'a str, value_name: &'a str, help: &'a str) 
         .help(help)
 }
 
-// Makes an option with a number that may be left out.
+// Makes an option with a number of 32 bits, and no default.
 fn bound<'a>(alloc: Global, name: &'a str, value_name: &'a str, help: &'a str) -> Arg<'a>
     ensures { IsArg (bound name.entry.now) result }
 {
     option(alloc, name, value_name, help).value_parser(value_parser!(u32))
 }
 
-// Makes an option with no value.
+// Makes an option without a value.
 fn flag<'a>(alloc: Global, name: &'a str, help: &'a str) -> Arg<'a>
     ensures { IsArg (flag name.entry.now) result }
 {
@@ -421,7 +421,7 @@ fn flag<'a>(alloc: Global, name: &'a str, help: &'a str) -> Arg<'a>
         .help(help)
 }
 
-// Makes a setting of a job.
+// Makes an option with a number of 32 bits, which is `otherwise` by default.
 fn setting<'a>(alloc: Global, name: &'a str, otherwise: &'a str, help: &'a str) -> Arg<'a>
     ensures { IsArg (setting (name.entry.now, otherwise.entry.now)) result }
 {

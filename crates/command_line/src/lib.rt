@@ -1,4 +1,4 @@
-//! The words of the command line, and what they ask for.
+//! The program's command line: reads its words, and returns the request in them.
 #![tactic(auto)]
 
 mod after_help;

@@ -1,4 +1,4 @@
-//! What is asked for on a machine that has so many processors.
+//! A request's settings on a machine with this many processors.
 
 ghost use Rattle.std.specs.Prelude.{◌≡◌};
 ghost use Rattle.command_line.specs.Machine.{chosen, request_on, run_on, settings_on};
@@ -6,16 +6,17 @@ ghost use Rattle.command_line.specs.Machine.{chosen, request_on, run_on, setting
 use crate::request::{Cores, JobRequest, Request, RunRequest};
 use superstep::Settings;
 
-// A job has so many workers at most.
+// The most workers that a job may have.
 const MOST_WORKERS: u32 = 64;
 
-// All cores are used by so many parts for each worker.
+// The number of parts for each worker, where a job uses all cores.
 const PARTS_OF_WORKER: u32 = 4;
 
 impl Cores {
-    /// The settings of a job on a machine that has so many processors. Where all cores are used there is a worker for each
-    /// processor, 64 at most, and there are four parts for each of these; a number that was given stays. Else these settings
-    /// are not changed.
+    /// Returns a job's settings on a machine with this many processors.
+    ///
+    /// A job that uses all cores has a worker for each processor, at most 64, and four parts for each of these. A number of
+    /// workers or parts that the words give stays, and so does any other setting.
     pub fn settings_on(self, processors: u32, settings: Settings) -> Settings
         ensures { result ≡ settings_on processors self settings }
     {
@@ -31,7 +32,7 @@ impl Cores {
     }
 }
 
-// A number that was given, or else another.
+// Returns the number if the words give it, else the other one.
 fn chosen(given: bool, number: u32, otherwise: u32) -> u32
     ensures { result ≡ chosen given number otherwise }
 {
@@ -39,7 +40,7 @@ fn chosen(given: bool, number: u32, otherwise: u32) -> u32
 }
 
 impl<'a> RunRequest<'a> {
-    /// The run with its settings on a machine that has so many processors.
+    /// Returns the run with its settings on a machine with this many processors.
     pub fn on_machine(self, processors: u32) -> RunRequest<'a>
         ensures { result ≡ run_on processors self.entry }
     {
@@ -53,7 +54,7 @@ impl<'a> RunRequest<'a> {
 }
 
 impl<'a> Request<'a> {
-    /// What is asked for on a machine that has so many processors: a run has the settings of that machine.
+    /// Returns the request on a machine with this many processors. Only the settings of a run depend on it.
     pub fn on_machine(self, processors: u32) -> Request<'a>
         ensures { result ≡ request_on processors self.entry }
     {

@@ -1,8 +1,8 @@
-//! What the program is asked for.
+//! The requests that the command line may make.
 
 use superstep::Settings;
 
-/// What the command line asks for.
+/// A request: a session, or one command.
 #[derive(Clone, Copy)]
 pub enum Options<'a> {
     /// A session on standard input and output.
@@ -10,7 +10,7 @@ pub enum Options<'a> {
     /// One command over files.
     Command {
         request: Request<'a>,
-        /// Whether a refusal of its module is explained on standard error.
+        /// Whether to explain a refusal of its module on standard error.
         explains: bool,
     },
 }
@@ -18,50 +18,50 @@ pub enum Options<'a> {
 /// A command over files.
 #[derive(Clone, Copy)]
 pub enum Request<'a> {
-    /// Call the module in one file with the input in the other.
+    /// Calls the module in one file with the input in the other.
     Call {
         module: ModuleRequest<'a>,
         input: &'a str,
     },
-    /// Run a job in threads.
+    /// Runs a job in threads.
     Run(RunRequest<'a>),
-    /// Replay a job by the steps in a file.
+    /// Replays a job by the steps in a file.
     Replay {
         asked: JobRequest<'a>,
         steps: &'a str,
     },
-    /// Write the checkpoint in one file to another, of the newest version.
+    /// Writes the checkpoint in one file to another, in the newest version.
     Upgrade {
         checkpoint: &'a str,
         newer: &'a str,
     },
-    /// Write the module in one file to another, in the binary format.
+    /// Writes the module in one file to another, in the binary format.
     Assemble {
         module: &'a str,
         binary: &'a str,
     },
-    /// Rewrite the module in one file nearer to the bounded profile, and write it to another, in the binary format.
+    /// Rewrites the module in one file nearer to the bounded profile, and writes it to another, in the binary format.
     Fit {
         module: &'a str,
         binary: &'a str,
     },
-    /// Print the module in a file as text.
+    /// Prints the module in a file as text.
     Print {
         module: &'a str,
     },
-    /// Tell the bounds of the calls of the module in a file.
+    /// Prints the bounds of the calls of the module in a file.
     Verify {
         module: ModuleRequest<'a>,
     },
-    /// Write the edges in one file to another, as a graph.
+    /// Writes the edges in one file to another, as a graph.
     Import(ImportRequest<'a>),
 }
 
-/// The module in a file, which is refused where its size is greater than asked for.
+/// The module in a file.
 #[derive(Clone, Copy)]
 pub struct ModuleRequest<'a> {
     pub path: &'a str,
-    /// The greatest size that is accepted; without one, any that the verifier accepts.
+    /// The greatest size, with calls inlined, that is not refused. `None` accepts each size that the verifier accepts.
     pub max_size: Option<u32>,
 }
 
@@ -71,67 +71,67 @@ pub struct JobRequest<'a> {
     pub module: ModuleRequest<'a>,
     pub graph: &'a str,
     pub settings: Settings,
-    /// Whether the units of each superstep are told too.
+    /// Whether to print the units of each superstep too.
     pub tells_units: bool,
 }
 
-/// A job that is run in threads, whose workers can be lost.
+/// A job that runs in threads.
 #[derive(Clone, Copy)]
 pub struct RunRequest<'a> {
     pub job: JobRequest<'a>,
     /// How many of the machine's processors the job uses.
     pub cores: Cores,
-    /// The folder in which its states are kept; without one they are kept in memory.
+    /// The folder for the job's checkpoints. `None` keeps them in memory.
     pub keep: Option<&'a str>,
-    /// Whether the job begins with the newest state in that folder.
+    /// Whether the job begins with the newest checkpoint in that folder.
     pub resume: bool,
-    /// Which worker is lost, as `W:S`.
+    /// The worker to lose, as `W:S`: worker W, with its first task in superstep S or later.
     pub lose: Option<&'a str>,
-    /// Whether a worker that is lost joins again.
+    /// Whether that worker joins again.
     pub again: bool,
-    /// When progress is shown, and whether warnings are.
+    /// When to show progress, and whether to show warnings.
     pub progress: Progress,
-    /// The file to which a report is written, as JSON.
+    /// The file for a report of the run, as JSON.
     pub report: Option<&'a str>,
-    /// The file to which a chart is written, as SVG.
+    /// The file for a chart of the run, as SVG.
     pub plot: Option<&'a str>,
 }
 
 /// How many of the machine's processors a job uses.
 #[derive(Clone, Copy)]
 pub struct Cores {
-    /// Whether all of them are used, as far as the settings that were not given allow.
+    /// Whether the job uses all of them.
     pub all: bool,
-    /// Whether the number of workers was given. It then stays as it is.
+    /// Whether the words give the number of workers. It then stays.
     pub workers_given: bool,
-    /// Whether the number of parts was given. It then stays as it is.
+    /// Whether the words give the number of parts. It then stays.
     pub parts_given: bool,
 }
 
-/// When a job's progress is shown on standard error. Warnings are shown there unless it is never.
+/// When to show a job's progress on standard error. `Never` hides warnings too.
 #[derive(Clone, Copy)]
 pub enum Progress {
     Always,
     Never,
-    /// Where standard error is a terminal.
+    /// Only if standard error is a terminal.
     OnTerminal,
 }
 
-/// The edges in one file, written to another as a graph.
+/// The edges in one file, to be written to another as a graph.
 #[derive(Clone, Copy)]
 pub struct ImportRequest<'a> {
     pub edges: &'a str,
     pub graph: &'a str,
-    /// Whether each edge stands for both directions.
+    /// Whether each edge is for both directions.
     pub undirected: bool,
-    /// The value of each vertex but the source.
+    /// The value of each vertex except the source.
     pub value: Option<&'a str>,
     /// The vertex whose value is 0.
     pub source: Option<&'a str>,
-    /// The value of each edge, or the heading of the column that has it.
+    /// The value of each edge, or the heading of the column with the values.
     pub weight: Option<&'a str>,
-    /// Whether an edge's value is its share of 2^32.
+    /// Whether an edge's value is 2^32 divided by the number of edges from its source.
     pub share: bool,
-    /// The file in which the names of vertices are kept, where they have names.
+    /// The file for the names of the vertices. `None`: the ends of edges are ids.
     pub names: Option<&'a str>,
 }

@@ -1,4 +1,4 @@
--- What the commands of the code are to `clap`.
+-- The models of the code's commands in `clap`.
 use Rattle.std.specs.Prelude.{◌≡◌, ◌⊎◌, List, [], ◌∷◌, ◌++◌, Option, None, Some, false, map, true}
 use Rattle.clap.specs.Words.{App, Row, Rule, Shape, Text, app_of, found_of, kind_of, rows_of, rule_of, with_subcommand}
 use Rattle.clap.specs.declared.builder.arg.Arg.{Arg}
@@ -13,38 +13,38 @@ use Rattle.command_line.specs.declared.commands.Argument.TheVariants as argument
 use Rattle.command_line.specs.declared.commands.Usage.{Usage}
 use Rattle.command_line.specs.declared.request.Options.{Options}
 
--- the argument follows this rule, in its own command alone
+-- the argument follows this rule, and holds in its own command only
 abbrev pub IsArg : Rule → Arg → Type 0
 IsArg rule arg = (rule_of arg ≡ rule) × (arg.global ≡ false)
 
--- the command takes this, and passes on no argument
+-- the command's model is this app, and it passes no argument on to subcommands
 abbrev pub IsCommand : App → Command → Type 0
 IsCommand app command = (app_of command ≡ app) × ((out-Command command).has_globals ≡ false)
 
--- the same of a command with no subcommand
+-- the same for a command without subcommands
 abbrev pub IsLeaf : Shape → Command → Type 0
 IsLeaf shape = IsCommand (record { top = shape; subs = [] })
 
--- the app with these rules more
+-- the app with these rules added
 abbrev pub with_rules : App → List Rule → App
 with_rules app rules = record app { top = record app.top { rules = app.top.rules ++ rules } }
 
--- the second command is the first with these rules more
+-- the second command is the first with these rules added
 abbrev pub AddsRules : Command → List Rule → Command → Type 0
 AddsRules old rules new =
     (app_of new ≡ with_rules (app_of old) rules) × ((out-Command new).has_globals ≡ (out-Command old).has_globals)
 
--- the app with these subcommands more
+-- the app with these subcommands added
 abbrev pub with_shapes : App → List Shape → App
 with_shapes app [] = app
 with_shapes app (shape ∷ shapes) = with_shapes (with_subcommand app shape) shapes
 
--- the second command is the first with these subcommands more
+-- the second command is the first with these subcommands added
 abbrev pub AddsCommands : Command → List Shape → Command → Type 0
 AddsCommands old shapes new =
     (app_of new ≡ with_shapes (app_of old) shapes) × ((out-Command new).has_globals ≡ (out-Command old).has_globals)
 
--- the rule of an argument of the table
+-- the rule of an argument in the table
 abbrev pub rule_in : Argument → Rule
 rule_in (argument.Positional name value_name help) = positional name.now
 rule_in (argument.Option name value_name help) = option name.now
@@ -52,7 +52,7 @@ rule_in (argument.Number name value_name help) = bound name.now
 rule_in (argument.Flag name help) = flag name.now
 rule_in (argument.Setting name otherwise help) = setting (name.now, otherwise.now)
 
--- what a command of the table takes
+-- the model of a command in the table
 abbrev pub shape_in : Usage → Shape
 shape_in usage = command usage.name.now (map rule_in usage.arguments.now)
 
@@ -60,13 +60,13 @@ shape_in usage = command usage.name.now (map rule_in usage.arguments.now)
 abbrev pub rows_in : ArgMatches → List Row
 rows_in matches = rows_of (found_of matches)
 
--- Memory ran out, or a number of the command that was met has a `+`, or what was met asks for nothing.
+-- memory ran out, or a number of the command has a `+`, or there is no request in the command's entries
 abbrev pub IsRefusedIn : (met : Option (Text × List Row)) → Error → Type 0
 IsRefusedIn met e = (kind_of e ≡ OutOfMemory)
     ⊎ (((has_plus_in met ≡ true) × (kind_of e ≡ ValueValidation))
     ⊎ (((given : Options) → AskedIn met given → ⊥) × (kind_of e ≡ MissingSubcommand)))
 
--- it is of this kind, and where there is none, nothing is
+-- the value has this property; if there is none, no value has it
 abbrev pub Finds : {T : Type 0} → (T → Type 0) → Option T → Type 0
 Finds {T} P None = (x : T) → P x → ⊥
 Finds P (Some x) = P x

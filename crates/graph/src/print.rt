@@ -1,6 +1,6 @@
 //! Printing of the values of vertices.
 
-ghost use Rattle.std.specs.Prelude.{◌≡◌, IfErr, IfOk, OnOk, OnErr, map, string_bytes};
+ghost use Rattle.std.specs.Prelude.{◌≡◌, ◌++◌, IfErr, IfOk, OnOk, OnErr, map, string_bytes};
 ghost use Rattle.std.specs.List.Sorted.{IsStrictlyIncreasing};
 ghost use Rattle.std.specs.Io.KnownBytes.{Appends};
 ghost use Rattle.line_text.specs.Output.{HasBegun};
@@ -37,6 +37,14 @@ fn value_line(alloc: Global, id: u64, value: i64) -> Result<String, AllocError>
     ensures { IfOk result (λ line. string_bytes line ≡ value_line (id, value)) }
 {
     let mut line = String::new(alloc);
-    writeln!(line, "v {id} {value}")?;
+    push_value_line(&mut line, id, value)?;
     Ok(line)
+}
+
+/// Appends the line `v ID VALUE` of a vertex to a text, with its line feed. Fails only if memory runs out.
+pub fn push_value_line(text: &mut String, id: u64, value: i64) -> Result<(), AllocError>
+    ensures { OnOk result
+        (string_bytes text.new ≡ string_bytes text.old ++ value_line (id, value)) }
+{
+    writeln!(text, "v {id} {value}")
 }

@@ -4,7 +4,7 @@ ghost use Rattle.std.specs.Prelude.{◌≡◌, ◌++◌, IfOk, OnOk, map, string
 ghost use Rattle.graph.specs.Print.{value_lines};
 ghost use Rattle.graph_import.specs.Graph.{edge_lines, graph_text, value_at, valued};
 
-use graph::Edge;
+use graph::{Edge, push_value_line};
 use std::alloc::{AllocError, Global};
 
 /// The values of vertices.
@@ -49,8 +49,7 @@ fn put_vertices(text: &mut String, ids: &[u64], values: Values) -> Result<(), Al
         ≡ string_bytes text.old ++ value_lines (map (valued values) ids.now)) }
 {
     for id in ids {
-        let value = values.at(*id);
-        writeln!(text, "v {id} {value}")?;
+        push_value_line(text, *id, values.at(*id))?;
     }
     Ok(())
 }

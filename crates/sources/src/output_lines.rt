@@ -6,6 +6,7 @@ ghost use Rattle.graph.specs.Print.{value_lines};
 ghost use Rattle.superstep.specs.Ending.{is_finished};
 ghost use Rattle.sources.specs.OutputLines.{Gains, active_digit, end_word, give_line, outcome_lines, send_line, state_lines};
 
+use graph::push_value_line;
 use host_calls::CallOutcome;
 use std::alloc::{AllocError, Global};
 use superstep::EndReason;
@@ -64,7 +65,7 @@ pub fn push_values(text: &mut String, values: &[(u64, i64)]) -> Result<(), Alloc
     ensures { OnOk result (Gains text.old text.new (value_lines values.now)) }
 {
     for (id, value) in values {
-        writeln!(text, "v {id} {value}")?;
+        push_value_line(text, *id, *value)?;
     }
     Ok(())
 }

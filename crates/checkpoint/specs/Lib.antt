@@ -1,8 +1,9 @@
 -- What a reader has to believe, in this order: how numbers are spelled, and how a state is.
 pub mod Numbers
 pub mod Checkpoint
--- what reading returns, with the fault that is reported
+-- what reading returns, with the fault that is reported, and the fault's word
 pub mod Reading
+pub mod Faults
 -- what a Keep's calls leave behind, in memory and on disk
 pub mod Keep
 pub mod Memory

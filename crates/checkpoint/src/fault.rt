@@ -1,10 +1,12 @@
 //! The faults of bytes that are not a checkpoint.
 
-ghost use Rattle.std.specs.Prelude.{◌≡◌};
+ghost use Rattle.std.specs.Prelude.{◌≡◌, Some};
+ghost use Rattle.checkpoint.specs.Faults.{fault_word};
 ghost use Rattle.checkpoint.specs.declared.fault.CheckpointFault.TheVariants.{OutOfMemory};
 
 use std::alloc::{AllocError, AllocFailed};
-use thiserror::Error;
+use std::error::Error;
+use std::fmt;
 
 /// The reason why bytes are not a checkpoint. Of several faults one is reported, the first in this order:
 ///
@@ -15,20 +17,17 @@ use thiserror::Error;
 /// 5. an end in the units, in the count of vertices or in the vertices: `Truncated`;
 /// 6. everything else: `Order`.
 ///
-/// The first superstep of units is one of the fields of fixed size. Version 1 does not have it.
-#[derive(Clone, Copy, Debug, Error)]
+/// The first superstep of units is one of the fields of fixed size. Version 1 does not have it. A fault is printed as its
+/// word.
+#[derive(Clone, Copy, Debug)]
 pub enum CheckpointFault {
     /// The bytes do not begin with `50 47 43 4B` (`PGCK`).
-    #[error("Header")]
     Header,
     /// The version is neither 1 nor 2.
-    #[error("Version")]
     Version,
     /// There are fewer than 40 bytes, or fewer than the counts in them say.
-    #[error("Truncated")]
     Truncated,
     /// The last 32 bytes are not the SHA-256 of the others.
-    #[error("Digest")]
     Digest,
     /// The fields fit no state, for one of these reasons:
     ///
@@ -37,12 +36,36 @@ pub enum CheckpointFault {
     /// - an active byte is neither 0 nor 1;
     /// - bytes are left over;
     /// - the total of units does not match the units of the supersteps.
-    #[error("Order")]
     Order,
     /// Memory ran out.
-    #[error("OutOfMemory")]
     OutOfMemory,
 }
+
+impl CheckpointFault {
+    /// Returns the fault's word, as it is printed.
+    pub fn word(self) -> &'static str
+        ensures { result.now ≡ fault_word self }
+    {
+        match self {
+            CheckpointFault::Header => "Header",
+            CheckpointFault::Version => "Version",
+            CheckpointFault::Truncated => "Truncated",
+            CheckpointFault::Digest => "Digest",
+            CheckpointFault::Order => "Order",
+            CheckpointFault::OutOfMemory => "OutOfMemory",
+        }
+    }
+}
+
+impl fmt::Display for CheckpointFault {
+    ghost output = { λ fault. Some (fault_word fault) };
+
+    fn fmt<W: fmt::Write>(&self, f: &mut fmt::Formatter<W>) -> fmt::Result {
+        f.write_str(self.word())
+    }
+}
+
+impl Error for CheckpointFault {}
 
 impl From<AllocError> for CheckpointFault {
     ghost from_gives = { λ _ fault. fault ≡ OutOfMemory };

@@ -124,23 +124,13 @@ fn report_of_fault(
 fn outcome_of_fault(reached: u32, fault: JobFault) -> Outcome {
     Outcome {
         how: "fault",
-        fault: Some(fault_word(fault)),
+        fault: Some(fault.word()),
         superstep: Some(u64::from(reached)),
         units: None,
         dropped: None,
         epoch: None,
         missed: None,
         restarts: None,
-    }
-}
-
-fn fault_word(fault: JobFault) -> &'static str {
-    match fault {
-        JobFault::OutOfMemory(_) => "OutOfMemory",
-        JobFault::NoWorkers => "NoWorkers",
-        JobFault::Settings(_) => "Settings",
-        JobFault::ThreadRefused => "ThreadRefused",
-        JobFault::Closed => "Closed",
     }
 }
 

@@ -4,9 +4,10 @@ pub mod Line
 pub mod Said
 pub mod Entry
 pub mod Graph
--- the parts of a list and of a graph, and how values are printed
+-- the parts of a list and of a graph, and how values and faults are printed
 pub mod Partition
 pub mod Parts
 pub mod Print
+pub mod Faults
 -- for proofs only: definitions that follow the code, and facts on lists, which crates above use too
 pub mod inside

@@ -6,9 +6,9 @@ use Rattle.serde_json.specs.Data.{Data, null, string, number, unsigned, object, 
 use Rattle.serde_json.specs.Written.{compact_text}
 use Rattle.graph.specs.Print.{value_lines}
 use Rattle.superstep.specs.declared.fault.JobFault.{JobFault}
-use Rattle.superstep.specs.declared.fault.JobFault.TheVariants as job_fault
 use Rattle.superstep.specs.declared.ending.JobEnd.{JobEnd}
 use Rattle.superstep.specs.Ending.{is_finished}
+use Rattle.superstep.specs.Faults.{fault_word}
 use Rattle.sources.specs.declared.fault.CommandFault.{CommandFault}
 use Rattle.sources.specs.declared.fault.CommandFault.TheVariants as command
 use Rattle.sources.specs.OutputLines.{end_word, line}
@@ -49,13 +49,6 @@ abbrev pub state_word : RunState → List ℕ
 state_word state.Waiting = codes "waiting"
 state_word (state.Ended report) = end_word (is_finished report.ended.how)
 state_word (state.Failed fault) = codes "fault"
-
-abbrev pub fault_word : JobFault → List ℕ
-fault_word (job_fault.OutOfMemory place) = codes "OutOfMemory"
-fault_word job_fault.NoWorkers = codes "NoWorkers"
-fault_word (job_fault.Settings setting) = codes "Settings"
-fault_word job_fault.ThreadRefused = codes "ThreadRefused"
-fault_word job_fault.Closed = codes "Closed"
 
 -- the word of the fault that a job ended with, or null
 abbrev pub fault_data : RunState → Data

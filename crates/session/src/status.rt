@@ -6,7 +6,6 @@ ghost use Rattle.serde_json.specs.View.{view};
 ghost use Rattle.session.specs.Replies.{fault_data, numbers_of, state_word, status_data, status_line};
 
 use crate::held_job::RunState;
-use crate::texts::fault_word;
 use serde_json::{Value, json};
 use sources::end_word;
 use std::alloc::{AllocError, Global};
@@ -99,7 +98,7 @@ fn fault_of(alloc: Global, state: &RunState) -> Result<Value, AllocError>
     ensures { IfOk result (λ fault. view fault ≡ fault_data state.now) }
 {
     match state {
-        RunState::Failed(fault) => Value::try_from_str(alloc, fault_word(*fault)),
+        RunState::Failed(fault) => Value::try_from_str(alloc, fault.word()),
         _ => Ok(Value::Null),
     }
 }

@@ -4,7 +4,7 @@ ghost use Rattle.std.specs.Prelude.{◌≡◌, ◌≤◌, IfOk, length, string_b
 ghost use Rattle.bounded_profile.specs.Facts.{IsSizeOfCompute};
 ghost use Rattle.graph.specs.Entry.{edge_count, entries_of};
 ghost use Rattle.sources.specs.OutputLines.{IfText};
-ghost use Rattle.session.specs.Replies.{fault_word, failed_line, graph_line, job_line, module_line, run_line, values_text};
+ghost use Rattle.session.specs.Replies.{failed_line, graph_line, job_line, module_line, run_line, values_text};
 ghost use Rattle.session.specs.inside.Seen.{IsModuleLine, run_end_line};
 
 use bounded_profile::Verified;
@@ -99,23 +99,9 @@ fn run_text(alloc: Global, name: &str, ended: &JobEnd) -> Result<String, AllocEr
 fn failed_text(alloc: Global, fault: JobFault) -> Result<String, AllocError>
     ensures { IfOk result (λ text. string_bytes text ≡ failed_line fault) }
 {
-    let word = fault_word(fault);
     let mut text = String::new(alloc);
-    writeln!(text, "no 13 {word}")?;
+    writeln!(text, "no 13 {fault}")?;
     Ok(text)
-}
-
-/// Returns the word of the fault that a job ended with.
-pub fn fault_word(fault: JobFault) -> &'static str
-    ensures { result.now ≡ fault_word fault }
-{
-    match fault {
-        JobFault::OutOfMemory(_) => "OutOfMemory",
-        JobFault::NoWorkers => "NoWorkers",
-        JobFault::Settings(_) => "Settings",
-        JobFault::ThreadRefused => "ThreadRefused",
-        JobFault::Closed => "Closed",
-    }
 }
 
 /// Writes the values that a job ended with, one a line, and a line with a point.

@@ -4,19 +4,16 @@ use Rattle.std.specs.Fmt.{decimal}
 use Rattle.wasm_decode.specs.Faults.{fault_text as decode_text}
 use Rattle.validate.specs.Faults.{fault_text as invalid_text}
 use Rattle.bounded_profile.specs.FaultText.{fault_text as unbounded_text}
+use Rattle.graph.specs.Faults.{fault_text as graph_text}
+use Rattle.superstep.specs.Faults.{fault_word as job_word}
+use Rattle.checkpoint.specs.Faults.{fault_word as checkpoint_word}
 use Rattle.wasm_decode.specs.declared.encoder.fault.EncodeFault.{EncodeFault}
 use Rattle.wasm_decode.specs.declared.encoder.fault.EncodeFault.TheVariants as encode
 use Rattle.wat_asm.specs.declared.fault.Position.{Position}
 use Rattle.wat_asm.specs.declared.fault.TextFault.{TextFault}
 use Rattle.wat_asm.specs.declared.fault.TextFault.TheVariants as text
-use Rattle.graph.specs.declared.fault.GraphFault.{GraphFault}
-use Rattle.graph.specs.declared.fault.GraphFault.TheVariants as graph
-use Rattle.superstep.specs.declared.fault.JobFault.{JobFault}
-use Rattle.superstep.specs.declared.fault.JobFault.TheVariants as job
 use Rattle.superstep.specs.declared.settings.Setting.{Setting}
 use Rattle.superstep.specs.declared.settings.Setting.TheVariants as setting
-use Rattle.checkpoint.specs.declared.fault.CheckpointFault.{CheckpointFault}
-use Rattle.checkpoint.specs.declared.fault.CheckpointFault.TheVariants as checkpoint
 use Rattle.sources.specs.declared.input.InputFault.{InputFault}
 use Rattle.sources.specs.declared.input.InputFault.TheVariants as input
 use Rattle.sources.specs.declared.fault.CommandFault.{CommandFault}
@@ -51,40 +48,12 @@ abbrev pub input_text : InputFault → List ℕ
 input_text (input.Line number) = codes "no input " ++ decimal number
 input_text input.OutOfMemory = codes "no memory"
 
--- a word, and a number of a line
-abbrev pub word_of_line : List ℕ → ℕ → List ℕ
-word_of_line word number = codes "no graph " ++ word ++ codes " " ++ decimal number
-
-abbrev pub graph_text : GraphFault → List ℕ
-graph_text (graph.Line number) = word_of_line (codes "Line") number
-graph_text (graph.DuplicateVertex number) = word_of_line (codes "DuplicateVertex") number
-graph_text (graph.UnknownEnd number) = word_of_line (codes "UnknownEnd") number
-graph_text (graph.Number number) = word_of_line (codes "Number") number
-graph_text (graph.OverLimit number) = word_of_line (codes "OverLimit") number
-graph_text graph.OutOfMemory = codes "no graph OutOfMemory -"
-
 abbrev pub setting_word : Setting → List ℕ
 setting_word setting.Parts = codes "parts"
 setting_word setting.Workers = codes "workers"
 setting_word setting.Every = codes "every"
 setting_word setting.Limit = codes "limit"
 setting_word setting.Lease = codes "lease"
-
--- the word of the fault that a job ended with
-abbrev pub job_text : JobFault → List ℕ
-job_text (job.OutOfMemory place) = codes "end fault OutOfMemory"
-job_text job.NoWorkers = codes "end fault NoWorkers"
-job_text (job.Settings which) = codes "end fault Settings"
-job_text job.ThreadRefused = codes "end fault ThreadRefused"
-job_text job.Closed = codes "end fault Closed"
-
-abbrev pub checkpoint_text : CheckpointFault → List ℕ
-checkpoint_text checkpoint.Header = codes "no checkpoint Header"
-checkpoint_text checkpoint.Version = codes "no checkpoint Version"
-checkpoint_text checkpoint.Truncated = codes "no checkpoint Truncated"
-checkpoint_text checkpoint.Digest = codes "no checkpoint Digest"
-checkpoint_text checkpoint.Order = codes "no checkpoint Order"
-checkpoint_text checkpoint.OutOfMemory = codes "no checkpoint OutOfMemory"
 
 -- the module has no encoding that is short enough
 abbrev pub encode_text : EncodeFault → List ℕ
@@ -102,12 +71,12 @@ fault_text (command.Unbounded fault) = codes "no profile " ++ unbounded_text fau
 fault_text (command.Input fault) = input_text fault
 fault_text command.Run = codes "no run OutOfMemory"
 fault_text command.Loss = codes "no input lose"
-fault_text (command.Graph fault) = graph_text fault
+fault_text (command.Graph fault) = codes "no graph " ++ graph_text fault
 fault_text (command.Settings which) = codes "no settings " ++ setting_word which
 fault_text command.MaxSize = codes "no settings max-size"
 fault_text command.Resume = codes "no settings resume"
-fault_text (command.Job fault) = job_text fault
-fault_text (command.Checkpoint fault) = checkpoint_text fault
+fault_text (command.Job fault) = codes "end fault " ++ job_word fault
+fault_text (command.Checkpoint fault) = codes "no checkpoint " ++ checkpoint_word fault
 fault_text (command.Encode fault) = encode_text fault
 fault_text (command.Unread path) = file_text path.now
 fault_text (command.Unwritable path) = file_text path.now

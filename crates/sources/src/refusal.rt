@@ -3,15 +3,13 @@
 ghost use Rattle.std.specs.Prelude.{◌≡◌, ◌++◌, IfOk, Some, codes, string_bytes};
 ghost use Rattle.std.specs.Fmt.{DisplaysOnOk};
 ghost use Rattle.sources.specs.OutputLines.{line};
-ghost use Rattle.sources.specs.Refusal.{checkpoint_text, encode_text, fault_text, file_text, graph_text, input_text, job_text, setting_word, text_fault_text, word_at_position, word_of_line};
+ghost use Rattle.sources.specs.Refusal.{encode_text, fault_text, file_text, input_text, setting_word, text_fault_text, word_at_position};
 
 use crate::fault::CommandFault;
 use crate::input::InputFault;
-use checkpoint::CheckpointFault;
-use graph::GraphFault;
 use std::alloc::{AllocError, Global};
 use std::fmt;
-use superstep::{JobFault, Setting};
+use superstep::Setting;
 use wasm_decode::EncodeFault;
 use wat_asm::{Position, TextFault};
 
@@ -42,12 +40,12 @@ impl fmt::Display for CommandFault<'_> {
             CommandFault::Input(fault) => tell_input_fault(*fault, f),
             CommandFault::Run => f.write_str("no run OutOfMemory"),
             CommandFault::Loss => f.write_str("no input lose"),
-            CommandFault::Graph(fault) => tell_graph_fault(*fault, f),
+            CommandFault::Graph(fault) => write!(f, "no graph {fault}"),
             CommandFault::Settings(setting) => tell_setting(*setting, f),
             CommandFault::MaxSize => f.write_str("no settings max-size"),
             CommandFault::Resume => f.write_str("no settings resume"),
-            CommandFault::Job(fault) => f.write_str(job_line(*fault)),
-            CommandFault::Checkpoint(fault) => f.write_str(checkpoint_line(*fault)),
+            CommandFault::Job(fault) => write!(f, "end fault {fault}"),
+            CommandFault::Checkpoint(fault) => write!(f, "no checkpoint {fault}"),
             CommandFault::Encode(fault) => f.write_str(encode_line(*fault)),
             CommandFault::Unread(path) => tell_file(path, f),
             CommandFault::Unwritable(path) => tell_file(path, f),
@@ -108,30 +106,6 @@ fn tell_input_fault<W: fmt::Write>(fault: InputFault, f: &mut fmt::Formatter<W>)
     }
 }
 
-fn tell_graph_fault<W: fmt::Write>(fault: GraphFault, f: &mut fmt::Formatter<W>) -> fmt::Result
-    ensures { DisplaysOnOk W.write_str_gives f.old result (Some (graph_text fault)) f.new }
-{
-    match fault {
-        GraphFault::Line(line) => tell_word_of_line("Line", line, f),
-        GraphFault::DuplicateVertex(line) => tell_word_of_line("DuplicateVertex", line, f),
-        GraphFault::UnknownEnd(line) => tell_word_of_line("UnknownEnd", line, f),
-        GraphFault::Number(line) => tell_word_of_line("Number", line, f),
-        GraphFault::OverLimit(line) => tell_word_of_line("OverLimit", line, f),
-        GraphFault::OutOfMemory => f.write_str("no graph OutOfMemory -"),
-    }
-}
-
-fn tell_word_of_line<W: fmt::Write>(
-    word: &str,
-    line: usize,
-    f: &mut fmt::Formatter<W>,
-) -> fmt::Result
-    ensures { DisplaysOnOk W.write_str_gives f.old result
-        (Some (word_of_line word.now line)) f.new }
-{
-    write!(f, "no graph {word} {line}")
-}
-
 fn tell_setting<W: fmt::Write>(setting: Setting, f: &mut fmt::Formatter<W>) -> fmt::Result
     ensures { DisplaysOnOk W.write_str_gives f.old result
         (Some (codes "no settings " ++ setting_word setting)) f.new }
@@ -148,31 +122,6 @@ fn setting_word(setting: Setting) -> &'static str
         Setting::Every => "every",
         Setting::Limit => "limit",
         Setting::Lease => "lease",
-    }
-}
-
-fn job_line(fault: JobFault) -> &'static str
-    ensures { result.now ≡ job_text fault }
-{
-    match fault {
-        JobFault::OutOfMemory(_) => "end fault OutOfMemory",
-        JobFault::NoWorkers => "end fault NoWorkers",
-        JobFault::Settings(_) => "end fault Settings",
-        JobFault::ThreadRefused => "end fault ThreadRefused",
-        JobFault::Closed => "end fault Closed",
-    }
-}
-
-fn checkpoint_line(fault: CheckpointFault) -> &'static str
-    ensures { result.now ≡ checkpoint_text fault }
-{
-    match fault {
-        CheckpointFault::Header => "no checkpoint Header",
-        CheckpointFault::Version => "no checkpoint Version",
-        CheckpointFault::Truncated => "no checkpoint Truncated",
-        CheckpointFault::Digest => "no checkpoint Digest",
-        CheckpointFault::Order => "no checkpoint Order",
-        CheckpointFault::OutOfMemory => "no checkpoint OutOfMemory",
     }
 }
 

@@ -16,7 +16,8 @@ pub mod Tasks
 pub mod Found
 -- the totals of a job before a superstep
 pub mod Totals
--- the end of a job
+-- the end of a job, and the words of its faults
 pub mod Ending
+pub mod Faults
 -- for proofs only: definitions that follow the code
 pub mod inside

@@ -1,8 +1,11 @@
 //! The errors of a job.
 
+ghost use Rattle.std.specs.Prelude.{◌≡◌, Some};
+ghost use Rattle.superstep.specs.Faults.{fault_word};
+
 use crate::settings::Setting;
-use std::alloc::AllocError;
-use thiserror::Error;
+use std::error::Error;
+use std::fmt;
 
 /// The work during which memory ran out.
 #[derive(Clone, Copy, Debug)]
@@ -25,22 +28,42 @@ pub enum Place {
     Report,
 }
 
-/// An error of a job, which then has no answer.
-#[derive(Clone, Copy, Debug, Error)]
+/// An error of a job, which then has no answer. It is printed as its word.
+#[derive(Clone, Copy, Debug)]
 pub enum JobFault {
     /// Memory ran out during this work.
-    #[error("OutOfMemory")]
     OutOfMemory(Place),
     /// All workers are lost.
-    #[error("NoWorkers")]
     NoWorkers,
     /// A setting is out of its range. This is the first one, in the order of `Settings`.
-    #[error("Settings")]
     Settings(Setting),
     /// A thread could not be started.
-    #[error("ThreadRefused")]
     ThreadRefused,
     /// The other end of a channel is gone.
-    #[error("Closed")]
     Closed,
 }
+
+impl JobFault {
+    /// Returns the fault's word, as it is printed.
+    pub fn word(self) -> &'static str
+        ensures { result.now ≡ fault_word self }
+    {
+        match self {
+            JobFault::OutOfMemory(_) => "OutOfMemory",
+            JobFault::NoWorkers => "NoWorkers",
+            JobFault::Settings(_) => "Settings",
+            JobFault::ThreadRefused => "ThreadRefused",
+            JobFault::Closed => "Closed",
+        }
+    }
+}
+
+impl fmt::Display for JobFault {
+    ghost output = { λ fault. Some (fault_word fault) };
+
+    fn fmt<W: fmt::Write>(&self, f: &mut fmt::Formatter<W>) -> fmt::Result {
+        f.write_str(self.word())
+    }
+}
+
+impl Error for JobFault {}

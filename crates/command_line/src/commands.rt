@@ -132,7 +132,7 @@ const WORKERS: Argument = Argument::Setting {
 const EVERY: Argument = Argument::Setting {
     name: "every",
     otherwise: "10",
-    help: "A state is saved at each multiple of so many supersteps, from 1 to 1,000",
+    help: "Saves a checkpoint at each multiple of N supersteps, from 1 to 1,000",
 };
 
 const LIMIT: Argument = Argument::Setting {
@@ -149,7 +149,7 @@ const LEASE: Argument = Argument::Setting {
 
 const UNITS: Argument = Argument::Flag {
     name: "units",
-    help: "Tells the units of each superstep too",
+    help: "Prints the units of each superstep too",
 };
 
 const ALL_CORES: Argument = Argument::Flag {
@@ -250,7 +250,7 @@ static COMMANDS: [Usage; 9] = [
     },
     Usage {
         name: "replay",
-        about: "Replays a job by steps of its workers, and prints what becomes of each step",
+        about: "Replays a job by steps of its workers, and prints the answer to each step",
         arguments: &[
             MODULE, GRAPH, STEPS, PARTS, WORKERS, EVERY, LIMIT, LEASE, UNITS,
         ],
@@ -277,12 +277,12 @@ static COMMANDS: [Usage; 9] = [
     },
     Usage {
         name: "verify",
-        about: "Tells the bounds of a module's calls, where they are known to have any",
+        about: "Checks a module and prints the bounds of its calls",
         arguments: &[MODULE, MAX_SIZE, EXPLAIN],
     },
     Usage {
         name: "graph",
-        about: "Makes a graph file of edges, and prints how many vertices and edges it has; a refusal tells the line, or 0 for an option",
+        about: "Makes a graph file of edges, and prints how many vertices and edges it has; a refusal has the line, or 0 for an option",
         arguments: &[
             EDGES, BINARY, UNDIRECTED, VALUE, SOURCE, WEIGHT, SHARE, NAMES,
         ],
@@ -295,7 +295,7 @@ pub(crate) fn pregel<'a>(alloc: Global) -> Result<Command<'a>, AllocError>
 {
     let command = Command::new(alloc, "pregel")
         .bin_name("pregel")?
-        .about("Computes over graphs by programs of one vertex, each a WebAssembly module")
+        .about("Runs vertex programs, each a WebAssembly module, over graphs")
         .version(VERSION)
         .after_help(after_help::PREGEL)
         .subcommand_required(true)

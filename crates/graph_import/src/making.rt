@@ -194,7 +194,8 @@ fn weight_of<'a>(plan: Plan<'a>) -> Weight<'a> {
 // Prints the graph of these vertices and the edges that were read.
 fn text_for(alloc: Global, ids: &[u64], reading: &Reading, plan: Plan) -> Result<String, GraphFault>
     ensures { IfOk result (λ text. (values : Values) × FitsSigned w64 values.other
-        × GivesValues ids.now plan.entry values × (string_bytes text ≡ graph_text (map (valued values) ids.now)
+        × GivesValues ids.now plan.entry values
+        × (string_bytes text ≡ graph_text (map (valued values) ids.now)
         (weighed plan.entry.share reading.now.edges.items.items))) }
 {
     let values = values_of(ids, &reading.names, plan)?;

@@ -273,7 +273,8 @@ has_plus words = has_plus_in (subcommand_of pregel words)
 abbrev pub AsksNothing : (words : List Text) → Type 0
 AsksNothing words = (given : Options) → AskedBy words given → ⊥
 
--- memory ran out, or `clap` finds a fault in the words; or it finds none, and a number has a `+` or there is no request in the words
+-- memory ran out, or `clap` finds a fault in the words; or it finds none, and a number has a `+` or the words have no
+-- request
 abbrev pub IsRefusal : (words : List Text) → Error → Type 0
 IsRefusal words e = HasKind (fault_of pregel words) e
     ⊎ ((fault_of pregel words ≡ [])

@@ -24,7 +24,7 @@ static NUMBERS: [&str; 6] = ["parts", "workers", "every", "limit", "lease", "max
 ///
 /// An `Err` is clap's error, with its text and exit status. It has one of these kinds:
 ///
-/// * the kind of the first fault that clap finds in the words; a request for help or for the version is one;
+/// * the kind of a fault that clap finds in the words; a request for help or for the version is one too;
 /// * `ValueValidation`: a number is written with a `+`, which clap accepts;
 /// * `MissingSubcommand`: the words have no command;
 /// * `OutOfMemory`: an allocation fails.

@@ -1,5 +1,5 @@
 -- What is made of a file means the graph of its edges.
-use Rattle.std.proofs.Common.{inl, inr, ◌≡◌, ◌⊎◌, ℕ, zero, suc, ◌+◌, ◌/◌, ◌^◌, ◌<◌, ◌≤◌, max, Bool, true, false, cond, eqb, List, [], ◌∷◌, ◌++◌, length, get_or, map, Option, Some, None, refl, ap, sym, subst, ◌∙◌, arith}
+use Rattle.std.proofs.Common.{◌≡◌, ℕ, zero, suc, ◌+◌, ◌^◌, ◌<◌, ◌≤◌, max, Bool, true, false, cond, eqb, List, [], ◌∷◌, ◌++◌, length, get_or, map, Option, Some, None, refl, ap, subst, ◌∙◌, arith}
 use Rattle.std.specs.Prelude.{ℤ, pos, FitsSigned}
 use Rattle.std.specs.Int.{w64}
 use Rattle.std.specs.List.{All, AllByRecursion, Contains, range_with_len}
@@ -11,7 +11,7 @@ use Rattle.graph.specs.declared.vertex.TheConstants.{MAX_EDGES, MAX_VERTICES}
 use Rattle.graph.specs.Graph.{IsGraphText, IsWithinLimits}
 use Rattle.graph.specs.Print.{id_in}
 use Rattle.graph_import.specs.declared.writing.Values.{Values}
-use Rattle.graph_import.specs.Graph.{AreIdsOf, ends, from_of, graph_of, graph_text, share_of, shared, target_of, value_at, value_beside, valued, weighed}
+use Rattle.graph_import.specs.Graph.{AreIdsOf, ends, from_of, graph_of, graph_text, share_of, shared, target_of, value_beside, valued, weighed}
 use Rattle.graph_import.specs.inside.Ranges.{IsInRange}
 use Rattle.graph_import.proofs.Meaning.{VertexFits, keeps_limits, means_graph}
 

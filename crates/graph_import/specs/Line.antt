@@ -2,7 +2,6 @@
 use Rattle.std.specs.Prelude.{ℕ, ℤ, pos, Bool, ◌==◌, ◌||◌, List, [], ◌∷◌, slice_index, Option, Some, None, if◌then◌else◌, unwrap_or}
 use Rattle.line_text.specs.Fields.{fields}
 use Rattle.line_text.specs.Number.{id_of, number_of}
-use Rattle.graph.specs.declared.vertex.Edge.{Edge}
 use Rattle.graph_import.specs.declared.line.Form.{Form}
 use Rattle.graph_import.specs.declared.line.Line.{Line}
 use Rattle.graph_import.specs.declared.line.Line.TheVariants.{BadForm, BadNumber, Blank, Said}

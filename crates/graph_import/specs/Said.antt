@@ -1,11 +1,11 @@
 -- The edges of a text's lines.
-use Rattle.std.specs.Prelude.{◌≡◌, ℕ, Bool, true, false, List, [], ◌∷◌, ◌==◌, map, if◌then◌else◌}
+use Rattle.std.specs.Prelude.{ℕ, Bool, true, false, List, [], ◌∷◌, ◌==◌, map, if◌then◌else◌}
 use Rattle.std.specs.List.{flat_map}
 use Rattle.std.specs.Str.Lines.{lines}
 use Rattle.graph.specs.declared.vertex.Edge.{Edge}
 use Rattle.graph_import.specs.declared.line.Form.{Form}
 use Rattle.graph_import.specs.declared.line.Line.{Line}
-use Rattle.graph_import.specs.declared.line.Line.TheVariants.{BadForm, BadNumber, Blank, Said}
+use Rattle.graph_import.specs.declared.line.Line.TheVariants.{Blank, Said}
 use Rattle.graph_import.specs.Line.{line_of}
 
 -- the reverse edge

@@ -3,7 +3,7 @@ use Rattle.std.specs.Prelude.{◌≡◌, ◌++◌, List}
 use Rattle.graph.specs.declared.vertex.Edge.{Edge}
 use Rattle.graph_import.specs.declared.edges.Edges.{Edges}
 use Rattle.graph_import.specs.declared.line.Line.{Line}
-use Rattle.graph_import.specs.declared.line.Line.TheVariants.{BadForm, BadNumber, Blank, Said}
+use Rattle.graph_import.specs.declared.line.Line.TheVariants.{Said}
 use Rattle.graph_import.specs.inside.Ranges.{IsInRange}
 
 -- these edges were appended, and nothing else was changed

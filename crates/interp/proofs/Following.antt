@@ -1,8 +1,10 @@
 -- A walk over cells follows a run over values.
-use Rattle.std.proofs.Common.{◌≡◌, ℕ, suc, ◌+◌, ◌-◌, ◌*◌, ◌<◌, ◌≤◌, Bool, List, [], ◌∷◌, length, map, true, refl, sym, ap, ◌∙◌, subst, arith}
+use Rattle.std.proofs.Common.{◌≡◌, ℕ, suc, ◌+◌, ◌-◌, ◌*◌, ◌<◌, ◌≤◌, Bool, List, [], ◌∷◌, length, map, true, false, refl, sym, ap, ◌∙◌, subst, arith}
 use Rattle.std.proofs.lemmas.List.{length-map}
 use Rattle.wasm_ast.specs.declared.module.Module.{Module}
+use Rattle.wasm_ast.specs.declared.types.Value.{Value}
 use Rattle.wasm_ast.specs.Code.{Code}
+use Rattle.wasm_ast.specs.Code as code
 use Rattle.interp.specs.Configuration.{State}
 use Rattle.interp.specs.Heights.{beneath, held, entries, locals, operands}
 use Rattle.interp.specs.Machine.{Machine, Running, Done, Trapped, Stuck, ControlEntry, Label, Frame, advance, next_units, run}
@@ -11,8 +13,8 @@ use Rattle.interp.specs.inside.Fits.{MachineFits}
 use Rattle.interp.specs.inside.Given.{HasGiven}
 use Rattle.interp.specs.inside.Going.{is_going}
 use Rattle.interp.specs.inside.Kept.{AreMarked, Touches, marks}
-use Rattle.interp.specs.inside.Place.{HasFrameRoom, Place, Room, Standing, at, running}
-use Rattle.interp.specs.inside.Walk.{EndsWithin, Finishes, Follows, IsWithinRoom, left_of}
+use Rattle.interp.specs.inside.Place.{HasFrameRoom, Place, Room, Standing, at, running, state_of}
+use Rattle.interp.specs.inside.Walk.{BeginsAgain, EndsWithin, Finishes, Follows, IsWithinRoom, left_of}
 use Rattle.interp.proofs.Cells.{step_follows, step_kept}
 use Rattle.interp.proofs.Counts.{falls}
 use Rattle.interp.proofs.Ending.{comes_on, finishes, goes, room}
@@ -108,6 +110,32 @@ module _ (m : Module) (from : Machine) (here : Place) (follows : Follows m from 
       let k = kept (Done final) step refl in
       let d = done_as_cells m follows.place final (advance m (running follows.place)) refl k.0 in
       (d.0, finishes m from follows.place follows.comes d.0 d.1, d.2)
+
+-- where a loop begins again, the machine takes two steps
+module _ (m : Module) (from : Machine) (here : Place) (follows : Follows m from here) (most : ℕ) (ends : EndsWithin m from most) (body : Code) (s : Standing) (count : ℕ) (again : BeginsAgain (cell_advance in_width m (running here)) body s count) where
+  abbrev loop_place : Place
+  loop_place =
+      record { values = again.values; code = code.loop again.block_type body again.after; entries = again.entries; state = state_of s count }
+
+  loop_follows : Follows m from loop_place
+  loop_follows = follows_on m from here follows most ends loop_place again.at_loop
+
+  enters : cell_advance in_width m (running loop_place) ≡ running (at s body (count + 1))
+  enters =
+      ap (λ (vs : List Value). Running vs body (Label false again.values (code.loop again.block_type body again.after) again.after ∷ again.entries) (state_of s (count + 1))) (sym again.inside)
+      ∙ ap (λ (ls : List ControlEntry). Running s.values body ls (state_of s (count + 1))) (sym again.label)
+
+  pub again_room : count + 1 ≤ most
+  again_room = cell_room m from loop_place loop_follows most ends
+
+  pub again_follows : Follows m from (at s body (count + 1))
+  again_follows = follows_on m from loop_place loop_follows most ends (at s body (count + 1)) enters
+
+  pub again_falls : left_of most (at s body (count + 1)) < left_of most here
+  again_falls =
+      let first = falls_on m from here follows most ends loop_place again.at_loop in
+      let second = falls_on m from loop_place loop_follows most ends (at s body (count + 1)) enters in
+      omega (arith, first, second)
 
 -- ---- what is sent
 

@@ -12,33 +12,34 @@ use Rattle.interp.specs.Configuration.{State}
 use Rattle.interp.specs.Heights.{beneath, held}
 use Rattle.interp.specs.Machine as machine
 use Rattle.interp.specs.inside.Going.{has_labels}
-use Rattle.interp.specs.inside.Meaning.{entries_of, Ordered, floor_of}
+use Rattle.interp.specs.inside.Meaning.{entries_of, Ordered, floor_of, keeps_of, target_of}
 use Rattle.interp.specs.inside.Place.{HasEntryRoom, Standing}
 use Rattle.interp.specs.inside.Split.{HasSpare, Split}
 use Rattle.interp.specs.declared.control_entry.ControlEntry.{ControlEntry}
 use Rattle.interp.specs.declared.control_entry.ControlEntry.TheVariants as control
+use Rattle.interp.specs.declared.control_entry.Form.{Form}
 use Rattle.interp.proofs.Lists.{take-length_is, drop-length_is}
 
 left_of : (f : ℕ) (vs : List Value) → f ≤ length vs → length (drop (length vs - f) vs) ≡ f
 left_of f vs h = omega (arith, length-drop (length vs - f) vs)
 
 -- a label is taken off
-pub record LabelOff (rs' : List ControlEntry) (vs vs' ls : List Value) (f : ℕ) (keeps : Bool) (t a : Bor (List Instr)) (rs : List ControlEntry) : Type 0 where
+pub record LabelOff (rs' : List ControlEntry) (vs vs' ls : List Value) (f : ℕ) (w : Form) (a : Bor (List Instr)) (rs : List ControlEntry) : Type 0 where
   pub floor : f ≤ length vs
   pub ordered : Ordered rs' (length vs') (length ls)
-  pub entries : entries_of rs vs ls ≡ machine.Label keeps (take (length vs - f) vs) (code_of t.now) (code_of a.now) ∷ entries_of rs' vs' ls
+  pub entries : entries_of rs vs ls ≡ machine.Label (keeps_of w) (take (length vs - f) vs) (target_of w (code_of a.now)) (code_of a.now) ∷ entries_of rs' vs' ls
 
-pub label_floor : (rs rs' : List ControlEntry) (vs ls : List Value) (f : ℕ) (keeps : Bool) (t a : Bor (List Instr)) → rs ≡ control.Label keeps f t a ∷ rs' → Ordered rs (length vs) (length ls) → f ≤ length vs
-label_floor rs rs' vs ls f keeps t a e o = (subst (λ (r : List ControlEntry). Ordered r (length vs) (length ls)) e o).0
+pub label_floor : (rs rs' : List ControlEntry) (vs ls : List Value) (f : ℕ) (w : Form) (a : Bor (List Instr)) → rs ≡ control.Label w f a ∷ rs' → Ordered rs (length vs) (length ls) → f ≤ length vs
+label_floor rs rs' vs ls f w a e o = (subst (λ (r : List ControlEntry). Ordered r (length vs) (length ls)) e o).0
 
-pub label_off : (rs rs' : List ControlEntry) (vs vs' ls : List Value) (f : ℕ) (keeps : Bool) (t a : Bor (List Instr)) → rs ≡ control.Label keeps f t a ∷ rs' → Ordered rs (length vs) (length ls) → vs' ≡ drop (length vs - f) vs → LabelOff rs' vs vs' ls f keeps t a rs
-label_off rs rs' vs vs' ls f keeps t a e o d =
+pub label_off : (rs rs' : List ControlEntry) (vs vs' ls : List Value) (f : ℕ) (w : Form) (a : Bor (List Instr)) → rs ≡ control.Label w f a ∷ rs' → Ordered rs (length vs) (length ls) → vs' ≡ drop (length vs - f) vs → LabelOff rs' vs vs' ls f w a rs
+label_off rs rs' vs vs' ls f w a e o d =
     let here : (f ≤ length vs) × Ordered rs' f (length ls) = subst (λ (r : List ControlEntry). Ordered r (length vs) (length ls)) e o in
     let n : f ≡ length vs' = sym (ap (λ (l : List Value). length l) d ∙ left_of f vs here.0) in
     record {
       floor = here.0;
       ordered = subst (λ (k : ℕ). Ordered rs' k (length ls)) n here.1;
-      entries = ap (λ (r : List ControlEntry). entries_of r vs ls) e ∙ ap (λ (l : List Value). machine.Label keeps (take (length vs - f) vs) (code_of t.now) (code_of a.now) ∷ entries_of rs' l ls) (sym d);
+      entries = ap (λ (r : List ControlEntry). entries_of r vs ls) e ∙ ap (λ (l : List Value). machine.Label (keeps_of w) (take (length vs - f) vs) (target_of w (code_of a.now)) (code_of a.now) ∷ entries_of rs' l ls) (sym d);
     }
 
 -- a frame is taken off
@@ -70,11 +71,11 @@ above_is vs us = take-length_is (length (vs ++ us) - length us) vs us (omega (ar
 pub under_is : (vs us : List Value) → drop (length (vs ++ us) - length us) (vs ++ us) ≡ us
 under_is vs us = drop-length_is (length (vs ++ us) - length us) vs us (omega (arith, length-append vs us))
 
-pub label_on : (rs : List ControlEntry) (vs us ls : List Value) (f : ℕ) (keeps : Bool) (t a : Bor (List Instr)) → f ≡ length us → entries_of (control.Label keeps f t a ∷ rs) (vs ++ us) ls ≡ machine.Label keeps vs (code_of t.now) (code_of a.now) ∷ entries_of rs us ls
-label_on rs vs us ls f keeps t a e =
-    ap (λ (k : ℕ). machine.Label keeps (take (length (vs ++ us) - k) (vs ++ us)) (code_of t.now) (code_of a.now) ∷ entries_of rs (drop (length (vs ++ us) - k) (vs ++ us)) ls) e
-    ∙ ap (λ (l : List Value). machine.Label keeps l (code_of t.now) (code_of a.now) ∷ entries_of rs (drop (length (vs ++ us) - length us) (vs ++ us)) ls) (above_is vs us)
-    ∙ ap (λ (l : List Value). machine.Label keeps vs (code_of t.now) (code_of a.now) ∷ entries_of rs l ls) (under_is vs us)
+pub label_on : (rs : List ControlEntry) (vs us ls : List Value) (f : ℕ) (w : Form) (a : Bor (List Instr)) → f ≡ length us → entries_of (control.Label w f a ∷ rs) (vs ++ us) ls ≡ machine.Label (keeps_of w) vs (target_of w (code_of a.now)) (code_of a.now) ∷ entries_of rs us ls
+label_on rs vs us ls f w a e =
+    ap (λ (k : ℕ). machine.Label (keeps_of w) (take (length (vs ++ us) - k) (vs ++ us)) (target_of w (code_of a.now)) (code_of a.now) ∷ entries_of rs (drop (length (vs ++ us) - k) (vs ++ us)) ls) e
+    ∙ ap (λ (l : List Value). machine.Label (keeps_of w) l (target_of w (code_of a.now)) (code_of a.now) ∷ entries_of rs (drop (length (vs ++ us) - length us) (vs ++ us)) ls) (above_is vs us)
+    ∙ ap (λ (l : List Value). machine.Label (keeps_of w) vs (target_of w (code_of a.now)) (code_of a.now) ∷ entries_of rs l ls) (under_is vs us)
 
 pub frame_on : (rs : List ControlEntry) (vs us ls ms : List Value) (f b : ℕ) (keeps : Bool) (a : Bor (List Instr)) → f ≡ length us → b ≡ length ms → entries_of (control.Frame keeps f b a ∷ rs) (vs ++ us) (ms ++ ls) ≡ machine.Frame keeps ls vs (code_of a.now) ∷ entries_of rs us ms
 frame_on rs vs us ls ms f b keeps a e g =
@@ -106,14 +107,14 @@ pub record LabelPast (rs' : List ControlEntry) (vs vs' ls : List Value) (f : ℕ
 
 pub floor_fits : (rs : List ControlEntry) (vs ls : List Value) (f : ℕ) → floor_of rs ≡ Some f → Ordered rs (length vs) (length ls) → f ≤ length vs
 floor_fits [] vs ls f e o = absurd cc
-floor_fits (control.Label keeps g t a ∷ rs) vs ls f e o = let h : g ≡ f = cc in subst (λ (k : ℕ). k ≤ length vs) h o.0
+floor_fits (control.Label w g a ∷ rs) vs ls f e o = let h : g ≡ f = cc in subst (λ (k : ℕ). k ≤ length vs) h o.0
 floor_fits (control.Frame keeps g b a ∷ rs) vs ls f e o = absurd cc
 
 past_cons : (l : ControlEntry) (rs : List ControlEntry) (vs vs' ls : List Value) (f : ℕ) → floor_of (l ∷ rs) ≡ Some f → Ordered (l ∷ rs) (length vs) (length ls) → vs' ≡ drop (length vs - f) vs → LabelPast rs vs vs' ls f (l ∷ rs)
-past_cons (control.Label keeps g t a) rs vs vs' ls f e o d =
+past_cons (control.Label w g a) rs vs vs' ls f e o d =
     let h : g ≡ f = cc in
     let d' : vs' ≡ drop (length vs - g) vs = d ∙ ap (λ (k : ℕ). drop (length vs - k) vs) (sym h) in
-    let off = label_off (control.Label keeps g t a ∷ rs) rs vs vs' ls g keeps t a refl o d' in
+    let off = label_off (control.Label w g a ∷ rs) rs vs vs' ls g w a refl o d' in
     record {
       floor = subst (λ (k : ℕ). k ≤ length vs) h o.0;
       ordered = off.ordered;
@@ -128,14 +129,14 @@ label_past rs rs' l vs vs' ls f e g o d =
 
 pub back_arrives : (rs : List ControlEntry) (vs ls : List Value) (top : Option Value) (st : State) → floor_of rs ≡ None → machine.back top (entries_of rs vs ls) st ≡ machine.arrive top (entries_of rs vs ls) st
 back_arrives [] vs ls top st e = refl
-back_arrives (control.Label keeps g t a ∷ rs) vs ls top st e = absurd cc
+back_arrives (control.Label w g a ∷ rs) vs ls top st e = absurd cc
 back_arrives (control.Frame keeps g b a ∷ rs) vs ls top st e = refl
 
 -- ---- how many there are
 
 pub entries_long : (rs : List ControlEntry) (vs ls : List Value) → length (entries_of rs vs ls) ≡ length rs
 entries_long [] vs ls = refl
-entries_long (control.Label keeps f t a ∷ rs) vs ls = ap suc (entries_long rs (drop (length vs - f) vs) ls)
+entries_long (control.Label w f a ∷ rs) vs ls = ap suc (entries_long rs (drop (length vs - f) vs) ls)
 entries_long (control.Frame keeps f b a ∷ rs) vs ls = ap suc (entries_long rs (drop (length vs - f) vs) (take b ls))
 
 -- there is room for an entry in a list where there is room for one in the walk
@@ -149,7 +150,7 @@ room_for_one rs vs ls long capacity s l e r h =
 -- the locals of the functions that called are those below
 pub held_is : (rs : List ControlEntry) (vs ls : List Value) → Ordered rs (length vs) (length ls) → held (entries_of rs vs ls) ≡ length ls
 held_is [] vs ls o = sym o.1
-held_is (control.Label keeps f t a ∷ rs) vs ls o =
+held_is (control.Label w f a ∷ rs) vs ls o =
     held_is rs (drop (length vs - f) vs) ls (subst (λ (k : ℕ). Ordered rs k (length ls)) (sym (left_of f vs o.0)) o.1)
 held_is (control.Frame keeps f b a ∷ rs) vs ls o =
     let l = length-take-le b ls o.1 in
@@ -161,7 +162,7 @@ held_is (control.Frame keeps f b a ∷ rs) vs ls o =
 -- the operands of the entries are those below
 pub beneath_is : (rs : List ControlEntry) (vs ls : List Value) → Ordered rs (length vs) (length ls) → beneath (entries_of rs vs ls) ≡ length vs
 beneath_is [] vs ls o = sym o.0
-beneath_is (control.Label keeps f t a ∷ rs) vs ls o =
+beneath_is (control.Label w f a ∷ rs) vs ls o =
     let under = drop (length vs - f) vs in
     let l = left_of f vs o.0 in
     let h = beneath_is rs under ls (subst (λ (k : ℕ). Ordered rs k (length ls)) (sym l) o.1) in

@@ -2,16 +2,27 @@
 
 ghost use Rattle.std.specs.Prelude.{◌≡◌, ◌∷◌, ◌<◌, [], reverse, vec_capacity, vec_len, MatchOption};
 
-use wasm_ast::Instr;
+use wasm_ast::{BlockType, Body, Instr};
+
+/// What a branch to a label does: it ends a block, and may keep the topmost operand, or it begins a loop again.
+#[derive(Clone, Copy)]
+pub enum Form<'a> {
+    Block {
+        keeps: bool,
+    },
+    Loop {
+        block_type: BlockType,
+        body: &'a Body,
+    },
+}
 
 /// A label or a frame (Core 1.0, 4.2.12), with the code after it. `floor` is where the operands of the enclosing
 /// entry begin, and `base` where the locals of the calling function begin.
 #[derive(Clone, Copy)]
 pub enum ControlEntry<'a> {
     Label {
-        keeps: bool,
+        form: Form<'a>,
         floor: usize,
-        target: &'a [Instr],
         after: &'a [Instr],
     },
     Frame {

@@ -16,7 +16,7 @@ mod calls;
 mod labels;
 
 use crate::call_globals::CallGlobals;
-use crate::control_entry::ControlEntry;
+use crate::control_entry::{ControlEntry, Form};
 use crate::locals::Locals;
 use crate::memory::Memory;
 use crate::operands::Operands;
@@ -26,12 +26,14 @@ use cost::branch_units;
 use host_calls::CallState;
 use std::alloc::AllocError;
 use std::marker::Model;
-use wasm_ast::Instr;
+use wasm_ast::{Body, Instr};
 
 /// Where the run goes on, or that it is done, with the units so far.
 #[derive(Clone, Copy)]
 pub enum Turn<'a> {
     Next { code: &'a [Instr], count: u128 },
+    /// A loop begins again, with this body, and was not counted yet.
+    Again { body: &'a Body, count: u128 },
     Finished { count: u128 },
 }
 
@@ -89,6 +91,13 @@ impl<'a, 'b> Walk<'a, 'b> {
                 } => {
                     rest = next;
                     count = counted;
+                }
+                Turn::Again {
+                    body,
+                    count: counted,
+                } => {
+                    rest = body.as_slice();
+                    count = counted + 1;
                 }
                 Turn::Finished { count: counted } => return Ok(counted),
             }
@@ -149,32 +158,31 @@ impl<'a, 'b> Walk<'a, 'b> {
     {
         match code.split_first() {
             None => self.leave(count),
-            Some((first, rest)) => self.take(program, code, first, rest, count),
+            Some((first, rest)) => self.take(program, first, rest, count),
         }
     }
 
-    /// Takes the instruction `first`, and counts its units where its kind is matched. `whole` is `first` and then
-    /// `rest`.
+    /// Takes the instruction `first`, and counts its units where its kind is matched. `rest` is the code after it.
     #[inline]
     fn take(
         &mut self,
         program: Program<'a>,
-        whole: &'a [Instr],
         first: &'a Instr,
         rest: &'a [Instr],
         count: u128,
     ) -> Turn<'a>
         requires calls { AreImports program.calls.now program.«module».now }
         requires within { IsWithinLimits program.«module».now }
-        requires whole { code_of whole.now ≡ then_code first.now (code_of rest.now) }
         requires fits { count + units_of program.«module».now first.now < 2 ^ 128 }
         requires room { HasFrameRoom self.old }
-        requires stops { is_straight program.calls.now (code_of whole.now) ≡ false }
-        requires goes { goes_on (taken of_any_width program.«module».now (code_of whole.now))
+        requires stops { is_straight program.calls.now
+            (then_code first.now (code_of rest.now)) ≡ false }
+        requires goes { goes_on
+            (taken of_any_width program.«module».now (then_code first.now (code_of rest.now)))
             (code_of rest.now) (count + units_of program.«module».now first.now)
             self.old ≡ true }
         ensures turned { Turns result
-            (taken in_width program.entry.«module».now (code_of whole.now))
+            (taken in_width program.entry.«module».now (then_code first.now (code_of rest.now)))
             (code_of rest.now) (count + units_of program.entry.«module».now first.now)
             self.old self.new }
         ensures room { self.new.room ≡ self.old.room }
@@ -191,9 +199,13 @@ impl<'a, 'b> Walk<'a, 'b> {
             Instr::CallIndirect(_) => unreachable!(),
             Instr::Unreachable => unreachable!(),
             Instr::Block(block_type, body) => {
-                self.open(block_type.is_some(), rest, body, rest, count + 1)
+                let keeps = block_type.is_some();
+                self.open(Form::Block { keeps }, body, rest, count + 1)
             }
-            Instr::Loop(_, body) => self.open(false, whole, body, rest, count + 1),
+            Instr::Loop(block_type, body) => {
+                let block_type = *block_type;
+                self.open(Form::Loop { block_type, body }, body, rest, count + 1)
+            }
             Instr::If(block_type, then_body, else_body) => {
                 self.choose(block_type.is_some(), then_body, else_body, rest, count + 1)
             }

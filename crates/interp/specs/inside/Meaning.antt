@@ -1,7 +1,9 @@
 -- The meaning of the walk's lists.
-use Rattle.std.specs.Prelude.{◌≡◌, ℕ, ◌-◌, ◌≤◌, List, [], ◌∷◌, map, length, take, drop, reverse, vec_capacity, Vec, Option, Some, None}
+use Rattle.std.specs.Prelude.{◌≡◌, ℕ, ◌-◌, ◌≤◌, List, [], ◌∷◌, map, length, take, drop, reverse, vec_capacity, Vec, Bool, false, Option, Some, None}
 use Rattle.wasm_ast.specs.declared.types.Value.{Value}
 use Rattle.wasm_ast.specs.declared.module.Module.{Module}
+use Rattle.wasm_ast.specs.Code.{Code}
+use Rattle.wasm_ast.specs.Code as code
 use Rattle.wasm_ast.specs.View.{code_of}
 use Rattle.host_calls.specs.declared.imports.HostCall.{HostCall}
 use Rattle.interp.specs.Machine as machine
@@ -11,6 +13,8 @@ use Rattle.interp.specs.inside.Renewed.{Renewed}
 use Rattle.interp.specs.inside.Split.{Split}
 use Rattle.interp.specs.declared.control_entry.ControlEntry.{ControlEntry}
 use Rattle.interp.specs.declared.control_entry.ControlEntry.TheVariants as control
+use Rattle.interp.specs.declared.control_entry.Form.{Form}
+use Rattle.interp.specs.declared.control_entry.Form.TheVariants as form
 use Rattle.interp.specs.declared.program.Callee.{Callee}
 use Rattle.interp.specs.declared.program.Callee.TheVariants as callee
 use Rattle.interp.specs.declared.walk.Walk.TheInside.{Inside}
@@ -30,18 +34,27 @@ AreImports calls m = machine.imported_functions m.imports ≡ map host_callee ca
 
 -- ---- entries
 
+-- whether a branch to the label may keep the topmost operand, and the code at which it goes on
+abbrev pub keeps_of : Form → Bool
+keeps_of (form.Block keeps) = keeps
+keeps_of (form.Loop block_type body) = false
+
+abbrev pub target_of : Form → (after : Code) → Code
+target_of (form.Block keeps) after = after
+target_of (form.Loop block_type body) after = code.loop block_type body.now after
+
 -- the machine's entries, innermost first, with the operands and the locals below the innermost entry
 abbrev pub entries_of : List ControlEntry → List Value → List Value → List machine.ControlEntry
 entries_of [] vs ls = []
-entries_of (control.Label keeps floor target after ∷ rs) vs ls =
-    machine.Label keeps (take (length vs - floor) vs) (code_of target.now) (code_of after.now) ∷ entries_of rs (drop (length vs - floor) vs) ls
+entries_of (control.Label what floor after ∷ rs) vs ls =
+    machine.Label (keeps_of what) (take (length vs - floor) vs) (target_of what (code_of after.now)) (code_of after.now) ∷ entries_of rs (drop (length vs - floor) vs) ls
 entries_of (control.Frame keeps floor base after ∷ rs) vs ls =
     machine.Frame keeps (drop base ls) (take (length vs - floor) vs) (code_of after.now) ∷ entries_of rs (drop (length vs - floor) vs) (take base ls)
 
 -- the floors of each entry are at or below those of the entries above it, and the outermost floor is the bottom
 abbrev pub Ordered : List ControlEntry → ℕ → ℕ → Type 0
 Ordered [] vs ls = (vs ≡ 0) × (ls ≡ 0)
-Ordered (control.Label keeps floor target after ∷ rs) vs ls = (floor ≤ vs) × Ordered rs floor ls
+Ordered (control.Label what floor after ∷ rs) vs ls = (floor ≤ vs) × Ordered rs floor ls
 Ordered (control.Frame keeps floor base after ∷ rs) vs ls = (floor ≤ vs) × (base ≤ ls) × Ordered rs floor base
 
 -- the entries of a walk as they are stored, the innermost last
@@ -54,7 +67,7 @@ entries_round entries operands locals = entries_of (reverse entries) operands.be
 -- where the operands of the enclosing entry begin, if the innermost entry is a label
 abbrev pub floor_of : List ControlEntry → Option ℕ
 floor_of [] = None
-floor_of (control.Label keeps floor target after ∷ rs) = Some floor
+floor_of (control.Label what floor after ∷ rs) = Some floor
 floor_of (control.Frame keeps floor base after ∷ rs) = None
 
 -- the room in the lists of a walk

@@ -1,10 +1,12 @@
 -- What the results of the walk say of the machine's run.
-use Rattle.std.specs.Prelude.{◌≡◌, ◌≢◌, ℕ, ◌+◌, ◌-◌, ◌*◌, ◌^◌, ◌<◌, ◌≤◌, List, [], ◌∷◌, length, slice_get, Bool, Option}
+use Rattle.std.specs.Prelude.{◌≡◌, ◌≢◌, ℕ, ◌+◌, ◌-◌, ◌*◌, ◌^◌, ◌<◌, ◌≤◌, List, [], ◌∷◌, length, slice_get, Bool, false, Option}
+use Rattle.wasm_ast.specs.declared.types.ValType.{ValType}
 use Rattle.wasm_ast.specs.declared.types.ValType.TheVariants.{I32}
 use Rattle.wasm_ast.specs.declared.types.Value.{Value}
 use Rattle.wasm_ast.specs.declared.module.Function.{Function}
 use Rattle.wasm_ast.specs.declared.module.Module.{Module}
 use Rattle.wasm_ast.specs.Code.{Code}
+use Rattle.wasm_ast.specs.Code as code
 use Rattle.wasm_ast.specs.View.{code_of}
 use Rattle.interp.specs.declared.walk.Turn.{Turn}
 use Rattle.interp.specs.declared.walk.Turn.TheVariants as turn
@@ -18,9 +20,21 @@ use Rattle.interp.specs.inside.Fits.{MachineFits}
 use Rattle.interp.specs.inside.Kept.{AreMarked, Touches, marks}
 use Rattle.interp.specs.inside.Place.{Place, Room, Standing, at, running, state_of}
 
--- the machine is this: it runs at the returned place, or is done
+-- The machine is at a loop with this body, and a step further it is at the body's first instruction, in a label of the
+-- loop. The walk stands there already.
+pub record BeginsAgain (x : Machine) (body : Code) (s : Standing) (count : ℕ) : Type 0 where
+  pub block_type : Option ValType
+  pub after : Code
+  pub values : List Value
+  pub entries : List ControlEntry
+  pub at_loop : x ≡ Running values (code.loop block_type body after) entries (state_of s count)
+  pub inside : s.values ≡ []
+  pub label : s.entries ≡ Label false values (code.loop block_type body after) after ∷ entries
+
+-- the machine is this: it runs at the returned place, is at a loop that begins again, or is done
 abbrev pub Turned : Turn → Machine → Standing → Type 0
 Turned (turn.Next code count) x s = x ≡ running (at s (code_of code.now) count)
+Turned (turn.Again body count) x s = BeginsAgain x body.now s count
 Turned (turn.Finished count) x s = x ≡ Done (state_of s count)
 
 -- ---- what the parts of a walk do, by the operands, the code, the entries and the state

@@ -5,16 +5,18 @@ ghost use Rattle.wasm_ast.specs.declared.types.Value.TheVariants.{I64};
 ghost use Rattle.wasm_ast.specs.View.{code_of};
 ghost use Rattle.interp.specs.Machine.{arrive, leave};
 ghost use Rattle.interp.specs.inside.Going.{goes_on, is_going};
+ghost use Rattle.interp.specs.inside.Meaning.{keeps_of, target_of};
 ghost use Rattle.interp.specs.inside.Place.{HasEntryRoom, HasOperandRoom, state_of};
 ghost use Rattle.interp.specs.inside.Walk.{Turned, Turns, chosen, opened};
 
 use crate::cell::as_i32;
-use crate::control_entry::{ControlEntry, pop_entry, push_entry};
+use crate::control_entry::{ControlEntry, Form, pop_entry, push_entry};
 use crate::walk::{Turn, Walk};
 use wasm_ast::{Body, Instr};
 
 impl<'a, 'b> Walk<'a, 'b> {
-    /// Goes on at the innermost label or frame, with an operand.
+    /// Goes on at the innermost label or frame, with an operand. The label of a loop stays: there the walk has already
+    /// entered the loop's body again.
     #[inline(always)]
     pub fn arrive(&mut self, top: Option<u64>, count: u128) -> Turn<'a>
         requires spare { HasOperandRoom self.old }
@@ -28,18 +30,31 @@ impl<'a, 'b> Walk<'a, 'b> {
             None => Turn::Finished { count },
             Some(
                 ControlEntry::Label {
-                    keeps,
+                    form: Form::Block { keeps },
                     floor,
-                    target,
-                    after: _,
+                    after,
                 },
             ) => {
                 self.operands.fall(floor);
                 self.operands.carry(keeps, top);
-                Turn::Next {
-                    code: target,
-                    count,
-                }
+                Turn::Next { code: after, count }
+            }
+            Some(
+                ControlEntry::Label {
+                    form: Form::Loop { block_type, body },
+                    floor,
+                    after,
+                },
+            ) => {
+                self.operands.fall(floor);
+                let label = ControlEntry::Label {
+                    form: Form::Loop { block_type, body },
+                    floor,
+                    after,
+                };
+                push_entry(&mut self.entries, label);
+                self.operands.open();
+                Turn::Again { body, count }
             }
             Some(
                 ControlEntry::Frame {
@@ -89,22 +104,21 @@ impl<'a, 'b> Walk<'a, 'b> {
     #[inline]
     pub fn open(
         &mut self,
-        keeps: bool,
-        target: &'a [Instr],
+        form: Form<'a>,
         body: &'a Body,
         code: &'a [Instr],
         count: u128,
     ) -> Turn<'a>
         requires { HasEntryRoom self.old }
-        ensures turned { Turns result (opened keeps (code_of target.now) body.now)
+        ensures turned { Turns result
+            (opened (keeps_of form.entry) (target_of form.entry (code_of code.now)) body.now)
             (code_of code.now) count self.old self.new }
         ensures room { self.new.room ≡ self.old.room }
     {
         let floor = self.operands.floor();
         let label = ControlEntry::Label {
-            keeps,
+            form,
             floor,
-            target,
             after: code,
         };
         push_entry(&mut self.entries, label);
@@ -133,9 +147,9 @@ impl<'a, 'b> Walk<'a, 'b> {
         ensures room { self.new.room ≡ self.old.room }
     {
         if as_i32(self.operands.pop()) == 0 {
-            self.open(keeps, code, else_body, code, count)
+            self.open(Form::Block { keeps }, else_body, code, count)
         } else {
-            self.open(keeps, code, then_body, code, count)
+            self.open(Form::Block { keeps }, then_body, code, count)
         }
     }
 }

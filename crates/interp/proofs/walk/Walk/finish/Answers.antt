@@ -1,10 +1,11 @@
-use Rattle.std.proofs.Common.{◌≡◌, refl, sym, ◌∙◌, subst, arith}
+use Rattle.std.proofs.Common.{◌≡◌, ◌+◌, refl, sym, ◌∙◌, subst, arith}
+use Rattle.wasm_ast.specs.Code.{Code}
 use Rattle.wasm_ast.specs.View.{code_of}
 use Rattle.interp.specs.Machine.{Done, run}
 use Rattle.interp.specs.inside.Cells.{cell_advance, in_width}
 use Rattle.interp.specs.inside.Place.{at, running, state_of}
-use Rattle.interp.specs.inside.Walk.{IsWithinRoom, SendsFrom}
-use Rattle.interp.proofs.Following.{cell_goes, cell_room, falls_on, finishes_on, follows_on, frame_room}
+use Rattle.interp.specs.inside.Walk.{BeginsAgain, Follows, IsWithinRoom, SendsFrom}
+use Rattle.interp.proofs.Following.{again_falls, again_follows, again_room, cell_goes, cell_room, falls_on, finishes_on, follows_on, frame_room}
 use Rattle.interp.proofs.Sending.{on_any}
 use Rattle.interp.proofs.walk.Walk.finish.Goals as goal
 
@@ -38,11 +39,21 @@ turn-requires-clause-room c =
     let follows = c.in_ok-stop.ensures.passes leads.from (c.turns.invariant.follows leads.from leads.follows leads.ends) leads.ends in
     frame_room c.args.program.module.now leads.from c.go_on.new.self (code_of c.in_ok-stop.stop.code.now) c.in_ok-stop.stop.count _ (c.go_on.ensures.room ∙ c.turns.invariant.room) follows c.requires.ends.low
 
+pub overflow_add-count : goal.overflow_add-count
+overflow_add-count c =
+    let m = c.args.program.module.now in
+    let leads = c.requires.ends.leads in
+    let here = at c.go_on.new.self (code_of c.in_ok-stop.stop.code.now) c.in_ok-stop.stop.count in
+    let follows = c.in_ok-stop.ensures.passes leads.from (c.turns.invariant.follows leads.from leads.follows leads.ends) leads.ends in
+    let again : BeginsAgain (cell_advance in_width m (running here)) c.in-Again.body.now c.turn.new.self c.in-Again.counted = rw c.in-Again.is at c.turn.ensures.turned in
+    let room = again_room m leads.from here follows c.args.most leads.ends c.in-Again.body.now c.turn.new.self c.in-Again.counted again in
+    omega (arith, room, c.ranges.most.fits)
+
 pub turns-init : goal.turns-init
 turns-init c = record { follows = λ from follows ends. follows; room = refl }
 
-pub turns-smaller : goal.turns-smaller
-turns-smaller c =
+pub turns-smaller-in-Next : goal.turns-smaller-in-Next
+turns-smaller-in-Next c =
     let here = at c.go_on.new.self (code_of c.in_ok-stop.stop.code.now) c.in_ok-stop.stop.count in
     let next = at c.turn.new.self (code_of c.in-Next.next.now) c.in-Next.counted in
     let step : cell_advance in_width c.args.program.module.now (running here) ≡ running next = rw c.in-Next.is at c.turn.ensures.turned in
@@ -51,13 +62,35 @@ turns-smaller c =
     let less = falls_on c.args.program.module.now leads.from here follows c.args.most leads.ends next step in
     omega (arith, less, c.in_ok-stop.ensures.closer)
 
-pub turns-preserved : goal.turns-preserved
-turns-preserved c =
+pub turns-preserved-in-Next : goal.turns-preserved-in-Next
+turns-preserved-in-Next c =
     let here = at c.go_on.new.self (code_of c.in_ok-stop.stop.code.now) c.in_ok-stop.stop.count in
     let next = at c.turn.new.self (code_of c.in-Next.next.now) c.in-Next.counted in
     let step : cell_advance in_width c.args.program.module.now (running here) ≡ running next = rw c.in-Next.is at c.turn.ensures.turned in
     record {
       follows = λ from follows ends. follows_on c.args.program.module.now from here (c.in_ok-stop.ensures.passes from (c.turns.invariant.follows from follows ends) ends) c.args.most ends next step;
+      room = c.turn.ensures.room ∙ c.go_on.ensures.room ∙ c.turns.invariant.room;
+    }
+
+pub turns-smaller : goal.turns-smaller
+turns-smaller c =
+    let m = c.args.program.module.now in
+    let leads = c.requires.ends.leads in
+    let here = at c.go_on.new.self (code_of c.in_ok-stop.stop.code.now) c.in_ok-stop.stop.count in
+    let follows = c.in_ok-stop.ensures.passes leads.from (c.turns.invariant.follows leads.from leads.follows leads.ends) leads.ends in
+    let again : BeginsAgain (cell_advance in_width m (running here)) c.in-Again.body.now c.turn.new.self c.in-Again.counted = rw c.in-Again.is at c.turn.ensures.turned in
+    let less = again_falls m leads.from here follows c.args.most leads.ends c.in-Again.body.now c.turn.new.self c.in-Again.counted again in
+    omega (arith, less, c.in_ok-stop.ensures.closer)
+
+pub turns-preserved : goal.turns-preserved
+turns-preserved c =
+    let m = c.args.program.module.now in
+    let here = at c.go_on.new.self (code_of c.in_ok-stop.stop.code.now) c.in_ok-stop.stop.count in
+    let again : BeginsAgain (cell_advance in_width m (running here)) c.in-Again.body.now c.turn.new.self c.in-Again.counted = rw c.in-Again.is at c.turn.ensures.turned in
+    record {
+      follows = λ from follows ends.
+          let on = again_follows m from here (c.in_ok-stop.ensures.passes from (c.turns.invariant.follows from follows ends) ends) c.args.most ends c.in-Again.body.now c.turn.new.self c.in-Again.counted again in
+          subst (λ (k : Code). Follows m from (at c.turn.new.self k (c.in-Again.counted + 1))) (sym c.as_slice-rest.ensures) on;
       room = c.turn.ensures.room ∙ c.go_on.ensures.room ∙ c.turns.invariant.room;
     }
 

@@ -4,7 +4,7 @@ use Rattle.interp.proofs.Stacked.{label_floor, label_off, frame_off, jump_label,
 use Rattle.interp.proofs.walk.branches.unwind.Goals as goal
 
 pub fall-requires : goal.fall-requires
-fall-requires c = label_floor _ _ c.loop.operands.below.values c.args.locals.now.below.values c.in-Some-Label.floor _ _ _ (rw c.in-Some-Label.field-0-is at c.in-Some-Label.ensures.taken) c.loop.invariant.ordered
+fall-requires c = label_floor _ _ c.loop.operands.below.values c.args.locals.now.below.values c.in-Some-Label.floor _ _ (rw c.in-Some-Label.field-0-is at c.in-Some-Label.ensures.taken) c.loop.invariant.ordered
 
 pub loop-preserved : goal.loop-preserved
 loop-preserved c =
@@ -13,7 +13,7 @@ loop-preserved c =
     let rs = reverse c.loop.entries.items in
     let rs' = reverse c.pop_entry.new.entries.items in
     let s = c.in-Some-Label in
-    let off = label_off rs rs' vs c.fall.new.self.below.values ls s.floor s.field-0-0 s.field-0-2 s.field-0-3 (rw s.field-0-is at s.ensures.taken) c.loop.invariant.ordered (ap (λ b. b.values) c.fall.ensures.below) in
+    let off = label_off rs rs' vs c.fall.new.self.below.values ls s.floor s.field-0-0 s.field-0-2 (rw s.field-0-is at s.ensures.taken) c.loop.invariant.ordered (ap (λ b. b.values) c.fall.ensures.below) in
     let n : c.args.labels - c.loop.counter ≡ suc (c.args.labels - (c.loop.counter + 1)) = omega arith in
     record {
       ordered = off.ordered;

@@ -47,3 +47,4 @@ pub mod Resetting
 pub mod OperandStacks
 pub mod Lent
 pub mod Passing
+pub mod Items

@@ -1,28 +1,32 @@
 -- Straight code: one instruction more.
-use Rattle.std.proofs.Common.{◌≡◌, ◌≢◌, ℕ, zero, suc, ◌+◌, ◌<◌, ◌≤◌, Bool, true, false, List, [], ◌∷◌, ◌++◌, length, map, Option, Some, None, is_some, slice_get, refl, sym, ap, ◌∙◌, subst, arith}
+use Rattle.std.proofs.Common.{◌≡◌, ◌≢◌, ℕ, zero, suc, ◌+◌, ◌<◌, ◌≤◌, Bool, true, false, List, [], ◌∷◌, ◌++◌, length, map, nat_eq, Option, Some, None, is_some, slice_get, refl, sym, ap, ◌∙◌, subst, arith}
+use Rattle.wasm_ast.specs.declared.types.ValType.TheVariants as val_type
 use Rattle.wasm_ast.specs.declared.types.Value.{Value}
+use Rattle.wasm_ast.specs.declared.types.Value.TheVariants.{I64}
 use Rattle.wasm_ast.specs.declared.module.Module.{Module}
+use Rattle.wasm_ast.specs.declared.plain.Branch.TheVariants as branch
 use Rattle.wasm_ast.specs.declared.plain.Plain.{Plain}
 use Rattle.wasm_ast.specs.declared.body.Instr.{Instr}
 use Rattle.wasm_ast.specs.declared.body.Instr.TheVariants as instr
 use Rattle.wasm_ast.specs.Code.{Code}
 use Rattle.wasm_ast.specs.Code as code
-use Rattle.wasm_ast.specs.View.{then_code}
+use Rattle.wasm_ast.specs.View.{code_of, then_code}
 use Rattle.cost.specs.Weights.{call_units, host_units, plain_units}
 use Rattle.host_calls.specs.Host.{Host}
 use Rattle.host_calls.specs.declared.imports.HostCall.{HostCall}
 use Rattle.interp.specs.Configuration.{State, Effect, Gives, tick}
 use Rattle.interp.specs.Heights.{beneath}
-use Rattle.interp.specs.Machine.{Machine, Running, ControlEntry, Callee, defined, host, after_effect, functions_of, next_units}
+use Rattle.interp.specs.Machine.{Machine, Running, ControlEntry, Label, Callee, defined, host, after_effect, arm, branch_unless_zero, functions_of, has_result, next_units}
 use Rattle.interp.specs.declared.straight.Straight.{Straight}
 use Rattle.interp.specs.declared.straight.Straight.TheVariants as straight
-use Rattle.interp.specs.inside.Cells.{cell_advance, cell_call, cell_take_call, in_width, of_any_width}
+use Rattle.interp.specs.inside.Cells.{cell_advance, cell_call, cell_take_call, in_width, narrowed, of_any_width}
 use Rattle.interp.specs.inside.Given.{HasGiven}
 use Rattle.interp.specs.inside.Going.{is_going}
 use Rattle.interp.specs.inside.Meaning.{AreImports, host_callee}
-use Rattle.interp.specs.inside.Place.{running}
-use Rattle.interp.specs.inside.Straight.{GoesStraight, LeadsAmid, Passes, SendsAmid, Spot, amid, is_straight, spot, straight_asks, straight_effect, straight_gives}
-use Rattle.interp.proofs.Asking.{call_asked, plain_asked}
+use Rattle.interp.specs.inside.Acts.{state}
+use Rattle.interp.specs.inside.Place.{Place, running}
+use Rattle.interp.specs.inside.Straight.{GoesPast, GoesStraight, LeadsAmid, Passes, SendsAmid, Spot, amid, is_end, is_straight, skips_zero, spot, straight_asks, straight_effect, straight_gives, zero_asks}
+use Rattle.interp.proofs.Asking.{call_asked, plain_asked, taking_asks}
 use Rattle.interp.proofs.Following.{cell_goes, cell_room, fewer_here, follows_on, gives_on}
 use Rattle.interp.proofs.Sending.{call_gives}
 use Rattle.interp.proofs.Weighing.{call_counts}
@@ -98,6 +102,47 @@ module _ (m : Module) (whole rest : Code) (first : Instr) (begins : whole ≡ th
       none_of None e = refl
       none_of (Some c) e = absurd cc
 
+-- ---- an instruction that only pops a zero
+
+never_end : (i : Instr) (k : Code) → false ≡ is_end (then_code i k)
+never_end (instr.Plain p) k = refl
+never_end (instr.Branch b) k = refl
+never_end (instr.Call f) k = refl
+never_end (instr.CallIndirect t) k = refl
+never_end instr.Unreachable k = refl
+never_end (instr.Block t body) k = refl
+never_end (instr.Loop t body) k = refl
+never_end (instr.If t body other) k = refl
+
+pub empty_is_end : (is : List Instr) → nat_eq (length is) 0 ≡ is_end (code_of is)
+empty_is_end [] = refl
+empty_is_end (i ∷ is) = let none : nat_eq (suc (length is)) 0 ≡ false = grind arith in none ∙ never_end i (code_of is)
+
+pub past_zero : (m : Module) (first : Instr) (whole rest : Code) (cell : ℕ) (old us : List Value) → whole ≡ then_code first rest → skips_zero first ≡ true → old ≡ I64 cell ∷ us → narrowed val_type.I32 cell ≡ 0 → GoesPast m old whole us rest
+past_zero m (instr.Branch (branch.BrIf l)) whole rest cell old us e g f z most count locals globals bytes h ls from follows ends =
+    let st : State = state locals globals bytes h count in
+    let step : cell_advance in_width m (Running old whole ls st) ≡ Running us rest ls (tick 1 st) =
+    ap (λ (k : Code). cell_advance in_width m (Running old k ls st)) e
+    ∙ ap (λ (vs : List Value). cell_advance in_width m (Running vs (code.branch (branch.BrIf l) rest) ls st)) f
+    ∙ ap (λ (n : ℕ). branch_unless_zero n l us rest ls (tick 1 st)) z in
+    follows_on m from (amid (spot old whole locals globals bytes h count) ls) follows most ends (amid (spot us rest locals globals bytes h (count + 1)) ls) step
+past_zero m (instr.If t body code.end) whole rest cell old us e g f z most count locals globals bytes h ls from follows ends =
+    let st : State = state locals globals bytes h count in
+    let round : List ControlEntry = Label (has_result t) us rest rest ∷ ls in
+    let inner : Place = record { values = []; code = code.end; entries = round; state = tick 1 st } in
+    let enters : cell_advance in_width m (Running old whole ls st) ≡ Running [] code.end round (tick 1 st) =
+    ap (λ (k : Code). cell_advance in_width m (Running old k ls st)) e
+    ∙ ap (λ (vs : List Value). cell_advance in_width m (Running vs (code.choice t body code.end rest) ls st)) f
+    ∙ ap (λ (n : ℕ). Running [] (arm n body code.end) round (tick 1 st)) z in
+    let here = amid (spot old whole locals globals bytes h count) ls in
+    follows_on m from inner (follows_on m from here follows most ends inner enters) most ends (amid (spot us rest locals globals bytes h (count + 1)) ls) refl
+past_zero m _ whole rest cell old us e g f z most count locals globals bytes h ls from follows ends = absurd cc
+
+zero_asked : (m : Module) (k : Code) (vs : List Value) (ls : List ControlEntry) (st : State) → is_going (cell_advance of_any_width m (Running vs k ls st)) ≡ true → zero_asks k vs ≡ true
+zero_asked m (code.branch (branch.BrIf l) is) vs ls st g = taking_asks vs (st.count + 1) (λ n us. branch_unless_zero n l us is ls (tick 1 st)) g
+zero_asked m (code.choice t body other is) vs ls st g = taking_asks vs (st.count + 1) (λ n us. Running [] (arm n body other) (Label (has_result t) us is is ∷ ls) (tick 1 st)) g
+zero_asked m _ vs ls st g = refl
+
 -- ---- runs of them
 
 module _ (m : Module) (most : ℕ) where
@@ -117,6 +162,13 @@ module _ (m : Module) (most : ℕ) where
 
   goes_amid : (free : ℕ) (s : Spot) (l : LeadsAmid m s most free) → is_going (cell_advance of_any_width m (running (amid s l.entries))) ≡ true
   goes_amid free s l = let d = l.leads in cell_goes m d.from (amid s l.entries) d.follows most d.ends
+
+  pub zero_asked_amid : (free : ℕ) (s : Spot) → LeadsAmid m s most free → zero_asks s.code s.values ≡ true
+  zero_asked_amid free s l = zero_asked m s.code s.values l.entries s.state (goes_amid free s l)
+
+  -- one place further
+  pub passes_past : (s t u : Spot) → Passes m most s t → Passes m most t u → Passes m most s u
+  passes_past s t u on past = λ ls from follows ends. past ls from (on ls from follows ends) ends
 
   -- there is room for one operand more
   pub fewer_amid : (free : ℕ) (s : Spot) → LeadsAmid m s most free → length s.values < free

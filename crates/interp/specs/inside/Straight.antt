@@ -1,8 +1,16 @@
 -- Straight instructions: the control entries stay, whatever they are.
-use Rattle.std.specs.Prelude.{◌≡◌, ℕ, ◌+◌, ◌<◌, List, Bool, false, true, Some, slice_get}
+use Rattle.std.specs.Prelude.{◌≡◌, ℕ, ◌+◌, ◌<◌, List, ◌∷◌, Bool, false, true, Option, Some, slice_get}
 use Rattle.std.specs.Option.{is_some}
 use Rattle.wasm_ast.specs.declared.types.Value.{Value}
+use Rattle.wasm_ast.specs.declared.types.Value.TheVariants.{I64}
+use Rattle.wasm_ast.specs.declared.types.ValType.TheVariants as val_type
+use Rattle.wasm_ast.specs.declared.numeric.Numeric.TheVariants as numeric
+use Rattle.wasm_ast.specs.declared.plain.Branch.TheVariants as branch
+use Rattle.wasm_ast.specs.declared.plain.Plain.{Plain}
+use Rattle.wasm_ast.specs.declared.plain.Plain.TheVariants as plain
 use Rattle.wasm_ast.specs.declared.module.Module.{Module}
+use Rattle.wasm_ast.specs.declared.body.Instr.{Instr}
+use Rattle.wasm_ast.specs.declared.body.Instr.TheVariants as instr
 use Rattle.wasm_ast.specs.Code.{Code}
 use Rattle.wasm_ast.specs.Code as code
 use Rattle.cost.specs.Weights.{host_units, plain_units}
@@ -13,10 +21,10 @@ use Rattle.interp.specs.Heights.{beneath, operands}
 use Rattle.interp.specs.Machine.{Running, ControlEntry, after_effect, next_units, run}
 use Rattle.interp.specs.declared.straight.Straight.{Straight}
 use Rattle.interp.specs.declared.straight.Straight.TheVariants as straight
-use Rattle.interp.specs.inside.Acts.{state}
-use Rattle.interp.specs.inside.Cells.{cell_advance, cell_call, cell_effect}
+use Rattle.interp.specs.inside.Acts.{ActsOnHost, state}
+use Rattle.interp.specs.inside.Cells.{cell_advance, cell_call, cell_effect, in_width}
 use Rattle.interp.specs.inside.Given.{gives}
-use Rattle.interp.specs.inside.Going.{call_asks, plain_asks}
+use Rattle.interp.specs.inside.Going.{call_asks, has_tops, plain_asks}
 use Rattle.interp.specs.inside.Place.{Place}
 use Rattle.interp.specs.inside.Walk.{Arrives, Leads, SendsFrom}
 
@@ -77,3 +85,51 @@ straight_units (straight.Host c) = host_units (Some c)
 pub record GoesStraight (m : Module) (whole : Code) (what : Straight) (units : ℕ) (rest : Code) : Type 0 where
   pub counts : next_units m whole ≡ units
   pub steps : (may : Value → Bool) (vs : List Value) (ls : List ControlEntry) (st : State) → cell_advance may m (Running vs whole ls st) ≡ after_effect (straight_effect may what vs (tick units st)) rest ls (st.count + units)
+
+-- an instruction that only pops its operand where that is 0: a `br_if`, or an `if` with nothing to do for 0
+abbrev pub is_end : Code → Bool
+is_end code.end = true
+is_end _ = false
+
+abbrev pub skips_zero : Instr → Bool
+skips_zero (instr.Branch (branch.BrIf l)) = true
+skips_zero (instr.If t body other) = is_end other
+skips_zero _ = false
+
+-- what it requires, where the code begins with one
+abbrev pub zero_asks : Code → List Value → Bool
+zero_asks (code.branch (branch.BrIf l) is) vs = has_tops 1 vs
+zero_asks (code.choice t body other is) vs = has_tops 1 vs
+zero_asks _ vs = true
+
+-- each run over values that passes the one code with these operands passes the other with those, 1 unit later
+abbrev pub GoesPast : Module → (old : List Value) (whole : Code) → (new : List Value) (rest : Code) → Type 0
+GoesPast m old whole new rest =
+    (most count : ℕ) (locals globals : List Value) (bytes : List ℕ) (host : Host)
+    → Passes m most (spot old whole locals globals bytes host count) (spot new rest locals globals bytes host (count + 1))
+
+-- the opening of a loop after the call that takes an item: `i32.eqz` and `br_if`
+abbrev pub eqz : Plain
+eqz = plain.Numeric (numeric.Eqz val_type.I32)
+
+abbrev pub IsEqz : Instr → Type 0
+IsEqz i = i ≡ instr.Plain eqz
+
+abbrev pub IsBranchIf : Instr → Type 0
+IsBranchIf i = (l : ℕ) × (i ≡ instr.Branch (branch.BrIf l))
+
+abbrev pub IsTest : (whole body : Code) → Type 0
+IsTest whole body = (l : ℕ) × (whole ≡ code.plain eqz (code.branch (branch.BrIf l) body))
+
+-- the call takes an item, whatever the operands are
+pub record Takes (call : Option HostCall) (old new : Host) : Type 0 where
+  pub which : HostCall
+  pub is : call ≡ Some which
+  pub counts : host_units (Some which) ≡ 2
+  pub acts : (vs : List Value) → ActsOnHost (cell_call in_width which) vs (I64 1 ∷ vs) old new
+
+-- each run over values that passes the one code, with any operands, passes the other this many units later
+abbrev pub GoesIn : Module → (whole : Code) → (old : Host) → (rest : Code) → (new : Host) → (units : ℕ) → Type 0
+GoesIn m whole old rest new units =
+    (most count : ℕ) (values locals globals : List Value) (bytes : List ℕ)
+    → Passes m most (spot values whole locals globals bytes old count) (spot values rest locals globals bytes new (count + units))

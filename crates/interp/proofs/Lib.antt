@@ -28,6 +28,7 @@ pub mod Induction
 pub mod Fairness
 pub mod Starting
 pub mod Whole
+pub mod Accesses
 pub mod SequenceCounts
 pub mod Fixed
 pub mod Told

@@ -12,6 +12,8 @@ pub mod Outcomes
 pub mod Heights
 pub mod Bounded
 pub mod Room
+-- the bytes that its loads and stores touch
+pub mod Accesses
 -- the bound on a sequence
 pub mod Typed
 pub mod Sequences

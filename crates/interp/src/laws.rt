@@ -6,6 +6,7 @@ ghost use Rattle.host_calls.specs.declared.call.CallInput.{CallInput as AnyInput
 ghost use Rattle.host_calls.specs.declared.call.CallOutcome.{CallOutcome as AnyOutcome};
 ghost use Rattle.validate.specs.Modules.{IsTyped};
 ghost use Rattle.bounded_profile.specs.Profile.{IsBounded};
+ghost use Rattle.interp.specs.Accesses.{CallsTouchReached};
 ghost use Rattle.interp.specs.Bounded.{CallsEnd, FactsHold, Ends, ComesToItsEnd, MeetsNoFault, HasBounds};
 ghost use Rattle.interp.specs.Call.{IsOutcome, Outcome, SameOutcome, IsTrapped, IsStuck, shown};
 ghost use Rattle.interp.specs.Outcomes.{AreOutcomes, Given, HasOneOutcome, given_of};
@@ -61,6 +62,11 @@ pub fn calls_end()
 /// left. It counts no more than its size, times one more than the items that it takes.
 pub fn sequences_count()
     ensures { (m : AnyModule) → SequencesCount m }
+{}
+
+/// Proves that each load and store of a call touches only bytes that `Verified::reach` counts.
+pub fn calls_touch_reached_bytes()
+    ensures { (m : AnyModule) → CallsTouchReached m }
 {}
 
 /// Proves that a call never has more labels and locals than its frames allow. There are at most as many frames as in

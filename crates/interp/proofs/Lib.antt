@@ -29,6 +29,8 @@ pub mod Fairness
 pub mod Starting
 pub mod Whole
 pub mod Accesses
+pub mod Surrounded
+pub mod Guarded
 pub mod SequenceCounts
 pub mod Fixed
 pub mod Told

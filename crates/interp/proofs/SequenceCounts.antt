@@ -1,5 +1,6 @@
 -- Single sequences: where they are left, and what they count.
-use Rattle.std.proofs.Common.{ℕ, zero, suc, ◌+◌, ◌≤◌, inl, inr, Bool, true, false, List, [], ◌∷◌, length, map, Option, Some, None, arith}
+use Rattle.std.proofs.Common.{ℕ, zero, suc, ◌+◌, ◌≤◌, Bool, true, false, List, [], ◌∷◌, length, map, Option, Some, None, arith}
+use Rattle.wasm_ast.specs.declared.types.ValType.{ValType}
 use Rattle.wasm_ast.specs.declared.types.Value.{Value}
 use Rattle.wasm_ast.specs.declared.module.Module.{Module}
 use Rattle.wasm_ast.specs.Code.{Code}
@@ -10,14 +11,14 @@ use Rattle.cost.specs.Sizes.{code_size}
 use Rattle.bounded_profile.specs.Arities.{arity_table}
 use Rattle.bounded_profile.specs.Heights.{peak}
 use Rattle.bounded_profile.specs.Kinds.{Kind}
-use Rattle.bounded_profile.specs.Known.{Context}
 use Rattle.bounded_profile.specs.Reached.{accesses, accesses_along}
 use Rattle.interp.specs.Configuration.{State}
 use Rattle.interp.specs.Heights.{beneath, operands, callers, frames}
 use Rattle.interp.specs.Machine.{ControlEntry, Label, Frame, Running, landed, carry, arrive, jump, back}
-use Rattle.interp.specs.Sequences.{CountsWithin, SequencesCount}
+use Rattle.interp.specs.Sequences.{SequencesCount}
 use Rattle.interp.proofs.Values.{kinds_length}
-use Rattle.interp.proofs.Reach.{Exit, Falls, Branches, Returns, Reach, Named}
+use Rattle.interp.proofs.Guarded.{Told, counts}
+use Rattle.interp.proofs.Reach.{Exit, Falls, Branches, Returns, Fits, IsLow, Named, Reaches, arrives}
 use Rattle.interp.proofs.Plains.{context}
 use Rattle.interp.proofs.Covering.{Anywhere, anywhere, anywhere_met, covered, operand_of, own_known}
 use Rattle.interp.proofs.Induction.{code_good}
@@ -52,29 +53,31 @@ back_low top (Frame keeps xs below after ∷ ls) st = arrive_low top (Frame keep
 
 -- ---- where a sequence is left
 
-module _ (m : Module) (H F : ℕ) (c : Context) (N : ℕ → Type 0) (size : ℕ) (is : Code) (vs : List Value) (ls : List ControlEntry) (st : State) (to : List Kind) (room : 1 + (length to + beneath ls) ≤ H) (deep : 1 + callers ls ≤ F) where
-  leaves : (e : Exit) → Reach m H F Anywhere c N size (Running vs is ls st) code.end ls st to e → CountsWithin m size is vs ls st
-  leaves (Falls us) q =
-      let n = kinds_length us to q.fits in
-      let a = q.by 0 (omega (arith, n, room), omega (arith, deep), tt) in
-      record { steps = a.0; final = q.final; items = q.taken; left = inl (us, a.2); taken = q.items; within = q.cost }
-  leaves (Branches l top) q =
-      let n = jump_low l top ls q.final in
-      let a = q.by 0 (omega (arith, n.0, room), omega (arith, n.1, deep), anywhere (jump l top ls q.final)) in
-      record { steps = a.0; final = q.final; items = q.taken; left = inr (inl (l, top, a.2)); taken = q.items; within = q.cost }
-  leaves (Returns top) q =
-      let n = back_low top ls q.final in
-      let a = q.by 0 (omega (arith, n.0, room), omega (arith, n.1, deep), anywhere (back top ls q.final)) in
-      record { steps = a.0; final = q.final; items = q.taken; left = inr (inr (top, a.2)); taken = q.items; within = q.cost }
+module _ (m : Module) (H F : ℕ) (locals : List ValType) (outcome : Option ValType) (labels : List (Option ValType)) (N : ℕ → Type 0) (size : ℕ) (is : Code) (vs : List Value) (ls : List ControlEntry) (st : State) (to : List Kind) (room : 1 + (length to + beneath ls) ≤ H) (deep : 1 + callers ls ≤ F) where
+  low_at : (e : Exit) (final : State) → Fits (context m locals outcome labels) to e → IsLow H F Anywhere (arrives e code.end ls final)
+  low_at (Falls us) final fits = let n = kinds_length us to fits in (omega (arith, n, room), omega (arith, deep), tt)
+  low_at (Branches l top) final fits =
+      let n = jump_low l top ls final in (omega (arith, n.0, room), omega (arith, n.1, deep), anywhere (jump l top ls final))
+  low_at (Returns top) final fits =
+      let n = back_low top ls final in (omega (arith, n.0, room), omega (arith, n.1, deep), anywhere (back top ls final))
+
+  told_at : Reaches m H F Anywhere (context m locals outcome labels) N size (Running vs is ls st) code.end ls st to → Told m locals outcome labels to size is vs st ls
+  told_at r =
+      let q = r.1 in
+      let a = q.by 0 (low_at r.0 q.final q.fits) in
+      record { exit = r.0; steps = a.0; final = q.final; there = a.2; fits = q.fits; sound = q.sound; items = q.taken; taken = q.items; within = q.cost }
 
 pub sequences_count : (m : Module) → SequencesCount m
 sequences_count m typed bounded sizes are_sizes locals outcome labels is from to b vs ls st h s =
-    let hs = heights_there m bounded.acyclic in
-    let ds = depths_there m bounded.acyclic in
-    let r = 1 + most ds.0 (calls_of is) in
-    let H = beneath ls + (peak m hs.0 is (length from) + (length to + 1)) in
-    let F = callers ls + (r + 1) in
-    let fair_is = fair m ds.0 r is b.direct b.reached b.steady b.loops (below_most ds.0 (calls_of is) r (omega arith)) in
-    let good = code_good m bounded.imports typed.types H F Anywhere sizes hs.0 ds.0 locals outcome r (omega arith) (λ f t less g. function_good m typed bounded sizes hs.0 ds.0 are_sizes hs.1 ds.1 H F Anywhere (anywhere_met m (accesses m)) (suc (ds.0 f)) f t g (omega arith)) is labels from to b.known fair_is (covered m Anywhere typed.types locals outcome is labels from to (map operand_of from) b.known (own_known from) (anywhere_met m (accesses_along (arity_table m) is (map operand_of from)))) in
-    let q = good vs ls st h s (omega arith) (omega arith) in
-    leaves m H F (context m locals outcome labels) (Named is) (code_size m sizes is) is vs ls st to (omega arith) (omega arith) q.0 q.1
+    counts m locals outcome labels to (code_size m sizes is) is vs st told ls
+  where
+    told : (ls : List ControlEntry) → Told m locals outcome labels to (code_size m sizes is) is vs st ls
+    told ls =
+        let hs = heights_there m bounded.acyclic in
+        let ds = depths_there m bounded.acyclic in
+        let r = 1 + most ds.0 (calls_of is) in
+        let H = beneath ls + (peak m hs.0 is (length from) + (length to + 1)) in
+        let F = callers ls + (r + 1) in
+        let fair_is = fair m ds.0 r is b.direct b.reached b.steady b.loops (below_most ds.0 (calls_of is) r (omega arith)) in
+        let good = code_good m bounded.imports typed.types H F Anywhere sizes hs.0 ds.0 locals outcome r (omega arith) (λ f t less g. function_good m typed bounded sizes hs.0 ds.0 are_sizes hs.1 ds.1 H F Anywhere (anywhere_met m (accesses m)) (suc (ds.0 f)) f t g (omega arith)) is labels from to b.known fair_is (covered m Anywhere typed.types locals outcome is labels from to (map operand_of from) b.known (own_known from) (anywhere_met m (accesses_along (arity_table m) is (map operand_of from)))) in
+        told_at m H F locals outcome labels (Named is) (code_size m sizes is) is vs ls st to (omega arith) (omega arith) (good vs ls st h s (omega arith) (omega arith))

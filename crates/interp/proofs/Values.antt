@@ -12,7 +12,7 @@ use Rattle.bounded_profile.specs.declared.requirements.Requirement.TheVariants a
 use Rattle.bounded_profile.specs.Kinds.{Kind, Any, Is, Forgets, AllForget, Met, Meets, AllMeet, requirements, kinds}
 use Rattle.bounded_profile.specs.Memory.{number_of}
 use Rattle.interp.specs.Effects.{value}
-pub use Rattle.interp.specs.Typed.{HasKind, HasKinds, HasTypes}
+pub use Rattle.interp.specs.Typed.{HasKind, HasKinds, HasTypes, IsTop}
 use Rattle.interp.specs.Machine.{carry, first, has_result}
 
 pub type-value : (t : ValType) (n : ℕ) → type_of (value t n) ≡ t
@@ -151,12 +151,6 @@ pub popped_known : {E : Type 0} (missing : E) (t : ValType) (v : Value) (n : ℕ
 popped_known missing t v n vs go e = ap (λ o. with_number missing o (λ n. go n vs)) (ap (λ (x : Value). number t x) e ∙ number_known t n)
 
 -- ---- what a branch carries
-
--- the operand is there, where one is kept
-abbrev pub IsTop : Option ValType → Option Value → Type 0
-IsTop None top = Unit {0}
-IsTop (Some t) None = ⊥
-IsTop (Some t) (Some v) = type_of v ≡ t
 
 pub top_is : (bytes : ℕ) (t : Option ValType) (vs : List Value) (from below : List Kind) → AllMeet bytes (requirements t) from below → HasKinds vs from → IsTop t (first vs)
 top_is bytes None vs from below a h = tt

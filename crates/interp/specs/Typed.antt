@@ -1,5 +1,5 @@
 -- Values and states that fit the types of code.
-use Rattle.std.specs.Prelude.{◌≡◌, ℕ, ◌+◌, List, [], ◌∷◌, length, map}
+use Rattle.std.specs.Prelude.{◌≡◌, ℕ, ◌+◌, List, [], ◌∷◌, length, map, Option, Some, None}
 use Rattle.wasm_ast.specs.declared.types.ValType.{ValType}
 use Rattle.wasm_ast.specs.declared.types.GlobalType.{GlobalType}
 use Rattle.wasm_ast.specs.declared.types.Value.{Value}
@@ -28,6 +28,12 @@ HasTypes [] [] = Unit {0}
 HasTypes [] (t ∷ ts) = ⊥
 HasTypes (v ∷ vs) [] = ⊥
 HasTypes (v ∷ vs) (t ∷ ts) = (type_of v ≡ t) × HasTypes vs ts
+
+-- the operand is there and has the type, if there is one
+abbrev pub IsTop : Option ValType → Option Value → Type 0
+IsTop None top = Unit {0}
+IsTop (Some t) None = ⊥
+IsTop (Some t) (Some v) = type_of v ≡ t
 
 abbrev pub global_types : Module → List ValType
 global_types m = map (λ (g : GlobalType). g.value) (spaces_of m).globals

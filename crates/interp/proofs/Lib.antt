@@ -27,6 +27,7 @@ pub mod Entering
 pub mod Induction
 pub mod Fairness
 pub mod Starting
+pub mod Instructions
 pub mod Whole
 pub mod Accesses
 pub mod Surrounded

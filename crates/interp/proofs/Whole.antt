@@ -1,5 +1,5 @@
 -- Every function by its rank, and the end of a compute call of a bounded module.
-use Rattle.std.proofs.Common.{◌≡◌, ◌≢◌, ℕ, zero, suc, ◌+◌, ◌-◌, ◌*◌, ◌≤◌, ◌<◌, List, [], ◌∷◌, ◌++◌, map, slice_get, Option, Some, None, refl, sym, ap, ◌∙◌, subst, arith}
+use Rattle.std.proofs.Common.{◌≡◌, ◌≢◌, ℕ, zero, suc, ◌+◌, ◌-◌, ◌*◌, ◌≤◌, ◌<◌, List, [], ◌∷◌, ◌++◌, map, slice_get, Option, Some, None, refl, sym, ap, ◌∙◌, subst, le_trans, arith}
 use Rattle.std.proofs.lemmas.List.{length-map}
 use Rattle.std.specs.List.{AllByRecursion}
 use Rattle.wasm_ast.specs.declared.types.ValType.{ValType}
@@ -39,6 +39,7 @@ use Rattle.interp.proofs.Covering.{Covered, IsMet, all_marked, covered, function
 use Rattle.interp.proofs.Induction.{Fair, code_good}
 use Rattle.interp.proofs.Fairness.{fair, below_most}
 use Rattle.interp.proofs.Starting.{Begun, begun}
+use Rattle.interp.proofs.Instructions.{all_counted}
 
 -- ---- functions
 
@@ -132,13 +133,15 @@ ended m typed bounded input H F s R b deep N e q =
     let d = over m H F s R bounded.compute.function.locals x st deep N e q in
     let edges = length-map input.edges.now seen_edge in
     let all : items_of input ≡ q.taken + items_left q.final.host = omega (arith, q.items, edges) in
+    let most = cost_all s q.final.count q.taken (items_left q.final.host) (items_of input) all q.cost in
     record {
       first = x;
       starts = record { function = bounded.compute.function; globals = b.globals; bytes = b.bytes; begins = b.begins; is = refl };
       steps = d.0;
       final = q.final;
       done = d.2;
-      within = cost_all s q.final.count q.taken (items_left q.final.host) (items_of input) all q.cost;
+      within = most;
+      executes = λ n. le_trans (all_counted m x d.0 q.final d.2 n) most;
       short = omega (arith, q.short, d.1);
       untrapped = λ n count. apart m (Done q.final) (Trapped count) refl refl (done_trapped m q.final count) d.0 n x d.2;
       unstuck = λ n count. apart m (Done q.final) (Stuck count) refl refl (done_stuck m q.final count) d.0 n x d.2;

@@ -8,6 +8,7 @@ use Rattle.validate.specs.Modules.{IsTyped}
 use Rattle.cost.specs.Sizes.{AreSizes}
 use Rattle.bounded_profile.specs.Profile.{IsBounded}
 use Rattle.interp.specs.Configuration.{State}
+use Rattle.interp.specs.Instructions.{instructions}
 use Rattle.interp.specs.Machine.{Machine, Done, Trapped, Stuck, run}
 use Rattle.interp.specs.Start.{Starts}
 use Rattle.interp.specs.Call.{IsOutcome, IsTrapped, IsStuck}
@@ -16,8 +17,8 @@ use Rattle.bounded_profile.specs.declared.facts.Facts.{Facts}
 use Rattle.bounded_profile.specs.Facts.{AreDepths, AreFacts, IsSizeOfCompute}
 use Rattle.interp.specs.Heights.{operands, frames}
 
--- The call begins and ends, within this many units. It never traps, and there is a step for each instruction. It
--- never has more operands and frames than these.
+-- The call begins and ends, within this many units, and executes no more instructions. It never traps, and there is a
+-- step for each instruction. It never has more operands and frames than these.
 pub record Ends (m : Module) (input : CallInput) (units most_operands most_frames : ℕ) : Type 0 where
   pub first : Machine
   pub starts : Starts m input first
@@ -25,6 +26,7 @@ pub record Ends (m : Module) (input : CallInput) (units most_operands most_frame
   pub final : State
   pub done : run m steps first ≡ Done final
   pub within : final.count ≤ units
+  pub executes : (n : ℕ) → instructions m n first ≤ units
   -- each step takes an instruction, except those that leave a block or a function
   pub short : steps ≤ 2 * final.count + 1
   pub untrapped : (n count : ℕ) → run m n first ≢ Trapped count

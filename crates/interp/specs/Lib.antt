@@ -4,6 +4,8 @@ pub mod Configuration
 pub mod Memory
 pub mod Effects
 pub mod Machine
+-- how many instructions a run executes, and its units
+pub mod Instructions
 -- a call: its first configuration, its outcome, and that as a function of pure data
 pub mod Start
 pub mod Call

@@ -1,6 +1,6 @@
 //! Laws of every run of the machine.
 
-ghost use Rattle.std.specs.Prelude.{◌≡◌, ◌≤◌, ℕ};
+ghost use Rattle.std.specs.Prelude.{◌≡◌, ◌+◌, ◌≤◌, ℕ};
 ghost use Rattle.wasm_ast.specs.declared.module.Module.{Module as AnyModule};
 ghost use Rattle.host_calls.specs.declared.call.CallInput.{CallInput as AnyInput};
 ghost use Rattle.host_calls.specs.declared.call.CallOutcome.{CallOutcome as AnyOutcome};
@@ -10,9 +10,11 @@ ghost use Rattle.interp.specs.Accesses.{CallsTouchReached};
 ghost use Rattle.interp.specs.Bounded.{CallsEnd, FactsHold, Ends, ComesToItsEnd, MeetsNoFault, HasBounds};
 ghost use Rattle.interp.specs.Call.{IsOutcome, Outcome, SameOutcome, IsTrapped, IsStuck, shown};
 ghost use Rattle.interp.specs.Outcomes.{AreOutcomes, Given, HasOneOutcome, given_of};
+ghost use Rattle.interp.specs.Instructions.{instructions, units};
 ghost use Rattle.interp.specs.Machine.{Machine, IsOver, run};
 ghost use Rattle.interp.specs.Room.{CallsStayWithin};
 ghost use Rattle.interp.specs.Sequences.{SequencesCount};
+ghost use Rattle.interp.specs.Start.{Starts};
 
 /// Proves that a run that is over stays over.
 pub fn an_end_stays()
@@ -45,9 +47,18 @@ pub fn calls_are_a_function()
         → shown outcome ≡ outcomes (given_of input) }
 {}
 
+/// Proves that a run executes no more instructions than it counts units, whatever the module. So a call executes at
+/// most the units of its outcome.
+pub fn instructions_are_counted()
+    ensures run { (m : AnyModule) (n : ℕ) (x : Machine)
+        → units x + instructions m n x ≤ units (run m n x) }
+    ensures call { (m : AnyModule) (input : AnyInput) (outcome : AnyOutcome) → IsOutcome m input outcome
+        → (first : Machine) → Starts m input first → (n : ℕ) → instructions m n first ≤ outcome.units }
+{}
+
 /// Proves that each compute call of a module in the bounded profile ends. It never traps, and there is a step for
 /// each of its instructions. It counts no more than the size of `compute`, times one more than there are messages and
-/// edges. It never has more operands or frames than the module's bounds.
+/// edges, and executes no more instructions. It never has more operands or frames than the module's bounds.
 pub fn calls_end()
     ensures ends { (m : AnyModule) → CallsEnd m }
     ensures facts { (m : AnyModule) → FactsHold m }

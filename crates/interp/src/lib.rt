@@ -24,7 +24,7 @@ mod walk;
 pub use host_calls::{CallInput, CallOutcome};
 pub use laws::{
     an_end_stays, calls_are_a_function, calls_end, calls_stay_within, calls_touch_reached_bytes,
-    one_outcome, sequences_count,
+    instructions_are_counted, one_outcome, sequences_count,
 };
 pub use runs::{has_ids, run};
 pub use scratch::Scratch;

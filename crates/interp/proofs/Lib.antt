@@ -30,6 +30,8 @@ pub mod Starting
 pub mod Instructions
 pub mod Whole
 pub mod Accesses
+pub mod EffectLengths
+pub mod Owning
 pub mod Surrounded
 pub mod Guarded
 pub mod SequenceCounts

@@ -149,7 +149,7 @@ ended m typed bounded input H F s R b deep N e q =
       shallow = λ n. (always_low m H F R q.final d.0 n x d.3 d.2).1;
     }
 
-compute_defined : (m : Module) (bounded : IsBounded m) → IsDefinedFunction m bounded.compute.number plain_type
+pub compute_defined : (m : Module) (bounded : IsBounded m) → IsDefinedFunction m bounded.compute.number plain_type
 compute_defined m bounded =
     let c = bounded.compute in
     let k = c.number - imported_functions m.imports in

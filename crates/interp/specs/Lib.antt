@@ -14,6 +14,8 @@ pub mod Outcomes
 pub mod Heights
 pub mod Bounded
 pub mod Room
+-- the operands of each active function
+pub mod OwnOperands
 -- the bytes that its loads and stores touch
 pub mod Accesses
 -- the bound on a sequence

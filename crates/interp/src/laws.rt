@@ -12,6 +12,7 @@ ghost use Rattle.interp.specs.Call.{IsOutcome, Outcome, SameOutcome, IsTrapped, 
 ghost use Rattle.interp.specs.Outcomes.{AreOutcomes, Given, HasOneOutcome, given_of};
 ghost use Rattle.interp.specs.Instructions.{instructions, units};
 ghost use Rattle.interp.specs.Machine.{Machine, IsOver, run};
+ghost use Rattle.interp.specs.OwnOperands.{CallsKeepOwn};
 ghost use Rattle.interp.specs.Room.{CallsStayWithin};
 ghost use Rattle.interp.specs.Sequences.{SequencesCount};
 ghost use Rattle.interp.specs.Start.{Starts};
@@ -69,10 +70,17 @@ pub fn calls_end()
     ensures bounds { (m : AnyModule) → IsBounded m → HasBounds m }
 {}
 
-/// Proves a bound on each sequence that keeps the rules of the profile, from its first instruction to where it is
-/// left. It counts no more than its size, times one more than the items that it takes.
+/// Proves a bound on each sequence that keeps the rules of the profile, from its first instruction to where it is first
+/// left. It counts no more than its size, times one more than the items that it takes. It is left at its end with the
+/// operands of its type, by a branch to a label in scope, or by a return. The state still fits its function.
 pub fn sequences_count()
     ensures { (m : AnyModule) → SequencesCount m }
+{}
+
+/// Proves that each active function of a call is one that `compute` may reach, and never has more operands of its own
+/// than `Verified::cells` says.
+pub fn calls_keep_own_operands()
+    ensures { (m : AnyModule) → CallsKeepOwn m }
 {}
 
 /// Proves that each load and store of a call touches only bytes that `Verified::reach` counts.

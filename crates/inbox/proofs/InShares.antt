@@ -48,7 +48,7 @@ made sorted (id ∷ ids) (inbox ∷ inboxes) up zip =
     λ i. first i ∷ others i
 
 -- an id finds the same among the letters of a set of targets that has it and among all
-same_inboxes : (letters sorted ordered : List Letter) (target_set : TargetSet) (ids : List ℕ) → IsByTarget (filter (goes_into target_set) letters) sorted → IsBySource letters ordered → AllByRecursion (λ id. has target_set id ≡ true) ids → inboxes_of sorted ids ≡ inboxes_of ordered ids
+pub same_inboxes : (letters sorted ordered : List Letter) (target_set : TargetSet) (ids : List ℕ) → IsByTarget (filter (goes_into target_set) letters) sorted → IsBySource letters ordered → AllByRecursion (λ id. has target_set id ≡ true) ids → inboxes_of sorted ids ≡ inboxes_of ordered ids
 same_inboxes letters sorted ordered target_set [] by by' all = refl
 same_inboxes letters sorted ordered target_set (id ∷ ids) by by' all =
     let first = ap (map (λ (letter : Letter). letter.value)) (same_letters letters sorted ordered target_set id all.0 by by') in
@@ -96,7 +96,7 @@ all_shares letters (share ∷ shares) (delivered ∷ all) zip =
 pub shared_out : (letters : List Letter) (ids : List (Vec ℕ Global)) (shares : List Share) (by_share : List (Vec Delivered Global)) (all : List Delivered) → flat_map parts_of shares ≡ ids → AllZip (AreDelivered letters) shares by_share → all ≡ all_of by_share → AllZip (IsDelivered letters) ids all
 shared_out letters ids shares by_share all are zip same = rw (← are, same) (all_shares letters shares by_share zip)
 
-counted : {X Z : Type 0} (lists : List (Vec X Z)) → sum_by vec_len lists ≡ length (all_of lists)
+pub counted : {X Z : Type 0} (lists : List (Vec X Z)) → sum_by vec_len lists ≡ length (all_of lists)
 counted [] = refl
 counted (list ∷ lists) = omega (arith, list.ok.0, counted lists, sum_by-cons vec_len list lists, length-append list.items (all_of lists))
 

@@ -1,3 +1,4 @@
+pub mod Arriving
 pub mod ByTarget
 pub mod Collected
 pub mod Concatenation

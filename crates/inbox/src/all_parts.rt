@@ -73,14 +73,14 @@ struct Delivered {
 }
 
 // Counts the letters of all lists.
-fn letter_count(lists: &[Vec<Letter>]) -> u128
+pub fn letter_count(lists: &[Vec<Letter>]) -> u128
     ensures { result ≡ sum_by (λ list. vec_len list) lists.now }
 {
     lists.iter().map(|list| list.len() as u128).sum()
 }
 
 // Returns the length of all lists together. It stops at the greatest number.
-fn length_of_all<T>(lists: &[Vec<T>]) -> usize {
+pub fn length_of_all<T>(lists: &[Vec<T>]) -> usize {
     lists
         .iter()
         .fold(0usize, |count, list| count.saturating_add(list.len()))
@@ -324,7 +324,7 @@ fn sorted_by_source(
 }
 
 // Copies the letters to these targets, sorted by target and then by source. Room for `room` letters is made at the start.
-fn by_target(
+pub fn by_target(
     alloc: Global,
     lists: &[Vec<Letter>],
     targets: TargetSet,
@@ -389,8 +389,15 @@ fn inbox_at(
     ensures { IfOk result (IsInboxIn letters.now id) }
 {
     let mine = run_to(letters, near, id);
-    let mut inbox = Inbox::with_capacity(alloc, mine.len())?;
-    for letter in mine {
+    inbox_with(alloc, mine)
+}
+
+// Makes the inbox of these letters' messages. If they are more than four, it has no room beyond them.
+pub fn inbox_with(alloc: Global, letters: &[Letter]) -> Result<Inbox, AllocError>
+    ensures { IfOk result (λ inbox. inbox ≡ map (λ letter. letter.value) letters.now) }
+{
+    let mut inbox = Inbox::with_capacity(alloc, letters.len())?;
+    for letter in letters {
         inbox.push(letter.value)?;
     }
     Ok(inbox)

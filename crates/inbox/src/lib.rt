@@ -5,6 +5,7 @@
 #![tactic(auto)]
 
 mod all_parts;
+mod arrivals;
 mod blocks;
 mod grid;
 mod inboxes;
@@ -14,6 +15,7 @@ mod merging;
 mod shares;
 
 pub use all_parts::merge_parts;
+pub use arrivals::{Arrival, merge_few};
 pub use inboxes::Inbox;
 pub use laws::{
     drops_add_up_over_sources, inboxes_are_concatenated_by_source,

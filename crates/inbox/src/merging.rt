@@ -76,7 +76,7 @@ fn deliver(letter: &Letter, ids: &[u64], inboxes: &mut [Inbox]) -> Result<bool, 
 }
 
 // Finds the place of an id among ids that rise.
-fn place_of(ids: &[u64], id: i64) -> Option<usize>
+pub fn place_of(ids: &[u64], id: i64) -> Option<usize>
     requires { IsStrictlyIncreasing ids.now }
     ensures inside { IfSome result (λ place. place < length ids.now) }
     ensures found { IfSome result (λ place. id ≡ pos (slice_index ids.now place)) }

@@ -47,7 +47,7 @@ pub struct TargetSet {
 
 impl TargetSet {
     // Returns the set of all targets.
-    fn all() -> TargetSet
+    pub fn all() -> TargetSet
         ensures { (target : ℕ) → has result target ≡ true }
     {
         TargetSet {

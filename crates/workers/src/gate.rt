@@ -58,15 +58,30 @@ pub trait Gate {
 pub struct NoLoss;
 
 impl Gate for NoLoss {
-    fn before(&self, _worker: u32, _superstep: u32, _part: u32) -> Turn {
+    ghost use Rattle.std.specs.Prelude.{◌≡◌, false};
+    ghost use Rattle.workers.specs.declared.gate.Turn.TheVariants.{Go};
+
+    fn before(&self, _worker: u32, _superstep: u32, _part: u32) -> Turn
+        ensures { result ≡ Go }
+    {
         Turn::Go
     }
 
-    fn again(&self, _worker: u32) -> bool {
+    fn again(&self, _worker: u32) -> bool
+        ensures { result ≡ false }
+    {
         false
     }
 
-    fn tick(&self, _n: u64) -> bool {
+    fn tick(&self, _n: u64) -> bool
+        ensures { result ≡ false }
+    {
+        false
+    }
+
+    fn counts(&self) -> bool
+        ensures { result ≡ false }
+    {
         false
     }
 }

@@ -4,7 +4,6 @@ use Rattle.std.proofs.Common.{◌≡◌, ◌≢◌, ℕ, zero, suc, ◌+◌, ◌
 use mathlib.Core.List.{append-nil}
 use Rattle.channels.specs.Protocol.{has_bye}
 use Rattle.channels.specs.Orders.{stops, at, tasks_in, with_order}
-use Rattle.channels.specs.TaskChannels.{sent_on}
 use Rattle.channels.specs.declared.order.Order.{Order}
 use Rattle.channels.specs.declared.order.Order.TheVariants.{Do, Stop}
 use Rattle.channels.proofs.Byes.{has_bye_more}

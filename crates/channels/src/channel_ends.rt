@@ -3,6 +3,7 @@
 ghost use Rattle.std.specs.Prelude.{◌≡◌, ◌<◌, ◌+◌, ◌++◌, ◌∷◌, [], false, IfOk, OnOk, OnErr};
 ghost use Rattle.crossbeam_channel.specs.Claims.{view, IsSeatAt};
 ghost use Rattle.crossbeam_channel.specs.Ends.{sends_on, receives_on};
+ghost use Rattle.channels.specs.Channel.{room_of};
 ghost use Rattle.channels.specs.Protocol.{IsOnceInOrder, has_bye};
 ghost use Rattle.channels.specs.Views.{reader, sender};
 
@@ -80,6 +81,7 @@ impl<M: Signed> ReceivingEnd<M> {
         ensures sender { IfOk result (λ ends. IsNewSender (source_of ends.0) 0 ends.1) }
         ensures senders { IfOk result (λ ends. senders_of ends.0 ≡ 1) }
         ensures received { IfOk result (λ ends. received_by ends.0 ≡ []) }
+        ensures room { IfOk result (λ ends. room_of (source_of ends.0) ≡ capacity) }
     {
         let (to, from, mut pass) = bounded_with::<M, View<M>, InOrder, Global>(alloc, capacity)?;
         let first = to.another::<NewSender>(&mut pass);

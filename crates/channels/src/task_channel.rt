@@ -1,6 +1,7 @@
 //! The coordinator's end of the channel of one worker's tasks.
 
 ghost use Rattle.std.specs.Prelude.{◌≡◌, ◌⊎◌, ◌<◌, ◌++◌, ◌∷◌, [], true, IfOk, OnOk, OnErr};
+ghost use Rattle.channels.specs.Channel.{room_of};
 ghost use Rattle.channels.specs.ChannelEnds.{IsSameReader, number_of, received_by, sent_by, source_of};
 ghost use Rattle.channels.specs.Orders.{coordinator, stops};
 ghost use Rattle.channels.specs.Protocol.{IsOnceInOrder, has_bye};
@@ -36,6 +37,7 @@ impl<J: Origin> TaskChannel<J> {
         ensures sent { IfOk result (λ ends. sent_on ends.1 ≡ []) }
         ensures received { IfOk result (λ ends. received_by ends.0 ≡ []) }
         ensures channel { IfOk result (λ ends. channel_on ends.1 ≡ source_of ends.0) }
+        ensures room { IfOk result (λ ends. room_of (channel_on ends.1) ≡ capacity) }
     {
         let (taken, orders) = ReceivingEnd::open(alloc, capacity)?;
         Ok((

@@ -1,10 +1,10 @@
 -- Rows of new ends, one longer.
 use Rattle.std.proofs.Common.{◌≡◌, ℕ, zero, suc, ◌+◌, List, [], ◌∷◌, ◌++◌, map, length, slice_get, slice_index_or, Some, sym, refl, subst, arith}
-use Rattle.workers.specs.Hub.{AreNewPasses, Channels, IsNewPass}
+use Rattle.workers.specs.Hub.{AreNewPasses, Channels, HaveRoomFor, IsNewPass}
 use Rattle.workers.specs.declared.message.Message.{Message}
 use Rattle.channels.specs.declared.order.Order.{Order}
 use Rattle.workers.specs.declared.pass.WorkerPass.{WorkerPass}
-use Rattle.channels.specs.Channel.{Channel}
+use Rattle.channels.specs.Channel.{Channel, room_of}
 use Rattle.workers.specs.inside.Opening.{IsNewPassOf}
 use Rattle.channels.proofs.Handing.{get_end, get_more}
 
@@ -48,6 +48,10 @@ module _ {J : Type 0} where
     nothing_taken = new.nothing_taken;
   }
 
+  rooms_end : (n : ℕ) (cs : List (Channel (Order J))) (c : Channel (Order J)) → HaveRoomFor n cs → room_of c ≡ n → HaveRoomFor n (cs ++ c ∷ [])
+  rooms_end n [] c old new = (new, tt)
+  rooms_end n (d ∷ cs) c old new = (old.0, rooms_end n cs c old.1 new)
+
   -- one worker more, with its channel
   pub passes_more : (events : Channel (Message J)) (os os' : List (Channel (Order J))) (c : Channel (Order J)) (w : ℕ) (ps ps' : List (WorkerPass J)) (p : WorkerPass J)
       → AreNewPasses (record { events = events; orders = os }) 0 ps → IsNewPassOf events c w p → length os ≡ w → length ps ≡ w → os' ≡ os ++ c ∷ [] → ps' ≡ ps ++ p ∷ []
@@ -57,3 +61,7 @@ module _ {J : Type 0} where
       longer (record { events = events; orders = os ++ c ∷ [] }) 0 ps p (wider events os c 0 ps old)
       (subst (λ (k : ℕ). IsNewPass (record { events = events; orders = os ++ c ∷ [] }) k p) (let z : w ≡ 0 + length ps = omega (arith, long) in z) (new_here events os c w p new wide)) in
       subst (λ (x : List (Channel (Order J)) × List (WorkerPass J)). AreNewPasses (record { events = events; orders = x.0 }) 0 x.1) (λ i. (sym more i, sym one i)) all
+
+  -- one channel more
+  pub rooms_more : (n : ℕ) (cs cs' : List (Channel (Order J))) (c : Channel (Order J)) → HaveRoomFor n cs → room_of c ≡ n → cs' ≡ cs ++ c ∷ [] → HaveRoomFor n cs'
+  rooms_more n cs cs' c old new is = subst (λ l. HaveRoomFor n l) (sym is) (rooms_end n cs c old new)

@@ -43,6 +43,10 @@ module _ {J : Type 0} where
   IsNewOn workers (Some ends) passes ticker = hub.IsNewHubOf workers ends passes ticker
   IsNewOn workers None passes ticker = ⊥
 
+  abbrev pub HasRoomsOn : ℕ → Option (CoordinatorEnds J) → Type 0
+  HasRoomsOn workers (Some ends) = hub.HasRooms workers (hub.channels_of ends)
+  HasRoomsOn workers None = ⊥
+
   abbrev pub IsIdleOn : Option (CoordinatorEnds J) → Type 0
   IsIdleOn (Some ends) = threads.IsIdle ends
   IsIdleOn None = ⊥
@@ -94,6 +98,10 @@ module _ {J : Type 0} where
   -- the coordinator, the passes of this many workers and the ticker's: of one hub, and unused
   abbrev pub IsNewHub : ℕ → Coordinator J → Vec (WorkerPass J) → TickPass J → Type 0
   IsNewHub workers coordinator passes ticker = IsNewOn workers coordinator.ends passes ticker
+
+  -- A task channel holds at most two orders, and the channel of events two messages more than there are workers.
+  abbrev pub HasRooms : ℕ → Coordinator J → Type 0
+  HasRooms workers coordinator = HasRoomsOn workers coordinator.ends
 
   -- the receipt is of a pass of its hub
   abbrev pub IsReceiptOf : Coordinator J → WorkerReceipt J → Type 0

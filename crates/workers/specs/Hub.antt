@@ -2,7 +2,7 @@
 use Rattle.std.specs.Global.{Vec}
 use Rattle.std.specs.Prelude.{◌≡◌, ◌<◌, ◌+◌, ℕ, true, List, [], ◌∷◌, map, vec_len, slice_get, Some}
 use Rattle.rollback.specs.declared.event.Event.{Event}
-use Rattle.channels.specs.ChannelEnds.{channel_of, received_by, sent_by, source_of}
+use Rattle.channels.specs.ChannelEnds.{channel_of, received_by, source_of}
 use Rattle.workers.specs.Messages.{closes, sender_of}
 use Rattle.channels.specs.TaskChannels.{channel_on, sent_on}
 use Rattle.channels.specs.Orders.{at, coordinator, stops}
@@ -16,7 +16,7 @@ use Rattle.workers.specs.declared.pass.TickPass.{TickPass}
 use Rattle.workers.specs.declared.pass.TickReceipt.{TickReceipt}
 use Rattle.workers.specs.declared.pass.WorkerPass.{WorkerPass}
 use Rattle.workers.specs.declared.pass.WorkerReceipt.{WorkerReceipt}
-use Rattle.channels.specs.Channel.{Channel}
+use Rattle.channels.specs.Channel.{Channel, room_of}
 
 -- the channels of a hub: that of events, and that of each worker's tasks
 pub record Channels (J : Type 0) : Type 0 where
@@ -94,6 +94,16 @@ module _ {J : Type 0} where
     pub passes_are : AreNewPasses (channels_of ends) 0 passes.items
     pub passes_len : vec_len passes ≡ workers
     pub ticker_is : IsNewTicker (channels_of ends) ticker
+
+  -- each holds at most this many orders
+  abbrev pub HaveRoomFor : ℕ → List (Channel (Order J)) → Type 0
+  HaveRoomFor n [] = Unit {0}
+  HaveRoomFor n (channel ∷ channels) = (room_of channel ≡ n) × HaveRoomFor n channels
+
+  -- A task channel holds at most two orders, and the channel of events two messages more than there are workers.
+  pub record HasRooms (workers : ℕ) (channels : Channels J) : Type 0 where
+    pub events : room_of channels.events ≡ workers + 2
+    pub orders : HaveRoomFor 2 channels.orders
 
   -- ---- receipts
 

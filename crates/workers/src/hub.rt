@@ -3,7 +3,8 @@
 ghost use Rattle.std.specs.Prelude.{◌≡◌, ◌<◌, ◌≤◌, ◌+◌, ◌⊎◌, [], ℕ, true, false, map, replicate, vec_len, vec_capacity, IfOk, IfErr, OnOk};
 ghost use Rattle.superstep.specs.declared.fault.JobFault.TheVariants.{OutOfMemory};
 ghost use Rattle.superstep.specs.declared.fault.Place.TheVariants.{Channel, Open};
-ghost use Rattle.workers.specs.Hub.{IsNewHubOf};
+ghost use Rattle.workers.specs.Hub.{HasRooms as HasRoomsOf, IsNewHubOf, channels_of};
+ghost use Rattle.channels.specs.Channel.{room_of};
 ghost use Rattle.channels.specs.Orders.{at};
 ghost use Rattle.channels.specs.TaskChannels.{channel_on, sent_on};
 ghost use Rattle.channels.specs.ChannelEnds.{channel_of, received_by, senders_of, source_of};
@@ -52,6 +53,7 @@ fn open_task_channel<J: Origin>(
     ensures task_channel { IfOk result (λ pair. sent_on pair.0 ≡ []) }
     ensures pass { IfOk result (λ pair.
         IsNewPassOf (source_of events.old) (channel_on pair.0) worker pair.1) }
+    ensures room { IfOk result (λ pair. room_of (channel_on pair.0) ≡ 2) }
     ensures senders { OnOk result (senders_of events.new ≡ worker + 2) }
     ensures received { received_by events.new ≡ received_by events.old }
     ensures channel { source_of events.new ≡ source_of events.old }
@@ -102,7 +104,8 @@ fn connect<J: Origin>(
 ) -> Result<(CoordinatorEnds<J>, Vec<WorkerPass<J>>, TickPass<J>), AllocError>
     requires few { workers ≤ 64 }
     requires rows { AreEmptyRows workers rows }
-    ensures { IfOk result (λ hub. IsNewHubOf workers hub.0 hub.1 hub.2) }
+    ensures hub { IfOk result (λ hub. IsNewHubOf workers hub.0 hub.1 hub.2) }
+    ensures rooms { IfOk result (λ hub. HasRoomsOf workers (channels_of hub.0)) }
 {
     let (mut events, ticks) = ReceivingEnd::open(alloc, workers as usize + 2)?;
     let stopped = Arc::new(alloc, AtomicBool::new(false))?;
@@ -132,7 +135,7 @@ fn connect<J: Origin>(
 pub struct Hub;
 
 impl Hub {
-    ghost use Rattle.workers.specs.Coordinator.{IsNewHub};
+    ghost use Rattle.workers.specs.Coordinator.{HasRooms, IsNewHub};
 
     /// Opens the channels of a job. Returns all their ends: the coordinator, the pass of each worker, and that of the
     /// ticker. The type says of which job they are, and whether its Keep is honest.
@@ -147,6 +150,7 @@ impl Hub {
         requires job { J.work ≡ job.now }
         requires keep { J.honest ≡ true → K.honest _keep.now ≡ true }
         ensures hub { IfOk result (λ hub. IsNewHub job.now.settings.workers hub.0 hub.1 hub.2) }
+        ensures rooms { IfOk result (λ hub. HasRooms job.now.settings.workers hub.0) }
         ensures refused { IfErr result (λ fault.
             (fault ≡ OutOfMemory Open) ⊎ (fault ≡ OutOfMemory Channel)) }
     {

@@ -1,6 +1,6 @@
 -- How a hub is opened.
 use Rattle.std.specs.Prelude.{◌≡◌, ◌≤◌, ◌+◌, ℕ, false, [], map, replicate, vec_len, vec_capacity}
-use Rattle.workers.specs.Hub.{AreNewPasses}
+use Rattle.workers.specs.Hub.{AreNewPasses, HaveRoomFor}
 use Rattle.channels.specs.Orders.{at}
 use Rattle.channels.specs.TaskChannels.{channel_on, sent_on}
 use Rattle.channels.specs.ChannelEnds.{channel_of, source_of}
@@ -34,3 +34,4 @@ module _ {J : Type 0} where
     pub passes : vec_len rows.passes ≡ workers
     pub nothing : (w : ℕ) → at (map sent_on rows.task_channels.items) w ≡ []
     pub new : AreNewPasses (record { events = events; orders = map channel_on rows.task_channels.items }) 0 rows.passes.items
+    pub rooms : HaveRoomFor 2 (map channel_on rows.task_channels.items)

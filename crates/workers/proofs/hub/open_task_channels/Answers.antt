@@ -5,7 +5,7 @@ use Rattle.channels.specs.TaskChannels.{channel_on, sent_on}
 use Rattle.channels.specs.ChannelEnds.{source_of}
 use Rattle.workers.specs.inside.Opening.{IsNewPassOf}
 use Rattle.channels.proofs.Handing.{length_map}
-use Rattle.workers.proofs.Opening.{at_more, passes_more}
+use Rattle.workers.proofs.Opening.{at_more, passes_more, rooms_more}
 use Rattle.workers.proofs.hub.open_task_channels.Goals as goal
 
 pub loop-worker-preserved : goal.loop-worker-preserved
@@ -16,6 +16,7 @@ loop-worker-preserved g c =
     let passes = c.loop-worker.rows.passes in
     let one = c.in_ok-task_channel in
     let added = c.push_reserved.ensures.items in
+    let more = ap (map channel_on) added ∙ map-append channel_on task_channels.items (one.task_channel ∷ []) in
     record {
       ticks = i.ticks ∙ sym o.channel;
       senders = search rules;
@@ -30,7 +31,8 @@ loop-worker-preserved g c =
           (subst (λ e. IsNewPassOf e (channel_on one.task_channel) c.loop-worker.worker one.pass) i.channel one.ensures.pass)
           (omega (arith, i.task_channels, task_channels.ok.0, length_map channel_on task_channels.items))
           (omega (arith, i.passes, passes.ok.0))
-          (ap (map channel_on) added ∙ map-append channel_on task_channels.items (one.task_channel ∷ []))
+          more
           c.push_reserved-in-loop-worker.ensures.items;
+      rooms = rooms_more 2 (map channel_on task_channels.items) _ (channel_on one.task_channel) i.rooms one.ensures.room more;
       gone = i.gone;
     }

@@ -1,5 +1,5 @@
 use Rattle.std.proofs.Common.{◌≡◌, ◌≤◌, ◌+◌, [], map, ℕ, vec_len, vec_capacity}
-use Rattle.workers.specs.Hub.{AreNewPasses}
+use Rattle.workers.specs.Hub.{AreNewPasses, HaveRoomFor}
 use Rattle.channels.specs.Orders.{at}
 use Rattle.channels.specs.TaskChannels.{channel_on, sent_on}
 use Rattle.channels.specs.ChannelEnds.{channel_of, received_by, senders_of, source_of}
@@ -17,5 +17,6 @@ invariant-loop-worker g l = record {
   passes_room : l.workers ≤ vec_capacity l.rows.passes;
   nothing : (w : ℕ) → at (map sent_on l.rows.task_channels.items) w ≡ [];
   new : AreNewPasses (record { events = source_of l.initial.events; orders = map channel_on l.rows.task_channels.items }) 0 l.rows.passes.items;
+  rooms : HaveRoomFor 2 (map channel_on l.rows.task_channels.items);
   gone : l.rows.gone.items ≡ l.initial.rows.gone.items;
 }

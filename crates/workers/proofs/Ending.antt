@@ -1,5 +1,5 @@
 -- What the end of a list of hands and events says of the answer.
-use Rattle.std.proofs.Common.{◌≡◌, ◌<◌, ℕ, Bool, true, false, List, [], ◌++◌, length, slice_index_or, Result, Ok, Err, IfErr, IfOk, refl, sym, ap, ◌∙◌, subst}
+use Rattle.std.proofs.Common.{◌≡◌, ◌<◌, ℕ, Bool, true, false, Option, Some, List, [], ◌++◌, length, slice_index_or, Result, Ok, Err, IfErr, IfOk, refl, sym, ap, ◌∙◌, subst}
 use Rattle.superstep.specs.Job.{Work}
 use Rattle.superstep.specs.declared.fault.JobFault.{JobFault}
 use Rattle.superstep.specs.declared.fault.JobFault.TheVariants.{Closed, NoWorkers, OutOfMemory, Settings, ThreadRefused}
@@ -9,16 +9,19 @@ use Rattle.rollback.specs.declared.job_status.JobStatus.{JobStatus}
 use Rattle.rollback.specs.declared.job_status.JobStatus.TheVariants.{Fault, Finished, Limit, Running}
 use Rattle.rollback.specs.declared.report.Report.{Report}
 use Rattle.rollback.specs.Book.{IsQuietAt, IsReport}
-use Rattle.rollback.specs.Saving.{KeepsFor}
+use Rattle.checkpoint.specs.Keep.{LoadsNothingElse}
+use Rattle.rollback.specs.Saving.{IsKeptStep, IsLoadResult, KeepsFor}
+use Rattle.rollback.specs.Simulation.{NeverFails}
 use Rattle.rollback.specs.Events.{Heard, begun}
 use Rattle.rollback.specs.Machine.{Machine, has_answer, opened}
-use Rattle.workers.specs.JobAnswers.{HasSpent, IsAnswerAt, IsDriveFault, IsOpened, IsRunFault, IsTold, EndedOver, RanFrom, RanOn, WhereEnded, WhereOpened, WhereRefused, WhereRun, has_ended}
+use Rattle.workers.specs.JobAnswers.{HasSpent, IsAnswerAt, IsCalmReport, IsDriveFault, IsOpened, IsRunFault, IsTold, EndedOver, EndedOverKeep, EndedOverOwn, LoadsMadeAt, RanFrom, RanFromKeep, RanFromOver, RanOn, RanOnOver, RanOnOwn, WhereEnded, WhereOpened, WhereRefused, WhereRun, has_ended}
 use Rattle.channels.specs.Orders.{at}
-use Rattle.workers.specs.Steps.{AreMoves, Steps, after, events, hands, outs_in, stamps_in}
-use Rattle.workers.specs.inside.EventLoop.{IsUnspent, is_own, is_own_fault}
+use Rattle.workers.specs.Steps.{AreMoves, KeptAlong, Steps, after, events, hands, outs_in, stamps_in}
+use Rattle.workers.specs.inside.EventLoop.{IsUnspent, StepsOver, is_own, is_own_fault}
 use Rattle.workers.specs.declared.message.Message.{Message}
 use Rattle.channels.specs.declared.order.Order.{Order}
 use Rattle.workers.proofs.Accounts.{begun_unspent, opened_unspent, spent_of}
+use Rattle.workers.proofs.Calm.{calm_begun, calm_opened}
 use Rattle.workers.proofs.Faults.{steps_own}
 
 -- ---- by what is answered
@@ -186,3 +189,97 @@ keeps_first work trusted honest kept may_load m o sure =
       saved = λ s e. let z = sym none ∙ e in absurd (cc);
       bytes = λ t s e. let z = sym none ∙ e in absurd (cc);
     }
+
+calm_report : (work : Work) (trusted : Bool) (m : Machine) (report : Report) → (m.missed ≡ 0) × (m.restarts ≡ 0) → IsAnswerAt work trusted m m.ending (Ok report) → IsCalmReport report
+calm_report work trusted m report calm is =
+    let a = answers_report work trusted m m.ending report is in
+    (a.1.missed ∙ calm.0, a.1.restarts ∙ calm.1)
+
+module _ {K : Type 0} (honest : K → Bool) (saved : K → Option ℕ) (may_load : K → List ℕ → Type 0) (faults : K → ℕ) (work : Work) (trusted : Bool) where
+  abbrev Kept : Machine → Machine → K → K → Type 0
+  Kept = IsKeptStep honest saved may_load faults work trusted
+
+  module _ {J : Type 0} where
+    pub ran_over : (m n : Machine) (got got' : List (Message J)) (ls ls' : List (List (Order J))) (k k' : K) (r : Result Report JobFault)
+        → StepsOver Kept work trusted m n got got' ls ls' k k' → got ≡ [] → ((w : ℕ) → at ls w ≡ []) → work.settings.workers ≡ length ls
+        → KeepsFor work trusted (honest k') (saved k') (may_load k') n → IsAnswerAt work trusted n n.ending r
+        → RanFromOver honest saved may_load faults work trusted m got' ls' k k' r
+    unfolding ran_of
+    ran_over m n got got' ls ls' k k' r p none empty many keeps is = record {
+      ran = ran_of work trusted m n got got' ls ls' r p.steps none empty many is;
+      kept = p.kept;
+      keeps = keeps;
+    }
+
+    -- from an opened book on
+    pub over_opened : (m : Machine) (got : List (Message J)) (ls : List (List (Order J))) (k k' : K) (r : Result Report JobFault)
+        → IsOpened work m → RanFromOver honest saved may_load faults work trusted m got ls k k' r → EndedOverKeep honest saved may_load faults work trusted got ls k k' r
+    unfolding ran_opened
+    over_opened m got ls k k' r o p =
+        let kept : KeptAlong Kept (opened work.settings o.0) k p.ran.moves k' = subst (λ (x : Machine). KeptAlong Kept x k p.ran.moves k') o.2 p.kept in
+        record {
+          ended = ran_opened work trusted m got ls r o p.ran;
+          kept = kept;
+          keeps = p.keeps;
+          calm = calm_opened honest saved may_load faults work trusted o.0 p.ran.moves k k' p.ran.end (ap (λ (x : Machine). after x p.ran.moves) (sym o.2) ∙ p.ran.leads) kept;
+        }
+
+    pub own_opened : (m : Machine) (got : List (Message J)) (ls : List (List (Order J))) (k : K) (r : Result Report JobFault)
+        → IsOpened work m → RanFromKeep honest saved may_load faults work trusted m got ls k r → EndedOverOwn honest saved may_load faults work trusted got ls k r
+    own_opened m got ls k r o p = (p.0, over_opened m got ls k p.0 r o p.1)
+
+    -- from a book on that goes on
+    over_begun : (superstep : ℕ) (heard : Heard) (got : List (Message J)) (ls : List (List (Order J))) (k k1 k' : K) (r : Result Report JobFault)
+        → IsLoadResult work (honest k) (honest k1) (saved k) (saved k1) (may_load k) (may_load k1) (faults k) (faults k1) (Some superstep) heard.load
+        → RanFromOver honest saved may_load faults work trusted (begun heard work.settings superstep) got ls k1 k' r
+        → RanOnOver honest saved may_load faults work trusted superstep got ls k k' r
+    over_begun superstep heard got ls k k1 k' r told p = record {
+      heard = heard;
+      first = k1;
+      told = told;
+      over = p;
+      calm = calm_begun honest saved may_load faults work trusted superstep heard k k1 k' p.ran.moves p.ran.end told p.ran.leads p.kept;
+    }
+
+    pub own_begun : (superstep : ℕ) (heard : Heard) (m : Machine) (got : List (Message J)) (ls : List (List (Order J))) (k k1 : K) (r : Result Report JobFault)
+        → m ≡ begun heard work.settings superstep
+        → IsLoadResult work (honest k) (honest k1) (saved k) (saved k1) (may_load k) (may_load k1) (faults k) (faults k1) (Some superstep) heard.load
+        → RanFromKeep honest saved may_load faults work trusted m got ls k1 r
+        → RanOnOwn honest saved may_load faults work trusted superstep got ls k r
+    own_begun superstep heard m got ls k k1 r is told p =
+        (p.0, over_begun superstep heard got ls k k1 p.0 r told (subst (λ (x : Machine). RanFromOver honest saved may_load faults work trusted x got ls k1 p.0 r) is p.1))
+
+    -- ---- without what it leaves of the Keep
+
+    pub with_last : (m : Machine) (got : List (Message J)) (ls : List (List (Order J))) (k k' : K) (r : Result Report JobFault)
+        → RanFromOver honest saved may_load faults work trusted m got ls k k' r → RanFromKeep honest saved may_load faults work trusted m got ls k r
+    with_last m got ls k k' r p = (k', p)
+
+    pub ended_over : (m : Machine) (got : List (Message J)) (ls : List (List (Order J))) (k k' : K) (r : Result Report JobFault)
+        → IsOpened work m → RanFromOver honest saved may_load faults work trusted m got ls k k' r → EndedOver work trusted got ls r
+    ended_over m got ls k k' r o p = ran_opened work trusted m got ls r o p.ran
+
+    pub ended_own : (m : Machine) (got : List (Message J)) (ls : List (List (Order J))) (k : K) (r : Result Report JobFault)
+        → IsOpened work m → RanFromKeep honest saved may_load faults work trusted m got ls k r → EndedOver work trusted got ls r
+    ended_own m got ls k r o p = ran_opened work trusted m got ls r o p.1.ran
+
+    pub on_own : (superstep : ℕ) (heard : Heard) (m : Machine) (got : List (Message J)) (ls : List (List (Order J))) (k : K) (r : Result Report JobFault)
+        → m ≡ begun heard work.settings superstep → RanFromKeep honest saved may_load faults work trusted m got ls k r → RanOn work trusted superstep got ls r
+    on_own superstep heard m got ls k r is p = ran_begun work trusted m got ls r superstep heard is p.1.ran
+
+    -- ---- calm answers
+
+    pub calm_driven : (got : List (Message J)) (ls : List (List (Order J))) (k k' : K) (r : Result Report JobFault)
+        → WhereEnded r (EndedOverKeep honest saved may_load faults work trusted got ls k k' r) → LoadsNothingElse saved may_load → NeverFails faults → IfOk r IsCalmReport
+    calm_driven got ls k k' (Ok report) x one never = calm_report work trusted x.ended.end report (x.calm one never) x.ended.answers
+    calm_driven got ls k k' (Err fault) x one never = tt
+
+    pub calm_told : (got : List (Message J)) (ls : List (List (Order J))) (k : K) (r : Result Report JobFault)
+        → WhereRun r (EndedOverOwn honest saved may_load faults work trusted got ls k r) → LoadsNothingElse saved may_load → NeverFails faults → IfOk r IsCalmReport
+    calm_told got ls k (Ok report) x one never = calm_report work trusted x.1.ended.end report (x.1.calm one never) x.1.ended.answers
+    calm_told got ls k (Err fault) x one never = tt
+
+    pub calm_told_on : (superstep : ℕ) (got : List (Message J)) (ls : List (List (Order J))) (k : K) (r : Result Report JobFault)
+        → WhereRun r (RanOnOwn honest saved may_load faults work trusted superstep got ls k r) → LoadsNothingElse saved may_load → NeverFails faults → LoadsMadeAt work (may_load k) superstep → IfOk r IsCalmReport
+    calm_told_on superstep got ls k (Ok report) x one never made = calm_report work trusted x.1.over.ran.end report (x.1.calm one never made) x.1.over.ran.answers
+    calm_told_on superstep got ls k (Err fault) x one never made = tt

@@ -6,8 +6,7 @@ use Rattle.superstep.specs.declared.fault.Place.{Place}
 use Rattle.superstep.specs.declared.settings.Settings as settings
 use Rattle.superstep.specs.Job.{Work}
 use Rattle.rollback.specs.declared.control.Out.{Out}
-use Rattle.rollback.specs.declared.job_status.JobStatus.{JobStatus}
-use Rattle.rollback.specs.declared.job_status.JobStatus.TheVariants.{Fault, Finished, Limit, Running}
+use Rattle.rollback.specs.declared.job_status.JobStatus.TheVariants.{Finished, Limit, Running}
 use Rattle.rollback.specs.declared.job_status.DeviceResult.{DeviceResult}
 use Rattle.rollback.specs.declared.job_status.DeviceResult.TheVariants.{Failed, Good, NoMemory}
 use Rattle.rollback.specs.declared.event.Answer.{Answer}

@@ -1,4 +1,5 @@
 pub mod Accounts
+pub mod Calm
 pub mod Ending
 pub mod Faults
 pub mod HandedIn

@@ -1,6 +1,6 @@
 -- Lists of hands and events follow one another.
 use Rattle.std.proofs.lemmas.Bool.Decides.{eqb_tells}
-use Rattle.std.proofs.Common.{◌≡◌, ◌≢◌, ℕ, zero, suc, ◌<◌, Bool, cond, Some, List, [], ◌∷◌, ◌++◌, map, length, set, sym, refl, ap, ◌∙◌, subst, append_assoc, eq-eqb, ne_eqb, ◌⊎◌, ⊎_elim, inl, inr}
+use Rattle.std.proofs.Common.{◌≡◌, ◌≢◌, ℕ, zero, suc, ◌<◌, Bool, cond, Option, Some, List, [], ◌∷◌, ◌++◌, map, length, set, sym, refl, ap, ◌∙◌, subst, append_assoc, eq-eqb, ne_eqb, ◌⊎◌, ⊎_elim, inl, inr}
 use mathlib.Core.List.{append-nil, map-append}
 use Rattle.superstep.specs.Job.{Work}
 use Rattle.superstep.specs.declared.task.Task.{Task}
@@ -9,10 +9,15 @@ use Rattle.rollback.specs.declared.event.Event.{Event}
 use Rattle.rollback.specs.Machine.{Machine, hand, handed, task_of}
 use Rattle.rollback.specs.Events.{Heard, accepted}
 use Rattle.rollback.specs.Book.{stamp_of, task_out}
+use Rattle.rollback.specs.Saving.{IsKeptStep, KeepsFor}
+use Rattle.rollback.proofs.Keeps.{keeps_same}
+use Rattle.rollback.proofs.Simulated.{kept_still}
 use Rattle.channels.specs.Orders.{at, tasks_in, with_order}
 use Rattle.workers.specs.Hub.{events_in}
-use Rattle.workers.specs.Steps.{AreMoves, IsMove, Move, Steps, after, event_of, events, hand_of, hands, moved, outs_in, stamps_in}
+use Rattle.workers.specs.JobAnswers.{IsLeftBy}
+use Rattle.workers.specs.Steps.{AreMoves, IsMove, KeptAlong, Move, Steps, after, event_of, events, hand_of, hands, moved, outs_in, stamps_in}
 use Rattle.workers.specs.Steps.Move.{Hand, Take}
+use Rattle.workers.specs.inside.EventLoop.{StepsOver}
 use Rattle.workers.specs.declared.message.Message.{Message}
 use Rattle.workers.specs.declared.message.Message.TheVariants as message
 use Rattle.channels.specs.declared.order.Order.{Order}
@@ -168,3 +173,81 @@ module _ {J : Type 0} (work : Work) (honest : Bool) where
     gave = λ w h. ap (map task_out) (kept w) ∙ p.gave w h;
     width = wide ∙ p.width;
   }
+
+-- ---- steps, and what they leave of the Keep
+
+nothing_more : {A : Type 0} (xs ys : List A) → xs ≡ xs ++ ys → ys ≡ []
+nothing_more [] ys e = sym e
+nothing_more (x ∷ xs) ys e = let t : xs ≡ xs ++ ys = cc in nothing_more xs ys t
+
+along_then : {K : Type 0} (over : Machine → Machine → K → K → Type 0) (m : Machine) (xs ys : List Move) (k k1 k2 : K) → KeptAlong over m k xs k1 → KeptAlong over (after m xs) k1 ys k2 → KeptAlong over m k (xs ++ ys) k2
+along_then over m [] ys k k1 k2 p q = subst (λ z. KeptAlong over m z ys k2) (sym p) q
+along_then over m (x ∷ xs) ys k k1 k2 p q = (p.0, p.1, along_then over (moved m x) xs ys p.0 k1 k2 p.2 q)
+
+module _ {K : Type 0} (honest : K → Bool) (saved : K → Option ℕ) (may_load : K → List ℕ → Type 0) (faults : K → ℕ) (work : Work) (trusted : Bool) where
+  abbrev Kept : Machine → Machine → K → K → Type 0
+  Kept = IsKeptStep honest saved may_load faults work trusted
+
+  -- hands leave it as it is
+  hands_along : (m : Machine) (k : K) (moves : List Move) → KeepsFor work trusted (honest k) (saved k) (may_load k) m → events moves ≡ [] → KeptAlong Kept m k moves k
+  hands_along m k [] keeps none = refl
+  hands_along m k (Hand w task ∷ moves) keeps none =
+      let next = handed m w task.part in (
+        k,
+        kept_still honest saved may_load faults work trusted m next k keeps refl (record { missed = refl; restarts = refl }),
+        hands_along next k moves (keeps_same work trusted (honest k) (saved k) (may_load k) m next refl keeps) none,
+      )
+  hands_along m k (Take heard stamp ∷ moves) keeps none = absurd (cc)
+
+  module _ {J : Type 0} where
+    pub over_none : (m : Machine) (got : List (Message J)) (ls : List (List (Order J))) (k : K) → StepsOver Kept work trusted m m got got ls ls k k
+    unfolding steps_none
+    over_none m got ls k = record { steps = steps_none work trusted m got ls; kept = refl }
+
+    pub over_then : {a b c : Machine} {g1 g2 g3 : List (Message J)} {l1 l2 l3 : List (List (Order J))} {k1 k2 k3 : K}
+        → StepsOver Kept work trusted a b g1 g2 l1 l2 k1 k2 → StepsOver Kept work trusted b c g2 g3 l2 l3 k2 k3 → StepsOver Kept work trusted a c g1 g3 l1 l3 k1 k3
+    unfolding steps_then
+    over_then {a = a} {k1 = k1} {k2 = k2} {k3 = k3} p q = record {
+      steps = steps_then work trusted p.steps q.steps;
+      kept = along_then Kept a p.steps.moves q.steps.moves k1 k2 k3 p.kept (subst (λ (x : Machine). KeptAlong Kept x k2 q.steps.moves k3) (sym p.steps.leads) q.kept);
+    }
+
+    -- nothing was taken
+    pub over_hands : {m n : Machine} {g g' : List (Message J)} {ls ls' : List (List (Order J))} (k : K)
+        → Steps work trusted m n g g' ls ls' → g' ≡ g → KeepsFor work trusted (honest k) (saved k) (may_load k) m → StepsOver Kept work trusted m n g g' ls ls' k k
+    over_hands {m = m} {g = g} k p same keeps = record {
+      steps = p;
+      kept = hands_along m k p.moves keeps (nothing_more (stamps_in g) (events p.moves) (ap stamps_in (sym same) ∙ p.took));
+    }
+
+    -- an event is taken
+    pub over_event : (m n : Machine) (heard : Heard) (got got' : List (Message J)) (ls ls' : List (List (Order J))) (event : Event J) (k k' : K)
+        → IsMove work trusted m (Take heard (stamp_of event)) → (accepted heard m (stamp_of event)).0 ≡ n → got' ≡ got ++ message.Event event ∷ [] → ls' ≡ ls → Kept m n k k'
+        → StepsOver Kept work trusted m n got got' ls ls' k k'
+    unfolding steps_event
+    over_event m n heard got got' ls ls' event k k' may to more same kept = record {
+      steps = steps_event work trusted m n heard got got' ls ls' event may to more same;
+      kept = (k', subst (λ (x : Machine). Kept m x k k') (sym to) kept, refl);
+    }
+
+    -- a bye is taken
+    pub over_bye : (m n : Machine) (got got' : List (Message J)) (ls ls' : List (List (Order J))) (sender : Sender) (k : K)
+        → n ≡ m → got' ≡ got ++ message.Bye sender ∷ [] → ls' ≡ ls → StepsOver Kept work trusted m n got got' ls ls' k k
+    unfolding steps_bye
+    over_bye m n got got' ls ls' sender k is more same = record { steps = steps_bye work trusted m n got got' ls ls' sender is more same; kept = refl }
+
+    -- where the run stops
+    pub left_by : {m n : Machine} {g g' : List (Message J)} {ls ls' : List (List (Order J))} {k k' : K} (g2 : List (Message J)) (k2 : K)
+        → StepsOver Kept work trusted m n g g' ls ls' k k' → KeepsFor work trusted (honest k') (saved k') (may_load k') n → g2 ≡ g' → k2 ≡ k'
+        → IsLeftBy honest saved may_load faults work trusted m g g2 k k2
+    left_by {m = m} {k = k} {k' = k'} g2 k2 p keeps same is = record {
+      moves = p.steps.moves;
+      are = p.steps.are;
+      took = ap stamps_in same ∙ p.steps.took;
+      kept = subst (λ z. KeptAlong Kept m k p.steps.moves z) (sym is) p.kept;
+      keeps = subst (λ z. KeepsFor work trusted (honest z) (saved z) (may_load z) (after m p.steps.moves)) (sym is)
+          (subst (λ (x : Machine). KeepsFor work trusted (honest k') (saved k') (may_load k') x) (sym p.steps.leads) keeps);
+    }
+
+    pub left_none : (m : Machine) (got : List (Message J)) (k : K) → KeepsFor work trusted (honest k) (saved k) (may_load k) m → IsLeftBy honest saved may_load faults work trusted m got got k k
+    left_none m got k keeps = record { moves = []; are = tt; took = sym (append-nil (stamps_in got)); kept = refl; keeps = keeps }

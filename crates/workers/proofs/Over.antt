@@ -4,7 +4,7 @@ use Rattle.superstep.specs.Job.{Work}
 use Rattle.rollback.specs.Machine.{Machine}
 use Rattle.channels.specs.Orders.{at, stops, tasks_in}
 use Rattle.channels.specs.Protocol.{has_bye}
-use Rattle.workers.specs.Hub.{IsSameHub, handed, received, staff}
+use Rattle.workers.specs.Hub.{IsSameHub, handed, received}
 use Rattle.workers.specs.Steps.{Steps}
 use Rattle.workers.specs.inside.EventLoop.{IsOver}
 use Rattle.workers.specs.declared.coordinator_ends.CoordinatorEnds.{CoordinatorEnds}

@@ -1,10 +1,13 @@
 -- What a job that was run in threads tells, where its Keep is honest.
-use Rattle.std.proofs.Common.{◌≡◌, ℕ, Bool, true, List, Result, Ok, Err, IfOk}
+use Rattle.std.proofs.Common.{◌≡◌, ℕ, Bool, true, List, Option, Result, Ok, Err, IfOk}
 use Rattle.superstep.specs.Ending.{IsEndOf}
 use Rattle.superstep.specs.Job.{Work}
 use Rattle.superstep.specs.declared.fault.JobFault.{JobFault}
+use Rattle.superstep.specs.declared.fault.JobFault.TheVariants.{Closed, NoWorkers, OutOfMemory, Settings, ThreadRefused}
+use Rattle.superstep.specs.declared.fault.Place.{Place}
+use Rattle.superstep.specs.declared.fault.Place.TheVariants as place
 use Rattle.rollback.specs.declared.report.Report.{Report}
-use Rattle.workers.specs.JobAnswers.{EndedOver, RanOn, WhereRun}
+use Rattle.workers.specs.JobAnswers.{EndedOver, EndedOverOwn, IsKeptRun, IsKeptRunOn, RanOn, RanOnOwn, WhereBegun, WhereConnected, WhereOpened, WhereRun}
 use Rattle.workers.specs.declared.message.Message.{Message}
 use Rattle.channels.specs.declared.order.Order.{Order}
 use Rattle.workers.proofs.Ending.{answers_report}
@@ -29,3 +32,64 @@ module _ {J : Type 0} (work : Work) (honest : Bool) (received : List (Message J)
       → IfOk r (λ report. report.ended.since ≡ 0)
   since_told_on superstep (Ok report) ran sure = (answers_report work honest ran.1.end ran.1.end.ending report ran.1.answers).1.since sure
   since_told_on superstep (Err fault) ran sure = tt
+
+-- ---- by the answer
+
+connected : (of : Place) (P Q : Type 0) → (P → Q) → WhereOpened of P → WhereConnected of Q
+connected place.Open P Q f p = tt
+connected place.Call P Q f p = f p
+connected place.Slice P Q f p = f p
+connected place.Merge P Q f p = f p
+connected place.Save P Q f p = f p
+connected place.Load P Q f p = f p
+connected place.Channel P Q f p = tt
+connected place.Report P Q f p = f p
+
+where_begun : (r : Result Report JobFault) (P Q : Type 0) → (P → Q) → WhereRun r P → WhereBegun r Q
+where_begun (Ok report) P Q f p = f p
+where_begun (Err (OutOfMemory place)) P Q f p = connected place P Q f p
+where_begun (Err NoWorkers) P Q f p = f p
+where_begun (Err (Settings setting)) P Q f p = tt
+where_begun (Err ThreadRefused) P Q f p = tt
+where_begun (Err Closed) P Q f p = tt
+
+-- ---- the list alone, and the Keep
+
+module _ {K : Type 0} (honest : K → Bool) (saved : K → Option ℕ) (may_load : K → List ℕ → Type 0) (faults : K → ℕ) (work : Work) (trusted : Bool) where
+  module _ {J : Type 0} (received : List (Message J)) (handed : List (List (Order J))) (keep : K) (r : Result Report JobFault) where
+    kept_of : EndedOverOwn honest saved may_load faults work trusted received handed keep r → IsKeptRun honest saved may_load faults work trusted keep r
+    kept_of x = let e = x.1.ended in (
+      e.quiet,
+      e.first,
+      record {
+        moves = e.moves;
+        are = e.are;
+        end = e.end;
+        leads = e.leads;
+        last = x.0;
+        kept = x.1.kept;
+        answers = e.answers;
+      },
+    )
+
+    kept_on : (superstep : ℕ) → RanOnOwn honest saved may_load faults work trusted superstep received handed keep r → IsKeptRunOn honest saved may_load faults work trusted superstep keep r
+    kept_on superstep x = let p = x.1.over.ran in (
+      x.1.heard,
+      x.1.first,
+      x.1.told,
+      record {
+        moves = p.moves;
+        are = p.are;
+        end = p.end;
+        leads = p.leads;
+        last = x.0;
+        kept = x.1.over.kept;
+        answers = p.answers;
+      },
+    )
+
+    pub kept_told : WhereRun r (EndedOverOwn honest saved may_load faults work trusted received handed keep r) → WhereBegun r (IsKeptRun honest saved may_load faults work trusted keep r)
+    kept_told = where_begun r _ _ kept_of
+
+    pub kept_told_on : (superstep : ℕ) → WhereRun r (RanOnOwn honest saved may_load faults work trusted superstep received handed keep r) → WhereBegun r (IsKeptRunOn honest saved may_load faults work trusted superstep keep r)
+    kept_told_on superstep = where_begun r _ _ (kept_on superstep)

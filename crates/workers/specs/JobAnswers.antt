@@ -1,5 +1,6 @@
 -- What the answer of a job says of the list of assignments and events that led to it.
-use Rattle.std.specs.Prelude.{◌≡◌, ◌<◌, ℕ, Bool, true, false, List, Result, Ok, Err, slice_index_or}
+use Rattle.std.specs.Prelude.{◌≡◌, ◌<◌, ℕ, Bool, true, false, List, ◌++◌, Option, Some, Result, Ok, Err, slice_index_or}
+use Rattle.checkpoint.specs.Keep.{LoadsNothingElse}
 use Rattle.superstep.specs.Job.{Work}
 use Rattle.superstep.specs.declared.fault.JobFault.{JobFault}
 use Rattle.superstep.specs.declared.fault.JobFault.TheVariants.{Closed, NoWorkers, OutOfMemory, Settings, ThreadRefused}
@@ -11,8 +12,10 @@ use Rattle.rollback.specs.declared.report.Report.{Report}
 use Rattle.rollback.specs.Book.{IsQuietAt, IsReport}
 use Rattle.rollback.specs.Events.{Heard, begun}
 use Rattle.rollback.specs.Machine.{Machine, opened}
+use Rattle.rollback.specs.Saving.{IsKeptStep, IsLoadResult, IsMadeAt, KeepsFor}
+use Rattle.rollback.specs.Simulation.{IsCalmAt, NeverFails}
 use Rattle.channels.specs.Orders.{at}
-use Rattle.workers.specs.Steps.{AreMoves, Move, after, events, hands, outs_in, stamps_in}
+use Rattle.workers.specs.Steps.{AreMoves, KeptAlong, Move, after, events, hands, outs_in, stamps_in}
 use Rattle.workers.specs.Units.{cut, units_by}
 use Rattle.workers.specs.declared.message.Message.{Message}
 use Rattle.channels.specs.declared.order.Order.{Order}
@@ -70,6 +73,82 @@ abbrev pub HasSpent : {J : Type 0} → ℕ → List (Message J) → Report → T
 HasSpent workers received report =
     (w : ℕ) → w < workers → slice_index_or report.spent.items w 0 ≡ cut (units_by w (stamps_in received))
 
+-- ---- the answer and the Keep
+
+-- what it may load is a checkpoint of a state that fits there
+abbrev pub LoadsMadeAt : Work → (List ℕ → Type 0) → ℕ → Type 0
+LoadsMadeAt work may_load superstep = (bytes : List ℕ) → may_load bytes → IsMadeAt work superstep bytes
+
+module _ {K : Type 0} (honest : K → Bool) (saved : K → Option ℕ) (may_load : K → List ℕ → Type 0) (faults : K → ℕ) (work : Work) (trusted : Bool) where
+  -- The list of a `RanFrom`, and what each of its assignments and events leaves of the Keep. In the end the Keep has what the
+  -- model counts as saved.
+  pub record RanFromOver {J : Type 0} (first : Machine) (received : List (Message J)) (handed : List (List (Order J))) (keep keep' : K) (answer : Result Report JobFault) : Type 0 where
+    pub ran : RanFrom work trusted first received handed answer
+    pub kept : KeptAlong (IsKeptStep honest saved may_load faults work trusted) first keep ran.moves keep'
+    pub keeps : KeepsFor work trusted (honest keep') (saved keep') (may_load keep') ran.end
+
+  -- The list of an `EndedOver`, and what it leaves of the Keep. If the Keep loads only what was saved and its device never
+  -- fails, no save is missed and the job never begins again.
+  pub record EndedOverKeep {J : Type 0} (received : List (Message J)) (handed : List (List (Order J))) (keep keep' : K) (answer : Result Report JobFault) : Type 0 where
+    pub ended : EndedOver work trusted received handed answer
+    pub kept : KeptAlong (IsKeptStep honest saved may_load faults work trusted) (opened work.settings ended.quiet) keep ended.moves keep'
+    pub keeps : KeepsFor work trusted (honest keep') (saved keep') (may_load keep') ended.end
+    pub calm : LoadsNothingElse saved may_load → NeverFails faults → IsCalmAt ended.end
+
+  -- The same for a job that goes on: the load at its start leaves the Keep `first`, and the list goes on from there. The job is
+  -- calm if the Keep could load a checkpoint of a state that fits there, and nothing else.
+  pub record RanOnOver {J : Type 0} (superstep : ℕ) (received : List (Message J)) (handed : List (List (Order J))) (keep keep' : K) (answer : Result Report JobFault) : Type 0 where
+    pub heard : Heard
+    pub first : K
+    pub told : IsLoadResult work (honest keep) (honest first) (saved keep) (saved first) (may_load keep) (may_load first) (faults keep) (faults first) (Some superstep) heard.load
+    pub over : RanFromOver (begun heard work.settings superstep) received handed first keep' answer
+    pub calm : LoadsNothingElse saved may_load → NeverFails faults → LoadsMadeAt work (may_load keep) superstep → IsCalmAt over.ran.end
+
+  -- Wherever a run stops, a list of assignments and events leads the Keep there. Its events are what was received in between,
+  -- without byes. The Keep has what the model then counts as saved.
+  pub record IsLeftBy {J : Type 0} (first : Machine) (received received' : List (Message J)) (keep keep' : K) : Type 0 where
+    pub moves : List Move
+    pub are : AreMoves work trusted first moves
+    pub took : stamps_in received' ≡ stamps_in received ++ events moves
+    pub kept : KeptAlong (IsKeptStep honest saved may_load faults work trusted) first keep moves keep'
+    pub keeps : KeepsFor work trusted (honest keep') (saved keep') (may_load keep') (after first moves)
+
+  -- ---- of a Keep that the job has for itself
+
+  abbrev pub RanFromKeep : {J : Type 0} → Machine → List (Message J) → List (List (Order J)) → K → Result Report JobFault → Type 0
+  RanFromKeep first received handed keep answer = (last : K) × RanFromOver first received handed keep last answer
+
+  abbrev pub EndedOverOwn : {J : Type 0} → List (Message J) → List (List (Order J)) → K → Result Report JobFault → Type 0
+  EndedOverOwn received handed keep answer = (last : K) × EndedOverKeep received handed keep last answer
+
+  abbrev pub RanOnOwn : {J : Type 0} → (superstep : ℕ) → List (Message J) → List (List (Order J)) → K → Result Report JobFault → Type 0
+  RanOnOwn superstep received handed keep answer = (last : K) × RanOnOver superstep received handed keep last answer
+
+  -- the list alone, without what was received and sent
+  pub record KeptRun (first : Machine) (keep : K) (answer : Result Report JobFault) : Type 0 where
+    pub moves : List Move
+    pub are : AreMoves work trusted first moves
+    pub end : Machine
+    pub leads : after first moves ≡ end
+    pub last : K
+    pub kept : KeptAlong (IsKeptStep honest saved may_load faults work trusted) first keep moves last
+    pub answers : IsAnswerAt work trusted end end.ending answer
+
+  -- from superstep 0 on
+  abbrev pub IsKeptRun : K → Result Report JobFault → Type 0
+  IsKeptRun keep answer = (quiet : Bool) × IsQuietAt work 0 quiet × KeptRun (opened work.settings quiet) keep answer
+
+  -- from a superstep on whose state the Keep has, after the load of it
+  abbrev pub IsKeptRunOn : (superstep : ℕ) → K → Result Report JobFault → Type 0
+  IsKeptRunOn superstep keep answer =
+      (heard : Heard) × (first : K)
+      × IsLoadResult work (honest keep) (honest first) (saved keep) (saved first) (may_load keep) (may_load first) (faults keep) (faults first) (Some superstep) heard.load
+      × KeptRun (begun heard work.settings superstep) first answer
+
+-- no save was missed, and the job never began again
+abbrev pub IsCalmReport : Report → Type 0
+IsCalmReport report = (report.missed ≡ 0) × (report.restarts ≡ 0)
+
 -- ---- by the answer
 
 -- if the job was driven to its end
@@ -109,6 +188,26 @@ WhereRun (Err NoWorkers) P = P
 WhereRun (Err (Settings setting)) P = Unit {0}
 WhereRun (Err ThreadRefused) P = Unit {0}
 WhereRun (Err Closed) P = Unit {0}
+
+-- if the channels and the book were opened before memory ran out
+abbrev pub WhereConnected : Place → Type 0 → Type 0
+WhereConnected place.Open P = Unit {0}
+WhereConnected place.Call P = P
+WhereConnected place.Slice P = P
+WhereConnected place.Merge P = P
+WhereConnected place.Save P = P
+WhereConnected place.Load P = P
+WhereConnected place.Channel P = Unit {0}
+WhereConnected place.Report P = P
+
+-- if the channels and the book were opened and the job driven to its end
+abbrev pub WhereBegun : Result Report JobFault → Type 0 → Type 0
+WhereBegun (Ok report) P = P
+WhereBegun (Err (OutOfMemory place)) P = WhereConnected place P
+WhereBegun (Err NoWorkers) P = P
+WhereBegun (Err (Settings setting)) P = Unit {0}
+WhereBegun (Err ThreadRefused) P = Unit {0}
+WhereBegun (Err Closed) P = Unit {0}
 
 -- if a thread could not be started
 abbrev pub WhereRefused : Result Report JobFault → Type 0 → Type 0

@@ -1,4 +1,4 @@
--- How the book, the received messages and the sent orders follow one list of assignments and events.
+-- How the book, the received messages, the sent orders and the Keep follow one list of assignments and events.
 use Rattle.std.specs.Prelude.{◌≡◌, ◌<◌, ◌==◌, ℕ, suc, Bool, true, List, [], ◌∷◌, ◌++◌, length, map, Some, if◌then◌else◌}
 use Rattle.superstep.specs.Job.{Work}
 use Rattle.rollback.specs.declared.control.Out.{Out}
@@ -54,6 +54,12 @@ hand_of w (Take heard stamp) = []
 abbrev pub hands : ℕ → List Move → List Out
 hands w [] = []
 hands w (move ∷ moves) = hand_of w move ++ hands w moves
+
+-- This relation holds at each assignment and event, of the model and the Keep before and after it.
+abbrev pub KeptAlong : {K : Type 0} → (Machine → Machine → K → K → Type 0) → Machine → K → List Move → K → Type 0
+KeptAlong over m keep [] keep' = keep ≡ keep'
+KeptAlong {K} over m keep (move ∷ moves) keep' =
+    (mid : K) × over m (moved m move) keep mid × KeptAlong over (moved m move) mid moves keep'
 
 -- ---- what a coordinator did
 

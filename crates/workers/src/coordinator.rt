@@ -2,7 +2,9 @@
 
 ghost use Rattle.std.specs.Prelude.{◌≡◌, ◌<◌, ◌+◌, ◌++◌, ◌∷◌, [], ℕ, true, Some, IfOk, IfErr, OnOk, OnErr};
 ghost use Rattle.superstep.specs.declared.fault.JobFault.TheVariants.{Closed};
-ghost use Rattle.workers.specs.JobAnswers.{HasSpent, IsDriveFault, IsOpened, EndedOver, WhereEnded};
+ghost use Rattle.checkpoint.specs.Keep.{LoadsNothingElse};
+ghost use Rattle.rollback.specs.Simulation.{NeverFails};
+ghost use Rattle.workers.specs.JobAnswers.{HasSpent, IsCalmReport, IsDriveFault, IsLeftBy, IsOpened, EndedOver, EndedOverKeep, WhereEnded};
 ghost use Rattle.workers.specs.Messages.{sender_of};
 ghost use Rattle.channels.specs.declared.order.Order.TheVariants.{Do};
 
@@ -164,6 +166,16 @@ impl<J: Origin> Coordinator<J> {
         // There is one list of assignments and events, of what was sent and received, over which the job ended so.
         ensures ran { WhereEnded result
             (EndedOver J.work J.honest (received self.new) (handed self.new) result) }
+        // Each assignment and each event of it leaves the Keep as its save or its load left it, or as it was.
+        ensures kept { WhereEnded result (EndedOverKeep K.honest K.saved K.may_load K.faults
+            J.work J.honest (received self.new) (handed self.new) keep.old keep.new result) }
+        // Wherever the job stops, what was received leads the Keep there.
+        ensures left { IsLeftBy K.honest K.saved K.may_load K.faults J.work J.honest
+            book.entry (received self.old) (received self.new) keep.old keep.new }
+        // If the Keep loads only what was saved and its device never fails, no save is missed and the job never begins
+        // again.
+        ensures calm { LoadsNothingElse K.saved K.may_load → NeverFails K.faults
+            → IfOk result IsCalmReport }
         ensures byes { WhereEnded result (HasByes (staff self.new) (received self.new)) }
         ensures stopped { WhereEnded result
             ((w : ℕ) → w < staff self.new → IsStopped self.new w) }

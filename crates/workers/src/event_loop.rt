@@ -1,11 +1,11 @@
 //! The event loop, which drives a job to its end.
 
-ghost use Rattle.std.specs.Prelude.{◌≡◌, ◌<◌, ◌+◌, ◌∷◌, false, true, ℕ, IfErr, IfOk, OnOk};
-ghost use Rattle.rollback.specs.Saving.{KeepsFor};
+ghost use Rattle.std.specs.Prelude.{◌≡◌, ◌<◌, ◌+◌, ◌∷◌, false, true, ℕ, IfErr, IfOk, OnErr, OnOk};
+ghost use Rattle.rollback.specs.Saving.{IsKeptStep, KeepsFor};
 ghost use Rattle.rollback.specs.Machine.{is_running};
-ghost use Rattle.workers.specs.JobAnswers.{HasSpent, IsAnswerAt, IsDriveFault, RanFrom, WhereEnded};
+ghost use Rattle.workers.specs.JobAnswers.{HasSpent, IsAnswerAt, IsDriveFault, IsLeftBy, RanFromOver, WhereEnded};
 ghost use Rattle.workers.specs.Steps.{Steps};
-ghost use Rattle.workers.specs.inside.EventLoop.{IsOver, IsUnspent};
+ghost use Rattle.workers.specs.inside.EventLoop.{IsOver, IsUnspent, StepsOver};
 
 use crate::coordinator_ends::CoordinatorEnds;
 use crate::message::Message;
@@ -76,6 +76,7 @@ impl<J: Origin> CoordinatorEnds<J> {
         requires { worker < staff self.old }
         ensures steps { OnOk result (Steps J.work J.honest book.old book.new
             (received self.old) (received self.new) (handed self.old) (handed self.new)) }
+        ensures received { received self.new ≡ received self.old }
         ensures saved { book.new.saved ≡ book.old.saved }
         ensures hub { IsSameHub self.old self.new }
     {
@@ -89,6 +90,7 @@ impl<J: Origin> CoordinatorEnds<J> {
     fn offer_all<R: Wait>(&mut self, rt: &R, book: &mut Book<J>) -> Result<(), Closed>
         ensures steps { OnOk result (Steps J.work J.honest book.old book.new
             (received self.old) (received self.new) (handed self.old) (handed self.new)) }
+        ensures received { received self.new ≡ received self.old }
         ensures saved { book.new.saved ≡ book.old.saved }
         ensures hub { IsSameHub self.old self.new }
     {
@@ -103,6 +105,7 @@ impl<J: Origin> CoordinatorEnds<J> {
     fn offer_free<R: Wait>(&mut self, rt: &R, book: &mut Book<J>, free: Free) -> Result<(), Closed>
         ensures steps { OnOk result (Steps J.work J.honest book.old book.new
             (received self.old) (received self.new) (handed self.old) (handed self.new)) }
+        ensures received { received self.new ≡ received self.old }
         ensures saved { book.new.saved ≡ book.old.saved }
         ensures hub { IsSameHub self.old self.new }
     {
@@ -127,10 +130,14 @@ impl<J: Origin> CoordinatorEnds<J> {
     ) -> Result<Free, Closed>
         requires keep { KeepsFor J.work J.honest (K.honest keep.old) (K.saved keep.old)
             (K.may_load keep.old) book.old }
-        ensures steps { OnOk result (Steps J.work J.honest book.old book.new
-            (received self.old) (received self.new) (handed self.old) (handed self.new)) }
+        ensures steps { OnOk result (StepsOver
+            (IsKeptStep K.honest K.saved K.may_load K.faults J.work J.honest)
+            J.work J.honest book.old book.new (received self.old) (received self.new)
+            (handed self.old) (handed self.new) keep.old keep.new) }
         ensures keep { KeepsFor J.work J.honest (K.honest keep.new) (K.saved keep.new)
             (K.may_load keep.new) book.new }
+        ensures err { OnErr result
+            ((received self.new ≡ received self.old) × (keep.new ≡ keep.old)) }
         ensures handed { handed self.new ≡ handed self.old }
         ensures hub { IsSameHub self.old self.new }
     {
@@ -156,6 +163,7 @@ impl<J: Origin> CoordinatorEnds<J> {
         requires stopped { stopped.old ≡ true → IsOver book.old self.old }
         ensures steps { OnOk result (Steps J.work J.honest book.old book.new
             (received self.old) (received self.new) (handed self.old) (handed self.new)) }
+        ensures received { received self.new ≡ received self.old }
         ensures saved { book.new.saved ≡ book.old.saved }
         ensures stopped { OnOk result (stopped.new ≡ true → IsOver book.new self.new) }
         ensures hub { IsSameHub self.old self.new }
@@ -180,8 +188,14 @@ impl<J: Origin> CoordinatorEnds<J> {
     ) -> Result<(), Closed>
         requires keep { KeepsFor J.work J.honest (K.honest keep.old) (K.saved keep.old)
             (K.may_load keep.old) book.old }
-        ensures steps { OnOk result (Steps J.work J.honest book.old book.new
-            (received self.old) (received self.new) (handed self.old) (handed self.new)) }
+        ensures steps { OnOk result (StepsOver
+            (IsKeptStep K.honest K.saved K.may_load K.faults J.work J.honest)
+            J.work J.honest book.old book.new (received self.old) (received self.new)
+            (handed self.old) (handed self.new) keep.old keep.new) }
+        ensures keep { OnOk result (KeepsFor J.work J.honest (K.honest keep.new)
+            (K.saved keep.new) (K.may_load keep.new) book.new) }
+        ensures left { IsLeftBy K.honest K.saved K.may_load K.faults J.work J.honest
+            book.old (received self.old) (received self.new) keep.old keep.new }
         ensures ended { OnOk result (is_running book.new.ending ≡ false) }
         ensures byes { OnOk result (HasByes (staff self.new) (received self.new)) }
         ensures stopped { OnOk result ((w : ℕ) → w < staff self.new → IsStopped self.new w) }
@@ -213,7 +227,10 @@ impl<J: Origin> CoordinatorEnds<J> {
         requires keep { KeepsFor J.work J.honest (K.honest keep.old) (K.saved keep.old)
             (K.may_load keep.old) book }
         ensures ran { WhereEnded result
-            (RanFrom J.work J.honest book.entry (received self.new) (handed self.new) result) }
+            (RanFromOver K.honest K.saved K.may_load K.faults J.work J.honest book.entry
+            (received self.new) (handed self.new) keep.old keep.new result) }
+        ensures left { IsLeftBy K.honest K.saved K.may_load K.faults J.work J.honest
+            book.entry (received self.old) (received self.new) keep.old keep.new }
         ensures byes { WhereEnded result (HasByes (staff self.new) (received self.new)) }
         ensures stopped { WhereEnded result
             ((w : ℕ) → w < staff self.new → IsStopped self.new w) }

@@ -3,7 +3,9 @@
 ghost use Rattle.std.specs.Thread.{IsSync};
 ghost use Rattle.std.specs.Prelude.{◌≡◌, ◌<◌, true, IfErr, IfOk, Some};
 ghost use Rattle.rollback.specs.Saving.{HasLeft, KeepsFor};
-ghost use Rattle.workers.specs.JobAnswers.{HasSpent, IsDriveFault, IsRunFault, EndedOver, RanFrom, RanOn, WhereEnded, WhereRefused, WhereRun, has_ended};
+ghost use Rattle.checkpoint.specs.Keep.{LoadsNothingElse};
+ghost use Rattle.rollback.specs.Simulation.{NeverFails};
+ghost use Rattle.workers.specs.JobAnswers.{HasSpent, IsCalmReport, IsDriveFault, IsRunFault, EndedOver, EndedOverOwn, LoadsMadeAt, RanFromKeep, RanOn, RanOnOwn, WhereEnded, WhereRefused, WhereRun, has_ended};
 ghost use Rattle.workers.specs.Coordinator as lent;
 ghost use Rattle.workers.specs.Hub.{HasByes, IsNewHubOf, IsSameHub, IsUnused, handed, received, staff};
 ghost use Rattle.workers.specs.Threads.{AreThreadsOf, HasSettled, IsIdle};
@@ -50,7 +52,8 @@ fn drive_all<J: Origin, K: Keep, R: Wait + Threads + Sync + Files + AllocGlobal>
         (K.may_load keep.old) book }
     requires spawned { AreThreadsOf ends.old spawned }
     ensures ran { WhereEnded result.1
-        (RanFrom J.work J.honest book.entry (received ends.new) (handed ends.new) result.1) }
+        (RanFromKeep K.honest K.saved K.may_load K.faults J.work J.honest book.entry
+        (received ends.new) (handed ends.new) keep.old result.1) }
     ensures byes { WhereEnded result.1 (HasByes (staff ends.new) (received ends.new)) }
     ensures spent { IfOk result.1 (HasSpent (staff ends.new) (received ends.new)) }
     ensures settled { WhereEnded result.1 (HasSettled ends.new result.0) }
@@ -99,7 +102,8 @@ fn run_spawned<
     requires book { IsUnspent J.work book }
     requires keep { KeepsFor J.work J.honest (K.honest keep) (K.saved keep) (K.may_load keep) book }
     ensures ran { WhereEnded result.2
-        (RanFrom J.work J.honest book.entry (received result.0) (handed result.0) result.2) }
+        (RanFromKeep K.honest K.saved K.may_load K.faults J.work J.honest book.entry
+        (received result.0) (handed result.0) keep result.2) }
     ensures byes { WhereEnded result.2 (HasByes (staff result.0) (received result.0)) }
     ensures spent { IfOk result.2 (HasSpent (staff result.0) (received result.0)) }
     ensures settled { WhereEnded result.2 (HasSettled result.0 result.1) }
@@ -119,7 +123,8 @@ fn run_spawned<
             requires keep { KeepsFor J.work J.honest (K.honest keep) (K.saved keep)
                 (K.may_load keep) book }
             ensures ran { WhereEnded result.2
-                (RanFrom J.work J.honest book.entry (received result.0) (handed result.0) result.2) }
+                (RanFromKeep K.honest K.saved K.may_load K.faults J.work J.honest book.entry
+                (received result.0) (handed result.0) keep result.2) }
             ensures byes { WhereEnded result.2 (HasByes (staff result.0) (received result.0)) }
             ensures spent { IfOk result.2 (HasSpent (staff result.0) (received result.0)) }
             ensures settled { WhereEnded result.2 (HasSettled result.0 result.1) }
@@ -172,6 +177,13 @@ pub fn run_job<
     ensures ran { WhereRun result
         (EndedOver J.work J.honest (lent.received coordinator.new)
         (lent.handed coordinator.new) result) }
+    // Each assignment and each event of it leaves the Keep as its save or its load left it, or as it was.
+    ensures kept { WhereRun result
+        (EndedOverOwn K.honest K.saved K.may_load K.faults J.work J.honest
+        (lent.received coordinator.new) (lent.handed coordinator.new) keep result) }
+    // If the Keep loads only what was saved and its device never fails, no save is missed and the job never begins again.
+    ensures calm { LoadsNothingElse K.saved K.may_load → NeverFails K.faults
+        → IfOk result IsCalmReport }
     ensures byes { WhereRun result
         (HasByes (lent.staff coordinator.new) (lent.received coordinator.new)) }
     ensures spent { IfOk result
@@ -235,6 +247,14 @@ pub fn resume_job<
     ensures ran { WhereRun result
         (RanOn J.work J.honest superstep (lent.received coordinator.new)
         (lent.handed coordinator.new) result) }
+    // The load at its start, and each assignment and each event, leave the Keep as a save or a load left it, or as it was.
+    ensures kept { WhereRun result
+        (RanOnOwn K.honest K.saved K.may_load K.faults J.work J.honest superstep
+        (lent.received coordinator.new) (lent.handed coordinator.new) keep result) }
+    // If the Keep loads only what was saved and its device never fails, and what it may load is a checkpoint of a state that
+    // fits there, no save is missed and the job never begins again.
+    ensures calm { LoadsNothingElse K.saved K.may_load → NeverFails K.faults
+        → LoadsMadeAt J.work (K.may_load keep) superstep → IfOk result IsCalmReport }
     ensures byes { WhereRun result
         (HasByes (lent.staff coordinator.new) (lent.received coordinator.new)) }
     ensures spent { IfOk result

@@ -3,7 +3,9 @@
 ghost use Rattle.std.specs.Prelude.{◌≡◌, ◌<◌, true, IfErr, IfOk, Some};
 ghost use Rattle.rollback.specs.Saving.{HasLeft};
 ghost use Rattle.superstep.specs.Ending.{IsEndOf};
-ghost use Rattle.workers.specs.JobAnswers.{IsRunFault};
+ghost use Rattle.checkpoint.specs.Keep.{LoadsNothingElse};
+ghost use Rattle.rollback.specs.Simulation.{NeverFails};
+ghost use Rattle.workers.specs.JobAnswers.{IsCalmReport, IsKeptRun, IsKeptRunOn, IsRunFault, LoadsMadeAt, WhereBegun};
 
 use crate::gate::Gate;
 use crate::hub::Hub;
@@ -28,6 +30,10 @@ fn run_as<
     requires honest { J.honest ≡ K.honest keep }
     ensures answer { J.honest ≡ true → IfOk result (λ report. IsEndOf J.work report.ended) }
     ensures since { J.honest ≡ true → IfOk result (λ report. report.ended.since ≡ 0) }
+    ensures kept { WhereBegun result
+        (IsKeptRun K.honest K.saved K.may_load K.faults J.work J.honest keep result) }
+    ensures calm { LoadsNothingElse K.saved K.may_load → NeverFails K.faults
+        → IfOk result IsCalmReport }
     ensures refused { IfErr result IsRunFault }
 {
     let (mut coordinator, passes, ticker) = Hub::open::<J, K>(alloc, job, &keep)?;
@@ -49,6 +55,13 @@ pub fn run_in_threads<
     ensures answer { K.honest keep ≡ true
         → IfOk result (λ report. IsEndOf job.now report.ended) }
     ensures since { K.honest keep ≡ true → IfOk result (λ report. report.ended.since ≡ 0) }
+    // The job ended over one list of assignments and events, of which each leaves the Keep as its save or its load left it, or
+    // as it was.
+    ensures kept { WhereBegun result
+        (IsKeptRun K.honest K.saved K.may_load K.faults job.now (K.honest keep) keep result) }
+    // If the Keep loads only what was saved and its device never fails, no save is missed and the job never begins again.
+    ensures calm { LoadsNothingElse K.saved K.may_load → NeverFails K.faults
+        → IfOk result IsCalmReport }
     ensures refused { IfErr result IsRunFault }
 {
     run_as::<Brand, K, G, R>(rt, alloc, job, keep, gate)
@@ -68,6 +81,10 @@ fn resume_as<
     requires left { K.honest keep ≡ true → HasLeft job.now (K.may_load keep) superstep }
     ensures answer { J.honest ≡ true → IfOk result (λ report. IsEndOf J.work report.ended) }
     ensures since { J.honest ≡ true → IfOk result (λ report. report.ended.since ≡ 0) }
+    ensures kept { WhereBegun result
+        (IsKeptRunOn K.honest K.saved K.may_load K.faults J.work J.honest superstep keep result) }
+    ensures calm { LoadsNothingElse K.saved K.may_load → NeverFails K.faults
+        → LoadsMadeAt J.work (K.may_load keep) superstep → IfOk result IsCalmReport }
     ensures refused { IfErr result IsRunFault }
 {
     let (mut coordinator, passes, ticker) = Hub::open::<J, K>(alloc, job, &keep)?;
@@ -102,6 +119,14 @@ pub fn resume_in_threads<
     ensures answer { K.honest keep ≡ true
         → IfOk result (λ report. IsEndOf job.now report.ended) }
     ensures since { K.honest keep ≡ true → IfOk result (λ report. report.ended.since ≡ 0) }
+    // The same from the load at its start on.
+    ensures kept { WhereBegun result
+        (IsKeptRunOn K.honest K.saved K.may_load K.faults job.now (K.honest keep) superstep keep
+        result) }
+    // If the Keep loads only what was saved and its device never fails, and what it may load is a checkpoint of a state that
+    // fits there, no save is missed and the job never begins again.
+    ensures calm { LoadsNothingElse K.saved K.may_load → NeverFails K.faults
+        → LoadsMadeAt job.now (K.may_load keep) superstep → IfOk result IsCalmReport }
     ensures refused { IfErr result IsRunFault }
 {
     resume_as::<Brand, K, G, R>(rt, alloc, job, keep, gate, superstep)

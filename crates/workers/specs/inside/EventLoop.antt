@@ -1,13 +1,16 @@
 -- The state of the event loop.
-use Rattle.std.specs.Prelude.{◌≡◌, ◌<◌, ℕ, Bool, true, false, length, replicate}
+use Rattle.std.specs.Prelude.{◌≡◌, ◌<◌, ℕ, List, Bool, true, false, length, replicate}
 use Rattle.superstep.specs.declared.fault.JobFault.{JobFault}
 use Rattle.superstep.specs.declared.fault.JobFault.TheVariants.{Closed, NoWorkers, OutOfMemory, Settings, ThreadRefused}
 use Rattle.superstep.specs.Job.{Work}
 use Rattle.rollback.specs.declared.job_status.JobStatus.{JobStatus}
 use Rattle.rollback.specs.declared.job_status.JobStatus.TheVariants.{Fault, Finished, Limit, Running}
 use Rattle.rollback.specs.Machine.{Machine, is_running}
+use Rattle.channels.specs.declared.order.Order.{Order}
 use Rattle.workers.specs.Hub.{IsStopped, staff}
+use Rattle.workers.specs.Steps.{KeptAlong, Steps}
 use Rattle.workers.specs.declared.coordinator_ends.CoordinatorEnds.{CoordinatorEnds}
+use Rattle.workers.specs.declared.message.Message.{Message}
 
 -- the job has ended, and every worker was stopped
 pub record IsOver {J : Type 0} (book : Machine) (ends : CoordinatorEnds J) : Type 0 where
@@ -33,3 +36,8 @@ pub record IsUnspent (work : Work) (m : Machine) : Type 0 where
   pub own : is_own m.ending ≡ true
   pub spent : m.spent ≡ replicate work.settings.workers 0
   pub width : length m.alive ≡ work.settings.workers
+
+-- steps, and what they leave of the Keep
+pub record StepsOver {J K : Type 0} (over : Machine → Machine → K → K → Type 0) (work : Work) (honest : Bool) (before now : Machine) (received received' : List (Message J)) (handed handed' : List (List (Order J))) (keep keep' : K) : Type 0 where
+  pub steps : Steps work honest before now received received' handed handed'
+  pub kept : KeptAlong over before keep steps.moves keep'

@@ -1,7 +1,7 @@
-use Rattle.std.proofs.Common.{◌≡◌, false, ℕ, sym, ◌∙◌, subst, IfOk}
-use Rattle.workers.specs.JobAnswers.{HasSpent, RanFrom, WhereEnded, has_ended}
+use Rattle.std.proofs.Common.{◌≡◌, false, ℕ, sym, subst, IfOk}
+use Rattle.workers.specs.JobAnswers.{HasSpent, RanFromKeep, WhereEnded, has_ended}
 use Rattle.workers.specs.Hub.{HasByes, handed, received, staff}
-use Rattle.workers.proofs.Ending.{not_ended, where_ended}
+use Rattle.workers.proofs.Ending.{not_ended, where_ended, where_mapped, with_last}
 use Rattle.workers.proofs.Handing.{hub_then}
 use Rattle.workers.proofs.SpawnedThreads.{threads_same}
 use Rattle.workers.proofs.run.drive_all.Goals as goal
@@ -14,15 +14,20 @@ returns-then-not-was_driven-clause-settled g c =
     let h : has_ended c.drive-answer.result ≡ false = cc in
     not_ended c.drive-answer.result _ h
 
+pub returns-then-not-was_driven-clause-ran : goal.returns-then-not-was_driven-clause-ran
+returns-then-not-was_driven-clause-ran g c =
+    let h : has_ended c.drive-answer.result ≡ false = cc in
+    not_ended c.drive-answer.result _ h
+
 pub returns-in-Ok-clause-ran : goal.returns-in-Ok-clause-ran
 returns-in-Ok-clause-ran g c =
-    let work = g.J.Origin.work in
-    let honest = g.J.Origin.honest in
     let r = c.drive-answer.result in
     let e = c.drive-answer.new.self in
     let f = c.settle_all.new.ends in
-    subst (λ l. WhereEnded r (RanFrom work honest c.args.book l (handed f) r)) (sym c.settle_all.ensures.received)
-    (subst (λ l. WhereEnded r (RanFrom work honest c.args.book (received e) l r)) (sym c.settle_all.ensures.handed) c.drive-answer.ensures.ran)
+    let k = c.args.keep.now in
+    subst (λ l. WhereEnded r (RanFromKeep g.K.Keep.honest g.K.Keep.saved g.K.Keep.may_load g.K.Keep.faults g.J.Origin.work g.J.Origin.honest c.args.book l (handed f) k r)) (sym c.settle_all.ensures.received)
+    (subst (λ l. WhereEnded r (RanFromKeep g.K.Keep.honest g.K.Keep.saved g.K.Keep.may_load g.K.Keep.faults g.J.Origin.work g.J.Origin.honest c.args.book (received e) l k r)) (sym c.settle_all.ensures.handed)
+    (where_mapped r _ _ (with_last g.K.Keep.honest g.K.Keep.saved g.K.Keep.may_load g.K.Keep.faults g.J.Origin.work g.J.Origin.honest c.args.book (received e) (handed e) k c.drive-answer.new.keep r) c.drive-answer.ensures.ran))
 
 pub returns-in-Ok-clause-byes : goal.returns-in-Ok-clause-byes
 returns-in-Ok-clause-byes g c =

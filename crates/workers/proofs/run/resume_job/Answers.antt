@@ -1,4 +1,4 @@
-use Rattle.workers.proofs.Ending.{ran_begun, unspent_begun, where_mapped, where_run}
+use Rattle.workers.proofs.Ending.{calm_told_on, on_own, own_begun, unspent_begun, where_mapped, where_run}
 use Rattle.workers.proofs.HandedIn.{handed_in}
 use Rattle.workers.specs.Hub.{handed, received}
 use Rattle.workers.proofs.run.resume_job.Goals as goal
@@ -16,7 +16,22 @@ returns-clause-ran g c =
     let r = c.run_spawned-ends.result in
     let b = c.in-Ok.ensures.begun in
     where_run r.2 _
-    (where_mapped r.2 _ _ (ran_begun g.J.Origin.work g.J.Origin.honest c.in-Ok.book (received r.0) (handed r.0) r.2 c.args.superstep b.heard b.machine) c.run_spawned-ends.ensures.ran)
+    (where_mapped r.2 _ _ (on_own g.K.Keep.honest g.K.Keep.saved g.K.Keep.may_load g.K.Keep.faults g.J.Origin.work g.J.Origin.honest c.args.superstep b.heard c.in-Ok.book (received r.0) (handed r.0) c.resume.new.keep r.2 b.machine) c.run_spawned-ends.ensures.ran)
+
+pub returns-clause-kept : goal.returns-clause-kept
+returns-clause-kept g c =
+    let r = c.run_spawned-ends.result in
+    let b = c.in-Ok.ensures.begun in
+    where_run r.2 _
+    (where_mapped r.2 _ _ (own_begun g.K.Keep.honest g.K.Keep.saved g.K.Keep.may_load g.K.Keep.faults g.J.Origin.work g.J.Origin.honest c.args.superstep b.heard c.in-Ok.book (received r.0) (handed r.0) c.args.keep c.resume.new.keep r.2 b.machine b.told) c.run_spawned-ends.ensures.ran)
+
+pub returns-clause-calm : goal.returns-clause-calm
+returns-clause-calm g c = λ one never made.
+    let r = c.run_spawned-ends.result in
+    let b = c.in-Ok.ensures.begun in
+    calm_told_on g.K.Keep.honest g.K.Keep.saved g.K.Keep.may_load g.K.Keep.faults g.J.Origin.work g.J.Origin.honest c.args.superstep (received r.0) (handed r.0) c.args.keep r.2
+    (where_run r.2 _
+    (where_mapped r.2 _ _ (own_begun g.K.Keep.honest g.K.Keep.saved g.K.Keep.may_load g.K.Keep.faults g.J.Origin.work g.J.Origin.honest c.args.superstep b.heard c.in-Ok.book (received r.0) (handed r.0) c.args.keep c.resume.new.keep r.2 b.machine b.told) c.run_spawned-ends.ensures.ran)) one never made
 
 pub returns-clause-byes : goal.returns-clause-byes
 returns-clause-byes g c = where_run c.run_spawned-ends.result.2 _ c.run_spawned-ends.ensures.byes

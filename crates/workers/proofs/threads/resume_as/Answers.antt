@@ -1,4 +1,4 @@
-use Rattle.workers.proofs.RunAnswers.{answer_told_on, since_told_on}
+use Rattle.workers.proofs.RunAnswers.{answer_told_on, kept_told_on, since_told_on}
 use Rattle.workers.proofs.threads.resume_as.Goals as goal
 
 pub returns-clause-answer : goal.returns-clause-answer
@@ -8,3 +8,7 @@ returns-clause-answer g c = λ sure.
 pub returns-clause-since : goal.returns-clause-since
 returns-clause-since g c = λ sure.
     since_told_on g.J.Origin.work g.J.Origin.honest _ _ c.args.superstep c.resume_job-answer.result c.resume_job-answer.ensures.ran sure
+
+pub returns-clause-kept : goal.returns-clause-kept
+returns-clause-kept g c =
+    kept_told_on g.K.Keep.honest g.K.Keep.saved g.K.Keep.may_load g.K.Keep.faults g.J.Origin.work g.J.Origin.honest _ _ c.args.keep c.resume_job-answer.result c.args.superstep c.resume_job-answer.ensures.kept

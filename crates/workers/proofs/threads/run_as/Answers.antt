@@ -1,4 +1,4 @@
-use Rattle.workers.proofs.RunAnswers.{answer_told, since_told}
+use Rattle.workers.proofs.RunAnswers.{answer_told, kept_told, since_told}
 use Rattle.workers.proofs.threads.run_as.Goals as goal
 
 pub returns-clause-answer : goal.returns-clause-answer
@@ -8,3 +8,7 @@ returns-clause-answer g c = λ sure.
 pub returns-clause-since : goal.returns-clause-since
 returns-clause-since g c = λ sure.
     since_told g.J.Origin.work g.J.Origin.honest _ _ c.run_job-answer.result c.run_job-answer.ensures.ran sure
+
+pub returns-clause-kept : goal.returns-clause-kept
+returns-clause-kept g c =
+    kept_told g.K.Keep.honest g.K.Keep.saved g.K.Keep.may_load g.K.Keep.faults g.J.Origin.work g.J.Origin.honest _ _ c.args.keep c.run_job-answer.result c.run_job-answer.ensures.kept

@@ -1,4 +1,5 @@
-use Rattle.workers.proofs.Ending.{keeps_first, ran_opened, unspent_opened, where_mapped}
+use Rattle.workers.proofs.Ending.{calm_driven, ended_over, keeps_first, over_opened, unspent_opened, where_mapped}
+use Rattle.workers.proofs.Moving.{left_none}
 use Rattle.workers.specs.Hub.{handed, received}
 use Rattle.workers.proofs.coordinator.Coordinator.drive.Goals as goal
 
@@ -14,4 +15,23 @@ pub returns-in-Some-clause-ran : goal.returns-in-Some-clause-ran
 returns-in-Some-clause-ran g c =
     let ends = c.drive.new.self in
     where_mapped c.drive.result _ _
-    (ran_opened g.J.Origin.work g.J.Origin.honest c.args.book (received ends) (handed ends) c.drive.result c.requires.book) c.drive.ensures.ran
+    (ended_over g.K.Keep.honest g.K.Keep.saved g.K.Keep.may_load g.K.Keep.faults g.J.Origin.work g.J.Origin.honest c.args.book (received ends) (handed ends) c.args.keep.now c.drive.new.keep c.drive.result c.requires.book) c.drive.ensures.ran
+
+pub returns-in-Some-clause-kept : goal.returns-in-Some-clause-kept
+returns-in-Some-clause-kept g c =
+    let ends = c.drive.new.self in
+    where_mapped c.drive.result _ _
+    (over_opened g.K.Keep.honest g.K.Keep.saved g.K.Keep.may_load g.K.Keep.faults g.J.Origin.work g.J.Origin.honest c.args.book (received ends) (handed ends) c.args.keep.now c.drive.new.keep c.drive.result c.requires.book) c.drive.ensures.ran
+
+pub returns-in-Some-clause-calm : goal.returns-in-Some-clause-calm
+returns-in-Some-clause-calm g c = λ one never.
+    let ends = c.drive.new.self in
+    calm_driven g.K.Keep.honest g.K.Keep.saved g.K.Keep.may_load g.K.Keep.faults g.J.Origin.work g.J.Origin.honest (received ends) (handed ends) c.args.keep.now c.drive.new.keep c.drive.result
+    (where_mapped c.drive.result _ _ (over_opened g.K.Keep.honest g.K.Keep.saved g.K.Keep.may_load g.K.Keep.faults g.J.Origin.work g.J.Origin.honest c.args.book (received ends) (handed ends) c.args.keep.now c.drive.new.keep c.drive.result c.requires.book) c.drive.ensures.ran)
+    one never
+
+pub returns-in-None-clause-left : goal.returns-in-None-clause-left
+returns-in-None-clause-left g c =
+    let k = c.args.keep.now in
+    left_none g.K.Keep.honest g.K.Keep.saved g.K.Keep.may_load g.K.Keep.faults g.J.Origin.work g.J.Origin.honest c.args.book _ k
+    (keeps_first g.J.Origin.work g.J.Origin.honest (g.K.Keep.honest k) (g.K.Keep.saved k) (g.K.Keep.may_load k) c.args.book c.requires.book c.requires.keep)

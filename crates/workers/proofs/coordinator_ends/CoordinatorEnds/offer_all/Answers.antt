@@ -9,6 +9,7 @@ loop-worker-init g c =
     let s = c.args.self.now in
     record {
       steps = steps_none g.J.Origin.work g.J.Origin.honest c.args.book.now (received s) (handed s);
+      received = refl;
       saved = refl;
       hub = hub_same s;
       all = search rules;
@@ -20,6 +21,7 @@ loop-worker-preserved g c =
     let o = c.offer_next.ensures in
     record {
       steps = steps_then g.J.Origin.work g.J.Origin.honest i.steps c.in_ok-offer_next.ensures.steps;
+      received = o.received ∙ i.received;
       saved = o.saved ∙ i.saved;
       hub = hub_then i.hub o.hub;
       all = i.all;
@@ -30,3 +32,6 @@ returns-in_err-offer_next-clause-saved g c = c.offer_next.ensures.saved ∙ c.lo
 
 pub returns-in_err-offer_next-clause-hub : goal.returns-in_err-offer_next-clause-hub
 returns-in_err-offer_next-clause-hub g c = hub_then c.loop-worker.invariant.hub c.offer_next.ensures.hub
+
+pub returns-in_err-offer_next-clause-received : goal.returns-in_err-offer_next-clause-received
+returns-in_err-offer_next-clause-received g c = c.offer_next.ensures.received ∙ c.loop-worker.invariant.received

@@ -6,6 +6,7 @@ use Rattle.workers.proofs.coordinator_ends.CoordinatorEnds.offer_all.Given as go
 abbrev pub invariant-loop-worker : goal.invariant-loop-worker
 invariant-loop-worker g l = record {
   steps : Steps g.J.Origin.work g.J.Origin.honest l.initial.book l.book (received l.initial.self) (received l.self) (handed l.initial.self) (handed l.self);
+  received : received l.self ≡ received l.initial.self;
   saved : l.book.saved ≡ l.initial.book.saved;
   hub : IsSameHub l.initial.self l.self;
   all : l.workers ≡ staff l.initial.self;

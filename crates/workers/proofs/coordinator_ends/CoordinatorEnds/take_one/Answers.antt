@@ -1,20 +1,23 @@
 use Rattle.std.proofs.Common.{ap, sym, ◌∙◌, refl, ◌++◌, ◌∷◌, []}
 use Rattle.rollback.specs.Machine.{Machine}
 use Rattle.workers.specs.Hub.{handed, received}
-use Rattle.workers.proofs.Moving.{steps_bye, steps_event}
+use Rattle.workers.proofs.Moving.{over_bye, over_event}
 use Rattle.workers.proofs.coordinator_ends.CoordinatorEnds.take_one.Goals as goal
 
 pub returns-in-Event-clause-steps : goal.returns-in-Event-clause-steps
 returns-in-Event-clause-steps g c =
     let s = c.args.self.now in
     let t = c.take_event.new.self in
-    let a = c.accept-answer.ensures.step in
+    let e = c.accept-answer.ensures in
+    let a = e.step in
     let got = c.in_ok-event.ensures.received ∙ ap (λ m. received s ++ m ∷ []) c.in-Event.is in
-    steps_event g.J.Origin.work g.J.Origin.honest c.args.book.now c.accept-answer.new.self a.heard (received s) (received t) (handed s) (handed t) c.in-Event.event (λ h e. a.quiet h (ap (λ (m : Machine). m.superstep) (sym a.machine) ∙ e)) a.machine got c.take_event.ensures.handed
+    over_event g.K.Keep.honest g.K.Keep.saved g.K.Keep.may_load g.K.Keep.faults g.J.Origin.work g.J.Origin.honest c.args.book.now c.accept-answer.new.self a.heard (received s) (received t) (handed s) (handed t) c.in-Event.event
+    c.args.keep.now c.accept-answer.new.keep (λ h n. a.quiet h (ap (λ (m : Machine). m.superstep) (sym a.machine) ∙ n)) a.machine got c.take_event.ensures.handed
+    (record { keeps = e.keep; cause = e.cause; left = e.left; loads = e.loads })
 
 pub returns-in-Bye-clause-steps : goal.returns-in-Bye-clause-steps
 returns-in-Bye-clause-steps g c =
     let s = c.args.self.now in
     let t = c.take_event.new.self in
     let got = c.in_ok-event.ensures.received ∙ ap (λ m. received s ++ m ∷ []) c.in-Bye.is in
-    steps_bye g.J.Origin.work g.J.Origin.honest c.args.book.now c.args.book.now (received s) (received t) (handed s) (handed t) c.in-Bye.field-0 refl got c.take_event.ensures.handed
+    over_bye g.K.Keep.honest g.K.Keep.saved g.K.Keep.may_load g.K.Keep.faults g.J.Origin.work g.J.Origin.honest c.args.book.now c.args.book.now (received s) (received t) (handed s) (handed t) c.in-Bye.field-0 c.args.keep.now refl got c.take_event.ensures.handed

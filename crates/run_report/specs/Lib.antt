@@ -2,3 +2,9 @@
 pub mod Json
 -- what is counted of a superstep while a job runs
 pub mod Tally
+-- what a panel of a chart shows
+pub mod Measures
+-- numbers on an axis
+pub mod Scale
+-- words in XML
+pub mod Words

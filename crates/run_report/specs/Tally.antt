@@ -1,5 +1,8 @@
 -- What is counted of a superstep.
-use Rattle.std.specs.Prelude.{◌≡◌, ◌≢◌, ℕ, ◌+◌, ◌-◌, ◌^◌, ◌==◌, List, Option, Some, None, min, nat_lt, slice_index_or, if◌then◌else◌}
+use Rattle.std.specs.Prelude.{◌≡◌, ◌≢◌, ℕ, zero, suc, ◌+◌, ◌-◌, ◌^◌, ◌<◌, ◌==◌, List, Option, Some, None, IfSome, map, min, nat_lt, option_map, slice_index_or, unwrap_or, if◌then◌else◌}
+use Rattle.std.specs.List.{range_with_len}
+use Rattle.std.specs.Option.{option_or}
+use Rattle.run_report.specs.declared.report.SuperstepCounts.{SuperstepCounts}
 use Rattle.run_report.specs.declared.tally.Tallied.{Tallied}
 use Rattle.run_report.specs.declared.tally.Tally.{Tally}
 
@@ -50,3 +53,32 @@ pub record Counts (superstep : ℕ) (task : Tallied) (old new : Tally) : Type 0 
   pub parts : new.parts ≡ old.parts
   pub counted : row_in new.rows.items superstep ≡ Some (with_task (row_in old.rows.items superstep) task)
   pub others : (other : ℕ) → other ≢ superstep → row_in new.rows.items other ≡ row_in old.rows.items other
+
+-- ---- what is reported of it
+
+-- what was counted of the superstep of this number, if all its tasks were done
+abbrev pub whole_in : Tally → ℕ → Option Tallied
+whole_in tally superstep = whole tally.parts (row_in tally.rows.items superstep)
+
+-- the epoch in which the superstep before this one was run; 0 before the first
+abbrev pub epoch_before : Tally → ℕ → ℕ
+epoch_before tally zero = 0
+epoch_before tally (suc superstep) = unwrap_or (option_map (λ row. row.epoch) (whole_in tally superstep)) 0
+
+-- this superstep was not run to its end behind the one before: of its tasks some are missing, or all are of an older epoch
+abbrev pub StopsAt : Tally → ℕ → Type 0
+StopsAt tally superstep = IfSome (whole_in tally superstep) (λ row. row.epoch < epoch_before tally superstep)
+
+-- the counts of a superstep, whose units are these where they are known already
+abbrev pub counts_at : Tally → ℕ → Option ℕ → SuperstepCounts
+counts_at tally superstep units = record {
+  superstep = superstep;
+  units = option_or units (option_map (λ row. row.units) (whole_in tally superstep));
+  called = option_map (λ row. row.called) (whole_in tally superstep);
+  sent = option_map (λ row. row.sent) (whole_in tally superstep);
+  dropped = dropped_of (whole_in tally superstep) (whole_in tally (min (superstep + 1) (2 ^ 32 - 1)));
+}
+
+-- the counts of the first supersteps, of which no units are known already
+abbrev pub counts_until : Tally → ℕ → List SuperstepCounts
+counts_until tally count = map (λ superstep. counts_at tally superstep None) (range_with_len 0 count)

@@ -20,17 +20,29 @@ pub fn svg_text(alloc: Global, files: JobFiles, report: &RunReport) -> Result<St
 
 // Lengths are tenths of a pixel.
 fn push_head(text: &mut String, files: JobFiles, report: &RunReport) -> Result<(), AllocError> {
-    text.push_str("<svg xmlns=\"http://www.w3.org/2000/svg\" width=\"900\" height=\"740\"")?;
-    text.push_str(" viewBox=\"0 0 9000 7400\" font-family=\"sans-serif\" font-size=\"130\">\n")?;
+    text.push_str("<svg xmlns=\"http://www.w3.org/2000/svg\" width=\"900\" height=\"760\"")?;
+    text.push_str(" viewBox=\"0 0 9000 7600\" font-family=\"sans-serif\" font-size=\"130\">\n")?;
     text.push_str("<title>")?;
     push_title(text, files)?;
-    text.push_str("</title>\n<rect width=\"9000\" height=\"7400\" fill=\"#ffffff\"/>\n")?;
-    text.push_str("<text x=\"300\" y=\"380\" font-size=\"200\" font-weight=\"bold\">")?;
+    text.push_str("</title>\n<rect width=\"9000\" height=\"7600\" fill=\"#ffffff\"/>\n")?;
+    let size = title_size(files);
+    write!(
+        text,
+        "<text x=\"300\" y=\"380\" font-size=\"{size}\" font-weight=\"bold\">"
+    )?;
     push_title(text, files)?;
-    text.push_str("</text>\n<text x=\"300\" y=\"640\">")?;
+    text.push_str("</text>\n<text x=\"300\" y=\"620\">")?;
     push_sizes(text, report)?;
+    text.push_str("</text>\n<text x=\"300\" y=\"810\">")?;
     push_end(text, report)?;
     text.push_str("</text>\n")
+}
+
+// How great the title's letters are, so that it fits where it is long: a letter is some 0.58 times as wide.
+fn title_size(files: JobFiles) -> usize {
+    let letters = files.module.chars().count();
+    let letters = letters.saturating_add(files.graph.chars().count());
+    (14_400 / letters.saturating_add(6)).clamp(40, 200)
 }
 
 fn push_title(text: &mut String, files: JobFiles) -> Result<(), AllocError> {
@@ -44,7 +56,7 @@ fn push_sizes(text: &mut String, report: &RunReport) -> Result<(), AllocError> {
     let (workers, parts) = (report.settings.workers, report.settings.parts);
     write!(
         text,
-        "vertices {vertices}, edges {edges}, workers {workers}, parts {parts}: "
+        "vertices {vertices}, edges {edges}, workers {workers}, parts {parts}"
     )
 }
 
@@ -56,9 +68,9 @@ fn push_end(text: &mut String, report: &RunReport) -> Result<(), AllocError> {
         text.push_str(" ")?;
         push_words(text, fault)?;
     }
-    push_total(text, " supersteps ", outcome.superstep)?;
-    push_total(text, " units ", outcome.units)?;
-    push_total(text, " dropped ", outcome.dropped)
+    push_total(text, ", supersteps ", outcome.superstep)?;
+    push_total(text, ", units ", outcome.units)?;
+    push_total(text, ", dropped ", outcome.dropped)
 }
 
 // A number behind a word, where it is known.

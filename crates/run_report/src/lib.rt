@@ -8,6 +8,7 @@ mod panel;
 mod report;
 mod scale;
 mod tally;
+mod unit;
 mod words;
 
 pub use chart::svg_text;

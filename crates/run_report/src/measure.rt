@@ -1,5 +1,8 @@
 //! What is drawn of each superstep.
 
+ghost use Rattle.std.specs.Prelude.{◌≡◌};
+ghost use Rattle.run_report.specs.Measures.{measured, most_of};
+
 use crate::report::SuperstepCounts;
 
 /// What a panel shows of each superstep.
@@ -12,7 +15,9 @@ pub enum Measure {
 
 impl Measure {
     /// What it is of a superstep, where that is known.
-    pub fn of(self, counts: &SuperstepCounts) -> Option<u64> {
+    pub fn of(self, counts: &SuperstepCounts) -> Option<u64>
+        ensures { result ≡ measured self counts.now }
+    {
         match self {
             Measure::Called => counts.called,
             Measure::Sent => counts.sent,
@@ -21,10 +26,12 @@ impl Measure {
     }
 
     /// The greatest that is known of these supersteps, else 0.
-    pub fn most(self, supersteps: &[SuperstepCounts]) -> u64 {
+    pub fn most(self, supersteps: &[SuperstepCounts]) -> u64
+        ensures { result ≡ most_of self supersteps.now }
+    {
         let mut most = 0;
         for counts in supersteps {
-            most = self.of(counts).unwrap_or(0).max(most);
+            most = most.max(self.of(counts).unwrap_or(0));
         }
         most
     }
@@ -34,7 +41,7 @@ impl Measure {
         match self {
             Measure::Called => "Vertices called",
             Measure::Sent => "Messages sent",
-            Measure::Units => "Units",
+            Measure::Units => "Units (simple instructions)",
         }
     }
 
@@ -50,9 +57,9 @@ impl Measure {
     /// How far below the chart's upper edge its panel begins.
     pub fn top(self) -> u64 {
         match self {
-            Measure::Called => 1_100,
-            Measure::Sent => 3_200,
-            Measure::Units => 5_300,
+            Measure::Called => 1_200,
+            Measure::Sent => 3_350,
+            Measure::Units => 5_500,
         }
     }
 }

@@ -2,7 +2,8 @@
 
 use crate::measure::Measure;
 use crate::report::SuperstepCounts;
-use crate::scale::{place_on, short_of, step_to};
+use crate::scale::{place_on, round_up};
+use crate::unit::Unit;
 use std::alloc::AllocError;
 
 // How wide a panel is, how high, and how many points are drawn at most, and marked. Lengths are tenths of a pixel.
@@ -14,23 +15,31 @@ const MOST_POINTS: usize = 1_500;
 
 const MOST_MARKS: usize = 100;
 
-// What the ends of the axes stand for.
+// What the ends of the axes stand for, how far their ticks are apart, and the unit of the values.
 #[derive(Clone, Copy)]
 struct Axes {
     first: u64,
     last: u64,
+    stride: u64,
     top: u64,
+    step: u64,
+    unit: Unit,
 }
 
 impl Axes {
-    // Those of these supersteps, where `most` is the greatest value.
+    // Those of these supersteps, where `most` is the greatest value. At most ten steps reach the last superstep, and five the top.
     fn of(supersteps: &[SuperstepCounts], most: u64) -> Axes {
-        let step = step_to(most).max(1);
-        let steps = most.div_ceil(step).max(1);
+        let first = supersteps.first().map_or(0, |counts| counts.superstep);
+        let last = supersteps.last().map_or(0, |counts| counts.superstep);
+        let step = round_up(most.div_ceil(5));
+        let top = most.div_ceil(step).max(1).saturating_mul(step);
         Axes {
-            first: supersteps.first().map_or(0, |counts| counts.superstep),
-            last: supersteps.last().map_or(0, |counts| counts.superstep),
-            top: steps.saturating_mul(step),
+            first,
+            last,
+            stride: round_up(last.saturating_sub(first).div_ceil(10)),
+            top,
+            step,
+            unit: Unit::of(top),
         }
     }
 
@@ -69,34 +78,45 @@ pub fn push_panel(
 
 // The ticks of the values, each with a line across.
 fn push_values(text: &mut String, axes: Axes) -> Result<(), AllocError> {
-    let step = step_to(axes.top).max(1);
-    for tick in 0..7 {
-        let value = step.saturating_mul(tick);
+    for tick in 0..6 {
+        let value = axes.step.saturating_mul(tick);
         if value <= axes.top {
-            push_value(text, value, axes.down(value))?;
+            push_value(text, value, axes)?;
         }
     }
     Ok(())
 }
 
-fn push_value(text: &mut String, value: u64, down: u64) -> Result<(), AllocError> {
-    let (count, letter) = short_of(value);
+fn push_value(text: &mut String, value: u64, axes: Axes) -> Result<(), AllocError> {
+    let down = axes.down(value);
     let foot = down.saturating_add(45);
     writeln!(
         text,
         "<path d=\"M0 {down}H{WIDTH}\" stroke=\"#dddddd\" stroke-width=\"8\"/>"
     )?;
-    writeln!(
-        text,
-        "<text x=\"-90\" y=\"{foot}\" text-anchor=\"end\">{count}{letter}</text>"
-    )
+    write!(text, "<text x=\"-90\" y=\"{foot}\" text-anchor=\"end\">")?;
+    push_short(text, value, axes.unit)?;
+    text.push_str("</text>\n")
+}
+
+// A value in a unit, with one decimal where it has a rest.
+fn push_short(text: &mut String, value: u64, unit: Unit) -> Result<(), AllocError> {
+    let (size, letter) = (unit.size(), unit.letter());
+    let whole = value / size;
+    let tenth = value % size / (size / 10).max(1);
+    match (value, tenth) {
+        (0, _) => text.push('0'),
+        (_, 0) => write!(text, "{whole}{letter}"),
+        _ => write!(text, "{whole}.{tenth}{letter}"),
+    }
 }
 
 // The ticks of the supersteps, and what they are.
 fn push_numbers(text: &mut String, axes: Axes) -> Result<(), AllocError> {
-    let step = step_to(axes.last.saturating_sub(axes.first)).max(1);
+    let stride = axes.stride.max(1);
+    let least = axes.first.div_ceil(stride);
     for tick in 0..11 {
-        let superstep = axes.first.saturating_add(step.saturating_mul(tick));
+        let superstep = least.saturating_add(tick).saturating_mul(stride);
         if superstep <= axes.last {
             push_number(text, superstep, axes.across(superstep))?;
         }

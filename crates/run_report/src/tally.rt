@@ -1,7 +1,7 @@
 //! What is counted while a job runs.
 
-ghost use Rattle.std.specs.Prelude.{◌≡◌, ◌≤◌, ◌-◌, ◌^◌, ℕ, min, vec_len, OnOk};
-ghost use Rattle.run_report.specs.Tally.{Counts, IsNoTally, dropped_of, row_in, whole, with_task};
+ghost use Rattle.std.specs.Prelude.{◌≡◌, ◌≤◌, ◌<◌, ◌-◌, ◌^◌, ℕ, IfOk, IsSome, min, vec_len, OnOk};
+ghost use Rattle.run_report.specs.Tally.{Counts, IsNoTally, StopsAt, counts_at, counts_until, dropped_of, row_in, whole, whole_in, with_task};
 
 use crate::report::SuperstepCounts;
 use std::alloc::{AllocError, Global};
@@ -117,13 +117,19 @@ impl Tally {
     }
 
     // What was counted of a superstep, if that is all of it.
-    fn row(&self, superstep: u32) -> Option<Tallied> {
+    fn row(&self, superstep: u32) -> Option<Tallied>
+        ensures { result ≡ whole_in self.now superstep }
+    {
         let row = self.rows.get(superstep as usize).copied()?;
         whole(self.parts, row)
     }
 
     /// How many supersteps were run to their end, of a job without an answer.
-    pub fn reached(&self) -> u32 {
+    pub fn reached(&self) -> u32
+        ensures whole { (superstep : ℕ) → superstep < result
+            → IsSome (whole_in self.now superstep) }
+        ensures stops { result < 2 ^ 32 - 1 → StopsAt self.now result }
+    {
         let mut reached = 0u32;
         let mut epoch = 0;
         for row in &self.rows {
@@ -141,7 +147,10 @@ impl Tally {
         &self,
         alloc: Global,
         ended: Ended,
-    ) -> Result<Vec<SuperstepCounts>, AllocError> {
+    ) -> Result<Vec<SuperstepCounts>, AllocError>
+        ensures { IfOk result (λ all.
+            vec_len all ≡ ended.entry.superstep - ended.entry.since) }
+    {
         let mut all = Vec::new(alloc);
         for superstep in ended.since..ended.superstep {
             let units = ended.units.get((superstep - ended.since) as usize);
@@ -154,7 +163,12 @@ impl Tally {
     }
 
     /// The counts of each superstep that was run to its end, of a job without an answer.
-    pub fn supersteps_reached(&self, alloc: Global) -> Result<Vec<SuperstepCounts>, AllocError> {
+    pub fn supersteps_reached(&self, alloc: Global) -> Result<Vec<SuperstepCounts>, AllocError>
+        ensures counts { IfOk result (λ all.
+            all.items ≡ counts_until self.now (vec_len all)) }
+        ensures stops { IfOk result (λ all.
+            vec_len all < 2 ^ 32 - 1 → StopsAt self.now (vec_len all)) }
+    {
         let mut all = Vec::new(alloc);
         for superstep in 0..self.reached() {
             all.push(self.counts_at(superstep, None))?;
@@ -163,7 +177,9 @@ impl Tally {
     }
 
     // The counts of a superstep, whose units are these where they are known already.
-    fn counts_at(&self, superstep: u32, units: Option<u64>) -> SuperstepCounts {
+    fn counts_at(&self, superstep: u32, units: Option<u64>) -> SuperstepCounts
+        ensures { result ≡ counts_at self.now superstep units }
+    {
         let row = self.row(superstep);
         let next = self.row(superstep.saturating_add(1));
         SuperstepCounts {

@@ -1,5 +1,5 @@
 -- Of which job the text of a file is.
-use Rattle.std.specs.Prelude.{◌≡◌, ℕ, List, Option, Some, codes, option_and_then}
+use Rattle.std.specs.Prelude.{◌≡◌, ◌≢◌, ◌⊎◌, ℕ, List, Option, Some, None, IsSomeAnd, MatchOption, codes, option_and_then}
 use Rattle.hex.specs.Hex.{encode_lower}
 use Rattle.serde_json.specs.Data.{Data, member, no_members, number, object, string, unsigned}
 use Rattle.serde_json.specs.Find.{as_str, get}
@@ -31,12 +31,18 @@ pub record NamesJob (text : List ℕ) (job : JobId) : Type 0 where
   pub parsed : read text ≡ Some json
   pub names : Names job json
 
--- what is told of a JSON value: it names this job, or does not
+-- the member of this name is a text, and another than this digest, in hexadecimal
+abbrev pub DiffersAt : (name : List ℕ) → Data → (digest : List ℕ) → Type 0
+DiffersAt name json digest = IsSomeAnd (text_at name json) (λ found. found ≢ encode_lower digest)
+
+-- what is told of a JSON value: it names this job, or what it names instead
 abbrev pub IsKinshipIn : Data → JobId → Kinship → Type 0
 IsKinshipIn json job Same = Names job json
-IsKinshipIn json job _ = Names job json → ⊥
+IsKinshipIn json job OtherModule = DiffersAt (codes "module") json job.«module»
+IsKinshipIn json job OtherGraph =
+    (text_at (codes "module") json ≡ Some (encode_lower job.«module»)) × DiffersAt (codes "graph") json job.graph
+IsKinshipIn json job Unreadable = (text_at (codes "module") json ≡ None) ⊎ (text_at (codes "graph") json ≡ None)
 
--- what is told of a text
+-- what is told of a text, which may be no JSON
 abbrev pub IsKinship : List ℕ → JobId → Kinship → Type 0
-IsKinship text job Same = NamesJob text job
-IsKinship text job _ = NamesJob text job → ⊥
+IsKinship text job kinship = MatchOption (read text) (kinship ≡ Unreadable) (λ json. IsKinshipIn json job kinship)

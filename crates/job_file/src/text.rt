@@ -1,6 +1,7 @@
 //! The text of the file, and whether it is of a job.
 
-ghost use Rattle.std.specs.Prelude.{◌≡◌, IfOk, option_map, string_bytes};
+ghost use Rattle.std.specs.Prelude.{◌≡◌, IfOk, Some, option_map, string_bytes};
+ghost use Rattle.serde_json.specs.Read.{read};
 ghost use Rattle.serde_json.specs.View.{view};
 ghost use Rattle.job_file.specs.Naming.{IsKinship, IsKinshipIn, NamesJob, job_data, text_at};
 
@@ -24,7 +25,9 @@ pub enum Kinship {
 /// Writes down the job whose states are kept: the SHA-256 of its two files, and with which limit and in how many parts it was
 /// run, for the reader.
 pub fn job_text(alloc: Global, job: &JobId, limit: u32, parts: u32) -> Result<String, AllocError>
-    ensures { IfOk result (λ text. NamesJob (string_bytes text) job.now) }
+    ensures named { IfOk result (λ text. NamesJob (string_bytes text) job.now) }
+    ensures told { IfOk result (λ text.
+        read (string_bytes text) ≡ Some (job_data job.now limit parts)) }
 {
     let value = job_value(alloc, job, limit, parts)?;
     value.to_string(alloc)

@@ -4,7 +4,7 @@ use Rattle.wasm_ast.specs.declared.module.Module.{Module}
 use Rattle.cost.specs.declared.fault.CostFault.{CostFault}
 use Rattle.cost.specs.declared.fault.CostFault.TheVariants as cost
 use Rattle.cost.specs.Calls.{callees}
-use Rattle.cost.specs.Cycles.{IsCycle, LeastFirst}
+use Rattle.cost.specs.Cycles.{AreDistinct, IsCycle, LeastFirst}
 use Rattle.bounded_profile.specs.declared.fault.ProfileFault.{ProfileFault}
 use Rattle.bounded_profile.specs.declared.fault.ProfileFault.TheVariants as fault
 use Rattle.bounded_profile.specs.declared.fault.ProfileRule.{ProfileRule}
@@ -39,10 +39,10 @@ Denies rule fault.OutOfMemory p = Unit {0}
 abbrev pub Settles : ProfileRule → Type 0 → Result (Unit {0}) ProfileFault → Type 0
 Settles rule p r = MatchResult r (λ _. p) (λ e. Denies rule e p)
 
--- the functions call each other in a cycle, which begins with its least number; `calls` lists what each function
--- calls
+-- the functions call each other in a cycle, which begins with its least number and lists none twice; `calls` lists what
+-- each function calls
 abbrev pub IsToldCycle : (ℕ → List ℕ) → List ℕ → Type 0
-IsToldCycle calls xs = IsCycle calls xs × LeastFirst xs
+IsToldCycle calls xs = IsCycle calls xs × LeastFirst xs × AreDistinct xs
 
 -- an error about P12: it names a cycle, unless an allocation failed
 abbrev pub ShowsCycle : (ℕ → List ℕ) → ProfileFault → Type 0

@@ -1,4 +1,5 @@
 pub mod Cycles
+pub mod Distinct
 pub mod Heights
 pub mod Walking
 pub mod Bodies

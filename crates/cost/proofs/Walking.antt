@@ -48,6 +48,16 @@ pub record Walking (os : Outlines) (f : ℕ) (ms ns : List Mark) (xs : List ℕ)
   pub fewer : unseen ns < unseen ms
   pub done : (j : ℕ) → j < k → IsDone (mark_at ns (get_or xs j 0))
 
+-- what is unseen on the way was unseen at its beginning
+pub unseen_before : (os : Outlines) (f : ℕ) (ms ns : List Mark) (xs : List ℕ) (k : ℕ) → Walking os f ms ns xs k → (g : ℕ) → mark_at ns g ≡ Unseen → mark_at ms g ≡ Unseen
+unseen_before os f ms ns xs k w g e = by_mark (mark_at ms g) refl
+  where
+    by_mark : (m : Mark) → mark_at ms g ≡ m → mark_at ms g ≡ Unseen
+    by_mark Unseen h = h
+    by_mark Open h = let n : mark_at ms g ≡ Unseen → ⊥ = λ u. open_not_unseen (mark_at ms g) h u in sym (w.kept g n) ∙ e
+    by_mark (Done rank size) h =
+        let n : mark_at ms g ≡ Unseen → ⊥ = λ u. done_not_unseen (mark_at ms g) (subst IsDone (sym h) tt) u in sym (w.kept g n) ∙ e
+
 module _ (os : Outlines) (f : ℕ) (ms : List Mark) (st : Settled os ms) (un : mark_at ms f ≡ Unseen) where
   at_f : mark_at (set ms f Open) f ≡ Open
   at_f = get_or-set_same ms f Open (Done 0 0) (has_mark ms f un)

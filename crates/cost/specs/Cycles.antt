@@ -1,5 +1,6 @@
 -- Cycles of calls, where `calls` returns the functions that each function calls.
-use Rattle.std.specs.Prelude.{◌≡◌, ℕ, ◌<◌, ◌≤◌, List, [], ◌∷◌, length, slice_index}
+use Rattle.std.specs.Prelude.{◌≡◌, ◌≢◌, ℕ, ◌<◌, ◌≤◌, List, [], ◌∷◌, length, slice_index}
+use Rattle.std.specs.List.{AllByRecursion}
 use Rattle.cost.specs.Calls.{Calls}
 
 -- a list of functions leads from f to g: the first is f, each calls the next, and the last calls g
@@ -14,6 +15,11 @@ IsCycle calls (x ∷ xs) = Leads calls x (x ∷ xs) x
 
 abbrev pub Acyclic : (ℕ → List ℕ) → Type 0
 Acyclic calls = (xs : List ℕ) → IsCycle calls xs → ⊥
+
+-- no number is listed twice
+abbrev pub AreDistinct : List ℕ → Type 0
+AreDistinct [] = Unit {0}
+AreDistinct (x ∷ xs) = AllByRecursion (λ y. y ≢ x) xs × AreDistinct xs
 
 -- none is less than the first
 abbrev pub LeastFirst : List ℕ → Type 0

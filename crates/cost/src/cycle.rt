@@ -4,7 +4,10 @@ ghost use Rattle.std.specs.Prelude.{◌≡◌, ◌<◌, ◌≤◌, ◌++◌, ℕ
 ghost use Rattle.cost.specs.Calls.{Calls};
 ghost use Rattle.cost.specs.Cycles.{LeastFirst};
 ghost use Rattle.cost.specs.Faults.{Explains};
-ghost use Rattle.cost.specs.inside.Stops.{Leaves, Targets};
+ghost use Rattle.cost.specs.declared.table.Mark.{Mark as AnyMark};
+ghost use Rattle.cost.specs.declared.table.Mark.TheVariants.{Open, Unseen};
+ghost use Rattle.cost.specs.Marks.{mark_at};
+ghost use Rattle.cost.specs.inside.Stops.{AreFresh, IsUnseenBefore, Leaves, Targets};
 
 use crate::fault::CostFault;
 
@@ -23,6 +26,8 @@ pub fn extend(stop: Stop, caller: u32) -> Stop
     ensures leaves { (calls : ℕ → List ℕ) (g : ℕ) →
         Calls calls caller g → Leaves calls g stop → Leaves calls caller result }
     ensures targets { (t : ℕ) → Targets result t → Targets stop t × (t ≡ caller → ⊥) }
+    ensures fresh { (old new : List AnyMark) → IsUnseenBefore old new →
+        mark_at old caller ≡ Unseen → mark_at new caller ≡ Open → AreFresh new stop → AreFresh old result }
 {
     match stop {
         Stop::Back(target, mut trail) => {
@@ -43,7 +48,8 @@ pub fn extend(stop: Stop, caller: u32) -> Stop
 /// Turns the stop of a whole walk into a fault. Such a walk starts with no function on its path.
 pub fn explain(stop: Stop) -> CostFault
     requires { (t : ℕ) → Targets stop t → ⊥ }
-    ensures { (calls : ℕ → List ℕ) (f : ℕ) → Leaves calls f stop → Explains calls result }
+    ensures { (calls : ℕ → List ℕ) (f : ℕ) (marks : List AnyMark) →
+        Leaves calls f stop → AreFresh marks stop → Explains calls result }
 {
     match stop {
         Stop::Back(_, _) => unreachable!(),

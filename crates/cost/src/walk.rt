@@ -7,7 +7,7 @@ ghost use Rattle.cost.specs.inside.Outline.{cap};
 ghost use Rattle.cost.specs.inside.Outlines.{outline_at, called, height_at};
 ghost use Rattle.cost.specs.Marks.{mark_at, rank_at, size_at};
 ghost use Rattle.cost.specs.inside.Walks.{Settled, Walked};
-ghost use Rattle.cost.specs.inside.Stops.{Leaves, Targets};
+ghost use Rattle.cost.specs.inside.Stops.{AreFresh, Leaves, Targets};
 
 use crate::cycle::{Stop, extend};
 use crate::outline::{CAP, Outlines};
@@ -59,6 +59,7 @@ pub fn visit(
     ensures walked { OnOk result (Walked outlines.now function ranks.old ranks.new) }
     ensures leaves { IfErr result (Leaves (called outlines.now) function) }
     ensures targets { IfErr result (λ e. (t : ℕ) → Targets e t → mark_at ranks.old t ≡ Open) }
+    ensures fresh { IfErr result (AreFresh ranks.old) }
 {
     match ranks.mark(function) {
         Mark::Done(_, _) => return Ok(()),

@@ -12,4 +12,4 @@ loop-function-init c =
     })
 
 pub returns-in-Err-clause-cycle : goal.returns-in-Err-clause-cycle
-returns-in-Err-clause-cycle c = c.explain.ensures _ _ c.in-Err.ensures.leaves
+returns-in-Err-clause-cycle c = c.explain.ensures _ _ _ c.in-Err.ensures.leaves c.in-Err.ensures.fresh

@@ -3,7 +3,7 @@ use Rattle.std.specs.Prelude.{sum_by}
 use Rattle.cost.specs.inside.Outline.{cap}
 use Rattle.cost.specs.inside.Outlines.{outline_at, own_at, called}
 use Rattle.cost.specs.Marks.{size_at}
-use Rattle.cost.proofs.Walking.{begins, has_mark, called_there, room, ends}
+use Rattle.cost.proofs.Walking.{begins, has_mark, called_there, room, ends, unseen_before}
 use Rattle.cost.proofs.walk.+visit.Goals as goal
 
 pub loop-callee-init : goal.loop-callee-init
@@ -12,6 +12,10 @@ loop-callee-init t c = rw c.open.ensures (begins c.args.outlines.now c.args.func
 pub returns-in-Err-clause-leaves : goal.returns-in-Err-clause-leaves
 returns-in-Err-clause-leaves t c =
     c.extend.ensures.leaves _ _ (called_there c.args.outlines.now c.args.function c.called-callees.result.now c.loop-callee.callee-index c.called-callees.ensures c.loop-callee-test.true) c.in-Err.ensures.leaves
+
+pub returns-in-Err-clause-fresh : goal.returns-in-Err-clause-fresh
+returns-in-Err-clause-fresh t c =
+    c.extend.ensures.fresh _ _ (unseen_before c.args.outlines.now c.args.function c.args.ranks.now c.loop-callee.ranks c.called-callees.result.now c.loop-callee.callee-index c.loop-callee.invariant) (sym c.in-Unseen.ensures) c.loop-callee.invariant.open_here c.in-Err.ensures.fresh
 
 pub height-rank-requires : goal.height-rank-requires
 height-rank-requires t c =

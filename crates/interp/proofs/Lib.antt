@@ -54,3 +54,4 @@ pub mod OperandStacks
 pub mod Lent
 pub mod Passing
 pub mod Items
+pub mod Hosting

@@ -23,11 +23,11 @@ use Rattle.bounded_profile.specs.Memory.{memory_bytes}
 use Rattle.interp.specs.Machine.{ControlEntry}
 use Rattle.interp.specs.Memory.{laid}
 use Rattle.interp.specs.Start.{Starts, before, constant_plain, constant_value, initial_globals, initial_memory, laid_at, laid_in, segment_laid, start_state}
-use Rattle.interp.specs.inside.Begun.{AreInitial, AreInitialBytes, BeginsWith, HasInitial, IsBeginning, cell_laid_at, cell_memory_laid, cell_segment_laid, cells_laid_in}
+use Rattle.interp.specs.inside.Begun.{AreInitial, AreInitialBytes, BeginsWith, HasInitial, IsBeginning, IsReset, cell_laid_at, cell_memory_laid, cell_segment_laid, cells_laid_in}
 use Rattle.interp.specs.inside.Cells.{cell_of, cells_place, in_width, zero_cells}
 use Rattle.interp.specs.inside.Fits.{AreFit, IsFit}
 use Rattle.interp.specs.inside.Kept.{laid_over, marks, masked}
-use Rattle.interp.specs.inside.Place.{Place, Standing, at, running}
+use Rattle.interp.specs.inside.Place.{Place, Standing, at, hosted, running}
 use Rattle.interp.proofs.Beginnings.{after, after_all, after_one}
 use Rattle.interp.proofs.Cells.{zeros_follow}
 use Rattle.interp.proofs.Ending.{comes_here}
@@ -218,3 +218,7 @@ module _ (m : Module) (f : Function) (input : CallInput) (begins : BeginsWith m 
         starts = starts a.values bytes.whole a.initial bytes.initial;
         follows = record { place = first; comes = comes_here m (running first); fits = (tt, (tt, (zeros_fit f.locals, a.fit))); is = is };
       }
+
+  -- a walk that was reset, with the host of the call
+  pub begins_reset : (s : Standing) (h : Host) → IsReset m f s → h ≡ host_of input → IsBeginning m f.body input (hosted s h)
+  begins_reset s h r host = begins_as_cells (hosted s h) r.image.globals r.image.bytes r.values r.entries r.locals host

@@ -1,4 +1,4 @@
-//! The buffers of a call, which the next call reuses.
+//! The buffers of a walk.
 
 use crate::call_globals::CallGlobals;
 use crate::control_entry::ControlEntry;
@@ -8,8 +8,7 @@ use crate::operands::Operands;
 use bounded_profile::Verified;
 use std::alloc::Global;
 
-/// The buffers of a call. Before a call only the initial values in `globals` mean something: each call begins by
-/// resetting the rest.
+/// The buffers of a walk, before it begins: only the initial values in `globals` mean something.
 #[derive(Drop)]
 pub struct Buffers<'a> {
     pub entries: Vec<ControlEntry<'a>>,

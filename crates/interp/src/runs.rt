@@ -1,27 +1,21 @@
 //! Compute calls.
 
 ghost use Rattle.std.specs.Prelude.{◌≡◌, ◌↔◌, ◌+◌, ◌*◌, IfOk, IsOk, IsTrue, OnErr};
-ghost use Rattle.wasm_ast.specs.View.{code_of};
 ghost use Rattle.wasm_ast.specs.Limits.{IsWithinLimits};
-ghost use Rattle.interp.specs.inside.Begun.{BeginsWith, EndsFrom, EndsInRoom, HasStartRoom, Sends, room_in};
+ghost use Rattle.interp.specs.inside.Begun.{BeginsWith, EndsInRoom, HasStartRoom, Sends};
 ghost use Rattle.interp.specs.Bounded.{HasIds, IsWithinBound, NeverFails, items_of};
 ghost use Rattle.interp.specs.Call.{IsOutcome};
 ghost use Rattle.interp.specs.Room.{IsSilent};
 ghost use Rattle.interp.specs.inside.Meaning.{AreImports};
-ghost use Rattle.interp.specs.inside.Place.{at};
-ghost use Rattle.interp.specs.inside.Walk.{LeadsWithin, SendsFrom};
 
-use crate::buffers::Buffers;
 use crate::program::Program;
 use crate::scratch::Scratch;
-use crate::start::begin;
 use crate::start::image::Image;
 use crate::walk::Walk;
 use bounded_profile::Verified;
-use host_calls::{CallInput, CallOutcome};
+use host_calls::{CallInput, CallOutcome, CallState};
 use std::alloc::{AllocError, Global};
-use std::mem::replace;
-use wasm_ast::{Function, Instr};
+use wasm_ast::Function;
 
 /// The greatest id of a vertex.
 const MAX_ID: u64 = 9_223_372_036_854_775_807;
@@ -66,7 +60,7 @@ fn most_units(size: u32, input: &CallInput) -> u128
     u128::from(size) * (1 + items)
 }
 
-/// Calls the function in these buffers, which keep their room.
+/// Calls the function in this walk, which keeps its room.
 pub(crate) fn call_in<'a>(
     alloc: Global,
     image: &Image<'a>,
@@ -74,61 +68,21 @@ pub(crate) fn call_in<'a>(
     function: &'a Function,
     input: &CallInput,
     most: u128,
-    buffers: &mut Buffers<'a>,
+    walk: &mut Walk<'a>,
 ) -> Result<CallOutcome, AllocError>
     requires own { image.now ≡ program.«module».now }
     requires calls { AreImports program.calls.now program.«module».now }
     requires begins { BeginsWith program.«module».now function.now }
     requires within { IsWithinLimits program.«module».now }
-    requires room { HasStartRoom program.«module».now function.now (room_in buffers.old) }
-    requires ends { EndsInRoom program.«module».now input.now most (room_in buffers.old) }
-    ensures room { room_in buffers.new ≡ room_in buffers.old }
+    requires room { HasStartRoom program.«module».now function.now walk.old.room }
+    requires ends { EndsInRoom program.«module».now input.now most walk.old.room }
+    ensures room { walk.new.room ≡ walk.old.room }
     ensures sends { OnErr result (Sends program.entry.«module».now input.now) }
     ensures outcome { IfOk result (IsOutcome program.entry.«module».now input.now) }
 {
-    image.reset(function, buffers);
-    let laid = replace(buffers, Buffers::new(alloc, image.verified()));
-    let walk = begin(alloc, program.module, function, input, laid);
-    let (ended, left) = finish(walk, program, function.body.as_slice(), most);
-    *buffers = left;
-    ended
-}
-
-// Walks to the end, and returns the outcome and the buffers.
-fn finish<'a, 'b>(
-    mut walk: Walk<'a, 'b>,
-    program: Program<'a>,
-    code: &'a [Instr],
-    most: u128,
-) -> (Result<CallOutcome, AllocError>, Buffers<'a>)
-    requires calls { AreImports program.calls.now program.«module».now }
-    requires within { IsWithinLimits program.«module».now }
-    requires ends { LeadsWithin program.«module».now walk.room
-        (at walk (code_of code.now) 0) most }
-    ensures ends { IfOk result.0 (EndsFrom program.entry.«module».now
-        (at walk.entry (code_of code.now) 0) most) }
-    ensures sends { OnErr result.0 (SendsFrom program.entry.«module».now
-        (at walk.entry (code_of code.now) 0) most) }
-    ensures room { room_in result.1 ≡ walk.entry.room }
-{
-    let ended = walk.finish(program, code, most);
-    let Walk {
-        entries,
-        operands,
-        locals,
-        globals,
-        memory,
-        host,
-    } = walk;
-    let buffers = Buffers {
-        entries,
-        operands,
-        locals,
-        globals,
-        memory,
-    };
-    match ended {
-        Ok(count) => (Ok(host.into_outcome(count)), buffers),
-        Err(AllocError) => (Err(AllocError), buffers),
-    }
+    image.reset(function, walk);
+    let code = function.body.as_slice();
+    let mut host = CallState::new(alloc, input);
+    let count = walk.finish(program, code, most, &mut host)?;
+    Ok(host.into_outcome(count))
 }

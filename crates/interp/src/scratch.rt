@@ -12,7 +12,9 @@ ghost use Rattle.interp.specs.inside.Meaning.{AreImports};
 use crate::buffers::Buffers;
 use crate::program::Program;
 use crate::runs::call_in;
+use crate::start::begin;
 use crate::start::image::Image;
+use crate::walk::Walk;
 use bounded_profile::Verified;
 use host_calls::{CallInput, CallOutcome};
 use std::alloc::{AllocError, Global};
@@ -28,18 +30,18 @@ pub struct Scratch<'a> {
     lists: Box<Lists<'a>>,
 }
 
-/// What each call begins with, and the buffers of the last call.
+/// What each call begins with, and the walk of the last call.
 #[derive(Drop)]
 pub struct Lists<'a> {
     image: Image<'a>,
-    buffers: Buffers<'a>,
+    walk: Walk<'a>,
 }
 
 impl<'a> Model for Scratch<'a> {
     ghost use Rattle.wasm_ast.specs.declared.module.Module.{Module as AnyModule};
     ghost use Rattle.wasm_ast.specs.contracts.module.Module as module_type;
     ghost use Rattle.std.specs.Prelude.{◌≡◌};
-    ghost use Rattle.interp.specs.inside.Begun.{HasRoom, room_in};
+    ghost use Rattle.interp.specs.inside.Begun.{HasRoom};
 
     ghost Value = { AnyModule };
 
@@ -48,7 +50,7 @@ impl<'a> Model for Scratch<'a> {
     ghost view = { λ scratch. scratch.verified.now };
 
     ghost invariant = { λ scratch. (scratch.lists.value.image ≡ scratch.verified.now)
-        × HasRoom scratch.verified.now (room_in scratch.lists.value.buffers) };
+        × HasRoom scratch.verified.now scratch.lists.value.walk.room };
 }
 
 impl<'a> Scratch<'a> {
@@ -59,9 +61,10 @@ impl<'a> Scratch<'a> {
         ensures { IfOk result (λ scratch. scratch ≡ verified.now) }
     {
         let image = Image::new(alloc, verified)?;
-        let buffers = Buffers::new(alloc, verified);
-        let mut lists = Box::new(alloc, Lists { image, buffers })?;
-        make_room(alloc, verified, &mut lists)?;
+        let mut buffers = Buffers::new(alloc, verified);
+        make_room(alloc, verified, &image, &mut buffers)?;
+        let walk = begin(buffers);
+        let lists = Box::new(alloc, Lists { image, walk })?;
         Ok(Scratch { verified, lists })
     }
 
@@ -84,7 +87,7 @@ impl<'a> Scratch<'a> {
         Program::of(self.verified)
     }
 
-    // Calls the function, with the buffers of the last call.
+    // Calls the function, in the walk of the last call.
     pub(crate) fn call(
         &mut self,
         alloc: Global,
@@ -113,7 +116,7 @@ impl<'a> Scratch<'a> {
             function,
             input,
             most,
-            &mut lists.buffers,
+            &mut lists.walk,
         )
     }
 }
@@ -122,20 +125,19 @@ impl<'a> Scratch<'a> {
 fn make_room<'a>(
     alloc: Global,
     verified: &'a Verified,
-    lists: &mut Lists<'a>,
+    image: &Image<'a>,
+    buffers: &mut Buffers<'a>,
 ) -> Result<(), AllocError>
-    requires { lists.old.image ≡ verified.now }
-    ensures same { lists.new.image ≡ lists.old.image }
-    ensures room { OnOk result (HasRoom verified.now (room_in lists.new.buffers)) }
+    requires { image.now ≡ verified.now }
+    ensures { OnOk result (HasRoom verified.now (room_in buffers.new)) }
 {
-    let buffers = &mut lists.buffers;
     let frames = verified.max_frames() as usize;
     buffers.entries.reserve(most_entries(frames) + 1)?;
     buffers
         .operands
         .reserve(verified.max_operands() as usize + 1)?;
     buffers.locals.reserve(most_locals(frames + 1))?;
-    buffers.globals.begin_with(alloc, lists.image.globals())?;
+    buffers.globals.begin_with(alloc, image.globals())?;
     buffers.memory.extend(verified)
 }
 

@@ -7,7 +7,7 @@ ghost use Rattle.cost.specs.Weights.{units_of};
 ghost use Rattle.interp.specs.inside.Cells.{cell_advance, in_width, of_any_width};
 ghost use Rattle.interp.specs.inside.Going.{goes_on, is_going};
 ghost use Rattle.interp.specs.inside.Meaning.{AreImports};
-ghost use Rattle.interp.specs.inside.Place.{HasFrameRoom, at, running, state_of};
+ghost use Rattle.interp.specs.inside.Place.{HasFrameRoom, at, hosted, running, state_of};
 ghost use Rattle.interp.specs.inside.Walk.{Arrives, Concludes, HasCountRoom, LeadsWithin, SendsFrom, Turned, Turns, left_of, taken};
 ghost use Rattle.interp.specs.inside.Straight.{is_straight};
 
@@ -37,18 +37,18 @@ pub enum Turn<'a> {
     Finished { count: u128 },
 }
 
-/// The state of a run, except for the code and the count, which are passed from step to step.
+/// The state of a run, except for the code, the count and the host, which are passed from step to step. Calls of a module
+/// take turns with one walk: each begins by resetting it.
 #[derive(Drop)]
-pub struct Walk<'a, 'b> {
+pub struct Walk<'a> {
     pub entries: Vec<ControlEntry<'a>>,
     pub operands: Operands,
     pub locals: Locals,
     pub globals: CallGlobals,
     pub memory: Memory<'a>,
-    pub host: CallState<'b>,
 }
 
-impl<'a, 'b> Model for Walk<'a, 'b> {
+impl<'a> Model for Walk<'a> {
     ghost use Rattle.interp.specs.inside.Place.{Standing, standing_code};
     ghost use Rattle.interp.specs.inside.Meaning.{standing_of, IsOrdered};
 
@@ -61,7 +61,7 @@ impl<'a, 'b> Model for Walk<'a, 'b> {
     ghost invariant = { IsOrdered };
 }
 
-impl<'a, 'b> Walk<'a, 'b> {
+impl<'a> Walk<'a> {
     /// Runs to the end, and returns the units that the run took. The run ends within `most` units, which it never
     /// compares. The only error is that an allocation fails, in a call that sends or aggregates.
     pub fn finish(
@@ -69,21 +69,23 @@ impl<'a, 'b> Walk<'a, 'b> {
         program: Program<'a>,
         code: &'a [Instr],
         most: u128,
+        host: &mut CallState,
     ) -> Result<u128, AllocError>
         requires calls { AreImports program.calls.now program.«module».now }
         requires within { IsWithinLimits program.«module».now }
         requires ends { LeadsWithin program.«module».now self.old.room
-            (at self.old (code_of code.now) 0) most }
+            (at (hosted self.old host.old) (code_of code.now) 0) most }
         ensures sends { OnErr result (SendsFrom program.entry.«module».now
-            (at self.old (code_of code.now) 0) most) }
+            (at (hosted self.old host.old) (code_of code.now) 0) most) }
         ensures concludes { IfOk result (λ count. Concludes program.entry.«module».now
-            (at self.old (code_of code.now) 0) most (state_of self.new count)) }
+            (at (hosted self.old host.old) (code_of code.now) 0) most
+            (state_of (hosted self.new host.new) count)) }
         ensures room { self.new.room ≡ self.old.room }
     {
         let mut rest = code;
         let mut count = 0;
         'turns: loop {
-            let stop = self.go_on(program, rest, count, most)?;
+            let stop = self.go_on(program, rest, count, most, host)?;
             match self.turn(program, stop.code, stop.count) {
                 Turn::Next {
                     code: next,
@@ -112,15 +114,16 @@ impl<'a, 'b> Walk<'a, 'b> {
         code: &'a [Instr],
         count: u128,
         most: u128,
+        host: &mut CallState,
     ) -> Result<Stop<'a>, AllocError>
         requires calls { AreImports program.calls.now program.«module».now }
         requires leads { LeadsWithin program.«module».now self.old.room
-            (at self.old (code_of code.now) count) most }
+            (at (hosted self.old host.old) (code_of code.now) count) most }
         ensures passes { IfOk result (λ stop. Arrives program.entry.«module».now most
-            (at self.old (code_of code.entry.now) count)
-            (at self.new (code_of stop.code.now) stop.count)) }
+            (at (hosted self.old host.old) (code_of code.entry.now) count)
+            (at (hosted self.new host.new) (code_of stop.code.now) stop.count)) }
         ensures sends { OnErr result (SendsFrom program.entry.«module».now
-            (at self.old (code_of code.entry.now) count) most) }
+            (at (hosted self.old host.old) (code_of code.entry.now) count) most) }
         ensures stops { IfOk result (λ stop. is_straight program.entry.calls.now
             (code_of stop.code.now) ≡ false) }
         ensures closer { IfOk result (λ stop.
@@ -137,7 +140,7 @@ impl<'a, 'b> Walk<'a, 'b> {
             &mut self.locals,
             &mut self.globals,
             &mut self.memory,
-            &mut self.host,
+            host,
         )?;
         Ok(stop)
     }

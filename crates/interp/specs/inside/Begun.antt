@@ -90,14 +90,12 @@ pub record HasInitial (m : Module) : Type 0 where
   pub initial_values : initial_globals m.globals ≡ Some globals
   pub initial_bytes : initial_memory globals m ≡ Some bytes
 
--- the buffers hold what a call of the function begins with
-pub record AreReset (m : Module) (function : Function) (buffers : Buffers) : Type 0 where
-  pub entries : buffers.entries.items ≡ []
-  pub operands : buffers.operands.here ≡ []
-  pub operands_below : buffers.operands.below.values ≡ []
-  pub locals : buffers.locals.here ≡ zero_cells function.locals
-  pub locals_below : buffers.locals.below.values ≡ []
-  pub image : IsImage m buffers.globals.here buffers.memory
+-- the walk stands where a call of the function begins
+pub record IsReset (m : Module) (function : Function) (s : Standing) : Type 0 where
+  pub entries : s.entries ≡ []
+  pub values : s.values ≡ []
+  pub locals : s.locals ≡ zero_cells function.locals
+  pub image : IsImage m s.globals s.memory
 
 -- a call begins with this code in this state
 pub record IsBeginning (m : Module) (code : Code) (input : CallInput) (s : Standing) : Type 0 where

@@ -8,7 +8,7 @@ use Rattle.wasm_ast.specs.View.{code_of}
 use Rattle.host_calls.specs.declared.imports.HostCall.{HostCall}
 use Rattle.interp.specs.Machine as machine
 use Rattle.interp.specs.inside.Kept.{count_kept}
-use Rattle.interp.specs.inside.Place.{Room, Standing}
+use Rattle.interp.specs.inside.Place.{Room, Standing, no_host}
 use Rattle.interp.specs.inside.Renewed.{Renewed}
 use Rattle.interp.specs.inside.Split.{Split}
 use Rattle.interp.specs.declared.control_entry.ControlEntry.{ControlEntry}
@@ -82,7 +82,7 @@ standing_of a = record {
   locals = a.locals.here;
   globals = a.globals.here;
   memory = a.memory;
-  host = a.host;
+  host = no_host;
   room = room_of a.entries a.operands a.locals a.globals a.memory;
 }
 

@@ -1,5 +1,5 @@
 -- The place of a run, and how its parts are stored: as a tuple.
-use Rattle.std.specs.Prelude.{◌≡◌, ◌+◌, ◌<◌, ◌≤◌, length, ℕ, ℤ, Bool, List, ◌⊎◌, refl}
+use Rattle.std.specs.Prelude.{◌≡◌, ◌+◌, ◌<◌, ◌≤◌, length, ℕ, ℤ, pos, Bool, false, List, [], ◌⊎◌, refl}
 use Rattle.std.specs.Coded.{Coded, code_by, coded_list, coded_bool, coded_ℕ, coded_ℤ, coded×, coded⊎}
 use mathlib.Core.Logic.{inl, inr}
 use Rattle.wasm_ast.specs.declared.types.Value.{Value}
@@ -38,6 +38,27 @@ pub record Standing : Type 0 where
   pub memory : List ℕ
   pub host : Host
   pub room : Room
+
+-- A walk holds no host: its standing has this one, which no instruction that it takes reads. A call puts its own in the
+-- place.
+abbrev pub no_host : Host
+no_host = record {
+  id = pos 0;
+  superstep = pos 0;
+  num_vertices = pos 0;
+  value = pos 0;
+  messages = [];
+  edges = [];
+  message = pos 0;
+  edge = (pos 0, pos 0);
+  aggregated = [];
+  sends = [];
+  contributions = [];
+  halted = false;
+}
+
+abbrev pub hosted : Standing → Host → Standing
+hosted s host = record s { host = host }
 
 abbrev pub state_of : Standing → ℕ → State
 state_of s count =

@@ -1,12 +1,12 @@
 //! What each call of a module begins with, made once.
 
 ghost use Rattle.std.specs.Prelude.{◌≡◌, IfOk};
-ghost use Rattle.interp.specs.inside.Begun.{AreInitial, AreReset, HasStartRoom, room_in};
+ghost use Rattle.interp.specs.inside.Begun.{AreInitial, HasStartRoom, IsReset};
 
-use crate::buffers::Buffers;
 use crate::globals::Globals;
 use crate::memory::Memory;
 use crate::start::initial::{initial_cells, write_memory};
+use crate::walk::Walk;
 use bounded_profile::Verified;
 use std::alloc::{AllocError, Global};
 use std::marker::Model;
@@ -52,13 +52,6 @@ impl<'a> Image<'a> {
         })
     }
 
-    /// Returns the module.
-    pub fn verified(&self) -> &'a Verified
-        ensures { result.now ≡ self.now }
-    {
-        self.verified
-    }
-
     /// Returns the globals that each call begins with.
     pub fn globals(&self) -> &Globals
         ensures { AreInitial self.now.globals result.now }
@@ -66,18 +59,18 @@ impl<'a> Image<'a> {
         &self.globals
     }
 
-    /// Resets the buffers to what a call of the function begins with. It takes time by the locals of the function, by
-    /// the globals that the last call set, and by the kept bytes.
-    pub fn reset(&self, function: &Function, buffers: &mut Buffers<'a>)
-        requires { HasStartRoom self.now function.now (room_in buffers.old) }
-        ensures laid { AreReset self.now function.now buffers.new }
-        ensures room { room_in buffers.new ≡ room_in buffers.old }
+    /// Resets the walk to where a call of the function begins. It takes time by the locals of the function, by the
+    /// globals that the last call set, and by the kept bytes.
+    pub fn reset(&self, function: &Function, walk: &mut Walk<'a>)
+        requires { HasStartRoom self.now function.now walk.old.room }
+        ensures reset { IsReset self.now function.now walk.new }
+        ensures room { walk.new.room ≡ walk.old.room }
     {
-        buffers.entries.clear();
-        buffers.operands.clear();
-        buffers.locals.clear();
-        buffers.locals.add(function.locals.as_slice());
-        buffers.globals.renew();
-        buffers.memory.copy_from(&self.memory);
+        walk.entries.clear();
+        walk.operands.clear();
+        walk.locals.clear();
+        walk.locals.add(function.locals.as_slice());
+        walk.globals.renew();
+        walk.memory.copy_from(&self.memory);
     }
 }

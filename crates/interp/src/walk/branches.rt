@@ -19,7 +19,7 @@ use crate::operands::Operands;
 use crate::walk::{Turn, Walk};
 use wasm_ast::{Branch, Instr};
 
-impl<'a, 'b> Walk<'a, 'b> {
+impl<'a> Walk<'a> {
     /// Takes a branch.
     #[inline]
     pub fn branch(&mut self, branch: &Branch, code: &'a [Instr], count: u128) -> Turn<'a>
@@ -67,6 +67,7 @@ impl<'a, 'b> Walk<'a, 'b> {
     }
 
     /// Jumps to a label.
+    #[inline(always)]
     fn jump(&mut self, label: u32, count: u128) -> Turn<'a>
         requires spare { HasOperandRoom self.old }
         requires goes { goes_on (cell_branch (branches.Br label)) end count self.old ≡ true }

@@ -15,7 +15,7 @@ use crate::program::{Callee, Program};
 use crate::walk::{Turn, Walk};
 use wasm_ast::{FuncType, Function, Instr};
 
-impl<'a, 'b> Walk<'a, 'b> {
+impl<'a> Walk<'a> {
     /// Calls the function with this number, which is not one of the host's.
     pub fn call(
         &mut self,

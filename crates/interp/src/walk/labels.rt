@@ -14,7 +14,7 @@ use crate::control_entry::{ControlEntry, Form, pop_entry, push_entry};
 use crate::walk::{Turn, Walk};
 use wasm_ast::{Body, Instr};
 
-impl<'a, 'b> Walk<'a, 'b> {
+impl<'a> Walk<'a> {
     /// Goes on at the innermost label or frame, with an operand. The label of a loop stays: there the walk has already
     /// entered the loop's body again.
     #[inline(always)]

@@ -8,8 +8,8 @@ use Rattle.interp.specs.inside.Begun.{AreInitial}
 use Rattle.interp.proofs.Resetting.{on_ok}
 use Rattle.interp.proofs.scratch.make_room.Goals as goal
 
-pub returns-clause-room : goal.returns-clause-room
-returns-clause-room c =
+pub returns : goal.returns
+returns c =
     let initial = subst (λ (m : Module). AreInitial m.globals c.globals.result.now) c.requires c.globals.ensures in
     let frames = c.max_frames-frames.result in
     let entries : most_entries frames < vec_capacity c.reserve.new.self = search rules in

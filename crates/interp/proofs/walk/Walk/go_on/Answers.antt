@@ -1,7 +1,7 @@
 use Rattle.std.proofs.Common.{◌≡◌, length, reverse, sym, ap, ◌∙◌, subst, arith}
 use Rattle.wasm_ast.specs.View.{code_of}
 use Rattle.interp.specs.inside.Meaning.{entries_of, standing_of}
-use Rattle.interp.specs.inside.Place.{at}
+use Rattle.interp.specs.inside.Place.{at, hosted}
 use Rattle.interp.specs.inside.Straight.{amid, spot}
 use Rattle.interp.specs.inside.Walk.{Follows, SendsFrom}
 use Rattle.interp.proofs.Sending.{on_any}
@@ -17,7 +17,7 @@ go_straight-requires-clause-leads c =
     let under = beneath_is (reverse a.entries.items) a.operands.below.values a.locals.below.values c.self.invariant in
     record {
       entries = (standing_of a).entries;
-      leads = record { from = d.from; follows = subst (λ t. Follows m d.from (at t (code_of c.args.code.now) c.args.count)) (sym c.self.view_is) d.follows; ends = d.ends };
+      leads = record { from = d.from; follows = subst (λ t. Follows m d.from (at (hosted t c.args.host.now) (code_of c.args.code.now) c.args.count)) (sym c.self.view_is) d.follows; ends = d.ends };
       low = λ n. let few = (c.requires.leads.low n).few_operands in omega (arith, few, same, under);
     }
 
@@ -31,7 +31,7 @@ returns-clause-passes c =
     let ls : entries_of rs a.operands.below.values a.locals.below.values ≡ entries_of rs g.new.operands.below.values g.new.locals.below.values =
     ap (λ b. entries_of rs b.values a.locals.below.values) (sym c.in_ok-stop.ensures.below) ∙ ap (λ b. entries_of rs g.new.operands.below.values b.values) (sym c.in_ok-stop.ensures.locals_below) in
     λ from follows ends.
-    let here = subst (λ t. Follows m from (at t (code_of c.args.code.now) c.args.count)) (sym c.self.view_is) follows in
+    let here = subst (λ t. Follows m from (at (hosted t c.args.host.now) (code_of c.args.code.now) c.args.count)) (sym c.self.view_is) follows in
     subst (λ l. Follows m from (amid (spot g.new.operands.here (code_of stop.code.now) g.new.locals.here g.new.globals.here g.new.bytes g.new.host stop.count) l)) ls (c.in_ok-stop.ensures.passes (standing_of a).entries from here ends)
 
 pub returns-clause-closer : goal.returns-clause-closer
@@ -47,7 +47,7 @@ returns-clause-closer c =
 pub returns-in_err-stop-clause-sends : goal.returns-in_err-stop-clause-sends
 returns-in_err-stop-clause-sends c =
     let m = c.args.program.module.now in
-    let all : SendsFrom m (at c.args.self.now (code_of c.args.code.now) c.args.count) c.args.most = λ from follows ends.
-    let here = subst (λ t. Follows m from (at t (code_of c.args.code.now) c.args.count)) (sym c.self.view_is) follows in
+    let all : SendsFrom m (at (hosted c.args.self.now c.args.host.now) (code_of c.args.code.now) c.args.count) c.args.most = λ from follows ends.
+    let here = subst (λ t. Follows m from (at (hosted t c.args.host.now) (code_of c.args.code.now) c.args.count)) (sym c.self.view_is) follows in
     c.in_err-stop.ensures.sends (standing_of c.self.inside).entries from here ends in
     on_any _ _ all

@@ -62,7 +62,7 @@ capped_sum a b = omega arith
 
 -- What one more part has goes behind the others.
 pub record HasMore (old new : Gathered) (units : ℕ) (vertices : List VertexState) (letters : List Letter) (given : List ℤ) : Type 0 where
-  pub more_vertices : map vec_items new.vertices.items ≡ map vec_items old.vertices.items ++ vertices ∷ []
+  pub more_vertices : new.vertices.items ≡ old.vertices.items ++ vertices ∷ []
   pub more_letters : map vec_items new.letters.items ≡ map vec_items old.letters.items ++ letters ∷ []
   pub more_slots : new.slots ≡ united old.slots given
   pub more_units : new.units ≡ capped (old.units + units)
@@ -102,7 +102,7 @@ gathered_none work honest gathered no_vertices no_letters slots units = record {
   parts = [];
   stamps = refl;
   each = tt;
-  vertices = ap (map vec_items) no_vertices;
+  vertices = no_vertices;
   letters = subst (λ xs. IsPermutation [] (joined (map vec_items xs))) (sym no_letters) (IsPermutation-refl []);
   slots = slots;
   units = units;

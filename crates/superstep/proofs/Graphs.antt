@@ -1,13 +1,18 @@
 -- A job's graph, by its parts.
-use Rattle.std.proofs.Common.{◌≡◌, ◌^◌, ℕ, ◌+◌, ◌<◌, ◌≤◌, ◌∙◌, List, [], ◌∷◌, ◌++◌, Global, Vec, vec_items, None, ap, arith, get_or, length, map, rules, sym, take}
-use Rattle.std.specs.List.Sorted.{IsPermutation}
+use Rattle.std.proofs.Common.{◌≡◌, ◌^◌, Bool, ℕ, ◌+◌, ◌<◌, ◌≤◌, ◌∙◌, List, [], ◌∷◌, ◌++◌, Global, Vec, vec_items, None, ap, arith, eqb, filter, get_or, length, map, rules, subst, sym, take, ◌%◌}
+use Rattle.std.specs.List.{All, AllByRecursion, range_with_len}
+use Rattle.std.specs.List.Sorted.{IsPermutation, IsStrictlyIncreasing}
+use Rattle.std.specs.Ordering.{nat_cmp}
 use Rattle.std.proofs.lemmas.List.{length-map, map-append, take_more}
+use Rattle.std.proofs.lemmas.List.Elements.{All-from_recursion}
+use Rattle.std.proofs.lemmas.List.Kept.{IsStrictlySortedBy-filter}
 use Rattle.std.proofs.lemmas.List.Sorted.{IsPermutation-sym, IsPermutation-trans}
+use Rattle.std.proofs.lemmas.Map.Keys.{IsStrictlyIncreasing-from_sorted, sorted_from_strictly_increasing}
 use Rattle.graph.proofs.Vertices.{ids_entries}
 use Rattle.graph.specs.Entry.{Entry, FitsLimits, id_at, ids, vertex_id}
 use Rattle.graph.specs.Parts.{part_entries}
 use Rattle.graph.specs.declared.parts.Part.{Part}
-use Rattle.graph.specs.Partition.{joined, parts_by}
+use Rattle.graph.specs.Partition.{joined, part_by, parts_by}
 use Rattle.graph.specs.inside.Partitioned.{parts_by-map, parts_whole}
 use Rattle.graph.specs.inside.Rising.{rising_same}
 use Rattle.superstep.specs.Job.{IsGraphOf, Work}
@@ -42,6 +47,27 @@ few_states graph vertices limits same =
 
 ids_by_part : (work : Work) (graph : List Entry) → IsGraphOf work graph → map ids work.parts ≡ parts_by (λ n. n) work.settings.parts (ids graph)
 ids_by_part work graph is = ap (map ids) is.parts ∙ parts_by-map id_at (λ n. n) work.settings.parts graph
+
+rising_filter : (p : ℕ → Bool) (xs : List ℕ) → IsStrictlyIncreasing xs → IsStrictlyIncreasing (filter p xs)
+rising_filter p xs up =
+    IsStrictlyIncreasing-from_sorted (filter p xs) (IsStrictlySortedBy-filter nat_cmp p xs (sorted_from_strictly_increasing xs up))
+
+parts_rise : (count : ℕ) (xs parts : List ℕ) → IsStrictlyIncreasing xs → AllByRecursion IsStrictlyIncreasing (map (part_by (λ n. n) count xs) parts)
+parts_rise count xs [] up = tt
+parts_rise count xs (part ∷ parts) up = (rising_filter (λ n. eqb (n % count) part) xs up, parts_rise count xs parts up)
+
+each_rises : (lists : List (Vec ℕ Global)) → AllByRecursion IsStrictlyIncreasing (map vec_items lists) → AllByRecursion (λ list. IsStrictlyIncreasing list.items) lists
+each_rises [] all = tt
+each_rises (list ∷ lists) all = (all.0, each_rises lists all.1)
+
+-- the ids of each part rise
+pub ids_rise : (work : Work) (graph : List Entry) (numbers : List (Vec ℕ Global)) → IsGraphOf work graph → map vec_items numbers ≡ map ids work.parts
+    → All (λ list. IsStrictlyIncreasing list.items) numbers
+ids_rise work graph numbers is same =
+    All-from_recursion (λ (list : Vec ℕ Global). IsStrictlyIncreasing list.items) numbers
+    (each_rises numbers
+    (subst (λ (lists : List (List ℕ)). AllByRecursion IsStrictlyIncreasing lists) (sym (same ∙ ids_by_part work graph is))
+    (parts_rise work.settings.parts (ids graph) (range_with_len 0 work.settings.parts) is.proper.rising)))
 
 -- vertices that lie as those of the job's parts lie in the parts that they belong to
 pub lie_in_parts : (work : Work) (graph : List Entry) (parts : List (List VertexState)) → IsGraphOf work graph → map (map state_id) parts ≡ map ids work.parts

@@ -1,8 +1,12 @@
 pub mod Aggregating
 pub mod Delivering
+pub mod DueFound
+pub mod DueRows
+pub mod DueRuns
 pub mod Firsts
 pub mod Gathering
 pub mod Graphs
+pub mod Handing
 pub mod Letters
 pub mod NextState
 pub mod Ordering

@@ -50,7 +50,7 @@ parts_filled inbox (left ∷ lefts) =
     ∙ ap (λ rest. map (closed inbox) left ∷ rest) (parts_filled inbox lefts)
 
 -- there is an inbox for each vertex
-along : (inbox : ℕ → List ℤ) (lefts : List (List VertexOutcome)) → map length (map (map emptied) lefts) ≡ map length (map (λ left. map inbox (left_ids left)) lefts)
+pub along : (inbox : ℕ → List ℤ) (lefts : List (List VertexOutcome)) → map length (map (map emptied) lefts) ≡ map length (map (λ left. map inbox (left_ids left)) lefts)
 along inbox [] = refl
 along inbox (left ∷ lefts) =
     let own : length (map emptied left) ≡ length (map inbox (left_ids left)) =
@@ -191,6 +191,10 @@ module _ (work now : Work) (honest : Bool) (totals : Totals) (dones : List DoneS
       is_spread work honest totals.superstep dones gathered numbers ready.graph.0 own_some own_graph ready.parts own_row
       (own ∙ ap (λ (of : Work). map ids of.parts) (sym ready.job))
 
+  -- the vertices as they left themselves
+  pub all_left_empty : gathered.vertices.items ≡ map (map emptied) lefts
+  all_left_empty = ready.parts.vertices ∙ sym (map-map (map emptied) part_left ready.parts.parts)
+
   lies : IsSpread (map ids now.parts) (map vec_items gathered.letters.items) lefts all
   lies = spreads (map ids now.parts) refl
 
@@ -198,14 +202,14 @@ module _ (work now : Work) (honest : Bool) (totals : Totals) (dones : List DoneS
   pub record IsMade (found : List (List (List ℤ))) (lost : ℕ) (parts : List (List VertexState)) (later : Totals) : Type 0 where
     pub inboxes : found ≡ map (λ left. map (messages_to (outcomes_in all)) (left_ids left)) lefts
     pub dropped : lost ≡ sum_by (dropped_by (left_ids all)) (outcomes_in all)
-    pub fills : map length (map vec_items gathered.vertices.items) ≡ map length found → parts ≡ all_filled (map vec_items gathered.vertices.items) found
+    pub fills : map length gathered.vertices.items ≡ map length found → parts ≡ all_filled gathered.vertices.items found
     pub follows : Follows gathered.units lost totals later
 
   module _ (found : List (List (List ℤ))) (lost : ℕ) (parts : List (List VertexState)) (later : Totals) (made : IsMade found lost parts later) where
     -- the vertices of each part, each with its inbox
     are_closed : parts ≡ map (map (closed (messages_to (outcomes_in all)))) lefts
     are_closed =
-        let left : map vec_items gathered.vertices.items ≡ map (map emptied) lefts = ready.parts.vertices ∙ sym (map-map (map emptied) part_left ready.parts.parts) in
+        let left = all_left_empty in
         let each = ap (map length) left ∙ along (messages_to (outcomes_in all)) lefts ∙ sym (ap (map length) made.inboxes) in
         made.fills each ∙ (λ i. all_filled (left i) (made.inboxes i)) ∙ parts_filled (messages_to (outcomes_in all)) lefts
 

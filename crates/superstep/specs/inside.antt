@@ -1,5 +1,8 @@
 pub mod Barrier
 pub mod Codes
+pub mod DueRows
+pub mod DueRuns
+pub mod Handed
 pub mod PartOutput
 pub mod Opening
 pub mod OneMachine

@@ -1,25 +1,31 @@
 //! The barrier between two supersteps (Pregel 2010, 2), which makes the next state of the results of all parts.
 
-ghost use Rattle.std.specs.Prelude.{◌≡◌, ◌<◌, ◌++◌, ◌∷◌, [], suc, true, List, length, map, vec_items, IfOk, OnOk};
-ghost use Rattle.std.specs.List.{sum_by};
+ghost use Rattle.std.specs.Prelude.{◌≡◌, ◌<◌, ◌++◌, ◌∷◌, [], suc, true, ℕ, ℤ, All, List, length, map, nat_eq, vec_items, IfOk, OnOk};
+ghost use Rattle.std.specs.List.{AllByRecursion, IsDistinct, sum_by};
+ghost use Rattle.std.specs.List.Sorted.{IsStrictlyIncreasing};
+ghost use Rattle.inbox.specs.declared.letters.Letter.{Letter as AnyLetter};
+ghost use Rattle.inbox.specs.Arrivals.{arrivals_from};
+ghost use Rattle.inbox.specs.Merging.{IsBySource, all_of, are_one, dropped_of, inbox_of};
 ghost use Rattle.superstep.specs.Job.{Meaning};
 ghost use Rattle.superstep.specs.State.{HasIdsOf, IsStateAt};
 ghost use Rattle.superstep.specs.Superstep.{dropped_by, messages_to};
-ghost use Rattle.superstep.specs.Tasks.{DoneStamp, IsRow, VertexOutcome, outcomes_in};
+ghost use Rattle.superstep.specs.Tasks.{DoneStamp, IsRow, VertexOutcome, emptied, outcomes_in};
 ghost use Rattle.superstep.specs.Totals.{AreTotals, AreTotalsOf};
 ghost use Rattle.superstep.specs.inside.Barrier.{IsGathered, IsSpread, all_filled, filled, left_ids};
+ghost use Rattle.superstep.specs.inside.Handed.{HasNoInbox};
 ghost use Rattle.superstep.specs.inside.Uniting.{united};
 
 use crate::job::Job;
 use crate::part_output::combined;
+use crate::part_states::PartStates;
 use crate::slice::Origin;
-use crate::state::{State, VertexState};
+use crate::state::State;
 use crate::task::Done;
 use crate::totals::Totals;
 use host_calls::aggregator_starts;
 use inbox::{
-    Inbox, Letter, drops_add_up_over_sources, inboxes_are_concatenated_by_source,
-    letters_drop_alike_in_any_order, letters_keep_their_order_in_any_lists, merge_parts,
+    Arrival, Inbox, Letter, drops_add_up_over_sources, inboxes_are_concatenated_by_source,
+    letters_drop_alike_in_any_order, letters_keep_their_order_in_any_lists, merge_few, merge_parts,
     sources_send_in_any_order,
 };
 use rayon::prelude::*;
@@ -56,8 +62,7 @@ pub fn barrier<J: Origin>(
         slots,
         units,
     } = gather(alloc, job.settings().parts, dones)?;
-    let (inboxes, dropped) = delivered(rt, alloc, &letters, job.ids())?;
-    let parts = all_filled(rt, alloc, vertices, inboxes)?;
+    let (parts, dropped) = handed_out(rt, alloc, vertices, &letters, job.ids())?;
     let totals = totals.after(units, dropped)?;
     Ok(State::of_parts(totals, slots, parts))
 }
@@ -65,7 +70,7 @@ pub fn barrier<J: Origin>(
 // The results of all parts: the vertices and the letters of each, and the slots and the units of all.
 #[derive(Drop)]
 struct Gathered {
-    vertices: Vec<Vec<VertexState>>,
+    vertices: Vec<PartStates>,
     letters: Vec<Vec<Letter>>,
     slots: [i64; 8],
     units: u128,
@@ -118,6 +123,73 @@ fn unite(slots: &mut [i64; 8], given: &[i64; 8])
     }
 }
 
+// Gives the vertices of all parts the inboxes that these letters make, and counts the letters that go to no vertex.
+fn handed_out(
+    rt: &(impl Threads + Sync),
+    alloc: Global,
+    vertices: Vec<PartStates>,
+    letters: &[Vec<Letter>],
+    ids: &[Vec<u64>],
+) -> Result<(Vec<PartStates>, u128), AllocError>
+    requires spread { (lefts : List (List VertexOutcome)) × (ordered : List VertexOutcome)
+        × IsSpread (map vec_items ids.now) (map vec_items letters.now) lefts ordered
+        × (vertices.items ≡ map (map emptied) lefts) }
+    requires rising { All (λ part. IsStrictlyIncreasing part.items) ids.now }
+    ensures parts { IfOk result (λ out. (lefts : List (List VertexOutcome)) (ordered : List VertexOutcome)
+        → IsSpread (map vec_items ids.now) (map vec_items letters.now) lefts ordered
+        → vertices.items ≡ map (map emptied) lefts
+        → out.0.items ≡ all_filled vertices.items
+        (map (λ left. map (messages_to (outcomes_in ordered)) (left_ids left)) lefts)) }
+    ensures dropped { IfOk result (λ out. (lefts : List (List VertexOutcome)) (ordered : List VertexOutcome)
+        → IsSpread (map vec_items ids.now) (map vec_items letters.now) lefts ordered
+        → out.1 ≡ sum_by (dropped_by (left_ids ordered)) (outcomes_in ordered)) }
+{
+    if are_few(letters, &vertices) {
+        let (arrivals, dropped) = few_delivered(alloc, letters, ids)?;
+        let parts = all_handed(rt, alloc, vertices, arrivals)?;
+        return Ok((parts, dropped));
+    }
+    let (inboxes, dropped) = delivered(rt, alloc, letters, ids)?;
+    let parts = all_filled(rt, alloc, vertices, inboxes)?;
+    Ok((parts, dropped))
+}
+
+// The least number of vertices for each letter and part, where letters are few: looking up their targets in every part costs
+// less than going over all vertices.
+const FEW: usize = 8;
+
+// Checks that there are few letters for so many vertices.
+fn are_few(letters: &[Vec<Letter>], parts: &[PartStates]) -> bool {
+    let count = letters
+        .iter()
+        .fold(0usize, |count, list| count.saturating_add(list.len()));
+    count.saturating_mul(parts.len()).saturating_mul(FEW) < vertex_count(parts)
+}
+
+// Shows where these letters go and in which order.
+fn letters_are_spread(letters: &[Vec<Letter>], ids: &[Vec<u64>])
+    ensures apart { (lefts : List (List VertexOutcome)) (ordered : List VertexOutcome)
+        → IsSpread (map vec_items ids.now) (map vec_items letters.now) lefts ordered
+        → IsDistinct nat_eq (all_of ids.now) }
+    ensures distinct { (lefts : List (List VertexOutcome)) (ordered : List VertexOutcome)
+        → IsSpread (map vec_items ids.now) (map vec_items letters.now) lefts ordered
+        → IsDistinct are_one (all_of letters.now) }
+    ensures sent { (lefts : List (List VertexOutcome)) (ordered : List VertexOutcome)
+        → IsSpread (map vec_items ids.now) (map vec_items letters.now) lefts ordered
+        → (sent : List AnyLetter) × IsBySource (all_of letters.now) sent
+        × ((id : ℕ) → inbox_of sent id ≡ messages_to (outcomes_in ordered) id) }
+    ensures dropped { (lefts : List (List VertexOutcome)) (ordered : List VertexOutcome)
+        → IsSpread (map vec_items ids.now) (map vec_items letters.now) lefts ordered
+        → dropped_of (all_of letters.now) (all_of ids.now)
+        ≡ sum_by (dropped_by (left_ids ordered)) (outcomes_in ordered) }
+{
+    sources_send_in_any_order();
+    letters_keep_their_order_in_any_lists();
+    letters_drop_alike_in_any_order();
+    inboxes_are_concatenated_by_source();
+    drops_add_up_over_sources();
+}
+
 // Makes the inboxes of each part's vertices, and counts the letters that go to no vertex.
 fn delivered(
     rt: &(impl Threads + Sync),
@@ -135,23 +207,44 @@ fn delivered(
         → IsSpread (map vec_items ids.now) (map vec_items letters.now) lefts ordered
         → merged.1 ≡ sum_by (dropped_by (left_ids ordered)) (outcomes_in ordered)) }
 {
-    sources_send_in_any_order();
-    letters_keep_their_order_in_any_lists();
-    letters_drop_alike_in_any_order();
-    inboxes_are_concatenated_by_source();
-    drops_add_up_over_sources();
+    letters_are_spread(letters, ids);
     merge_parts(rt, alloc, letters, ids)
+}
+
+// Makes those inboxes of each part's vertices that get messages, and counts the letters that go to no vertex.
+fn few_delivered(
+    alloc: Global,
+    letters: &[Vec<Letter>],
+    ids: &[Vec<u64>],
+) -> Result<(Vec<Vec<Arrival>>, u128), AllocError>
+    requires spread { (lefts : List (List VertexOutcome)) × (ordered : List VertexOutcome)
+        × IsSpread (map vec_items ids.now) (map vec_items letters.now) lefts ordered }
+    requires rising { All (λ part. IsStrictlyIncreasing part.items) ids.now }
+    ensures arrivals { IfOk result (λ merged. (lefts : List (List VertexOutcome)) (ordered : List VertexOutcome)
+        → IsSpread (map vec_items ids.now) (map vec_items letters.now) lefts ordered
+        → map vec_items merged.0.items
+        ≡ map (arrivals_from 0) (map (λ left. map (messages_to (outcomes_in ordered)) (left_ids left)) lefts)) }
+    ensures dropped { IfOk result (λ merged. (lefts : List (List VertexOutcome)) (ordered : List VertexOutcome)
+        → IsSpread (map vec_items ids.now) (map vec_items letters.now) lefts ordered
+        → merged.1 ≡ sum_by (dropped_by (left_ids ordered)) (outcomes_in ordered)) }
+{
+    letters_are_spread(letters, ids);
+    merge_few(alloc, letters, ids)
 }
 
 // The least number of vertices that is worth threads.
 const LEAST_VERTICES: usize = 10_000;
 
+// Returns the number of vertices of all parts. It stops at the greatest number.
+fn vertex_count(parts: &[PartStates]) -> usize {
+    parts.iter().fold(0usize, |count, part| {
+        count.saturating_add(part.as_slice().len())
+    })
+}
+
 // Returns the least number of parts that is worth a thread: one, or too many to have threads where there are few vertices.
-fn least_parts(parts: &[Vec<VertexState>]) -> usize {
-    let vertices = parts
-        .iter()
-        .fold(0usize, |count, part| count.saturating_add(part.len()));
-    if vertices < LEAST_VERTICES {
+fn least_parts(parts: &[PartStates]) -> usize {
+    if vertex_count(parts) < LEAST_VERTICES {
         usize::MAX
     } else {
         1
@@ -162,44 +255,56 @@ fn least_parts(parts: &[Vec<VertexState>]) -> usize {
 fn all_filled(
     rt: &(impl Threads + Sync),
     alloc: Global,
-    vertices: Vec<Vec<VertexState>>,
+    vertices: Vec<PartStates>,
     inboxes: Vec<Vec<Inbox>>,
-) -> Result<Vec<Vec<VertexState>>, AllocError>
-    ensures { IfOk result (λ parts. map length (map vec_items vertices.items)
+) -> Result<Vec<PartStates>, AllocError>
+    ensures { IfOk result (λ parts. map length vertices.items
         ≡ map length (map vec_items inboxes.items)
-        → map vec_items parts.items
-        ≡ all_filled (map vec_items vertices.items) (map vec_items inboxes.items)) }
+        → parts.items ≡ all_filled vertices.items (map vec_items inboxes.items)) }
 {
     let least = least_parts(&vertices);
-    let pairs: Vec<(Vec<VertexState>, Vec<Inbox>)> = vertices
-        .into_iter()
-        .zip(inboxes)
-        .collect(alloc)?;
+    let pairs: Vec<(PartStates, Vec<Inbox>)> = vertices.into_iter().zip(inboxes).collect(alloc)?;
     pairs
         .into_par_iter()
         .with_min_len(least)
         .map(
-            |pair: (Vec<VertexState>, Vec<Inbox>)| -> Vec<VertexState>
-                ensures { length pair.0.items ≡ length pair.1.items
-                    → result.items ≡ filled (pair.0.items, pair.1.items) }
+            |pair: (PartStates, Vec<Inbox>)| -> Result<PartStates, AllocError>
+                ensures { IfOk result (λ part. length pair.0 ≡ length pair.1.items
+                    → part ≡ filled (pair.0, pair.1.items)) }
             {
                 let (vertices, inboxes) = pair;
-                filled(vertices, inboxes)
+                vertices.filled(alloc, inboxes)
             },
         )
-        .collect(rt, alloc)
+        .collect::<Result<Vec<PartStates>, AllocError>>(rt, alloc)?
 }
 
-// Gives the vertices of a part their inboxes, of which there is one for each. The vertices are changed in place.
-fn filled(mut vertices: Vec<VertexState>, inboxes: Vec<Inbox>) -> Vec<VertexState>
-    ensures { length vertices.items ≡ length inboxes.items
-        → result.items ≡ filled (vertices.items, inboxes.items) }
+// Gives the inboxes that are not empty to the vertices of each part. All vertices have empty ones.
+fn all_handed(
+    rt: &(impl Threads + Sync),
+    alloc: Global,
+    vertices: Vec<PartStates>,
+    arrivals: Vec<Vec<Arrival>>,
+) -> Result<Vec<PartStates>, AllocError>
+    ensures { IfOk result (λ parts. (inboxes : List (List (List ℤ)))
+        → map vec_items arrivals.items ≡ map (arrivals_from 0) inboxes
+        → map length vertices.items ≡ map length inboxes
+        → AllByRecursion (AllByRecursion HasNoInbox) vertices.items
+        → parts.items ≡ all_filled vertices.items inboxes) }
 {
-    let mut inboxes = inboxes.into_iter();
-    for vertex in vertices.iter_mut() {
-        if let Some(inbox) = inboxes.next() {
-            vertex.fill(inbox);
-        }
-    }
-    vertices
+    let pairs: Vec<(PartStates, Vec<Arrival>)> = vertices.into_iter().zip(arrivals).collect(alloc)?;
+    pairs
+        .into_par_iter()
+        .with_min_len(usize::MAX)
+        .map(
+            |pair: (PartStates, Vec<Arrival>)| -> Result<PartStates, AllocError>
+                ensures { IfOk result (λ part. (inboxes : List (List ℤ))
+                    → pair.1.items ≡ arrivals_from 0 inboxes → length pair.0 ≡ length inboxes
+                    → AllByRecursion HasNoInbox pair.0 → part ≡ filled (pair.0, inboxes)) }
+            {
+                let (vertices, arrivals) = pair;
+                vertices.handed(arrivals)
+            },
+        )
+        .collect::<Result<Vec<PartStates>, AllocError>>(rt, alloc)?
 }

@@ -3,6 +3,7 @@
 ghost use Rattle.std.specs.Prelude.{◌≡◌};
 ghost use Rattle.std.specs.List.{fold};
 ghost use Rattle.superstep.specs.Found.{nothing_found, with_vertex};
+ghost use Rattle.superstep.specs.inside.DueRows.{due_rows};
 
 use crate::state::{VertexState, is_due};
 
@@ -15,16 +16,17 @@ pub struct Found {
     pub received: u64,
 }
 
-/// What these vertices are found to have.
-pub fn found_in(vertices: &[VertexState]) -> Found
+/// What these vertices are found to have. `due` has the rows of those that are due.
+pub fn found_in(vertices: &[VertexState], due: &[usize]) -> Found
+    requires { due.now ≡ due_rows 0 vertices.now }
     ensures { result ≡ fold with_vertex nothing_found vertices.now }
 {
     let mut found = Found {
         called: 0,
         received: 0,
     };
-    for vertex in vertices {
-        found = with_vertex(found, vertex);
+    for row in due {
+        found = with_vertex(found, &vertices[*row]);
     }
     found
 }

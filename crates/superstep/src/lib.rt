@@ -13,6 +13,7 @@ mod fault;
 mod found;
 mod job;
 mod part_output;
+mod part_states;
 mod plain_run;
 mod settings;
 mod slice;

@@ -1,6 +1,6 @@
 //! Slices: the parts of a state, which move to workers.
 
-ghost use Rattle.std.specs.Prelude.{◌≡◌, ◌≤◌, true, length, map, vec_items, IfOk};
+ghost use Rattle.std.specs.Prelude.{◌≡◌, ◌≤◌, true, length, IfOk};
 ghost use Rattle.superstep.specs.Job.{Work};
 ghost use Rattle.superstep.specs.State.{HasIdsOf, IsStateAt};
 ghost use Rattle.superstep.specs.Tasks.{stamps_of};
@@ -8,7 +8,8 @@ ghost use Rattle.superstep.specs.Totals.{AreTotals, AreTotalsOf, IsTotalsOf};
 ghost use Rattle.superstep.specs.inside.Rows.{AreSlices};
 
 use crate::job::Job;
-use crate::state::{State, VertexState};
+use crate::part_states::PartStates;
+use crate::state::State;
 use crate::totals::Totals;
 use std::alloc::{AllocError, Global};
 use std::marker::{Brand, Model, PhantomData};
@@ -43,7 +44,7 @@ impl Origin for Brand {
 pub struct Slice<J: Origin> {
     pub(crate) part: u32,
     pub(crate) superstep: u32,
-    pub(crate) vertices: Vec<VertexState>,
+    pub(crate) vertices: PartStates,
     pub(crate) origin: PhantomData<J>,
 }
 
@@ -55,7 +56,7 @@ impl<J: Origin> Model for Slice<J> {
     ghost view = { λ slice. record { superstep = slice.superstep; part = slice.part } };
 
     ghost invariant = { λ slice. IsSlice J.work J.honest
-        (record { superstep = slice.superstep; part = slice.part }) slice.vertices.items };
+        (record { superstep = slice.superstep; part = slice.part }) slice.vertices };
 }
 
 impl<J: Origin> Slice<J> {
@@ -129,10 +130,10 @@ pub fn slices<J: Origin>(
 fn label<J: Origin>(
     alloc: Global,
     superstep: u32,
-    cut: Vec<Vec<VertexState>>,
+    cut: Vec<PartStates>,
 ) -> Result<Vec<Slice<J>>, AllocError>
     requires few { length cut.items ≤ 256 }
-    requires parts { AreSlices J.work J.honest superstep (map vec_items cut.items) }
+    requires parts { AreSlices J.work J.honest superstep cut.items }
     ensures { IfOk result (λ slices. slices.items ≡ stamps_of superstep (length cut.items)) }
 {
     let mut slices = Vec::with_capacity(alloc, cut.len())?;

@@ -1,7 +1,6 @@
 //! States of a job between two supersteps.
 
-ghost use Rattle.std.specs.Prelude.{◌≡◌, ◌<◌, IfOk, length, map, not, vec_items};
-ghost use Rattle.std.specs.List.{list_any};
+ghost use Rattle.std.specs.Prelude.{◌≡◌, ◌<◌, IfOk, length, map, vec_items};
 ghost use Rattle.std.specs.List.Sorted.{IsStrictlyIncreasing};
 ghost use Rattle.graph.specs.Partition.{joined, parts_by};
 ghost use Rattle.graph.specs.Entry.{entry_of};
@@ -12,6 +11,7 @@ ghost use Rattle.superstep.specs.inside.Barrier.{with_inbox};
 ghost use Rattle.superstep.specs.inside.Rows.{IsKept, first_state, first_states};
 
 use crate::job::Job;
+use crate::part_states::PartStates;
 use crate::totals::Totals;
 use graph::{Identified, Part, Vertex, cut_by_id, merge_by_id};
 use host_calls::aggregator_starts;
@@ -59,11 +59,10 @@ pub struct State {
     units: u128,
     dropped: u128,
     aggregates: [i64; 8],
-    parts: Vec<Vec<VertexState>>,
+    parts: Vec<PartStates>,
 }
 
 impl Model for State {
-    ghost use Rattle.std.specs.Prelude.{map, vec_items};
     ghost use Rattle.superstep.specs.State.{Standing, in_order};
     ghost use Rattle.superstep.specs.inside.Rows.{IsKept};
 
@@ -76,7 +75,7 @@ impl Model for State {
       units = state.units;
       dropped = state.dropped;
       aggregates = state.aggregates;
-      vertices = in_order (map vec_items state.parts.items);
+      vertices = in_order state.parts.items;
     } };
 
     ghost invariant = { λ state. IsKept (record {
@@ -86,8 +85,8 @@ impl Model for State {
       units = state.units;
       dropped = state.dropped;
       aggregates = state.aggregates;
-      vertices = in_order (map vec_items state.parts.items);
-    }) (map vec_items state.parts.items) };
+      vertices = in_order state.parts.items;
+    }) state.parts.items };
 }
 
 impl State {
@@ -100,7 +99,9 @@ impl State {
     {
         let mut parts = Vec::with_capacity(alloc, job.parts().len())?;
         for part in job.parts() {
-            parts.push(first_states(alloc, part)?)?;
+            let vertices = first_states(alloc, part)?;
+            let states = PartStates::of(alloc, vertices)?;
+            parts.push(states)?;
         }
         Ok(State {
             superstep: 0,
@@ -124,19 +125,16 @@ impl State {
         ensures { IfOk result (λ state. state ≡ standing_of totals aggregates vertices.items) }
     {
         let mut parts = Vec::with_capacity(alloc, 1)?;
-        parts.push(vertices)?;
+        let states = PartStates::of(alloc, vertices)?;
+        parts.push(states)?;
         Ok(State::of_parts(totals, aggregates, parts))
     }
 
     // Makes the state of these totals, aggregates and parts.
-    pub(crate) fn of_parts(
-        totals: Totals,
-        aggregates: [i64; 8],
-        parts: Vec<Vec<VertexState>>,
-    ) -> State
-        requires { IsKept (standing_of totals aggregates (in_order (map vec_items parts.items)))
-            (map vec_items parts.items) }
-        ensures { result ≡ standing_of totals aggregates (in_order (map vec_items parts.items)) }
+    pub(crate) fn of_parts(totals: Totals, aggregates: [i64; 8], parts: Vec<PartStates>) -> State
+        requires { IsKept (standing_of totals aggregates (in_order parts.items))
+            parts.items }
+        ensures { result ≡ standing_of totals aggregates (in_order parts.items) }
     {
         State {
             superstep: totals.superstep,
@@ -197,7 +195,7 @@ impl State {
         ensures { result ≡ is_settled self.now }
     {
         for part in &self.parts {
-            if !are_settled(part) {
+            if !part.is_settled() {
                 return false;
             }
         }
@@ -209,12 +207,12 @@ impl State {
         self,
         alloc: Global,
         parts: u32,
-    ) -> Result<(Totals, Vec<Vec<VertexState>>), AllocError>
+    ) -> Result<(Totals, Vec<PartStates>), AllocError>
         requires { 0 < parts }
         ensures of { IfOk result (λ cut. IsTotalsOf self cut.0) }
         ensures totals { IfOk result (λ cut. AreTotals cut.0) }
-        ensures parts { IfOk result (λ cut. map vec_items cut.1.items
-            ≡ parts_by state_id parts self.vertices) }
+        ensures parts { IfOk result (λ cut.
+            cut.1.items ≡ parts_by state_id parts self.vertices) }
     {
         let State {
             superstep,
@@ -244,7 +242,7 @@ impl State {
     {
         let mut vertices = Vec::new(alloc);
         for part in &self.parts {
-            vertices.extend(part.iter())?;
+            vertices.extend(part.as_slice().iter())?;
         }
         vertices.sort_by_cached_key(|vertex| vertex.id)?;
         Ok(vertices)
@@ -254,46 +252,47 @@ impl State {
 // Cuts the vertices of all lists into `parts` parts. They are moved, not copied.
 fn cut_anew(
     alloc: Global,
-    lists: Vec<Vec<VertexState>>,
+    lists: Vec<PartStates>,
     parts: u32,
-) -> Result<Vec<Vec<VertexState>>, AllocError>
+) -> Result<Vec<PartStates>, AllocError>
     requires some { 0 < parts }
-    requires rising { IsStrictlyIncreasing (map state_id (in_order (map vec_items lists.items))) }
-    requires lie { map vec_items lists.items ≡ parts_by state_id
-        (length (map vec_items lists.items)) (in_order (map vec_items lists.items)) }
-    ensures { IfOk result (λ cut. map vec_items cut.items
-        ≡ parts_by state_id parts (in_order (map vec_items lists.items))) }
+    requires rising { IsStrictlyIncreasing (map state_id (in_order lists.items)) }
+    requires lie { lists.items
+        ≡ parts_by state_id (length lists.items) (in_order lists.items) }
+    ensures { IfOk result (λ cut.
+        cut.items ≡ parts_by state_id parts (in_order lists.items)) }
 {
     if lists.len() == parts as usize {
         return Ok(lists);
     }
     let mut vertices = together(alloc, lists)?;
     merge_by_id(&mut vertices)?;
-    cut_by_id(alloc, vertices, parts)
+    let cut = cut_by_id(alloc, vertices, parts)?;
+    with_due(alloc, cut)
 }
 
 // Concatenates the vertices of all parts.
-fn together(alloc: Global, parts: Vec<Vec<VertexState>>) -> Result<Vec<VertexState>, AllocError>
-    ensures { IfOk result (λ vertices. vertices.items ≡ joined (map vec_items parts.items)) }
+fn together(alloc: Global, parts: Vec<PartStates>) -> Result<Vec<VertexState>, AllocError>
+    ensures { IfOk result (λ vertices. vertices.items ≡ joined parts.items) }
 {
     let mut vertices = Vec::new(alloc);
     for part in parts {
-        let mut others = part;
+        let mut others = part.into_vertices();
         vertices.append(&mut others)?;
     }
     Ok(vertices)
 }
 
-// Checks that none of the vertices will be called.
-fn are_settled(vertices: &[VertexState]) -> bool
-    ensures { result ≡ not (list_any is_due vertices.now) }
+// Finds the vertices of each part that are due.
+fn with_due(alloc: Global, cut: Vec<Vec<VertexState>>) -> Result<Vec<PartStates>, AllocError>
+    ensures { IfOk result (λ parts. parts.items ≡ map vec_items cut.items) }
 {
-    for vertex in vertices {
-        if is_due(vertex) {
-            return false;
-        }
+    let mut parts = Vec::with_capacity(alloc, cut.len())?;
+    for vertices in cut {
+        let states = PartStates::of(alloc, vertices)?;
+        parts.push(states)?;
     }
-    true
+    Ok(parts)
 }
 
 // Whether the vertex is called in the next superstep.

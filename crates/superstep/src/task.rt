@@ -5,14 +5,16 @@ ghost use Rattle.graph.specs.Entry.{entries_of, entry_of, ids};
 ghost use Rattle.superstep.specs.State.{state_id};
 ghost use Rattle.superstep.specs.Tasks.{AreAggregatesAt, AreUnitsAt};
 ghost use Rattle.superstep.specs.declared.fault.Place.TheVariants.{Call};
+ghost use Rattle.superstep.specs.inside.DueRows.{due_rows};
 ghost use Rattle.superstep.specs.inside.PartOutput.{CallsPart, CallsVertex, HasProperIds};
 
 use crate::fault::Place;
-use crate::found::{Found, found_in};
+use crate::found::Found;
 use crate::job::Job;
 use crate::part_output::PartOutput;
+use crate::part_states::PartStates;
 use crate::slice::{Origin, Slice};
-use crate::state::{VertexState, copied};
+use crate::state::VertexState;
 use bounded_profile::Verified;
 use graph::Vertex;
 use host_calls::CallInput;
@@ -81,9 +83,9 @@ impl<J: Origin> Task<J> {
         self.slice.part()
     }
 
-    /// What it finds in its part. It looks at each vertex. Nothing is claimed of it: contracts do not see the vertices.
+    /// What it finds in its part. It looks at each vertex that is called. Nothing is claimed of it: contracts do not see the vertices.
     pub fn found(&self) -> Found {
-        found_in(&self.slice.vertices)
+        self.slice.vertices.found()
     }
 }
 
@@ -94,7 +96,7 @@ pub struct Done<J: Origin> {
     pub(crate) superstep: u32,
     pub(crate) part: u32,
     pub(crate) units: u128,
-    pub(crate) vertices: Vec<VertexState>,
+    pub(crate) vertices: PartStates,
     pub(crate) letters: Vec<Letter>,
     pub(crate) slots: [i64; 8],
     pub(crate) origin: PhantomData<J>,
@@ -119,7 +121,7 @@ impl<J: Origin> Model for Done<J> {
           part = done.part;
           units = done.units;
         })
-        done.vertices.items done.letters.items done.slots };
+        done.vertices done.letters.items done.slots };
 }
 
 impl<J: Origin> Done<J> {
@@ -160,7 +162,7 @@ impl<J: Origin> Done<J> {
     pub fn copy(&self, alloc: Global) -> Result<Done<J>, AllocError>
         ensures { IfOk result (λ copy. copy ≡ self.now) }
     {
-        let vertices = copied(alloc, &self.vertices)?;
+        let vertices = self.vertices.copy(alloc)?;
         let letters = Vec::from_slice(alloc, &self.letters)?;
         Ok(Done {
             epoch: self.epoch,
@@ -208,9 +210,10 @@ pub fn run_task<J: Origin>(
     let Slice {
         part,
         superstep,
-        mut vertices,
+        vertices: part_states,
         origin,
     } = slice;
+    let PartStates { mut vertices, due } = part_states;
     let shared = Shared {
         verified: job.verified(),
         superstep,
@@ -218,8 +221,8 @@ pub fn run_task<J: Origin>(
         aggregated,
     };
     let entries = &job.parts()[part as usize].vertices;
-    let ran = run_part(alloc, &shared, entries, &mut vertices, scratch);
-    let Ok(left) = ran else {
+    let ran = run_part(alloc, &shared, entries, &mut vertices, &due, scratch);
+    let Ok((left, active)) = ran else {
         return Err(TaskLost { place: Place::Call });
     };
     let PartOutput {
@@ -232,7 +235,10 @@ pub fn run_task<J: Origin>(
         superstep,
         part,
         units,
-        vertices,
+        vertices: PartStates {
+            vertices,
+            due: active,
+        },
         letters,
         slots,
         origin,
@@ -248,27 +254,34 @@ pub(crate) struct Shared<'a> {
     pub aggregated: [i64; 8],
 }
 
-// Calls a part's vertices, one after another. `entries` has their edges.
+// Calls a part's due vertices, one after another, and lists the rows of those that stay active. `entries` has their edges.
 fn run_part(
     alloc: Global,
     shared: &Shared,
     entries: &[Vertex],
     vertices: &mut [VertexState],
+    due: &[usize],
     scratch: &mut Scratch,
-) -> Result<PartOutput, AllocError>
+) -> Result<(PartOutput, Vec<usize>), AllocError>
     requires same { ids (entries_of entries.now) ≡ map state_id vertices.old }
     requires proper { All HasProperIds (entries_of entries.now) }
     requires fits { scratch.old ≡ shared.now.verified.now }
+    requires due { due.now ≡ due_rows 0 vertices.old }
     ensures kept { scratch.new ≡ scratch.old }
-    ensures calls { IfOk result
-        (CallsPart shared.now (entries_of entries.now) vertices.old vertices.new) }
+    ensures calls { IfOk result (λ ran.
+        CallsPart shared.now (entries_of entries.now) vertices.old vertices.new ran.0) }
+    ensures active { IfOk result (λ ran. ran.1.items ≡ due_rows 0 vertices.new) }
 {
     let mut left = PartOutput::nothing(alloc);
-    for index in 0..vertices.len() {
-        let vertex = &mut vertices[index];
-        run_vertex(alloc, shared, &entries[index], vertex, scratch, &mut left)?;
+    let mut active = Vec::with_capacity(alloc, due.len())?;
+    for row in due {
+        let vertex = &mut vertices[*row];
+        run_vertex(alloc, shared, &entries[*row], vertex, scratch, &mut left)?;
+        if vertex.active {
+            active.push(*row)?;
+        }
     }
-    Ok(left)
+    Ok((left, active))
 }
 
 // Calls a vertex that is active or has messages. Any other stays as it is.

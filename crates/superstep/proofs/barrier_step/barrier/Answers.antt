@@ -1,10 +1,14 @@
-use Rattle.std.proofs.Common.{map, vec_items, ap, ◌∙◌}
+use Rattle.std.proofs.Common.{ℤ, List, map, refl, ap, ◌∙◌}
 use Rattle.superstep.specs.State.{Standing, state_id}
-use Rattle.superstep.proofs.NextState.{IsMade, IsReady, all, lefts, next_has_ids, next_is_at, next_is_kept, spreads}
+use Rattle.superstep.specs.Superstep.{messages_to}
+use Rattle.superstep.specs.Tasks.{outcomes_in}
+use Rattle.superstep.specs.inside.Barrier.{left_ids}
+use Rattle.superstep.proofs.Graphs.{ids_rise}
+use Rattle.superstep.proofs.NextState.{IsMade, IsReady, all, all_left_empty, lefts, next_has_ids, next_is_at, next_is_kept, spreads}
 use Rattle.superstep.proofs.barrier_step.barrier.Goals as goal
 
-pub delivered-requires-after_bounds : goal.delivered-requires-after_bounds
-delivered-requires-after_bounds g c κs within =
+pub handed_out-requires-clause-spread : goal.handed_out-requires-clause-spread
+handed_out-requires-clause-spread g c κs within =
     let ready : IsReady g.J.Origin.work c.args.job.now g.J.Origin.honest c.args.totals c.args.dones.items c.in_ok-vertices.field-0 = record {
       job = c.requires.job;
       good = c.settings.ensures.good;
@@ -13,7 +17,11 @@ delivered-requires-after_bounds g c κs within =
       sums = c.requires.totals;
       parts = c.in_ok-vertices.ensures;
     } in
-    (lefts _ _ _ _ _ _ ready, all _ _ _ _ _ _ ready, rw (c.deref.ensures.value) (spreads _ _ _ _ _ _ ready _ c.ids.ensures))
+    (lefts _ _ _ _ _ _ ready, all _ _ _ _ _ _ ready, rw (c.deref.ensures.value) (spreads _ _ _ _ _ _ ready _ c.ids.ensures), all_left_empty _ _ _ _ _ _ ready)
+
+pub handed_out-requires-clause-rising : goal.handed_out-requires-clause-rising
+handed_out-requires-clause-rising g c κs within =
+    ids_rise c.args.job.now c.settings.ensures.graph.0 c.ids.result.now c.settings.ensures.graph.1 c.ids.ensures
 
 module _ (g : _) (c : goal.In_ok-totals g) where
   abbrev ready : IsReady g.J.Origin.work c.args.job.now g.J.Origin.honest c.args.totals c.args.dones.items c.in_ok-vertices.field-0
@@ -26,13 +34,18 @@ module _ (g : _) (c : goal.In_ok-totals g) where
     parts = c.in_ok-vertices.ensures;
   }
 
+  -- the inboxes of each part's vertices
+  abbrev found : List (List (List ℤ))
+  found = map (λ left. map (messages_to (outcomes_in (all _ _ _ _ _ _ ready))) (left_ids left)) (lefts _ _ _ _ _ _ ready)
+
   made : IsMade g.J.Origin.work c.args.job.now g.J.Origin.honest c.args.totals c.args.dones.items c.in_ok-vertices.field-0 ready
-      (map vec_items c.in_ok-inboxes.inboxes.items) c.in_ok-inboxes.dropped (map vec_items c.in_ok-parts.parts.items) c.in_ok-totals.totals
+      found c.in_ok-parts.dropped c.in_ok-parts.parts.items c.in_ok-totals.totals
   made =
       record {
-        inboxes = c.in_ok-inboxes.ensures.inboxes (lefts _ _ _ _ _ _ ready) (all _ _ _ _ _ _ ready) (rw (c.deref.ensures.value) (spreads _ _ _ _ _ _ ready _ c.ids.ensures));
-        dropped = c.in_ok-inboxes.ensures.dropped (lefts _ _ _ _ _ _ ready) (all _ _ _ _ _ _ ready) (rw (c.deref.ensures.value) (spreads _ _ _ _ _ _ ready _ c.ids.ensures));
-        fills = c.in_ok-parts.ensures;
+        inboxes = refl;
+        dropped = c.in_ok-parts.ensures.dropped (lefts _ _ _ _ _ _ ready) (all _ _ _ _ _ _ ready) (rw (c.deref.ensures.value) (spreads _ _ _ _ _ _ ready _ c.ids.ensures));
+        fills = λ long. c.in_ok-parts.ensures.parts (lefts _ _ _ _ _ _ ready) (all _ _ _ _ _ _ ready) (rw (c.deref.ensures.value) (spreads _ _ _ _ _ _ ready _ c.ids.ensures))
+            (all_left_empty _ _ _ _ _ _ ready);
         follows = c.in_ok-totals.ensures;
       }
 

@@ -1,85 +1,22 @@
-use Rattle.std.proofs.Common.{◌≡◌, ℕ, List, map, vec_items, ap, sym, ◌∙◌, subst, eqb}
-use Rattle.std.specs.List.{IsDistinct, flat_map, sum_by}
-use Rattle.std.specs.List.Sorted.{IsPermutation}
-use Rattle.std.proofs.lemmas.List.Folds.{flat_map-map}
-use Rattle.std.proofs.lemmas.List.Sorted.{IsPermutation-map, IsPermutation-sym}
-use Rattle.std.proofs.lemmas.Map.Keys.{sorted_from_strictly_increasing}
+use Rattle.std.proofs.Common.{◌∙◌}
 use Rattle.std.proofs.lemmas.Result.{IfOk-weaker}
-use Rattle.std.proofs.lemmas.Simd.{map-map}
-use Rattle.graph.specs.Partition.{joined}
-use Rattle.inbox.specs.declared.letters.Letter.{Letter}
-use Rattle.inbox.specs.Merging.{IsBySource, all_of, are_one, dropped_of, inboxes_of}
-use Rattle.inbox.specs.Merging.{inbox_of as letters_in}
-use Rattle.superstep.specs.Superstep.{dropped_by, messages_to}
-use Rattle.superstep.specs.Tasks.{VertexOutcome, outcomes_in}
-use Rattle.superstep.specs.inside.Barrier.{IsSpread, left_id, left_ids}
-use Rattle.superstep.proofs.Letters.{are_sent, drops_found, inbox_found, sent_by, spread_ids, spread_letters}
-use Rattle.superstep.proofs.Spreading.{distinct_ids, found_in_order}
+use Rattle.superstep.proofs.Handing.{all_inboxes}
 use Rattle.superstep.proofs.barrier_step.delivered.Goals as goal
 
-module _ (g : _) (c : goal.After-drops_add_up_over_sources g) (lefts : List (List VertexOutcome)) (ordered : List VertexOutcome)
-    (is : IsSpread (map vec_items c.args.ids.now) (map vec_items c.args.letters.now) lefts ordered) where
-  -- what all sent, one part after another
-  all_letters : IsPermutation (flat_map (sent_by (joined lefts)) (left_ids (joined lefts))) (all_of c.args.letters.now)
-  all_letters =
-      subst (λ (xs : List Letter). IsPermutation (flat_map (sent_by (joined lefts)) (left_ids (joined lefts))) xs)
-      (flat_map-map (λ (list : List Letter). list) vec_items c.args.letters.now) (spread_letters _ _ lefts ordered is)
-
-  all_ids : all_of c.args.ids.now ≡ left_ids (joined lefts)
-  all_ids = sym (flat_map-map (λ (list : List ℕ). list) vec_items c.args.ids.now) ∙ spread_ids _ _ lefts ordered is
-
-  moved : IsPermutation (left_ids ordered) (left_ids (joined lefts))
-  moved = IsPermutation-map left_id ordered (joined lefts) (IsPermutation-sym _ _ is.same)
-
-  letters_apart : IsDistinct are_one (all_of c.args.letters.now)
-  letters_apart =
-      c.letters_keep_their_order_in_any_lists.ensures.distinct _ _ all_letters
-      (c.sources_send_in_any_order.ensures.distinct (left_ids ordered) (left_ids (joined lefts)) (sent_by (joined lefts))
-      (are_sent (joined lefts)) (sorted_from_strictly_increasing (left_ids ordered) is.rising) moved)
-
-  ids_apart : IsDistinct eqb (all_of c.args.ids.now)
-  ids_apart = subst (λ xs. IsDistinct eqb xs) (sym all_ids) (distinct_ids (joined lefts) ordered is.rising is.same)
-
-  in_order : IsBySource (all_of c.args.letters.now) (flat_map (sent_by (joined lefts)) (left_ids ordered))
-  in_order =
-      c.letters_keep_their_order_in_any_lists.ensures.order _ _ _ all_letters
-      (c.sources_send_in_any_order.ensures.ordered (left_ids ordered) (left_ids (joined lefts)) (sent_by (joined lefts))
-      (are_sent (joined lefts)) (sorted_from_strictly_increasing (left_ids ordered) is.rising) moved)
-
-  inbox_at : (id : ℕ) → letters_in (flat_map (sent_by (joined lefts)) (left_ids ordered)) id ≡ messages_to (outcomes_in ordered) id
-  inbox_at id =
-      c.inboxes_are_concatenated_by_source.ensures.inbox (left_ids ordered) (sent_by (joined lefts)) id
-      ∙ inbox_found (joined lefts) ordered id (found_in_order (joined lefts) ordered is.rising is.same)
-
-  all_inboxes : map (λ part. inboxes_of (flat_map (sent_by (joined lefts)) (left_ids ordered)) part.items) c.args.ids.now
-      ≡ map (λ left. map (messages_to (outcomes_in ordered)) (left_ids left)) lefts
-  all_inboxes =
-      (λ i. map (λ part. map (λ id. inbox_at id i) part.items) c.args.ids.now)
-      ∙ sym (map-map (map (messages_to (outcomes_in ordered))) vec_items c.args.ids.now)
-      ∙ ap (map (map (messages_to (outcomes_in ordered)))) is.ids
-      ∙ map-map (map (messages_to (outcomes_in ordered))) left_ids lefts
-
-  all_dropped : dropped_of (all_of c.args.letters.now) (all_of c.args.ids.now) ≡ sum_by (dropped_by (left_ids ordered)) (outcomes_in ordered)
-  all_dropped =
-      sym (c.letters_drop_alike_in_any_order.ensures.letters _ _ (all_of c.args.ids.now) all_letters)
-      ∙ ap (dropped_of (flat_map (sent_by (joined lefts)) (left_ids (joined lefts)))) all_ids
-      ∙ c.drops_add_up_over_sources.ensures (left_ids (joined lefts)) (sent_by (joined lefts)) (left_ids (joined lefts))
-      ∙ drops_found (joined lefts) ordered (distinct_ids (joined lefts) ordered is.rising is.same) is.same (IsPermutation-sym _ _ moved)
-
 pub merge_parts-requires-clause-apart : goal.merge_parts-requires-clause-apart
-merge_parts-requires-clause-apart g c κs within = ids_apart g c c.requires.0 c.requires.1 c.requires.2
+merge_parts-requires-clause-apart g c κs within = c.letters_are_spread.ensures.apart c.requires.0 c.requires.1 c.requires.2
 
 pub merge_parts-requires-clause-distinct : goal.merge_parts-requires-clause-distinct
-merge_parts-requires-clause-distinct g c κs within = letters_apart g c c.requires.0 c.requires.1 c.requires.2
+merge_parts-requires-clause-distinct g c κs within = c.letters_are_spread.ensures.distinct c.requires.0 c.requires.1 c.requires.2
 
 pub returns-clause-inboxes : goal.returns-clause-inboxes
 returns-clause-inboxes g c =
     IfOk-weaker c.merge_parts.result _ _ (λ merged made lefts ordered is.
-    made (flat_map (sent_by (joined lefts)) (left_ids ordered)) (in_order g c.before lefts ordered is) ∙ all_inboxes g c.before lefts ordered is)
+    let sent = c.letters_are_spread.ensures.sent lefts ordered is in
+    made sent.0 sent.1 ∙ all_inboxes c.args.ids.now lefts ordered sent.0 sent.2 is.ids)
     c.merge_parts.ensures.inboxes
 
 pub returns-clause-dropped : goal.returns-clause-dropped
 returns-clause-dropped g c =
-    IfOk-weaker c.merge_parts.result _ _ (λ merged made lefts ordered is.
-    made ∙ all_dropped g c.before lefts ordered is)
+    IfOk-weaker c.merge_parts.result _ _ (λ merged made lefts ordered is. made ∙ c.letters_are_spread.ensures.dropped lefts ordered is)
     c.merge_parts.ensures.dropped

@@ -1,6 +1,6 @@
-use Rattle.std.proofs.Common.{◌≡◌, ◌<◌, ◌+◌, ◌++◌, ◌∷◌, [], length, get_or, map, vec_items, ap, sym, ◌∙◌, arith, append_assoc}
+use Rattle.std.proofs.Common.{◌≡◌, ◌<◌, ◌+◌, ◌++◌, ◌∷◌, [], length, get_or, ap, sym, ◌∙◌, arith, append_assoc}
 use Rattle.std.proofs.Math.Seq.{get_or-append_seam}
-use Rattle.std.proofs.lemmas.List.{get_or-map, length-map, length-append}
+use Rattle.std.proofs.lemmas.List.{get_or_default, length-append}
 use Rattle.std.proofs.lemmas.List.FromFn.{map-range_with_len_more}
 use Rattle.superstep.proofs.slice.label.Goals as goal
 
@@ -12,9 +12,9 @@ invariant_of-push g c =
     omega (arith, c.loop-vertices.invariant.counted, ap length all, length-append c.loop-vertices.yielded (c.in-Some.vertices ∷ c.next.new.self.rest.items)) in
     let here : get_or c.args.cut.items c.loop-vertices.part c.in-Some.vertices ≡ c.in-Some.vertices =
     rw (← all, c.loop-vertices.invariant.counted) (get_or-append_seam c.loop-vertices.yielded c.in-Some.vertices c.next.new.self.rest.items c.in-Some.vertices) in
-    let states : get_or (map vec_items c.args.cut.items) c.loop-vertices.part [] ≡ vec_items c.in-Some.vertices =
-    get_or-map vec_items c.args.cut.items c.loop-vertices.part c.in-Some.vertices [] below ∙ ap vec_items here in
-    rw (← states) (c.requires.parts c.loop-vertices.part (rw (length-map c.args.cut.items vec_items) below))
+    let states : get_or c.args.cut.items c.loop-vertices.part [] ≡ c.in-Some.vertices =
+    get_or_default c.args.cut.items c.loop-vertices.part [] c.in-Some.vertices below ∙ here in
+    rw (← states) (c.requires.parts c.loop-vertices.part below)
 
 pub loop-vertices-preserved : goal.loop-vertices-preserved
 loop-vertices-preserved g c =

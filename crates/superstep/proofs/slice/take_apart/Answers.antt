@@ -1,5 +1,4 @@
-use Rattle.std.proofs.Common.{◌≡◌, ◌<◌, ℕ, List, [], Global, Vec, length, get_or, map, vec_items, ap, sym, ◌∙◌, subst, arith, refl}
-use Rattle.std.proofs.lemmas.List.{length-map}
+use Rattle.std.proofs.Common.{◌≡◌, ◌<◌, ℕ, List, [], length, get_or, ap, sym, ◌∙◌, subst, arith, refl}
 use Rattle.std.proofs.lemmas.List.FromFn.{length-map-range_with_len}
 use Rattle.graph.specs.Partition.{part_by, parts_by}
 use Rattle.graph.specs.inside.Partitioned.{part_at}
@@ -13,8 +12,8 @@ use Rattle.superstep.proofs.Runs.{sums}
 use Rattle.superstep.proofs.slice.take_apart.Goals as goal
 
 -- a list is cut into as many parts as it is to be
-many : (cut : List (Vec VertexState Global)) (count : ℕ) (vertices : List VertexState) → map vec_items cut ≡ parts_by state_id count vertices → length cut ≡ count
-many cut count vertices is = sym (length-map cut vec_items) ∙ ap length is ∙ length-map-range_with_len (part_by state_id count vertices) 0 count
+many : (cut : List (List VertexState)) (count : ℕ) (vertices : List VertexState) → cut ≡ parts_by state_id count vertices → length cut ≡ count
+many cut count vertices is = ap length is ∙ length-map-range_with_len (part_by state_id count vertices) 0 count
 
 pub into_parts-requires : goal.into_parts-requires
 into_parts-requires g c = rw c.settings.ensures.settings (some_parts c.args.job.now.settings c.settings.ensures.good)
@@ -33,8 +32,8 @@ label-requires-clause-parts g c = λ part below.
     let parts : c.settings.result.parts ≡ own.settings.parts =
     ap (λ settings. settings.parts) c.settings.ensures.settings ∙ ap (λ (work : Work). work.settings.parts) (sym c.requires.job) in
     let long : length c.in_ok-totals.parts.items ≡ c.settings.result.parts = many c.in_ok-totals.parts.items c.settings.result.parts state.vertices c.in_ok-totals.ensures.parts in
-    let small : part < own.settings.parts = omega (arith, below, length-map c.in_ok-totals.parts.items vec_items, long, parts) in
-    let here : get_or (map vec_items c.in_ok-totals.parts.items) part [] ≡ part_by state_id own.settings.parts state.vertices part =
+    let small : part < own.settings.parts = omega (arith, below, long, parts) in
+    let here : get_or c.in_ok-totals.parts.items part [] ≡ part_by state_id own.settings.parts state.vertices part =
     ap (λ xs. get_or xs part []) c.in_ok-totals.ensures.parts
     ∙ part_at state_id c.settings.result.parts state.vertices part [] (rw parts small)
     ∙ rw parts refl in

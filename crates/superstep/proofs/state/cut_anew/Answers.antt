@@ -1,4 +1,5 @@
-use Rattle.std.proofs.Common.{◌≡◌, IfOk, List, ap, map, sym, subst, vec_items, ◌∙◌}
+use Rattle.std.proofs.Common.{List, ap, map, sym, subst, ◌∙◌}
+use Rattle.std.proofs.lemmas.Result.{IfOk-weaker}
 use Rattle.std.specs.List.Sorted.{IsStrictlyIncreasing}
 use Rattle.graph.specs.Partition.{parts_by}
 use Rattle.graph.specs.inside.Rising.{order_is}
@@ -14,5 +15,4 @@ returns c =
     let put = ap (by_key state_id) c.in_ok-vertices.ensures in
     let rising = subst (λ (xs : List VertexState). IsStrictlyIncreasing (map state_id xs)) (sym put) c.requires.rising in
     let sorted = order_is state_id all _ (by_key state_id all) c.in_ok-merge_by_id.ensures.permutation c.in_ok-merge_by_id.ensures.sorted (by_key_same state_id all) rising in
-    subst (λ (xs : List VertexState). IfOk c.cut_by_id.result (λ cut. map vec_items cut.items ≡ parts_by state_id c.args.parts xs))
-    (sorted ∙ put) c.cut_by_id.ensures
+    IfOk-weaker c.with_due.result _ _ (λ found is. is ∙ c.in_ok-cut.ensures ∙ ap (parts_by state_id c.args.parts) (sorted ∙ put)) c.with_due.ensures

@@ -1,11 +1,10 @@
-use Rattle.std.proofs.Common.{◌≡◌, drop, take}
+use Rattle.std.proofs.Common.{◌≡◌, drop}
 use Rattle.graph.specs.Entry.{entries_of}
-use Rattle.superstep.specs.inside.PartOutput.{CallsPart}
+use Rattle.superstep.specs.inside.DueRuns.{IsRunning}
 use Rattle.superstep.proofs.task.run_part.Given as goal
 
-abbrev pub invariant-loop-index : goal.invariant-loop-index
-invariant-loop-index l = record {
+abbrev pub invariant-loop-row : goal.invariant-loop-row
+invariant-loop-row l = record {
   kept : l.scratch ≡ l.shared.verified.now;
-  calls : CallsPart l.shared (take l.index (entries_of l.entries)) (take l.index l.fn.vertices) (take l.index l.vertices) l.left;
-  rest : drop l.index l.vertices ≡ drop l.index l.fn.vertices;
+  running : IsRunning l.shared (entries_of l.entries) l.fn.vertices l.vertices (drop l.row-index l.due) l.left l.active.items;
 }

@@ -6,6 +6,7 @@ use Rattle.superstep.specs.declared.task.Shared.{Shared}
 use Rattle.superstep.specs.Job.{HasGraph, IsCount, Work}
 use Rattle.superstep.specs.State.{state_id}
 use Rattle.superstep.specs.Tasks.{AreAggregatesAt, AreUnitsAt, IsDone, SliceStamp, TaskStamp}
+use Rattle.superstep.specs.inside.DueRows.{due_rows}
 use Rattle.superstep.specs.inside.PartOutput.{CallsPart, HasProperIds, Tells}
 use Rattle.superstep.proofs.PartLeft.{done_here, entries_here, fits_below, fits_ids, proper_here, units_here, whole_slice}
 use Rattle.superstep.proofs.task.run_task.Goals as goal
@@ -14,18 +15,22 @@ pub run_part-ran-requires-clause-same : goal.run_part-ran-requires-clause-same
 run_part-ran-requires-clause-same g c =
     let work = g.J.Origin.work in
     let part = c.slice.inside.part in
-    let vertices = c.slice.inside.vertices.items in
+    let vertices = c.slice.inside.vertices in
     ap ids
     (entries_here work c.args.job.now c.parts.result.now part c.index-parts-part.result c.deref.result.now vertices c.requires.job c.parts.ensures.parts
     c.slice.invariant.fits c.index-parts-part.is c.deref.ensures.value)
     ∙ fits_ids work part vertices c.slice.invariant.fits
-    ∙ ap (λ (states : List VertexState). map state_id states) (sym c.deref_mut.ensures.value)
+    ∙ ap (λ (states : List VertexState). map state_id states) (sym (c.deref_mut.ensures.value ∙ c.part_states.view_is))
+
+pub run_part-ran-requires-clause-due : goal.run_part-ran-requires-clause-due
+run_part-ran-requires-clause-due g c =
+    c.deref-2.ensures.value ∙ c.part_states.invariant ∙ ap (due_rows 0) (sym c.deref_mut.ensures.value)
 
 pub run_part-ran-requires-clause-proper : goal.run_part-ran-requires-clause-proper
 run_part-ran-requires-clause-proper g c =
     let work = g.J.Origin.work in
     let part = c.slice.inside.part in
-    let vertices = c.slice.inside.vertices.items in
+    let vertices = c.slice.inside.vertices in
     let graph = subst (λ (w : Work). HasGraph w) (sym c.requires.job) c.parts.ensures.graph in
     subst (λ (es : List Entry). All HasProperIds es)
     (sym
@@ -35,10 +40,17 @@ run_part-ran-requires-clause-proper g c =
 
 pub invariant_of-result : goal.invariant_of-result
 invariant_of-result g c =
+    let whole =
+    whole_slice c.part_states.inside.vertices.items c.run_part-ran.new.vertices c.part_states.inside.vertices.len (c.run_part-ran.auto.vertices ∙ ap length c.deref_mut.ensures.value)
+    (omega (arith, c.part_states.inside.vertices.ok.0)) in
+    c.in-Ok.ensures.active ∙ ap (due_rows 0) (sym whole)
+
+pub invariant_of-result-2 : goal.invariant_of-result-2
+invariant_of-result-2 g c =
     let work = g.J.Origin.work in
     let job = c.args.job.now in
     let part = c.slice.inside.part in
-    let before = c.slice.inside.vertices.items in
+    let before = c.slice.inside.vertices in
     let after = c.run_part-ran.new.vertices in
     let left = c.in-Ok.left in
     let shared : Shared = record {
@@ -52,7 +64,7 @@ invariant_of-result g c =
     c.slice.invariant.fits c.index-parts-part.is c.deref.ensures.value in
     let calls =
     subst (λ (es : List Entry). CallsPart shared es before after left) seen
-    (subst (λ (states : List VertexState). CallsPart shared (entries_of c.deref.result.now) states after left) c.deref_mut.ensures.value c.in-Ok.ensures.calls) in
+    (subst (λ (states : List VertexState). CallsPart shared (entries_of c.deref.result.now) states after left) (c.deref_mut.ensures.value ∙ c.part_states.view_is) c.in-Ok.ensures.calls) in
     let known : shared.verified.now ≡ work.«module» = c.verified.ensures ∙ ap (λ (w : Work). w.«module») (sym c.requires.job) in
     let counted = subst (λ (w : Work). IsCount w shared.count) (sym c.requires.job) c.count.ensures in
     let done =
@@ -60,7 +72,7 @@ invariant_of-result g c =
     (λ honest. subst (λ (s : ℕ). AreAggregatesAt work s shared.aggregated) (ap (λ (stamp : SliceStamp). stamp.superstep) (sym c.slice.view_is)) (c.task.invariant honest))
     counted
     (λ outcomes are. subst (λ (m : Module). Tells m outcomes) (sym known) (c.calls_are_a_function.ensures.told work.«module» outcomes are)) in
-    let whole = whole_slice before after c.slice.inside.vertices.len (c.run_part-ran.auto.vertices ∙ ap length c.deref_mut.ensures.value) (omega (arith, c.slice.inside.vertices.ok.0)) in
+    let whole = whole_slice c.part_states.inside.vertices.items after c.part_states.inside.vertices.len (c.run_part-ran.auto.vertices ∙ ap length c.deref_mut.ensures.value) (omega (arith, c.part_states.inside.vertices.ok.0)) in
     subst (λ (states : List VertexState). IsDone work g.J.Origin.honest (record { epoch = c.task.inside.epoch; superstep = shared.superstep; part = part; units = left.units }) states left.letters.items left.slots)
     (sym whole) done
 
@@ -75,4 +87,4 @@ returns-clause-units g c = λ sure.
     subst (λ (n : ℕ). AreUnitsAt work n c.args.task.part units) superstep
     (subst (λ (n : ℕ). AreUnitsAt work c.slice.inside.superstep n units) part
     (units_here work g.J.Origin.honest (record { epoch = c.task.inside.epoch; superstep = c.slice.inside.superstep; part = c.slice.inside.part; units = units })
-    _ _ _ (invariant_of-result g c) sure))
+    _ _ _ (invariant_of-result-2 g c.before) sure))

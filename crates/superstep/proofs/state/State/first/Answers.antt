@@ -1,4 +1,4 @@
-use Rattle.std.proofs.Common.{◌≡◌, List, map, vec_items, refl, ap, ◌∙◌}
+use Rattle.std.proofs.Common.{◌≡◌, List, map, refl, ap, ◌∙◌}
 use Rattle.std.proofs.lemmas.List.{take_all}
 use Rattle.graph.specs.Entry.{Entry}
 use Rattle.graph.specs.Parts.{part_entries}
@@ -11,14 +11,14 @@ use Rattle.superstep.proofs.Firsts.{IsFirst, first_ids, first_is_state, first_sh
 use Rattle.superstep.proofs.state.State.first.Goals as goal
 
 -- the vertices of each part
-parts : (c : goal.After-aggregator_starts) → map vec_items c.loop-part.parts.items ≡ map first_states c.args.job.now.parts
+parts : (c : goal.After-aggregator_starts) → c.loop-part.parts.items ≡ map first_states c.args.job.now.parts
 parts c =
     c.loop-part.invariant
     ∙ ap (λ (parts : List Part). map first_states (map part_entries parts)) (take_all _ _ c.loop-part-test.false)
     ∙ ap (map first_states) c.parts-part-items.ensures.parts
 
 made : (c : goal.After-aggregator_starts) (graph : List Entry) → IsGraphOf c.args.job.now graph
-    → IsFirst graph (record { superstep = 0; since = 0; by_superstep = c.new.result.items; units = 0; dropped = 0; aggregates = c.aggregator_starts.result; vertices = in_order (map vec_items c.loop-part.parts.items) })
+    → IsFirst graph (record { superstep = 0; since = 0; by_superstep = c.new.result.items; units = 0; dropped = 0; aggregates = c.aggregator_starts.result; vertices = in_order c.loop-part.parts.items })
 made c graph is = record {
   superstep = refl;
   since = refl;

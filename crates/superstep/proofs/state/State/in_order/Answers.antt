@@ -1,4 +1,4 @@
-use Rattle.std.proofs.Common.{◌≡◌, List, [], ◌∷◌, ◌++◌, Bor, Global, Ok, Vec, map, take, vec_items, ap, sym, ◌∙◌, rules, subst}
+use Rattle.std.proofs.Common.{◌≡◌, List, [], ◌∷◌, ◌++◌, Bor, Ok, map, take, ap, sym, ◌∙◌, rules, subst}
 use Rattle.std.specs.List.Sorted.{IsNonDecreasing, IsPermutation}
 use Rattle.std.specs.declared.alloc.AllocError.{AllocError}
 use Rattle.std.proofs.lemmas.Iterator.{YieldsList-from_slice}
@@ -16,21 +16,20 @@ use Rattle.superstep.specs.declared.state.VertexState.{VertexState}
 use Rattle.superstep.proofs.Ordering.{by_key_same}
 use Rattle.superstep.proofs.state.State.in_order.Goals as goal
 
-joined_more : (parts : List (Vec VertexState Global)) (part : Vec VertexState Global)
-    → joined (map vec_items (parts ++ part ∷ [])) ≡ joined (map vec_items parts) ++ part.items
+joined_more : (parts : List (List VertexState)) (part : List VertexState) → joined (parts ++ part ∷ []) ≡ joined parts ++ part
 joined_more parts part =
-    ap joined (map-append vec_items parts (part ∷ [])) ∙ flat_map-append (λ (list : List VertexState). list) (map vec_items parts) (part.items ∷ [])
-    ∙ ap (λ own. joined (map vec_items parts) ++ own) (append-nil part.items)
+    flat_map-append (λ (list : List VertexState). list) parts (part ∷ [])
+    ∙ ap (λ own. joined parts ++ own) (append-nil part)
 
 pub loop-part-preserved : goal.loop-part-preserved
 loop-part-preserved c =
     let now = λ (vertex : Bor VertexState). vertex.now in
     let parts = c.deref-part-items.result.now in
     let before = take c.loop-part.part-index parts in
-    let more = ap (λ (lists : List (Vec VertexState Global)). joined (map vec_items lists))
+    let more = ap (λ (lists : List (List VertexState)). joined lists)
     (take_more parts c.loop-part.part-index c.part-item.result c.loop-part-test.true ∙ ap (λ part. before ++ part ∷ []) (sym c.part-item.is))
     ∙ joined_more before c.part-item.result in
-    fact_from_extend {E = AllocError} now (Ok tt) c.in_ok-extend.ensures.ran (λ it b. YieldsList-at b (YieldsList-from_slice c.part-item.result.items (c.iter.ensures.rest ∙ c.deref.ensures.value)))
+    fact_from_extend {E = AllocError} now (Ok tt) c.in_ok-extend.ensures.ran (λ it b. YieldsList-at b (YieldsList-from_slice c.part-item.result (c.iter.ensures.rest ∙ c.as_slice.ensures)))
     (λ xs own gives.
     ap (map now) gives.0 ∙ map-append now c.loop-part.vertices.items xs ∙ (λ i. c.loop-part.invariant i ++ own i) ∙ sym more)
 
@@ -39,10 +38,10 @@ returns-clause-same c =
     let now = λ (vertex : Bor VertexState). vertex.now in
     let key = λ (vertex : Bor VertexState). state_id vertex.now in
     let items = c.sort_by_cached_key.new.self.items in
-    let all = joined (map vec_items c.self.inside.parts.items) in
+    let all = joined c.self.inside.parts.items in
     let held : map now c.loop-part.vertices.items ≡ all =
     c.loop-part.invariant
-    ∙ ap (λ (lists : List (Vec VertexState Global)). joined (map vec_items lists)) (take_all _ _ c.loop-part-test.false ∙ c.deref-part-items.ensures.value) in
+    ∙ ap (λ (lists : List (List VertexState)). joined lists) (take_all _ _ c.loop-part-test.false ∙ c.deref-part-items.ensures.value) in
     let moved : IsPermutation all (map now items) =
     subst (λ xs. IsPermutation xs (map now items)) held (IsPermutation-map now _ _ c.sort_by_cached_key.ensures.permutation) in
     let up : IsNonDecreasing (map key items) =

@@ -1,4 +1,4 @@
-use Rattle.std.proofs.Common.{◌≡◌, drop, map, vec_items}
+use Rattle.std.proofs.Common.{◌≡◌, drop}
 use Rattle.std.specs.List.{list_any}
 use Rattle.graph.specs.Partition.{joined}
 use Rattle.superstep.specs.State.{is_due}
@@ -6,4 +6,4 @@ use Rattle.superstep.proofs.state.State.is_quiet.Given as goal
 
 abbrev pub invariant-loop-part : goal.invariant-loop-part
 invariant-loop-part l =
-    list_any is_due (joined (map vec_items l.part-items)) ≡ list_any is_due (joined (map vec_items (drop l.part-index l.part-items)))
+    list_any is_due (joined l.part-items) ≡ list_any is_due (joined (drop l.part-index l.part-items))

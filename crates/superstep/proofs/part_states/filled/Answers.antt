@@ -3,8 +3,8 @@ use Rattle.std.proofs.lemmas.Bool.Decides.{eqb_tells}
 use Rattle.std.proofs.lemmas.List.{append-nil, drop_all, get_or-set_other, get_or-set_same, get_or_default, length-set, same_lists, set-get_or, take_all}
 use Rattle.superstep.specs.declared.state.VertexState.{VertexState}
 use Rattle.superstep.specs.inside.Barrier.{filled, with_inbox}
-use Rattle.superstep.proofs.barrier_step.filled.Goals.{in-Some, in_default}
-use Rattle.superstep.proofs.barrier_step.filled.Goals as goal
+use Rattle.superstep.proofs.part_states.filled.Goals.{in-Some, in_default}
+use Rattle.superstep.proofs.part_states.filled.Goals as goal
 
 -- what stands first in what is left stands at that place
 first_left : {X : Type 0} (xs : List X) (i : ℕ) (x d : X) (rest : List X) → drop i xs ≡ x ∷ rest → (i < length xs) × (get_or xs i d ≡ x) × (rest ≡ drop (i + 1) xs)

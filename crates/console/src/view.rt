@@ -14,6 +14,10 @@ pub trait View {
     /// A worker begins a task of this superstep. Workers tell so at the same time.
     fn show(&self, superstep: u32);
 
+    /// Counts the units of a task that a worker did. Several workers call it at the same time. A superstep that is run again after a
+    /// loss counts again.
+    fn add(&self, units: u128);
+
     /// The run is over, and this is what it ended with, where it has an answer.
     fn finish(&self, ended: Option<&JobEnd>);
 }
@@ -27,6 +31,8 @@ impl View for NoView {
     }
 
     fn show(&self, _superstep: u32) {}
+
+    fn add(&self, _units: u128) {}
 
     fn finish(&self, _ended: Option<&JobEnd>) {}
 }
@@ -80,6 +86,9 @@ impl<V: View> Gate for RunGate<'_, V> {
     }
 
     fn worked<R: Wait>(&self, rt: &R, worker: u32, work: Worked) {
+        if let Some(view) = self.view {
+            view.add(work.units);
+        }
         self.loss.worked(rt, worker, work);
     }
 }

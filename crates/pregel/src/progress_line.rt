@@ -14,6 +14,8 @@ pub struct ProgressLine<'a, R> {
     begun: Option<Instant>,
     // The tenth of a second, counted from then, from which on the line may be written again; 0 where it has not begun.
     due: AtomicU64,
+    // The units of the tasks that are done. They start again at 0 behind the greatest number of 64 bits.
+    units: AtomicU64,
 }
 
 impl<'a, R: Clock> ProgressLine<'a, R> {
@@ -24,6 +26,7 @@ impl<'a, R: Clock> ProgressLine<'a, R> {
             is_terminal,
             begun: Instant::now(rt).ok(),
             due: AtomicU64::new(0),
+            units: AtomicU64::new(0),
         }
     }
 
@@ -60,8 +63,16 @@ impl<R: Clock + Eprint> View for ProgressLine<'_, R> {
         let tenths = self.tenths();
         if self.is_due(tenths) {
             let (seconds, tenth) = (tenths / 10, tenths % 10);
-            let _ = eprint!(self.rt; "\rsuperstep {superstep}, {seconds}.{tenth} s      ");
+            let units = self.units.load(Ordering::SeqCst);
+            let _ = eprint!(self.rt;
+                "\rsuperstep {superstep}, {seconds}.{tenth} s, {units} units      "
+            );
         }
+    }
+
+    fn add(&self, units: u128) {
+        let units = u64::try_from(units).unwrap_or(u64::MAX);
+        self.units.fetch_add(units, Ordering::SeqCst);
     }
 
     fn finish(&self, ended: Option<&JobEnd>) {

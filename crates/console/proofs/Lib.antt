@@ -9,3 +9,4 @@ pub mod JobLines
 pub mod Folders
 pub mod Replays
 pub mod Writes
+pub mod SheetFiles

@@ -29,6 +29,10 @@ begun_front (item ∷ items) others begun (inl h) = inl h
 begun_front (item ∷ items) others begun (inr (inl h)) = inr (inl h)
 begun_front (item ∷ items) others begun (inr (inr h)) = inr (inr (h.0, begun_front items others h.0 h.1, h.2))
 
+all_begun : (items : List (List ℕ × List ℕ)) → IsBegun items items
+all_begun [] = refl
+all_begun (item ∷ items) = inr (inr (items, all_begun items, refl))
+
 begun_behind : (items others begun : List (List ℕ × List ℕ)) → IsBegun others begun → IsBegun (items ++ others) (items ++ begun)
 begun_behind [] others begun h = h
 begun_behind (item ∷ items) others begun h = inr (inr (items ++ begun, begun_behind items others begun h, refl))
@@ -55,6 +59,25 @@ tries_behind items path bytes before middle after first then = λ writes wrote.
       begun_behind items ((path, bytes) ∷ []) tried.0 tried.1,
       subst after.wrote (append_assoc writes items tried.0) tried.2,
     )
+
+-- files that are written behind others
+pub writes_rest : (items others : List (List ℕ × List ℕ)) (before middle after : Disk) → WritesAll items before middle
+    → WritesAll others middle after → WritesAll (items ++ others) before after
+writes_rest items others before middle after first then =
+    λ writes wrote. subst after.wrote (append_assoc writes items others) (then (writes ++ items) (first writes wrote))
+
+pub tries_rest : (items others : List (List ℕ × List ℕ)) (before middle after : Disk) → WritesAll items before middle
+    → TriesAll others middle after → TriesAll (items ++ others) before after
+tries_rest items others before middle after first then = λ writes wrote.
+    let tried = then (writes ++ items) (first writes wrote) in (
+      items ++ tried.0,
+      begun_behind items others tried.0 tried.1,
+      subst after.wrote (append_assoc writes items tried.0) tried.2,
+    )
+
+-- what was written was tried
+pub written_tried : (items : List (List ℕ × List ℕ)) (before after : Disk) → WritesAll items before after → TriesAll items before after
+written_tried items before after h = λ writes wrote. (items, all_begun items, h writes wrote)
 
 pub tries_later : (items : List (List ℕ × List ℕ)) (before middle after : Disk) → Stays before middle → TriesAll items middle after
     → TriesAll items before after

@@ -1,6 +1,6 @@
 //! What is noted of a run for its report.
 
-ghost use Rattle.std.specs.Prelude.{◌≡◌};
+ghost use Rattle.std.specs.Prelude.{◌≡◌, false, None};
 
 use crate::watching::Watch;
 use rollback::Report;
@@ -21,7 +21,10 @@ pub struct RunNotes {
 
 impl RunNotes {
     /// Nothing, before a command is carried out.
-    pub fn new() -> RunNotes {
+    pub fn new() -> RunNotes
+        ensures report { result.report ≡ None }
+        ensures is_short { result.is_short ≡ false }
+    {
         RunNotes {
             report: None,
             is_short: false,

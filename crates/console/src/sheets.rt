@@ -1,7 +1,8 @@
 //! The report and the chart of a run, in files.
 
-ghost use Rattle.std.specs.Prelude.{◌≡◌, ◌⊎◌, false, true};
-ghost use Rattle.console.specs.Sheets.{IsStatusOf, asks_sheets};
+ghost use Rattle.std.specs.Prelude.{◌≡◌, ◌⊎◌, OnErr, OnOk, false, true};
+ghost use Rattle.console.specs.Sheets.{HasWrittenSheets, IsStatusOf, MayWriteSheets, TriesNoted, TriesSheets, WritesNoted, WritesSheets, asks_sheets, names_in};
+ghost use Rattle.console.specs.inside.SheetFiles.{TriesChart, TriesReport, WritesChart, WritesReport};
 
 use crate::noting::RunNotes;
 use command_line::{Request, RunRequest};
@@ -23,6 +24,10 @@ pub fn write_sheets<F: Files>(
     ensures status { IsStatusOf request.entry status result }
     // A command that asks for neither writes nothing here.
     ensures kept { asks_sheets request.entry ≡ false → files.new ≡ files.old }
+    // No other file is written, and with status 0 both are.
+    ensures tried { MayWriteSheets request.entry notes.now (F.disk files.old) (F.disk files.new) }
+    ensures written { result ≡ 0
+        → HasWrittenSheets request.entry notes.now (F.disk files.old) (F.disk files.new) }
 {
     let Request::Run(asked) = request else {
         return status;
@@ -40,14 +45,33 @@ fn is_written<F: Files>(
     asked: RunRequest<'_>,
     notes: &RunNotes,
     files: &mut F,
-) -> bool {
+) -> bool
+    ensures tried { TriesNoted asked.entry notes.now.report
+        (F.disk files.old) (F.disk files.new) }
+    ensures written { result ≡ true
+        → WritesNoted asked.entry notes.now.report (F.disk files.old) (F.disk files.new) }
+{
     if notes.is_short {
         files.warn("out of memory for the report of the run");
         return false;
     }
-    let Some(report) = &notes.report else {
-        return true;
-    };
+    match &notes.report {
+        Some(report) => is_report_written(alloc, asked, report, files),
+        None => true,
+    }
+}
+
+// Writes the report and the chart, and answers whether that went well.
+fn is_report_written<F: Files>(
+    alloc: Global,
+    asked: RunRequest<'_>,
+    report: &RunReport,
+    files: &mut F,
+) -> bool
+    ensures tried { TriesSheets asked.entry report.now (F.disk files.old) (F.disk files.new) }
+    ensures written { result ≡ true
+        → WritesSheets asked.entry report.now (F.disk files.old) (F.disk files.new) }
+{
     match write_all(alloc, asked, report, files) {
         Ok(()) => true,
         Err(CommandFault::OutOfMemory) => {
@@ -63,18 +87,65 @@ fn write_all<'a, F: Files>(
     asked: RunRequest<'a>,
     report: &RunReport,
     files: &mut F,
-) -> Result<(), CommandFault<'a>> {
-    let names = JobFiles {
+) -> Result<(), CommandFault<'a>>
+    ensures written { OnOk result
+        (WritesSheets asked.entry report.now (F.disk files.old) (F.disk files.new)) }
+    ensures tried { OnErr result
+        (TriesSheets asked.entry report.now (F.disk files.old) (F.disk files.new)) }
+{
+    match write_report(alloc, asked, report, files) {
+        Ok(()) => write_chart(alloc, asked, report, files),
+        Err(fault) => Err(fault),
+    }
+}
+
+// Writes the report, where one is asked for.
+fn write_report<'a, F: Files>(
+    alloc: Global,
+    asked: RunRequest<'a>,
+    report: &RunReport,
+    files: &mut F,
+) -> Result<(), CommandFault<'a>>
+    ensures written { OnOk result
+        (WritesReport asked.entry report.now (F.disk files.old) (F.disk files.new)) }
+    ensures tried { OnErr result
+        (TriesReport asked.entry report.now (F.disk files.old) (F.disk files.new)) }
+{
+    let Some(path) = asked.report else {
+        return Ok(());
+    };
+    match json_text(alloc, names_of(asked), report) {
+        Ok(text) => write(path, text.as_bytes(), files),
+        Err(_) => Err(CommandFault::OutOfMemory),
+    }
+}
+
+// Writes the chart, where one is asked for.
+fn write_chart<'a, F: Files>(
+    alloc: Global,
+    asked: RunRequest<'a>,
+    report: &RunReport,
+    files: &mut F,
+) -> Result<(), CommandFault<'a>>
+    ensures written { OnOk result
+        (WritesChart asked.entry (F.disk files.old) (F.disk files.new)) }
+    ensures tried { OnErr result
+        (TriesChart asked.entry (F.disk files.old) (F.disk files.new)) }
+{
+    let Some(path) = asked.plot else {
+        return Ok(());
+    };
+    match svg_text(alloc, names_of(asked), report) {
+        Ok(text) => write(path, text.as_bytes(), files),
+        Err(_) => Err(CommandFault::OutOfMemory),
+    }
+}
+
+fn names_of(asked: RunRequest<'_>) -> JobFiles<'_>
+    ensures { result ≡ names_in asked.entry }
+{
+    JobFiles {
         module: asked.job.module.path,
         graph: asked.job.graph,
-    };
-    if let Some(path) = asked.report {
-        let text = json_text(alloc, names, report)?;
-        write(path, text.as_bytes(), files)?;
     }
-    if let Some(path) = asked.plot {
-        let text = svg_text(alloc, names, report)?;
-        write(path, text.as_bytes(), files)?;
-    }
-    Ok(())
 }

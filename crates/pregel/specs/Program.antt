@@ -10,22 +10,28 @@ use Rattle.sources.specs.OutputLines.{line}
 use Rattle.sources.specs.Refusal.{fault_text, status_of}
 use Rattle.sources.specs.declared.fault.CommandFault.{CommandFault}
 use Rattle.console.specs.FileCommands.{Answered, IsCause, MayPrint, writes_file}
-use Rattle.console.specs.Sheets.{IsStatusOf, asks_sheets}
+use Rattle.console.specs.Sheets.{IsStatusOf, MayWriteSheets, asks_sheets}
+use Rattle.console.specs.declared.noting.RunNotes.{RunNotes}
 use Rattle.session.specs.declared.serving.ServeFault.{ServeFault}
 use Rattle.session.specs.declared.serving.ServeFault.TheVariants as fault
 use Rattle.session.specs.Maps.{nothing}
 use Rattle.session.specs.Runs.{threaded}
 use Rattle.session.specs.Serving.{Serves}
 
--- An answer is told with status 0, or a fault for which there is a cause, of a command that writes files beside what it tells.
-abbrev pub ToldAside : Disk → Request → ℕ → List ℕ → Type 0
-ToldAside before asked status told =
+-- An answer is told with status 0, or a fault for which there is a cause.
+abbrev pub IsToldOf : Disk → Request → ℕ → List ℕ → Type 0
+IsToldOf before asked status told =
     ((status ≡ 0) × Answered before before asked told)
     ⊎ ((fault : CommandFault) × IsCause before asked fault × (status ≡ status_of fault) × (told ≡ line (fault_text fault)))
 
+-- the same of a run that writes its report and its chart, and no other file, beside what it tells
+abbrev pub ToldAside : (before after : Disk) → Request → ℕ → List ℕ → Type 0
+ToldAside before after asked status told =
+    IsToldOf before asked status told × ((notes : RunNotes) × MayWriteSheets asked notes before after)
+
 -- what a command may tell, and with which status: where it asks for the report or the chart of a run, these are written behind it
 abbrev pub CommandTold : (before after : Disk) → Request → ℕ → List ℕ → Type 0
-CommandTold before after asked status told = MatchBool (asks_sheets asked) (ToldAside before asked status told) (MayPrint before after asked status told)
+CommandTold before after asked status told = MatchBool (asks_sheets asked) (ToldAside before after asked status told) (MayPrint before after asked status told)
 
 -- this was told, and the status is this or what not writing the report or the chart makes of it; or, where the writer failed, a
 -- beginning was told

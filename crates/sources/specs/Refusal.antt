@@ -1,17 +1,13 @@
 -- How a fault is reported: the status of the process, and the line without its line feed.
 use Rattle.std.specs.Prelude.{ℕ, List, ◌++◌, codes}
 use Rattle.std.specs.Fmt.{decimal}
-use Rattle.wasm_decode.specs.Faults.{fault_text as decode_text}
+use Rattle.wasm_decode.specs.Faults.{fault_text as decode_text, encode_word}
+use Rattle.wat_asm.specs.Faults.{fault_text as text_fault_text}
 use Rattle.validate.specs.Faults.{fault_text as invalid_text}
 use Rattle.bounded_profile.specs.FaultText.{fault_text as unbounded_text}
 use Rattle.graph.specs.Faults.{fault_text as graph_text}
 use Rattle.superstep.specs.Faults.{fault_word as job_word}
 use Rattle.checkpoint.specs.Faults.{fault_word as checkpoint_word}
-use Rattle.wasm_decode.specs.declared.encoder.fault.EncodeFault.{EncodeFault}
-use Rattle.wasm_decode.specs.declared.encoder.fault.EncodeFault.TheVariants as encode
-use Rattle.wat_asm.specs.declared.fault.Position.{Position}
-use Rattle.wat_asm.specs.declared.fault.TextFault.{TextFault}
-use Rattle.wat_asm.specs.declared.fault.TextFault.TheVariants as text
 use Rattle.superstep.specs.declared.settings.Setting.{Setting}
 use Rattle.superstep.specs.declared.settings.Setting.TheVariants as setting
 use Rattle.sources.specs.declared.input.InputFault.{InputFault}
@@ -28,21 +24,6 @@ status_of _ = 1
 
 -- ---- the line
 
--- a word, and a line and a column
-abbrev pub word_at_position : List ℕ → Position → List ℕ
-word_at_position word place = word ++ codes " " ++ decimal place.line ++ codes " " ++ decimal place.column
-
-abbrev pub text_fault_text : TextFault → List ℕ
-text_fault_text (text.Lex place) = word_at_position (codes "Lex") place
-text_fault_text (text.Syntax place) = word_at_position (codes "Syntax") place
-text_fault_text (text.UnknownName place) = word_at_position (codes "UnknownName") place
-text_fault_text (text.DuplicateName place) = word_at_position (codes "DuplicateName") place
-text_fault_text (text.NumberRange place) = word_at_position (codes "NumberRange") place
-text_fault_text (text.TypeUse place) = word_at_position (codes "TypeUse") place
-text_fault_text (text.Unsupported place) = word_at_position (codes "Unsupported") place
-text_fault_text (text.OverLimit place) = word_at_position (codes "OverLimit") place
-text_fault_text text.OutOfMemory = codes "OutOfMemory - -"
-
 -- the number of the first bad line
 abbrev pub input_text : InputFault → List ℕ
 input_text (input.Line number) = codes "no input " ++ decimal number
@@ -54,11 +35,6 @@ setting_word setting.Workers = codes "workers"
 setting_word setting.Every = codes "every"
 setting_word setting.Limit = codes "limit"
 setting_word setting.Lease = codes "lease"
-
--- the module has no encoding that is short enough
-abbrev pub encode_text : EncodeFault → List ℕ
-encode_text encode.OverLimit = codes "no encode OverLimit"
-encode_text encode.OutOfMemory = codes "no encode OutOfMemory"
 
 abbrev pub file_text : List ℕ → List ℕ
 file_text path = codes "no file " ++ path
@@ -77,7 +53,7 @@ fault_text command.MaxSize = codes "no settings max-size"
 fault_text command.Resume = codes "no settings resume"
 fault_text (command.Job fault) = codes "end fault " ++ job_word fault
 fault_text (command.Checkpoint fault) = codes "no checkpoint " ++ checkpoint_word fault
-fault_text (command.Encode fault) = encode_text fault
+fault_text (command.Encode fault) = codes "no encode " ++ encode_word fault
 fault_text (command.Unread path) = file_text path.now
 fault_text (command.Unwritable path) = file_text path.now
 fault_text command.OutOfMemory = codes "no memory"

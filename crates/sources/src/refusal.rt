@@ -3,15 +3,13 @@
 ghost use Rattle.std.specs.Prelude.{◌≡◌, ◌++◌, IfOk, Some, codes, string_bytes};
 ghost use Rattle.std.specs.Fmt.{DisplaysOnOk};
 ghost use Rattle.sources.specs.OutputLines.{line};
-ghost use Rattle.sources.specs.Refusal.{encode_text, fault_text, file_text, input_text, setting_word, text_fault_text, word_at_position};
+ghost use Rattle.sources.specs.Refusal.{fault_text, file_text, input_text, setting_word};
 
 use crate::fault::CommandFault;
 use crate::input::InputFault;
 use std::alloc::{AllocError, Global};
 use std::fmt;
 use superstep::Setting;
-use wasm_decode::EncodeFault;
-use wat_asm::{Position, TextFault};
 
 /// Writes the line of a fault, with its line feed. It is one of:
 /// * `no decode WORD PLACE`, `no text WORD LINE COLUMN` or `no encode WORD`;
@@ -34,7 +32,7 @@ impl fmt::Display for CommandFault<'_> {
     fn fmt<W: fmt::Write>(&self, f: &mut fmt::Formatter<W>) -> fmt::Result {
         match self {
             CommandFault::Decode(fault) => write!(f, "no decode {fault}"),
-            CommandFault::Text(fault) => tell_text_fault(fault, f),
+            CommandFault::Text(fault) => write!(f, "no text {fault}"),
             CommandFault::Invalid(fault) => write!(f, "no valid {fault}"),
             CommandFault::Unbounded(fault) => write!(f, "no profile {fault}"),
             CommandFault::Input(fault) => tell_input_fault(*fault, f),
@@ -46,7 +44,7 @@ impl fmt::Display for CommandFault<'_> {
             CommandFault::Resume => f.write_str("no settings resume"),
             CommandFault::Job(fault) => write!(f, "end fault {fault}"),
             CommandFault::Checkpoint(fault) => write!(f, "no checkpoint {fault}"),
-            CommandFault::Encode(fault) => f.write_str(encode_line(*fault)),
+            CommandFault::Encode(fault) => write!(f, "no encode {fault}"),
             CommandFault::Unread(path) => tell_file(path, f),
             CommandFault::Unwritable(path) => tell_file(path, f),
             CommandFault::OutOfMemory => f.write_str("no memory"),
@@ -58,42 +56,6 @@ fn tell_file<W: fmt::Write>(path: &str, f: &mut fmt::Formatter<W>) -> fmt::Resul
     ensures { DisplaysOnOk W.write_str_gives f.old result (Some (file_text path.now)) f.new }
 {
     write!(f, "no file {path}")
-}
-
-fn tell_text_fault<W: fmt::Write>(fault: &TextFault, f: &mut fmt::Formatter<W>) -> fmt::Result
-    ensures { DisplaysOnOk W.write_str_gives f.old result
-        (Some (codes "no text " ++ text_fault_text fault.now)) f.new }
-{
-    f.write_str("no text ")?;
-    tell_text_word(fault, f)
-}
-
-// Writes the word of the fault and its place in the text.
-fn tell_text_word<W: fmt::Write>(fault: &TextFault, f: &mut fmt::Formatter<W>) -> fmt::Result
-    ensures { DisplaysOnOk W.write_str_gives f.old result (Some (text_fault_text fault.now)) f.new }
-{
-    match fault {
-        TextFault::Lex(place) => tell_word_at("Lex", place, f),
-        TextFault::Syntax(place) => tell_word_at("Syntax", place, f),
-        TextFault::UnknownName(place) => tell_word_at("UnknownName", place, f),
-        TextFault::DuplicateName(place) => tell_word_at("DuplicateName", place, f),
-        TextFault::NumberRange(place) => tell_word_at("NumberRange", place, f),
-        TextFault::TypeUse(place) => tell_word_at("TypeUse", place, f),
-        TextFault::Unsupported(place) => tell_word_at("Unsupported", place, f),
-        TextFault::OverLimit(place) => tell_word_at("OverLimit", place, f),
-        TextFault::OutOfMemory => f.write_str("OutOfMemory - -"),
-    }
-}
-
-fn tell_word_at<W: fmt::Write>(
-    word: &str,
-    place: &Position,
-    f: &mut fmt::Formatter<W>,
-) -> fmt::Result
-    ensures { DisplaysOnOk W.write_str_gives f.old result
-        (Some (word_at_position word.now place.now)) f.new }
-{
-    write!(f, "{word} {} {}", place.line, place.column)
 }
 
 // Writes the number of the bad line, or that memory ran out.
@@ -122,14 +84,5 @@ fn setting_word(setting: Setting) -> &'static str
         Setting::Every => "every",
         Setting::Limit => "limit",
         Setting::Lease => "lease",
-    }
-}
-
-fn encode_line(fault: EncodeFault) -> &'static str
-    ensures { result.now ≡ encode_text fault }
-{
-    match fault {
-        EncodeFault::OverLimit => "no encode OverLimit",
-        EncodeFault::OutOfMemory => "no encode OutOfMemory",
     }
 }

@@ -5,6 +5,8 @@ use Rattle.wasm_decode.specs.declared.fault.DecodeRule.{DecodeRule}
 use Rattle.wasm_decode.specs.declared.fault.DecodeRule.TheVariants as rule
 use Rattle.wasm_decode.specs.declared.fault.DecodeFault.{DecodeFault}
 use Rattle.wasm_decode.specs.declared.fault.DecodeFault.TheVariants as fault
+use Rattle.wasm_decode.specs.declared.encoder.fault.EncodeFault.{EncodeFault}
+use Rattle.wasm_decode.specs.declared.encoder.fault.EncodeFault.TheVariants as encode
 
 abbrev pub rule_word : DecodeRule → List ℕ
 rule_word rule.Magic = codes "Magic"
@@ -23,3 +25,7 @@ rule_word rule.OverLimit = codes "OverLimit"
 abbrev pub fault_text : DecodeFault → List ℕ
 fault_text (fault.Refused broken place) = rule_word broken ++ codes " " ++ decimal place
 fault_text fault.OutOfMemory = codes "OutOfMemory -"
+
+abbrev pub encode_word : EncodeFault → List ℕ
+encode_word encode.OverLimit = codes "OverLimit"
+encode_word encode.OutOfMemory = codes "OutOfMemory"

@@ -1,6 +1,8 @@
 //! Why a text is no module.
 
-ghost use Rattle.std.specs.Prelude.{◌≡◌};
+ghost use Rattle.std.specs.Prelude.{◌≡◌, Some};
+ghost use Rattle.std.specs.Fmt.{DisplaysOnOk};
+ghost use Rattle.wat_asm.specs.Faults.{fault_text, word_at};
 ghost use Rattle.wat_asm.specs.declared.fault.Failure.TheVariants.{OutOfMemory};
 
 use std::alloc::{AllocError, AllocFailed};
@@ -14,7 +16,7 @@ pub struct Position {
     pub column: usize,
 }
 
-/// The reason why a text is not a module, with its position.
+/// The reason why a text is not a module, with its position. It is printed as its word, the line and the column.
 #[derive(Clone, Copy)]
 pub enum TextFault {
     /// No token starts here, a comment or a string does not end, or a name is not UTF-8.
@@ -37,46 +39,33 @@ pub enum TextFault {
     OutOfMemory,
 }
 
-impl TextFault {
-    // Returns the text of the reason, without the position.
-    fn reason(self) -> &'static str {
-        match self {
-            TextFault::Lex(_) => "no token",
-            TextFault::Syntax(_) => "not as the format has it",
-            TextFault::UnknownName(_) => "an unknown name",
-            TextFault::DuplicateName(_) => "a name stands twice",
-            TextFault::NumberRange(_) => "a number is out of range",
-            TextFault::TypeUse(_) => "not the type that is named",
-            TextFault::Unsupported(_) => "unsupported",
-            TextFault::OverLimit(_) => "a limit is passed",
-            TextFault::OutOfMemory => "out of memory",
-        }
-    }
+impl fmt::Display for TextFault {
+    ghost output = { λ fault. Some (fault_text fault) };
 
-    // Returns the position, where the fault has one.
-    fn position(self) -> Option<Position> {
+    fn fmt<W: fmt::Write>(&self, f: &mut fmt::Formatter<W>) -> fmt::Result {
         match self {
-            TextFault::Lex(position) => Some(position),
-            TextFault::Syntax(position) => Some(position),
-            TextFault::UnknownName(position) => Some(position),
-            TextFault::DuplicateName(position) => Some(position),
-            TextFault::NumberRange(position) => Some(position),
-            TextFault::TypeUse(position) => Some(position),
-            TextFault::Unsupported(position) => Some(position),
-            TextFault::OverLimit(position) => Some(position),
-            TextFault::OutOfMemory => None,
+            TextFault::Lex(place) => write_word_at("Lex", place, f),
+            TextFault::Syntax(place) => write_word_at("Syntax", place, f),
+            TextFault::UnknownName(place) => write_word_at("UnknownName", place, f),
+            TextFault::DuplicateName(place) => write_word_at("DuplicateName", place, f),
+            TextFault::NumberRange(place) => write_word_at("NumberRange", place, f),
+            TextFault::TypeUse(place) => write_word_at("TypeUse", place, f),
+            TextFault::Unsupported(place) => write_word_at("Unsupported", place, f),
+            TextFault::OverLimit(place) => write_word_at("OverLimit", place, f),
+            TextFault::OutOfMemory => f.write_str("OutOfMemory - -"),
         }
     }
 }
 
-impl fmt::Display for TextFault {
-    fn fmt<W: fmt::Write>(&self, f: &mut fmt::Formatter<W>) -> fmt::Result {
-        f.write_str(self.reason())?;
-        match self.position() {
-            Some(at) => write!(f, ", at line {} and column {}", at.line, at.column),
-            None => Ok(()),
-        }
-    }
+fn write_word_at<W: fmt::Write>(
+    word: &str,
+    place: &Position,
+    f: &mut fmt::Formatter<W>,
+) -> fmt::Result
+    ensures { DisplaysOnOk W.write_str_gives f.old result
+        (Some (word_at word.now place.now)) f.new }
+{
+    write!(f, "{word} {} {}", place.line, place.column)
 }
 
 /// Writes the same text as `Display`.

@@ -74,14 +74,14 @@ head_again head rest fits =
     let superstep : head.superstep < 256 ^ 4 = omega (arith, fits.superstep) in
     let dropped : head.dropped < 256 ^ 16 = omega (arith, fits.dropped) in
     let units : head.units < 256 ^ 16 = omega (arith, fits.units) in
-    let slots : items_at signed_at 8 (aggregates ++ rest) ≡ Ok (head.aggregates, rest) =
-    ap (λ (n : ℕ). items_at signed_at n (aggregates ++ rest)) (sym fits.slots) ∙ items_complete signed_at signed (FitsSigned w64) signed_complete head.aggregates rest fits.aggregates in
+    let aggregators : items_at signed_at 8 (aggregates ++ rest) ≡ Ok (head.aggregates, rest) =
+    ap (λ (n : ℕ). items_at signed_at n (aggregates ++ rest)) (sym fits.aggregators) ∙ items_complete signed_at signed (FitsSigned w64) signed_complete head.aggregates rest fits.aggregates in
     ap head_at regrouped
     ∙ rw (
       number_complete 4 head.superstep (number 16 head.dropped ++ (number 16 head.units ++ (aggregates ++ rest))) superstep,
       number_complete 16 head.dropped (number 16 head.units ++ (aggregates ++ rest)) dropped,
       number_complete 16 head.units (aggregates ++ rest) units,
-      slots,
+      aggregators,
     ) refl
 
 each_wide : (xs : List ℕ) → AllByRecursion (λ n. n < 2 ^ 128) xs → AllByRecursion (λ n. n < 256 ^ 16) xs
@@ -115,7 +115,7 @@ older_again superstep bytes = refl
 -- ---- what stands behind the version
 
 head_fits : (state : Standing) → HeadFits state → FieldsFit (head_of state)
-head_fits state fits = record { superstep = fits.superstep; dropped = fits.dropped; units = fits.units; slots = fits.slots; aggregates = fits.aggregates }
+head_fits state fits = record { superstep = fits.superstep; dropped = fits.dropped; units = fits.units; aggregators = fits.aggregators; aggregates = fits.aggregates }
 
 rest_again : (make : List VertexState → Standing) (vs : List VertexState) → AllByRecursion VertexFits vs → length vs < 2 ^ 32 → is_sound (make vs) ≡ true
     → rest_at make (vertices_bytes vs) ≡ Ok (make vs)

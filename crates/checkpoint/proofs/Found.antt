@@ -79,7 +79,7 @@ pub record FieldsFit (head : Head) : Type 0 where
   pub superstep : head.superstep < 2 ^ 32
   pub dropped : head.dropped < 2 ^ 128
   pub units : head.units < 2 ^ 128
-  pub slots : length head.aggregates ≡ 8
+  pub aggregators : length head.aggregates ≡ 8
   pub aggregates : AllByRecursion (FitsSigned w64) head.aggregates
 
 pub head_sound : IsSound head_at fields FieldsFit
@@ -94,7 +94,7 @@ head_sound bytes x fits e =
       parts = superstep_parts ∙ seam (number 4 superstep) after_superstep _ rest (dropped_parts ∙ seam (number 16 dropped) after_dropped _ rest
           (units_parts ∙ seam (number 16 units) after_units _ rest parts));
       rest_fits = rest_fits;
-      fit = record { superstep = omega arith; dropped = omega arith; units = omega arith; slots = fit.0; aggregates = fit.1 };
+      fit = record { superstep = omega arith; dropped = omega arith; units = omega arith; aggregators = fit.0; aggregates = fit.1 };
     })))))
 
 -- the first superstep whose units are told, and the units, as version 2 has them
@@ -182,7 +182,7 @@ read_state state head counted told vertices few sound =
     let both = both_true _ _ sound in (
       is_state state both.0 both.1 counted few,
       record {
-        head = record { superstep = head.superstep; dropped = head.dropped; units = head.units; slots = head.slots; aggregates = head.aggregates };
+        head = record { superstep = head.superstep; dropped = head.dropped; units = head.units; aggregators = head.aggregators; aggregates = head.aggregates };
         by_superstep = told;
         vertices = vertices;
       },

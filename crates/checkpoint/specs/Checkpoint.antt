@@ -59,7 +59,7 @@ pub record HeadFits (state : Standing) : Type 0 where
   pub superstep : state.superstep < 2 ^ 32
   pub dropped : state.dropped < 2 ^ 128
   pub units : state.units < 2 ^ 128
-  pub slots : length state.aggregates ≡ 8
+  pub aggregators : length state.aggregates ≡ 8
   pub aggregates : AllByRecursion (FitsSigned w64) state.aggregates
 
 -- each number fits its width

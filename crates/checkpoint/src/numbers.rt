@@ -101,15 +101,15 @@ pub fn items<T: Item>(
 }
 
 /// Reads the eight aggregates.
-pub fn slots(bytes: &[u8]) -> Result<([i64; 8], &[u8]), CheckpointFault>
+pub fn aggregators(bytes: &[u8]) -> Result<([i64; 8], &[u8]), CheckpointFault>
     ensures { Gives (λ x. (x.0, x.1.now)) result (items_at signed_at 8 bytes.now) }
 {
-    let mut slots = [0; 8];
+    let mut aggregators = [0; 8];
     let mut rest = bytes;
-    for slot in 0..8usize {
+    for aggregator in 0..8usize {
         let (value, after) = i64::read(rest)?;
-        slots[slot] = value;
+        aggregators[aggregator] = value;
         rest = after;
     }
-    Ok((slots, rest))
+    Ok((aggregators, rest))
 }

@@ -10,7 +10,7 @@ ghost use Rattle.superstep.specs.Totals.{standing_of};
 
 use crate::digest::digest_of;
 use crate::fault::CheckpointFault;
-use crate::numbers::{Item, items, slots, u32_at};
+use crate::numbers::{Item, aggregators, items, u32_at};
 use crate::vertices::{are_rising, read_vertices};
 use std::alloc::Global;
 use superstep::{State, Totals, VertexState};
@@ -34,7 +34,7 @@ fn read_head(bytes: &[u8]) -> Result<(Head, &[u8]), CheckpointFault>
     let (superstep, rest) = u32_at(bytes)?;
     let (dropped, rest) = u128::read(rest)?;
     let (units, rest) = u128::read(rest)?;
-    let (aggregates, rest) = slots(rest)?;
+    let (aggregates, rest) = aggregators(rest)?;
     let head = Head {
         superstep,
         dropped,

@@ -1,5 +1,5 @@
 //! Inputs of calls. `input TEXT` prints the id, the superstep, the count and the value, then the messages, then the edges
-//! as `TARGET:VALUE`. `slots TEXT` prints the value of each aggregator. A text that is no input prints its first bad line.
+//! as `TARGET:VALUE`. `aggregators TEXT` prints each aggregator's value. A text that is no input prints its first bad line.
 
 use anyhow::Result;
 use conformance_cases::{show_cases, spelled};
@@ -19,7 +19,7 @@ fn answer(alloc: Global, case: &str) -> Result<String> {
 
 fn told(alloc: Global, kind: &str, text: &str) -> Result<String, AllocError> {
     match Input::read(alloc, text) {
-        Ok(input) if kind == "slots" => slots(alloc, &input),
+        Ok(input) if kind == "aggregators" => aggregators(alloc, &input),
         Ok(input) => meaning(alloc, &input),
         Err(fault) => format!(in alloc; "{}", CommandFault::Input(fault)),
     }
@@ -39,10 +39,10 @@ fn meaning(alloc: Global, input: &Input) -> Result<String, AllocError> {
     Ok(text)
 }
 
-fn slots(alloc: Global, input: &Input) -> Result<String, AllocError> {
+fn aggregators(alloc: Global, input: &Input) -> Result<String, AllocError> {
     let mut text = String::new(alloc);
-    for (slot, value) in input.call_input().aggregated.iter().enumerate() {
-        let space = if slot == 0 { "" } else { " " };
+    for (aggregator, value) in input.call_input().aggregated.iter().enumerate() {
+        let space = if aggregator == 0 { "" } else { " " };
         write!(text, "{space}{value}")?;
     }
     Ok(text)

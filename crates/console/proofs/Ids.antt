@@ -105,7 +105,7 @@ line_ids (Count n) h = tt
 line_ids (Value v) h = tt
 line_ids (Message v) h = tt
 line_ids (Edge target v) h = tt
-line_ids (Aggregate slot v) h = tt
+line_ids (Aggregate aggregator v) h = tt
 line_ids Bad h = tt
 
 line_edges : (line : Line) → IsInRange line → AllByRecursion FewTarget (edge_by line)
@@ -116,7 +116,7 @@ line_edges (Superstep n) h = tt
 line_edges (Count n) h = tt
 line_edges (Value v) h = tt
 line_edges (Message v) h = tt
-line_edges (Aggregate slot v) h = tt
+line_edges (Aggregate aggregator v) h = tt
 line_edges Bad h = tt
 
 all_along : {A : Type 0} (P : A → Type 0) (says : Line → List A) → ((line : Line) → IsInRange line → AllByRecursion P (says line)) → (ls : List (List ℕ)) → AllByRecursion P (flat_map says (map line_of ls))

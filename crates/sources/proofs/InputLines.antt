@@ -15,7 +15,7 @@ use Rattle.sources.specs.declared.input_line.Line.{Line}
 use Rattle.sources.specs.declared.input_line.Line.TheVariants.{Skipped, Id, Superstep, Count, Value, Message, Edge, Aggregate, Bad}
 use Rattle.sources.specs.InputLine.{line_of}
 use Rattle.host_calls.specs.Aggregators.{aggregator_starts}
-use Rattle.sources.specs.InputSays.{AreInput, lines_of, is_good, set_slot, slots_after, all_ids, all_supersteps, all_counts, all_values, all_slots, id_by, superstep_by, count_by, value_by, message_by, edge_by, slot_by}
+use Rattle.sources.specs.InputSays.{AreInput, lines_of, is_good, set_aggregator, aggregators_after, all_ids, all_supersteps, all_counts, all_values, all_aggregators, id_by, superstep_by, count_by, value_by, message_by, edge_by, aggregator_by}
 use Rattle.sources.specs.Input.{Says}
 use Rattle.sources.specs.inside.Adding.{Adds, fits}
 use Rattle.sources.specs.InputFaults.{IsFirstBad, IsInputFault}
@@ -41,9 +41,9 @@ says_push before line old new says adds = record {
   edges = said_push edge_by before line old.edges.items new.edges.items says.edges adds.edges;
   aggregated =
       adds.aggregated
-      ∙ ap (λ slots. slots_after slots (slot_by line)) says.aggregated
-      ∙ sym (fold-append set_slot aggregator_starts (all_slots before) (slot_by line))
-      ∙ ap (λ said. slots_after aggregator_starts said) (sym (flat_map-push slot_by before line));
+      ∙ ap (λ aggregators. aggregators_after aggregators (aggregator_by line)) says.aggregated
+      ∙ sym (fold-append set_aggregator aggregator_starts (all_aggregators before) (aggregator_by line))
+      ∙ ap (λ said. aggregators_after aggregator_starts said) (sym (flat_map-push aggregator_by before line));
 }
 
 -- ---- what may be said once
@@ -82,7 +82,7 @@ no_push before (Count count) old unfit says are = twice count_by before (Count c
 no_push before (Value value) old unfit says are = twice value_by before (Value value) old.value value unfit refl says.value are.one_value
 no_push before (Message value) old unfit says are = bad_line before (Message value) unfit are
 no_push before (Edge target value) old unfit says are = bad_line before (Edge target value) unfit are
-no_push before (Aggregate slot value) old unfit says are = bad_line before (Aggregate slot value) unfit are
+no_push before (Aggregate aggregator value) old unfit says are = bad_line before (Aggregate aggregator value) unfit are
 no_push before Bad old unfit says are = bad_line before Bad unfit are
 
 -- ---- the lines of a text

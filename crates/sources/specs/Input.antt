@@ -6,7 +6,7 @@ use Rattle.host_calls.specs.declared.call.CallInput.{CallInput}
 use Rattle.sources.specs.declared.input.Input.{Input}
 use Rattle.sources.specs.declared.input_line.Line.{Line}
 use Rattle.host_calls.specs.Aggregators.{aggregator_starts}
-use Rattle.sources.specs.InputSays.{AreInput, lines_of, is_good, all_ids, all_supersteps, all_counts, all_values, all_messages, all_edges, all_slots, slots_after}
+use Rattle.sources.specs.InputSays.{AreInput, lines_of, is_good, all_ids, all_supersteps, all_counts, all_values, all_messages, all_edges, all_aggregators, aggregators_after}
 
 -- the first value of a list, or a default
 abbrev pub said_or : {A : Type 0} → A → List A → A
@@ -24,7 +24,7 @@ pub record Means (text : List ℕ) (input : CallInput) : Type 0 where
   pub value : input.value ≡ said_or (pos 0) (all_values (lines_of text))
   pub messages : input.messages.now ≡ all_messages (lines_of text)
   pub edges : input.edges.now ≡ all_edges (lines_of text)
-  pub aggregated : input.aggregated ≡ slots_after aggregator_starts (all_slots (lines_of text))
+  pub aggregated : input.aggregated ≡ aggregators_after aggregator_starts (all_aggregators (lines_of text))
 
 -- ---- an input as it is stored
 
@@ -37,7 +37,7 @@ pub record Says (lines : List Line) (input : Input) : Type 0 where
   pub value : option_to_list input.value ≡ all_values lines
   pub messages : input.messages.items ≡ all_messages lines
   pub edges : input.edges.items ≡ all_edges lines
-  pub aggregated : input.aggregated ≡ slots_after aggregator_starts (all_slots lines)
+  pub aggregated : input.aggregated ≡ aggregators_after aggregator_starts (all_aggregators lines)
 
 -- the input of the call is the stored one, with the default 1 for a count and 0 for the others
 pub record Lends (kept : Input) (input : CallInput) : Type 0 where

@@ -35,7 +35,7 @@ edge_line (Some target) (Some value) = Edge target value
 edge_line _ _ = Bad
 
 abbrev pub aggregate_line : Option ℕ → Option ℤ → Line
-aggregate_line (Some slot) (Some value) = Aggregate slot value
+aggregate_line (Some aggregator) (Some value) = Aggregate aggregator value
 aggregate_line _ _ = Bad
 
 -- a name and two numbers

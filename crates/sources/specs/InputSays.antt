@@ -38,14 +38,14 @@ abbrev pub edge_by : Line → List (ℕ × ℤ)
 edge_by (Edge target value) = (target, value) ∷ []
 edge_by _ = []
 
-abbrev pub slot_by : Line → List (ℕ × ℤ)
-slot_by (Aggregate slot value) = (slot, value) ∷ []
-slot_by _ = []
+abbrev pub aggregator_by : Line → List (ℕ × ℤ)
+aggregator_by (Aggregate aggregator value) = (aggregator, value) ∷ []
+aggregator_by _ = []
 
 -- the line is not bad, and its aggregator exists
 abbrev pub is_good : Line → Bool
 is_good Bad = false
-is_good (Aggregate slot value) = nat_lt slot AGGREGATORS
+is_good (Aggregate aggregator value) = nat_lt aggregator AGGREGATORS
 is_good _ = true
 
 -- ---- what the lines declare of each kind
@@ -68,15 +68,15 @@ all_messages lines = flat_map message_by lines
 abbrev pub all_edges : List Line → List (ℕ × ℤ)
 all_edges lines = flat_map edge_by lines
 
-abbrev pub all_slots : List Line → List (ℕ × ℤ)
-all_slots lines = flat_map slot_by lines
+abbrev pub all_aggregators : List Line → List (ℕ × ℤ)
+all_aggregators lines = flat_map aggregator_by lines
 
-abbrev pub set_slot : List ℤ → ℕ × ℤ → List ℤ
-set_slot slots said = slice_set slots said.0 said.1
+abbrev pub set_aggregator : List ℤ → ℕ × ℤ → List ℤ
+set_aggregator aggregators said = slice_set aggregators said.0 said.1
 
 -- the aggregators after these declarations, of which the last one for each counts
-abbrev pub slots_after : List ℤ → List (ℕ × ℤ) → List ℤ
-slots_after slots said = fold set_slot slots said
+abbrev pub aggregators_after : List ℤ → List (ℕ × ℤ) → List ℤ
+aggregators_after aggregators said = fold set_aggregator aggregators said
 
 -- The lines are those of an input: each is good, and what may be declared once is not declared twice.
 pub record AreInput (lines : List Line) : Type 0 where

@@ -127,11 +127,11 @@ impl Input {
                 self.edges.push((target, value))?;
                 Ok(())
             }
-            Line::Aggregate(slot, value) => {
-                if slot >= AGGREGATORS {
+            Line::Aggregate(aggregator, value) => {
+                if aggregator >= AGGREGATORS {
                     return Err(InputFault::Line(number));
                 }
-                self.aggregated[slot as usize] = value;
+                self.aggregated[aggregator as usize] = value;
                 Ok(())
             }
             Line::Bad => Err(InputFault::Line(number)),

@@ -84,7 +84,7 @@ fn long_line(name: &[u8], first: &[u8], second: &[u8]) -> Line
         return id_of(first).map_or(Line::Bad, |target| Line::Edge(target, value));
     }
     if name == b"aggregate".as_slice() {
-        return u32_of(first).map_or(Line::Bad, |slot| Line::Aggregate(slot, value));
+        return u32_of(first).map_or(Line::Bad, |aggregator| Line::Aggregate(aggregator, value));
     }
     Line::Bad
 }

@@ -54,8 +54,8 @@ fn push_sends(text: &mut String, sends: &[(i64, i64)]) -> Result<(), AllocError>
 fn push_contributions(text: &mut String, contributions: &[(u32, i64)]) -> Result<(), AllocError>
     ensures { OnOk result (Gains text.old text.new (flat_map give_line contributions.now)) }
 {
-    for (slot, value) in contributions {
-        writeln!(text, "give {slot} {value}")?;
+    for (aggregator, value) in contributions {
+        writeln!(text, "give {aggregator} {value}")?;
     }
     Ok(())
 }

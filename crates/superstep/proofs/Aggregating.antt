@@ -1,4 +1,4 @@
--- What the slots are aggregated to, in whatever order and parts the numbers are given.
+-- The values of aggregators do not depend on the order and the parts in which the numbers are given.
 use Rattle.std.proofs.Common.{◌≡◌, ◌≢◌, ℕ, ℤ, pos, zero, suc, ◌<◌, ◌≤◌, Bool, true, false, cond, List, [], ◌∷◌, ◌++◌, append_assoc, append-nil, length, get_or, set, map, filter, eqb, FitsSigned, ◌⊎◌, inl, inr, ⊎_elim, refl, ap, sym, ◌∙◌, subst, arith, length-set, get_or-set_same, get_or-set_other, set-set, le_of_suc-le-suc}
 use Rattle.std.specs.Int.{w64}
 use Rattle.std.specs.List.{All, flat_map, fold, swap}
@@ -17,7 +17,7 @@ use Rattle.host_calls.specs.Aggregators.{aggregator_starts}
 use Rattle.superstep.specs.Folds.{aggregated, combined, give}
 use Rattle.superstep.specs.Superstep.{contributions_of}
 use Rattle.superstep.specs.inside.Uniting.{given_at, united}
-use Rattle.superstep.proofs.SlotFolds.{combined_assoc, combined_comm, combined_fits, combined_start, combined_turns}
+use Rattle.superstep.proofs.AggregatorFolds.{combined_assoc, combined_comm, combined_fits, combined_start, combined_turns}
 
 same_or_not : (a b : ℕ) → (a ≡ b) ⊎ (a ≢ b)
 same_or_not a b = by (eqb a b) refl
@@ -28,125 +28,125 @@ same_or_not a b = by (eqb a b) refl
 
 -- ---- one number
 
-length_give : (slots : List ℤ) (given : ℕ × ℤ) → length (give slots given) ≡ length slots
-length_give slots given = length-set slots given.0 _
+length_give : (aggregators : List ℤ) (given : ℕ × ℤ) → length (give aggregators given) ≡ length aggregators
+length_give aggregators given = length-set aggregators given.0 _
 
--- the slot that the number goes to, and each other
-give_here : (slots : List ℤ) (given : ℕ × ℤ) → given.0 < length slots
-    → get_or (give slots given) given.0 (pos 0) ≡ combined given.0 (get_or slots given.0 (pos 0)) given.1
-give_here slots given below = get_or-set_same slots given.0 _ (pos 0) below
+-- the aggregator that the number goes to, and each other
+give_here : (aggregators : List ℤ) (given : ℕ × ℤ) → given.0 < length aggregators
+    → get_or (give aggregators given) given.0 (pos 0) ≡ combined given.0 (get_or aggregators given.0 (pos 0)) given.1
+give_here aggregators given below = get_or-set_same aggregators given.0 _ (pos 0) below
 
-give_elsewhere : (slots : List ℤ) (given : ℕ × ℤ) (slot : ℕ) → slot ≢ given.0 → get_or (give slots given) slot (pos 0) ≡ get_or slots slot (pos 0)
-give_elsewhere slots given slot apart = get_or-set_other slots given.0 slot _ (pos 0) apart
+give_elsewhere : (aggregators : List ℤ) (given : ℕ × ℤ) (aggregator : ℕ) → aggregator ≢ given.0 → get_or (give aggregators given) aggregator (pos 0) ≡ get_or aggregators aggregator (pos 0)
+give_elsewhere aggregators given aggregator apart = get_or-set_other aggregators given.0 aggregator _ (pos 0) apart
 
-twice_same : (slots : List ℤ) (slot : ℕ) (x y : ℤ) → slot < length slots
-    → give (give slots (slot, x)) (slot, y) ≡ set slots slot (combined slot (combined slot (get_or slots slot (pos 0)) x) y)
-twice_same slots slot x y below =
-    ap (λ old. set (give slots (slot, x)) slot (combined slot old y)) (give_here slots (slot, x) below)
-    ∙ set-set slots slot _ _
+twice_same : (aggregators : List ℤ) (aggregator : ℕ) (x y : ℤ) → aggregator < length aggregators
+    → give (give aggregators (aggregator, x)) (aggregator, y) ≡ set aggregators aggregator (combined aggregator (combined aggregator (get_or aggregators aggregator (pos 0)) x) y)
+twice_same aggregators aggregator x y below =
+    ap (λ old. set (give aggregators (aggregator, x)) aggregator (combined aggregator old y)) (give_here aggregators (aggregator, x) below)
+    ∙ set-set aggregators aggregator _ _
 
-twice_apart : (slots : List ℤ) (a b : ℕ × ℤ) → b.0 ≢ a.0
-    → give (give slots a) b ≡ set (give slots a) b.0 (combined b.0 (get_or slots b.0 (pos 0)) b.1)
-twice_apart slots a b apart = ap (λ old. set (give slots a) b.0 (combined b.0 old b.1)) (give_elsewhere slots a b.0 apart)
+twice_apart : (aggregators : List ℤ) (a b : ℕ × ℤ) → b.0 ≢ a.0
+    → give (give aggregators a) b ≡ set (give aggregators a) b.0 (combined b.0 (get_or aggregators b.0 (pos 0)) b.1)
+twice_apart aggregators a b apart = ap (λ old. set (give aggregators a) b.0 (combined b.0 old b.1)) (give_elsewhere aggregators a b.0 apart)
 
-same_turns : (slots : List ℤ) (slot : ℕ) (x y : ℤ) → give (give slots (slot, x)) (slot, y) ≡ give (give slots (slot, y)) (slot, x)
-same_turns slots slot x y =
+same_turns : (aggregators : List ℤ) (aggregator : ℕ) (x y : ℤ) → give (give aggregators (aggregator, x)) (aggregator, y) ≡ give (give aggregators (aggregator, y)) (aggregator, x)
+same_turns aggregators aggregator x y =
     ⊎_elim
-    (λ (below : slot < length slots).
-    twice_same slots slot x y below
-    ∙ ap (set slots slot) (combined_turns slot (get_or slots slot (pos 0)) x y)
-    ∙ sym (twice_same slots slot y x below))
-    (λ (past : length slots ≤ slot).
-    let out : (z : ℤ) → give slots (slot, z) ≡ slots = λ z. set_out slots slot _ past in
-    ap (λ l. give l (slot, y)) (out x) ∙ out y ∙ sym (ap (λ l. give l (slot, x)) (out y) ∙ out x))
-    (cases_lt slot (length slots))
+    (λ (below : aggregator < length aggregators).
+    twice_same aggregators aggregator x y below
+    ∙ ap (set aggregators aggregator) (combined_turns aggregator (get_or aggregators aggregator (pos 0)) x y)
+    ∙ sym (twice_same aggregators aggregator y x below))
+    (λ (past : length aggregators ≤ aggregator).
+    let out : (z : ℤ) → give aggregators (aggregator, z) ≡ aggregators = λ z. set_out aggregators aggregator _ past in
+    ap (λ l. give l (aggregator, y)) (out x) ∙ out y ∙ sym (ap (λ l. give l (aggregator, x)) (out y) ∙ out x))
+    (cases_lt aggregator (length aggregators))
 
 -- two numbers may be given in either order
-pub give_turns : (slots : List ℤ) (a b : ℕ × ℤ) → give (give slots a) b ≡ give (give slots b) a
-give_turns slots a b =
+pub give_turns : (aggregators : List ℤ) (a b : ℕ × ℤ) → give (give aggregators a) b ≡ give (give aggregators b) a
+give_turns aggregators a b =
     ⊎_elim
-    (λ (same : b.0 ≡ a.0). subst (λ slot. give (give slots a) (slot, b.1) ≡ give (give slots (slot, b.1)) a) (sym same) (same_turns slots a.0 a.1 b.1))
+    (λ (same : b.0 ≡ a.0). subst (λ aggregator. give (give aggregators a) (aggregator, b.1) ≡ give (give aggregators (aggregator, b.1)) a) (sym same) (same_turns aggregators a.0 a.1 b.1))
     (λ (apart : b.0 ≢ a.0).
-    twice_apart slots a b apart
-    ∙ set_comm slots a.0 b.0 _ _ (λ e. apart (sym e))
-    ∙ sym (twice_apart slots b a (λ e. apart (sym e))))
+    twice_apart aggregators a b apart
+    ∙ set_comm aggregators a.0 b.0 _ _ (λ e. apart (sym e))
+    ∙ sym (twice_apart aggregators b a (λ e. apart (sym e))))
     (same_or_not b.0 a.0)
 
 -- ---- many numbers, in any order
 
 -- the first number takes a later one's place
-given_later : (slots : List ℤ) (xs : List (ℕ × ℤ)) (i : ℕ) (x d : ℕ × ℤ) → i < length xs
-    → fold give slots (get_or xs i d ∷ set xs i x) ≡ fold give slots (x ∷ xs)
-given_later slots [] i x d below = absurd (omega arith)
-given_later slots (y ∷ xs) zero x d below = ap (λ l. fold give l xs) (give_turns slots y x)
-given_later slots (y ∷ xs) (suc i) x d below =
+given_later : (aggregators : List ℤ) (xs : List (ℕ × ℤ)) (i : ℕ) (x d : ℕ × ℤ) → i < length xs
+    → fold give aggregators (get_or xs i d ∷ set xs i x) ≡ fold give aggregators (x ∷ xs)
+given_later aggregators [] i x d below = absurd (omega arith)
+given_later aggregators (y ∷ xs) zero x d below = ap (λ l. fold give l xs) (give_turns aggregators y x)
+given_later aggregators (y ∷ xs) (suc i) x d below =
     let z = get_or xs i d in
-    ap (λ l. fold give l (set xs i x)) (give_turns slots z y)
-    ∙ given_later (give slots y) xs i x d (le_of_suc-le-suc below)
-    ∙ ap (λ l. fold give l xs) (give_turns slots y x)
+    ap (λ l. fold give l (set xs i x)) (give_turns aggregators z y)
+    ∙ given_later (give aggregators y) xs i x d (le_of_suc-le-suc below)
+    ∙ ap (λ l. fold give l xs) (give_turns aggregators y x)
 
-given_swapped : (slots : List ℤ) (xs : List (ℕ × ℤ)) (i j : ℕ) (d : ℕ × ℤ) → i < length xs → j < length xs
-    → fold give slots (set (set xs i (get_or xs j d)) j (get_or xs i d)) ≡ fold give slots xs
-given_swapped slots [] i j d first second = absurd (omega arith)
-given_swapped slots (x ∷ xs) zero zero d first second = refl
-given_swapped slots (x ∷ xs) zero (suc j) d first second = given_later slots xs j x d (le_of_suc-le-suc second)
-given_swapped slots (x ∷ xs) (suc i) zero d first second = given_later slots xs i x d (le_of_suc-le-suc first)
-given_swapped slots (x ∷ xs) (suc i) (suc j) d first second =
-    given_swapped (give slots x) xs i j d (le_of_suc-le-suc first) (le_of_suc-le-suc second)
+given_swapped : (aggregators : List ℤ) (xs : List (ℕ × ℤ)) (i j : ℕ) (d : ℕ × ℤ) → i < length xs → j < length xs
+    → fold give aggregators (set (set xs i (get_or xs j d)) j (get_or xs i d)) ≡ fold give aggregators xs
+given_swapped aggregators [] i j d first second = absurd (omega arith)
+given_swapped aggregators (x ∷ xs) zero zero d first second = refl
+given_swapped aggregators (x ∷ xs) zero (suc j) d first second = given_later aggregators xs j x d (le_of_suc-le-suc second)
+given_swapped aggregators (x ∷ xs) (suc i) zero d first second = given_later aggregators xs i x d (le_of_suc-le-suc first)
+given_swapped aggregators (x ∷ xs) (suc i) (suc j) d first second =
+    given_swapped (give aggregators x) xs i j d (le_of_suc-le-suc first) (le_of_suc-le-suc second)
 
-given_exchanged : (slots : List ℤ) (xs : List (ℕ × ℤ)) (i j : ℕ) → i < length xs → j < length xs → fold give slots (swap xs i j) ≡ fold give slots xs
-given_exchanged slots [] i j first second = refl
-given_exchanged slots (x ∷ xs) i j first second = given_swapped slots (x ∷ xs) i j x first second
+given_exchanged : (aggregators : List ℤ) (xs : List (ℕ × ℤ)) (i j : ℕ) → i < length xs → j < length xs → fold give aggregators (swap xs i j) ≡ fold give aggregators xs
+given_exchanged aggregators [] i j first second = refl
+given_exchanged aggregators (x ∷ xs) i j first second = given_swapped aggregators (x ∷ xs) i j x first second
 
 -- the order in which numbers are given makes no difference
-pub given_permuted : (slots : List ℤ) (a b : List (ℕ × ℤ)) → IsPermutation a b → fold give slots a ≡ fold give slots b
-given_permuted slots a b same =
-    IsPermutation-keeps a (λ l. fold give slots a ≡ fold give slots l) refl
-    (λ l i j first second before. before ∙ sym (given_exchanged slots l i j first second)) b same
+pub given_permuted : (aggregators : List ℤ) (a b : List (ℕ × ℤ)) → IsPermutation a b → fold give aggregators a ≡ fold give aggregators b
+given_permuted aggregators a b same =
+    IsPermutation-keeps a (λ l. fold give aggregators a ≡ fold give aggregators l) refl
+    (λ l i j first second before. before ∙ sym (given_exchanged aggregators l i j first second)) b same
 
 pub aggregated_permuted : (a b : List (ℕ × ℤ)) → IsPermutation a b → aggregated a ≡ aggregated b
 aggregated_permuted a b same = given_permuted aggregator_starts a b same
 
--- ---- how many slots, and their ranges
+-- ---- how many aggregators, and their ranges
 
-pub length_given : (slots : List ℤ) (contributions : List (ℕ × ℤ)) → length (fold give slots contributions) ≡ length slots
-length_given slots [] = refl
-length_given slots (given ∷ contributions) = length_given (give slots given) contributions ∙ length_give slots given
+pub length_given : (aggregators : List ℤ) (contributions : List (ℕ × ℤ)) → length (fold give aggregators contributions) ≡ length aggregators
+length_given aggregators [] = refl
+length_given aggregators (given ∷ contributions) = length_given (give aggregators given) contributions ∙ length_give aggregators given
 
 pub length_aggregated : (contributions : List (ℕ × ℤ)) → length (aggregated contributions) ≡ 8
 length_aggregated contributions = length_given aggregator_starts contributions
 
-slot_fits : (slots : List ℤ) (slot : ℕ) → All (FitsSigned w64) slots → FitsSigned w64 (get_or slots slot (pos 0))
-slot_fits [] slot fits = omega (arith, ints)
-slot_fits (x ∷ slots) zero fits = All-head (FitsSigned w64) x slots fits
-slot_fits (x ∷ slots) (suc slot) fits = slot_fits slots slot (All-tail (FitsSigned w64) x slots fits)
+aggregator_fits : (aggregators : List ℤ) (aggregator : ℕ) → All (FitsSigned w64) aggregators → FitsSigned w64 (get_or aggregators aggregator (pos 0))
+aggregator_fits [] aggregator fits = omega (arith, ints)
+aggregator_fits (x ∷ aggregators) zero fits = All-head (FitsSigned w64) x aggregators fits
+aggregator_fits (x ∷ aggregators) (suc aggregator) fits = aggregator_fits aggregators aggregator (All-tail (FitsSigned w64) x aggregators fits)
 
-give_fits : (slots : List ℤ) (given : ℕ × ℤ) → FitsSigned w64 given.1 → All (FitsSigned w64) slots → All (FitsSigned w64) (give slots given)
-give_fits slots given one fits =
-    All-set (FitsSigned w64) slots given.0 _ (combined_fits given.0 _ given.1 (slot_fits slots given.0 fits) one) fits
+give_fits : (aggregators : List ℤ) (given : ℕ × ℤ) → FitsSigned w64 given.1 → All (FitsSigned w64) aggregators → All (FitsSigned w64) (give aggregators given)
+give_fits aggregators given one fits =
+    All-set (FitsSigned w64) aggregators given.0 _ (combined_fits given.0 _ given.1 (aggregator_fits aggregators given.0 fits) one) fits
 
-pub given_fits : (slots : List ℤ) (contributions : List (ℕ × ℤ)) → All (λ (given : ℕ × ℤ). FitsSigned w64 given.1) contributions
-    → All (FitsSigned w64) slots → All (FitsSigned w64) (fold give slots contributions)
-given_fits slots [] each fits = fits
-given_fits slots (given ∷ contributions) each fits =
-    given_fits (give slots given) contributions (All-tail (λ (one : ℕ × ℤ). FitsSigned w64 one.1) given contributions each)
-    (give_fits slots given (All-head (λ (one : ℕ × ℤ). FitsSigned w64 one.1) given contributions each) fits)
+pub given_fits : (aggregators : List ℤ) (contributions : List (ℕ × ℤ)) → All (λ (given : ℕ × ℤ). FitsSigned w64 given.1) contributions
+    → All (FitsSigned w64) aggregators → All (FitsSigned w64) (fold give aggregators contributions)
+given_fits aggregators [] each fits = fits
+given_fits aggregators (given ∷ contributions) each fits =
+    given_fits (give aggregators given) contributions (All-tail (λ (one : ℕ × ℤ). FitsSigned w64 one.1) given contributions each)
+    (give_fits aggregators given (All-head (λ (one : ℕ × ℤ). FitsSigned w64 one.1) given contributions each) fits)
 
 pub starts_fit : All (FitsSigned w64) aggregator_starts
-starts_fit = λ k d below. slot_at k d below
+starts_fit = λ k d below. aggregator_at k d below
   where
-    slot_at : (k : ℕ) (d : ℤ) → k < 8 → FitsSigned w64 (get_or aggregator_starts k d)
-    slot_at zero d below = omega (arith, ints)
-    slot_at (suc zero) d below = omega (arith, ints)
-    slot_at (suc (suc zero)) d below = omega (arith, ints)
-    slot_at (suc (suc (suc zero))) d below = omega (arith, ints)
-    slot_at (suc (suc (suc (suc zero)))) d below = omega (arith, ints)
-    slot_at (suc (suc (suc (suc (suc zero))))) d below = omega (arith, ints)
-    slot_at (suc (suc (suc (suc (suc (suc zero)))))) d below = omega (arith, ints)
-    slot_at (suc (suc (suc (suc (suc (suc (suc zero))))))) d below = omega (arith, ints)
-    slot_at (suc (suc (suc (suc (suc (suc (suc (suc k)))))))) d below = absurd (omega arith)
+    aggregator_at : (k : ℕ) (d : ℤ) → k < 8 → FitsSigned w64 (get_or aggregator_starts k d)
+    aggregator_at zero d below = omega (arith, ints)
+    aggregator_at (suc zero) d below = omega (arith, ints)
+    aggregator_at (suc (suc zero)) d below = omega (arith, ints)
+    aggregator_at (suc (suc (suc zero))) d below = omega (arith, ints)
+    aggregator_at (suc (suc (suc (suc zero)))) d below = omega (arith, ints)
+    aggregator_at (suc (suc (suc (suc (suc zero))))) d below = omega (arith, ints)
+    aggregator_at (suc (suc (suc (suc (suc (suc zero)))))) d below = omega (arith, ints)
+    aggregator_at (suc (suc (suc (suc (suc (suc (suc zero))))))) d below = omega (arith, ints)
+    aggregator_at (suc (suc (suc (suc (suc (suc (suc (suc k)))))))) d below = absurd (omega arith)
 
--- where each number that is given fits 64 bits, each slot does
+-- where each number that is given fits 64 bits, each aggregator does
 pub aggregated_fits : (contributions : List (ℕ × ℤ)) → All (λ (given : ℕ × ℤ). FitsSigned w64 given.1) contributions
     → All (FitsSigned w64) (aggregated contributions)
 aggregated_fits contributions each = given_fits aggregator_starts contributions each starts_fit
@@ -155,44 +155,44 @@ aggregated_fits contributions each = given_fits aggregator_starts contributions 
 
 pub length_united : (one other : List ℤ) → length (united one other) ≡ 8
 unfolding united
-length_united one other = length-map-range_with_len (λ slot. combined slot (get_or one slot (pos 0)) (get_or other slot (pos 0))) 0 8
+length_united one other = length-map-range_with_len (λ aggregator. combined aggregator (get_or one aggregator (pos 0)) (get_or other aggregator (pos 0))) 0 8
 
-pub united_at : (one other : List ℤ) (slot : ℕ) → slot < 8
-    → get_or (united one other) slot (pos 0) ≡ combined slot (get_or one slot (pos 0)) (get_or other slot (pos 0))
+pub united_at : (one other : List ℤ) (aggregator : ℕ) → aggregator < 8
+    → get_or (united one other) aggregator (pos 0) ≡ combined aggregator (get_or one aggregator (pos 0)) (get_or other aggregator (pos 0))
 unfolding united
-united_at one other slot below =
-    get_or-map-range_with_len (λ k. combined k (get_or one k (pos 0)) (get_or other k (pos 0))) 0 8 slot slot (pos 0) below (omega arith)
+united_at one other aggregator below =
+    get_or-map-range_with_len (λ k. combined k (get_or one k (pos 0)) (get_or other k (pos 0))) 0 8 aggregator aggregator (pos 0) below (omega arith)
 
--- a list that has this at each slot is the union
-pub united_is : (one other slots : List ℤ) → length slots ≡ 8
-    → ((slot : ℕ) → slot < 8 → get_or slots slot (pos 0) ≡ combined slot (get_or one slot (pos 0)) (get_or other slot (pos 0)))
-    → slots ≡ united one other
+-- a list that has this at each aggregator is the union
+pub united_is : (one other aggregators : List ℤ) → length aggregators ≡ 8
+    → ((aggregator : ℕ) → aggregator < 8 → get_or aggregators aggregator (pos 0) ≡ combined aggregator (get_or one aggregator (pos 0)) (get_or other aggregator (pos 0)))
+    → aggregators ≡ united one other
 unfolding united
-united_is one other slots long each = fill_by_all (λ k. combined k (get_or one k (pos 0)) (get_or other k (pos 0))) slots 8 (pos 0) long each
+united_is one other aggregators long each = fill_by_all (λ k. combined k (get_or one k (pos 0)) (get_or other k (pos 0))) aggregators 8 (pos 0) long each
 
 pub united_comm : (one other : List ℤ) → united one other ≡ united other one
 united_comm one other =
     united_is other one (united one other) (length_united one other)
-    (λ slot below. united_at one other slot below ∙ combined_comm slot (get_or one slot (pos 0)) (get_or other slot (pos 0)))
+    (λ aggregator below. united_at one other aggregator below ∙ combined_comm aggregator (get_or one aggregator (pos 0)) (get_or other aggregator (pos 0)))
 
 pub united_assoc : (one other third : List ℤ) → united (united one other) third ≡ united one (united other third)
 united_assoc one other third =
     united_is one (united other third) (united (united one other) third) (length_united (united one other) third)
-    (λ slot below.
-    let a = get_or one slot (pos 0) in
-    let b = get_or other slot (pos 0) in
-    let c = get_or third slot (pos 0) in
-    united_at (united one other) third slot below
-    ∙ ap (λ x. combined slot x c) (united_at one other slot below)
-    ∙ combined_assoc slot a b c
-    ∙ ap (combined slot a) (sym (united_at other third slot below)))
+    (λ aggregator below.
+    let a = get_or one aggregator (pos 0) in
+    let b = get_or other aggregator (pos 0) in
+    let c = get_or third aggregator (pos 0) in
+    united_at (united one other) third aggregator below
+    ∙ ap (λ x. combined aggregator x c) (united_at one other aggregator below)
+    ∙ combined_assoc aggregator a b c
+    ∙ ap (combined aggregator a) (sym (united_at other third aggregator below)))
 
 -- one number more in the first part
-united_give_at : (one other : List ℤ) (given : ℕ × ℤ) → length one ≡ 8 → (slot : ℕ) → slot < 8
-    → get_or (give (united one other) given) slot (pos 0) ≡ combined slot (get_or (give one given) slot (pos 0)) (get_or other slot (pos 0))
-united_give_at one other given long slot below =
+united_give_at : (one other : List ℤ) (given : ℕ × ℤ) → length one ≡ 8 → (aggregator : ℕ) → aggregator < 8
+    → get_or (give (united one other) given) aggregator (pos 0) ≡ combined aggregator (get_or (give one given) aggregator (pos 0)) (get_or other aggregator (pos 0))
+united_give_at one other given long aggregator below =
     ⊎_elim
-    (λ (same : slot ≡ given.0).
+    (λ (same : aggregator ≡ given.0).
     let here : given.0 < 8 = omega arith in
     let a = get_or one given.0 (pos 0) in
     let b = get_or other given.0 (pos 0) in
@@ -201,11 +201,11 @@ united_give_at one other given long slot below =
     ∙ ap (λ x. combined given.0 x given.1) (united_at one other given.0 here)
     ∙ combined_turns given.0 a b given.1
     ∙ ap (λ x. combined given.0 x b) (sym (give_here one given (omega arith)))))
-    (λ (apart : slot ≢ given.0).
-    give_elsewhere (united one other) given slot apart
-    ∙ united_at one other slot below
-    ∙ ap (λ x. combined slot x (get_or other slot (pos 0))) (sym (give_elsewhere one given slot apart)))
-    (same_or_not slot given.0)
+    (λ (apart : aggregator ≢ given.0).
+    give_elsewhere (united one other) given aggregator apart
+    ∙ united_at one other aggregator below
+    ∙ ap (λ x. combined aggregator x (get_or other aggregator (pos 0))) (sym (give_elsewhere one given aggregator apart)))
+    (same_or_not aggregator given.0)
 
 united_give : (one other : List ℤ) (given : ℕ × ℤ) → length one ≡ 8 → give (united one other) given ≡ united (give one given) other
 united_give one other given long =
@@ -220,7 +220,7 @@ united_given one other (given ∷ contributions) long =
     ap (λ l. fold give l contributions) (united_give one other given long)
     ∙ united_given (give one given) other contributions (length_give one given ∙ long)
 
--- to unite with slots that nobody gave anything to changes nothing
+-- to unite with aggregators that nobody gave anything to changes nothing
 starts_united : united aggregator_starts aggregator_starts ≡ aggregator_starts
 unfolding united
 starts_united = refl
@@ -237,51 +237,51 @@ aggregated_joined a b =
     ∙ united_given aggregator_starts (aggregated a) b refl
     ∙ united_comm (aggregated b) (aggregated a)
 
--- slots of 64 bits, united with slots that nobody gave anything to, and numbers given to them
-pub united_starts : (slots : List ℤ) → length slots ≡ 8 → All (FitsSigned w64) slots → united slots aggregator_starts ≡ slots
-united_starts slots long fits =
-    sym (united_is slots aggregator_starts slots long (λ slot below. sym (combined_start slot (get_or slots slot (pos 0)) below (slot_fits slots slot fits))))
+-- aggregators of 64 bits, united with aggregators that nobody gave anything to, and numbers given to them
+pub united_starts : (aggregators : List ℤ) → length aggregators ≡ 8 → All (FitsSigned w64) aggregators → united aggregators aggregator_starts ≡ aggregators
+united_starts aggregators long fits =
+    sym (united_is aggregators aggregator_starts aggregators long (λ aggregator below. sym (combined_start aggregator (get_or aggregators aggregator (pos 0)) below (aggregator_fits aggregators aggregator fits))))
 
-pub given_united : (slots : List ℤ) (contributions : List (ℕ × ℤ)) → length slots ≡ 8 → All (FitsSigned w64) slots
-    → fold give slots contributions ≡ united slots (aggregated contributions)
-given_united slots contributions long fits =
-    ap (λ l. fold give l contributions) (sym (united_starts slots long fits) ∙ united_comm slots aggregator_starts)
-    ∙ united_given aggregator_starts slots contributions refl
-    ∙ united_comm (aggregated contributions) slots
+pub given_united : (aggregators : List ℤ) (contributions : List (ℕ × ℤ)) → length aggregators ≡ 8 → All (FitsSigned w64) aggregators
+    → fold give aggregators contributions ≡ united aggregators (aggregated contributions)
+given_united aggregators contributions long fits =
+    ap (λ l. fold give l contributions) (sym (united_starts aggregators long fits) ∙ united_comm aggregators aggregator_starts)
+    ∙ united_given aggregator_starts aggregators contributions refl
+    ∙ united_comm (aggregated contributions) aggregators
 
 -- what many parts give is aggregated as each is, and then united, part after part
 module _ {X : Type 0} (gives : X → List (ℕ × ℤ)) where
   parts_onward : (before : List (ℕ × ℤ)) (parts : List X)
-      → aggregated (before ++ flat_map gives parts) ≡ fold (λ slots part. united slots (aggregated (gives part))) (aggregated before) parts
+      → aggregated (before ++ flat_map gives parts) ≡ fold (λ aggregators part. united aggregators (aggregated (gives part))) (aggregated before) parts
   parts_onward before [] = ap aggregated (append-nil before)
   parts_onward before (part ∷ parts) =
       ap aggregated (sym (append_assoc before (gives part) (flat_map gives parts)))
       ∙ parts_onward (before ++ gives part) parts
-      ∙ ap (λ slots. fold (λ old one. united old (aggregated (gives one))) slots parts) (aggregated_joined before (gives part))
+      ∙ ap (λ aggregators. fold (λ old one. united old (aggregated (gives one))) aggregators parts) (aggregated_joined before (gives part))
 
-  pub aggregated_parts : (parts : List X) → aggregated (flat_map gives parts) ≡ fold (λ slots part. united slots (aggregated (gives part))) aggregator_starts parts
+  pub aggregated_parts : (parts : List X) → aggregated (flat_map gives parts) ≡ fold (λ aggregators part. united aggregators (aggregated (gives part))) aggregator_starts parts
   aggregated_parts parts = parts_onward [] parts
 
--- ---- a slot alone
+-- ---- an aggregator alone
 
-given_slot : (slots : List ℤ) (contributions : List (ℕ × ℤ)) (slot : ℕ) → slot < length slots
-    → get_or (fold give slots contributions) slot (pos 0) ≡ fold (combined slot) (get_or slots slot (pos 0)) (given_at slot contributions)
-given_slot slots [] slot below = refl
-given_slot slots (given ∷ contributions) slot below = given_slot (give slots given) contributions slot (omega (arith, length_give slots given)) ∙ by (eqb given.0 slot) refl
+given_aggregator : (aggregators : List ℤ) (contributions : List (ℕ × ℤ)) (aggregator : ℕ) → aggregator < length aggregators
+    → get_or (fold give aggregators contributions) aggregator (pos 0) ≡ fold (combined aggregator) (get_or aggregators aggregator (pos 0)) (given_at aggregator contributions)
+given_aggregator aggregators [] aggregator below = refl
+given_aggregator aggregators (given ∷ contributions) aggregator below = given_aggregator (give aggregators given) contributions aggregator (omega (arith, length_give aggregators given)) ∙ by (eqb given.0 aggregator) refl
   where
-    by : (t : Bool) → eqb given.0 slot ≡ t
-        → fold (combined slot) (get_or (give slots given) slot (pos 0)) (given_at slot contributions)
-        ≡ fold (combined slot) (get_or slots slot (pos 0)) (map (λ (one : ℕ × ℤ). one.1) (cond t (given ∷ filter (λ (one : ℕ × ℤ). eqb one.0 slot) contributions) (filter (λ (one : ℕ × ℤ). eqb one.0 slot) contributions)))
+    by : (t : Bool) → eqb given.0 aggregator ≡ t
+        → fold (combined aggregator) (get_or (give aggregators given) aggregator (pos 0)) (given_at aggregator contributions)
+        ≡ fold (combined aggregator) (get_or aggregators aggregator (pos 0)) (map (λ (one : ℕ × ℤ). one.1) (cond t (given ∷ filter (λ (one : ℕ × ℤ). eqb one.0 aggregator) contributions) (filter (λ (one : ℕ × ℤ). eqb one.0 aggregator) contributions)))
     by true e =
-        let same = eqb-true given.0 slot e in
-        ap (λ old. fold (combined slot) old (given_at slot contributions))
-        (subst (λ k. get_or (give slots given) k (pos 0) ≡ combined k (get_or slots k (pos 0)) given.1) same (give_here slots given (omega arith)))
-    by false e = ap (λ old. fold (combined slot) old (given_at slot contributions)) (give_elsewhere slots given slot (λ k. eqb-false given.0 slot e (sym k)))
+        let same = eqb-true given.0 aggregator e in
+        ap (λ old. fold (combined aggregator) old (given_at aggregator contributions))
+        (subst (λ k. get_or (give aggregators given) k (pos 0) ≡ combined k (get_or aggregators k (pos 0)) given.1) same (give_here aggregators given (omega arith)))
+    by false e = ap (λ old. fold (combined aggregator) old (given_at aggregator contributions)) (give_elsewhere aggregators given aggregator (λ k. eqb-false given.0 aggregator e (sym k)))
 
--- each slot folds the numbers that were given to it, in order
-pub aggregated_at : (contributions : List (ℕ × ℤ)) (slot : ℕ) → slot < 8
-    → get_or (aggregated contributions) slot (pos 0) ≡ fold (combined slot) (get_or aggregator_starts slot (pos 0)) (given_at slot contributions)
-aggregated_at contributions slot below = given_slot aggregator_starts contributions slot below
+-- each aggregator folds the numbers that were given to it, in order
+pub aggregated_at : (contributions : List (ℕ × ℤ)) (aggregator : ℕ) → aggregator < 8
+    → get_or (aggregated contributions) aggregator (pos 0) ≡ fold (combined aggregator) (get_or aggregator_starts aggregator (pos 0)) (given_at aggregator contributions)
+aggregated_at contributions aggregator below = given_aggregator aggregator_starts contributions aggregator below
 
 -- ---- what vertices leave, in any order
 

@@ -36,9 +36,9 @@ spread_more parts part =
 outcomes_more : (first second : List VertexOutcome) → outcomes_in (first ++ second) ≡ outcomes_in first ++ outcomes_in second
 outcomes_more first second = map-append (λ (one : VertexOutcome). one.1) first second
 
-slots_more : (first second : List VertexOutcome) → aggregated (contributions_of (outcomes_in (first ++ second)))
+aggregators_more : (first second : List VertexOutcome) → aggregated (contributions_of (outcomes_in (first ++ second)))
     ≡ united (aggregated (contributions_of (outcomes_in first))) (aggregated (contributions_of (outcomes_in second)))
-slots_more first second =
+aggregators_more first second =
     ap (λ outcomes. aggregated (contributions_of outcomes)) (outcomes_more first second) ∙ contributions_joined (outcomes_in first) (outcomes_in second)
 
 units_more : (first second : List VertexOutcome) → units_left (outcomes_in (first ++ second)) ≡ units_left (outcomes_in first) + units_left (outcomes_in second)
@@ -64,7 +64,7 @@ capped_sum a b = omega arith
 pub record HasMore (old new : Gathered) (units : ℕ) (vertices : List VertexState) (letters : List Letter) (given : List ℤ) : Type 0 where
   pub more_vertices : new.vertices.items ≡ old.vertices.items ++ vertices ∷ []
   pub more_letters : map vec_items new.letters.items ≡ map vec_items old.letters.items ++ letters ∷ []
-  pub more_slots : new.slots ≡ united old.slots given
+  pub more_aggregators : new.aggregators ≡ united old.aggregators given
   pub more_units : new.units ≡ capped (old.units + units)
 
 pub gathered_more : (work : Work) (honest : Bool) (dones : List DoneStamp) (done : DoneStamp) (old new : Gathered)
@@ -84,9 +84,9 @@ gathered_more work honest dones done old new vertices letters given before is mo
           ∙ ap (λ (own : List VertexState). map (λ (one : PartLeft). map emptied one.1) before.parts ++ own ∷ []) is.comes.vertices
           ∙ sym (map-append (λ (one : PartLeft). map emptied one.1) before.parts (part ∷ []));
       letters = letters_more before.parts part (map vec_items old.letters.items) letters (map vec_items new.letters.items) before.letters is.comes.letters more.more_letters;
-      slots = more.more_slots ∙ ap (λ xs. united xs given) before.slots
-          ∙ ap (united (aggregated (contributions_of (outcomes_in (spread before.parts))))) is.comes.slots
-          ∙ sym (slots_more (spread before.parts) is.left)
+      aggregators = more.more_aggregators ∙ ap (λ xs. united xs given) before.aggregators
+          ∙ ap (united (aggregated (contributions_of (outcomes_in (spread before.parts))))) is.comes.aggregators
+          ∙ sym (aggregators_more (spread before.parts) is.left)
           ∙ ap (λ left. aggregated (contributions_of (outcomes_in left))) (sym (spread_more before.parts part));
       units = more.more_units ∙ ap (λ n. capped (n + done.units)) before.units
           ∙ ap (λ n. capped (capped (units_left (outcomes_in (spread before.parts))) + n)) is.comes.units
@@ -97,13 +97,13 @@ gathered_more work honest dones done old new vertices letters given before is mo
 
 -- nothing is gathered yet
 pub gathered_none : (work : Work) (honest : Bool) (gathered : Gathered) → gathered.vertices.items ≡ []
-    → gathered.letters.items ≡ [] → gathered.slots ≡ aggregator_starts → gathered.units ≡ 0 → IsGathered work honest [] gathered
-gathered_none work honest gathered no_vertices no_letters slots units = record {
+    → gathered.letters.items ≡ [] → gathered.aggregators ≡ aggregator_starts → gathered.units ≡ 0 → IsGathered work honest [] gathered
+gathered_none work honest gathered no_vertices no_letters aggregators units = record {
   parts = [];
   stamps = refl;
   each = tt;
   vertices = no_vertices;
   letters = subst (λ xs. IsPermutation [] (joined (map vec_items xs))) (sym no_letters) (IsPermutation-refl []);
-  slots = slots;
+  aggregators = aggregators;
   units = units;
 }

@@ -18,6 +18,6 @@ pub mod PlainSteps
 pub mod Rejoining
 pub mod Runs
 pub mod Sending
-pub mod SlotFolds
+pub mod AggregatorFolds
 pub mod Spreading
 pub mod VertexCalls

@@ -112,8 +112,8 @@ units_more f since s up =
 
 -- ---- where each state is the job's
 
-slots_moved : (left moved : List VertexOutcome) → IsPermutation left moved → aggregated (contributions_of (outcomes_in left)) ≡ aggregated (contributions_of (outcomes_in moved))
-slots_moved left moved same =
+aggregators_moved : (left moved : List VertexOutcome) → IsPermutation left moved → aggregated (contributions_of (outcomes_in left)) ≡ aggregated (contributions_of (outcomes_in moved))
+aggregators_moved left moved same =
     contributions_permuted (outcomes_in left) (outcomes_in moved) (IsPermutation-map (λ (one : VertexOutcome). one.1) left moved same)
 
 units_moved : (left moved : List VertexOutcome) → IsPermutation left moved → units_left (outcomes_in left) ≡ units_left (outcomes_in moved)
@@ -213,14 +213,14 @@ module _ (work now : Work) (honest : Bool) (totals : Totals) (dones : List DoneS
         let each = ap (map length) left ∙ along (messages_to (outcomes_in all)) lefts ∙ sym (ap (map length) made.inboxes) in
         made.fills each ∙ (λ i. all_filled (left i) (made.inboxes i)) ∙ parts_filled (messages_to (outcomes_in all)) lefts
 
-    pub next : IsNext all totals later gathered.units lost gathered.slots (in_order parts)
+    pub next : IsNext all totals later gathered.units lost gathered.aggregators (in_order parts)
     next =
         let is = ready.parts in
         let rejoined = sym (joined_spread is.parts) in
         record {
           took_all = is.units ∙ ap (λ left. capped (units_left (outcomes_in left))) rejoined ∙ ap capped (units_moved (joined lefts) all lies.same);
           lost_all = made.dropped;
-          given_all = is.slots ∙ ap (λ left. aggregated (contributions_of (outcomes_in left))) rejoined ∙ slots_moved (joined lefts) all lies.same;
+          given_all = is.aggregators ∙ ap (λ left. aggregated (contributions_of (outcomes_in left))) rejoined ∙ aggregators_moved (joined lefts) all lies.same;
           vertices_all = ap in_order are_closed ∙ closed_in_order (messages_to (outcomes_in all)) lefts all lies.same lies.rising;
           later = made.follows;
           sums = ready.sums;
@@ -230,9 +230,9 @@ module _ (work now : Work) (honest : Bool) (totals : Totals) (dones : List DoneS
     next_ids =
         ap (map state_id) next.vertices_all ∙ closed_ids (messages_to (outcomes_in all)) all ∙ ids_found (joined lefts) (ids ready.graph.0)
 
-    pub next_is_kept : IsKept (standing_of later gathered.slots (in_order parts)) parts
+    pub next_is_kept : IsKept (standing_of later gathered.aggregators (in_order parts)) parts
     next_is_kept = record {
-      state = is_state later gathered.slots (in_order parts) (totals_more totals later gathered.units lost ready.sums made.follows)
+      state = is_state later gathered.aggregators (in_order parts) (totals_more totals later gathered.units lost ready.sums made.follows)
           (subst (λ numbers. IsStrictlyIncreasing numbers) (sym next_ids) ready.graph.1.proper.rising)
           (few_states ready.graph.0 (in_order parts) ready.graph.1.limits next_ids);
       parts = lie_in_parts work ready.graph.0 parts own_graph
@@ -241,10 +241,10 @@ module _ (work now : Work) (honest : Bool) (totals : Totals) (dones : List DoneS
     }
 
     pub next_is_at : honest ≡ true → (meaning : Meaning work) → SumsAt work meaning totals
-        → ShowsAt meaning.outcomes meaning.graph (suc totals.superstep) (standing_of later gathered.slots (in_order parts))
+        → ShowsAt meaning.outcomes meaning.graph (suc totals.superstep) (standing_of later gathered.aggregators (in_order parts))
     next_is_at sure meaning at =
-        next_shows work meaning all totals later gathered.units lost gathered.slots (in_order parts)
+        next_shows work meaning all totals later gathered.units lost gathered.aggregators (in_order parts)
         (ordered_left work honest totals.superstep dones gathered ready.graph.0 meaning own_some own_graph sure ready.parts own_row) next at
 
-    pub next_has_ids : HasIdsOf now (standing_of later gathered.slots (in_order parts))
+    pub next_has_ids : HasIdsOf now (standing_of later gathered.aggregators (in_order parts))
     next_has_ids = λ other is. next_ids ∙ ap ids (one_graph now ready.graph.0 other (some_parts now.settings ready.good) ready.graph.1 is)

@@ -36,7 +36,7 @@ units_added old new total more was added = added ∙ ap (λ n. capped (n + more)
 pub adds_idle : (row : Row) (id : ℕ) (left : PartOutput) → Adds id (idle row) left left
 adds_idle row id left = record {
   letters = sym (append-nil left.letters.items);
-  slots = refl;
+  aggregators = refl;
   units = λ total was. was ∙ ap capped (omega arith);
 }
 
@@ -46,7 +46,7 @@ none_called shared left is = record {
   comes = record {
     vertices = refl;
     letters = subst (λ (xs : List Letter). IsPermutation [] xs) (sym is.letters) (IsPermutation-refl []);
-    slots = is.slots;
+    aggregators = is.aggregators;
     units = is.units;
   };
   ids = refl;
@@ -62,8 +62,8 @@ one_letters_more left one =
     ∙ ap (λ (xs : List Letter). letters_of left ++ xs) (append-nil (letters_from one.0 one.1))
 
 one_more_back : (left : List VertexOutcome) (one : VertexOutcome) (states : List VertexState) (state : VertexState) (old new : PartOutput)
-    → ComesBack left states old.letters.items old.slots old.units → state ≡ emptied one → Adds one.0 one.1 old new
-    → ComesBack (left ++ one ∷ []) (states ++ state ∷ []) new.letters.items new.slots new.units
+    → ComesBack left states old.letters.items old.aggregators old.units → state ≡ emptied one → Adds one.0 one.1 old new
+    → ComesBack (left ++ one ∷ []) (states ++ state ∷ []) new.letters.items new.aggregators new.units
 one_more_back left one states state old new back is adds = record {
   vertices =
       ap (λ (xs : List VertexState). xs ++ state ∷ []) back.vertices
@@ -73,9 +73,9 @@ one_more_back left one states state old new back is adds = record {
       subst (λ (xs : List Letter). IsPermutation (letters_of (left ++ one ∷ [])) xs) (sym adds.letters)
       (subst (λ (xs : List Letter). IsPermutation xs (old.letters.items ++ letters_from one.0 one.1)) (sym (one_letters_more left one))
       (IsPermutation-append_left (letters_from one.0 one.1) (letters_of left) old.letters.items back.letters));
-  slots =
-      adds.slots
-      ∙ ap (λ (slots : List ℤ). fold give slots one.1.contributions) back.slots
+  aggregators =
+      adds.aggregators
+      ∙ ap (λ (aggregators : List ℤ). fold give aggregators one.1.contributions) back.aggregators
       ∙ sym (ap (λ (os : List Outcome). aggregated (contributions_of os)) (one_outcome_more left one)
       ∙ ap aggregated (flat_map-append (λ (o : Outcome). o.contributions) (outcomes_in left) (one.1 ∷ []))
       ∙ fold-append give aggregator_starts (contributions_of (outcomes_in left)) (one.1.contributions ++ [])

@@ -171,7 +171,7 @@ pub done_here : (work : Work) (honest : Bool) (epoch part : ℕ) (shared : Share
     → CallsPart shared (get_or work.parts part []) before after all → (honest ≡ true → IsPartAt work shared.superstep part before)
     → (honest ≡ true → AreAggregatesAt work shared.superstep shared.aggregated) → IsCount work shared.count
     → ((outcomes : Given → Outcome) → AreOutcomes work.«module» outcomes → Tells shared.verified.now outcomes)
-    → IsDone work honest (record { epoch = epoch; superstep = shared.superstep; part = part; units = all.units }) after all.letters.items all.slots
+    → IsDone work honest (record { epoch = epoch; superstep = shared.superstep; part = part; units = all.units }) after all.letters.items all.aggregators
 done_here work honest epoch part shared before after all fits calls at aggregates counted told = record {
   fits = fits_after work part before after calls.left fits calls.comes.vertices calls.ids;
   left = calls.left;
@@ -180,9 +180,9 @@ done_here work honest epoch part shared before after all fits calls at aggregate
 }
 
 -- its units are those of the calls
-pub units_here : (work : Work) (honest : Bool) (stamp : DoneStamp) (vertices : List VertexState) (letters : List Letter) (slots : List ℤ)
-    → IsDone work honest stamp vertices letters slots → honest ≡ true → AreUnitsAt work stamp.superstep stamp.part stamp.units
-units_here work honest stamp vertices letters slots done sure = λ meaning.
+pub units_here : (work : Work) (honest : Bool) (stamp : DoneStamp) (vertices : List VertexState) (letters : List Letter) (aggregators : List ℤ)
+    → IsDone work honest stamp vertices letters aggregators → honest ≡ true → AreUnitsAt work stamp.superstep stamp.part stamp.units
+units_here work honest stamp vertices letters aggregators done sure = λ meaning.
     let before = state_at meaning.outcomes meaning.graph stamp.superstep in
     done.comes.units
     ∙ ap (λ (left : List VertexOutcome). capped (units_left (outcomes_in left))) (done.at sure meaning)

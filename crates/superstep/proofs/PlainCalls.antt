@@ -62,7 +62,7 @@ stays_idle row uncalled =
 pub leaves_nothing : (row : Row) (sent : Sent) → Leaves (idle row) sent sent
 leaves_nothing row sent = record {
   messages = sym (append-nil sent.messages.items);
-  slots = refl;
+  aggregators = refl;
   units = λ total was. was ∙ ap capped (omega arith);
 }
 
@@ -72,7 +72,7 @@ leaves_nothing row sent = record {
 pub record AreCalled (left_by : Row → Outcome) (rows now : List Row) (i : ℕ) (sent : Sent) : Type 0 where
   pub rows_now : now ≡ map (λ row. called_row row (left_by row)) (take i rows) ++ drop i rows
   pub messages : sent.messages.items ≡ messages_of (map left_by (take i rows))
-  pub slots : sent.slots ≡ aggregated (contributions_of (map left_by (take i rows)))
+  pub aggregators : sent.aggregators ≡ aggregated (contributions_of (map left_by (take i rows)))
   pub units : sent.units ≡ capped (units_left (map left_by (take i rows)))
 
 one_row_more : (left_by : Row → Outcome) (rows : List Row) (i : ℕ) (d : Row) → i < length rows
@@ -108,8 +108,8 @@ one_more_called left_by rows now i d after old new below inside are one =
           leaves.messages ∙ ap (λ (sends : List (ℤ × ℤ)). sends ++ (left_by row).sends) are.messages
           ∙ sym (ap messages_of more ∙ flat_map-append (λ (o : Outcome). o.sends) before (left_by row ∷ [])
           ∙ ap (λ (sends : List (ℤ × ℤ)). messages_of before ++ sends) (append-nil (left_by row).sends));
-      slots =
-          leaves.slots ∙ ap (λ (slots : List ℤ). fold give slots (left_by row).contributions) are.slots
+      aggregators =
+          leaves.aggregators ∙ ap (λ (aggregators : List ℤ). fold give aggregators (left_by row).contributions) are.aggregators
           ∙ sym (ap (λ (os : List Outcome). aggregated (contributions_of os)) more
           ∙ ap aggregated (flat_map-append (λ (o : Outcome). o.contributions) before (left_by row ∷ []))
           ∙ fold-append give aggregator_starts (contributions_of before) ((left_by row).contributions ++ [])
@@ -129,14 +129,14 @@ all_called left_by rows now i sent past are =
           ∙ (λ j. map (λ (row : Row). called_row row (left_by row)) (whole j) ++ drop_all i rows past j)
           ∙ append-nil (map (λ (row : Row). called_row row (left_by row)) rows);
       messages = are.messages ∙ ap (λ (some : List Row). messages_of (map left_by some)) whole;
-      slots = are.slots ∙ ap (λ (some : List Row). aggregated (contributions_of (map left_by some))) whole;
+      aggregators = are.aggregators ∙ ap (λ (some : List Row). aggregated (contributions_of (map left_by some))) whole;
       units = are.units ∙ ap (λ (some : List Row). capped (units_left (map left_by some))) whole;
     }
 
 -- before the first call
-pub none_called_yet : (left_by : Row → Outcome) (rows : List Row) (sent : Sent) → sent.messages.items ≡ [] → sent.slots ≡ aggregator_starts → sent.units ≡ 0
+pub none_called_yet : (left_by : Row → Outcome) (rows : List Row) (sent : Sent) → sent.messages.items ≡ [] → sent.aggregators ≡ aggregator_starts → sent.units ≡ 0
     → AreCalled left_by rows rows 0 sent
-none_called_yet left_by rows sent messages slots units = record { rows_now = refl; messages = messages; slots = slots; units = units }
+none_called_yet left_by rows sent messages aggregators units = record { rows_now = refl; messages = messages; aggregators = aggregators; units = units }
 
 -- the next vertex of the list
 pub called_next : (left_by : Row → Outcome) (before now : List Held) (i : ℕ) (d changed : Held) (old new : Sent) → length now ≡ length before → i < length now

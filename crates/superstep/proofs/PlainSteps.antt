@@ -81,7 +81,7 @@ pub record IsClosed (shared : Shared) (numbers : List ℕ) (old new : OneMachine
   pub own_ids : numbers ≡ ids (entries_in old.vertices.items)
   pub rows : rows_in new.vertices.items ≡ map (with_messages sent.messages.items) (rows_in between)
   pub lost_all : lost ≡ lost_in numbers sent.messages.items
-  pub aggregates : new.aggregates ≡ sent.slots
+  pub aggregates : new.aggregates ≡ sent.aggregators
   pub by_superstep : new.by_superstep.items ≡ old.by_superstep.items ++ sent.units ∷ []
   pub units : new.units ≡ capped (old.units + sent.units)
   pub dropped : new.dropped ≡ capped (old.dropped + lost)
@@ -108,7 +108,7 @@ closed outcomes shared numbers old new between sent lost is calls =
     ∙ ap (map (with_messages sent.messages.items)) calls.rows
     ∙ closed_rows (left_in outcomes shared) rows sent.messages.items calls.messages
     ∙ ap (λ (f : Row → Outcome). map (λ (row : Row). row_after (map f rows) row (f row)) rows) by in
-    let aggregates_now = is.aggregates ∙ calls.slots ∙ ap (λ (os : List Outcome). aggregated (contributions_of os)) all in
+    let aggregates_now = is.aggregates ∙ calls.aggregators ∙ ap (λ (os : List Outcome). aggregated (contributions_of os)) all in
     let units_now = is.units ∙ ap (λ n. capped (old.units + n)) took ∙ capped_inside old.units (units_left left) in
     let lost_now : lost ≡ sum_by (dropped_by (row_ids before)) left =
     is.lost_all

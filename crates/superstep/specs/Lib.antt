@@ -1,4 +1,4 @@
--- The definitions to read, in this order: a snapshot between two supersteps, how slots aggregate, a superstep, and the plain run
+-- The definitions to read, in this order: a snapshot between two supersteps, how aggregators combine contributions, a superstep, and the plain run
 -- with its answer.
 pub mod Snapshot
 pub mod Folds

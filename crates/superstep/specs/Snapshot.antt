@@ -16,7 +16,7 @@ pub record Row : Type 0 where
 -- All vertices, by rising id, and the totals of a job.
 pub record Snapshot : Type 0 where
   pub rows : List Row
-  -- the aggregate of each slot in the superstep before
+  -- the value of each aggregator in the superstep before
   pub aggregates : List ℤ
   -- the units of all calls so far
   pub units : ℕ

@@ -87,7 +87,7 @@ pub record ComesBack (left : List VertexOutcome) (after : List VertexState) (sen
   pub vertices : after ≡ map emptied left
   -- in any order
   pub letters : IsPermutation (letters_of left) sent
-  pub slots : folded ≡ aggregated (contributions_of (outcomes_in left))
+  pub aggregators : folded ≡ aggregated (contributions_of (outcomes_in left))
   pub units : total ≡ capped (units_left (outcomes_in left))
 
 -- these are the outcomes of a part's vertices in this superstep
@@ -105,10 +105,10 @@ AreUnitsAt work s part units =
     (part_rows work.settings.parts (state_at meaning.outcomes meaning.graph s) part)))
 
 -- what always holds for a result
-pub record IsDone (work : Work) (honest : Bool) (stamp : DoneStamp) (vertices : List VertexState) (letters : List Letter) (slots : List ℤ) : Type 0 where
+pub record IsDone (work : Work) (honest : Bool) (stamp : DoneStamp) (vertices : List VertexState) (letters : List Letter) (aggregators : List ℤ) : Type 0 where
   pub fits : FitsPart work stamp.part vertices
   pub left : List VertexOutcome
-  pub comes : ComesBack left vertices letters slots stamp.units
+  pub comes : ComesBack left vertices letters aggregators stamp.units
   pub at : honest ≡ true → IsLeftAt work stamp.superstep stamp.part left
 
 -- one for each part, in order, all of this superstep

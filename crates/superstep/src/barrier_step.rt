@@ -59,20 +59,20 @@ pub fn barrier<J: Origin>(
     let Gathered {
         vertices,
         letters,
-        slots,
+        aggregators,
         units,
     } = gather(alloc, job.settings().parts, dones)?;
     let (parts, dropped) = handed_out(rt, alloc, vertices, &letters, job.ids())?;
     let totals = totals.after(units, dropped)?;
-    Ok(State::of_parts(totals, slots, parts))
+    Ok(State::of_parts(totals, aggregators, parts))
 }
 
-// The results of all parts: the vertices and the letters of each, and the slots and the units of all.
+// The results of all parts: the vertices and the letters of each, and the aggregators and the units of all.
 #[derive(Drop)]
 struct Gathered {
     vertices: Vec<PartStates>,
     letters: Vec<Vec<Letter>>,
-    slots: [i64; 8],
+    aggregators: [i64; 8],
     units: u128,
 }
 
@@ -83,7 +83,7 @@ fn gather<J: Origin>(alloc: Global, parts: u32, dones: Vec<Done<J>>) -> Result<G
     let mut gathered = Gathered {
         vertices: Vec::with_capacity(alloc, parts as usize)?,
         letters: Vec::with_capacity(alloc, parts as usize)?,
-        slots: aggregator_starts(),
+        aggregators: aggregator_starts(),
         units: 0,
     };
     for done in dones {
@@ -102,24 +102,24 @@ impl Gathered {
             units,
             vertices,
             letters,
-            slots,
+            aggregators,
             ..
         } = done;
         self.vertices.push(vertices)?;
         self.letters.push(letters)?;
-        unite(&mut self.slots, &slots);
+        unite(&mut self.aggregators, &aggregators);
         self.units = self.units.saturating_add(units);
         Ok(())
     }
 }
 
-// Combines the slots with those of other vertices.
-fn unite(slots: &mut [i64; 8], given: &[i64; 8])
-    ensures { slots.new ≡ united slots.old given.now }
+// Combines the aggregators with those of other vertices.
+fn unite(aggregators: &mut [i64; 8], given: &[i64; 8])
+    ensures { aggregators.new ≡ united aggregators.old given.now }
 {
-    for slot in 0..8 {
-        let place = slot as usize;
-        slots[place] = combined(slot, slots[place], given[place]);
+    for aggregator in 0..8 {
+        let place = aggregator as usize;
+        aggregators[place] = combined(aggregator, aggregators[place], given[place]);
     }
 }
 

@@ -17,7 +17,7 @@ pub struct PartOutput {
     /// Their messages, in the order of sending.
     pub letters: Vec<Letter>,
     /// Their contributions, aggregated.
-    pub slots: [i64; 8],
+    pub aggregators: [i64; 8],
     /// The units of the calls. They stop at the greatest number of 128 bits.
     pub units: u128,
 }
@@ -29,7 +29,7 @@ impl PartOutput {
     {
         PartOutput {
             letters: Vec::new(alloc),
-            slots: aggregator_starts(),
+            aggregators: aggregator_starts(),
             units: 0,
         }
     }
@@ -39,7 +39,7 @@ impl PartOutput {
         ensures { OnOk result (Adds id (shown outcome.now) self.old self.new) }
     {
         push_letters(&mut self.letters, id, outcome)?;
-        give_all(&mut self.slots, &outcome.contributions);
+        give_all(&mut self.aggregators, &outcome.contributions);
         self.units = self.units.saturating_add(outcome.units);
         Ok(())
     }
@@ -70,35 +70,35 @@ fn letter_from(id: u64, seq: u64, send: (i64, i64)) -> Letter
     }
 }
 
-/// Adds contributions to the slots, in order (Pregel 2010, 3.3).
-pub fn give_all(slots: &mut [i64; 8], contributions: &[(u32, i64)])
-    ensures { slots.new ≡ fold give slots.old contributions.now }
+/// Adds contributions to the aggregators, in order (Pregel 2010, 3.3).
+pub fn give_all(aggregators: &mut [i64; 8], contributions: &[(u32, i64)])
+    ensures { aggregators.new ≡ fold give aggregators.old contributions.now }
 {
     for given in contributions {
-        give(slots, *given);
+        give(aggregators, *given);
     }
 }
 
-// Adds a contribution to its slot.
-fn give(slots: &mut [i64; 8], given: (u32, i64))
-    ensures { slots.new ≡ give slots.old given }
+// Adds a contribution to its aggregator.
+fn give(aggregators: &mut [i64; 8], given: (u32, i64))
+    ensures { aggregators.new ≡ give aggregators.old given }
 {
-    let (slot, value) = given;
-    let place = slot as usize;
-    if place < slots.len() {
-        slots[place] = combined(slot, slots[place], value);
+    let (aggregator, value) = given;
+    let place = aggregator as usize;
+    if place < aggregators.len() {
+        aggregators[place] = combined(aggregator, aggregators[place], value);
     }
 }
 
-/// Combines the value of a slot with a contribution.
-pub fn combined(slot: u32, old: i64, given: i64) -> i64
-    ensures { result ≡ combined slot old given }
+/// Combines the value of an aggregator with a contribution.
+pub fn combined(aggregator: u32, old: i64, given: i64) -> i64
+    ensures { result ≡ combined aggregator old given }
 {
-    if slot < 2 {
+    if aggregator < 2 {
         old.wrapping_add(given)
-    } else if slot < 4 {
+    } else if aggregator < 4 {
         old.min(given)
-    } else if slot < 6 {
+    } else if aggregator < 6 {
         old.max(given)
     } else {
         old | given

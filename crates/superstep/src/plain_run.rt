@@ -109,7 +109,7 @@ struct OneMachine<'a> {
 struct Sent {
     // In the order of sending.
     messages: Vec<(i64, i64)>,
-    slots: [i64; 8],
+    aggregators: [i64; 8],
     units: u128,
 }
 
@@ -183,7 +183,7 @@ impl<'a> OneMachine<'a> {
         let dropped = deliver_all(ids, &mut self.vertices, &sent.messages)?;
         self.by_superstep.push(sent.units)?;
         self.superstep += 1;
-        self.aggregates = sent.slots;
+        self.aggregates = sent.aggregators;
         self.units = self.units.saturating_add(sent.units);
         self.dropped = self.dropped.saturating_add(u128::from(dropped));
         Ok(())
@@ -225,7 +225,7 @@ impl Sent {
         ensures { OnOk result (Leaves (shown outcome.now) self.old self.new) }
     {
         self.messages.extend_from_slice(&outcome.sends)?;
-        give_all(&mut self.slots, &outcome.contributions);
+        give_all(&mut self.aggregators, &outcome.contributions);
         self.units = self.units.saturating_add(outcome.units);
         Ok(())
     }
@@ -248,7 +248,7 @@ fn call_all(
 {
     let mut sent = Sent {
         messages: Vec::new(alloc),
-        slots: aggregator_starts(),
+        aggregators: aggregator_starts(),
         units: 0,
     };
     for index in 0..vertices.len() {

@@ -80,7 +80,7 @@ impl<J: Origin> Slice<J> {
 pub struct Apart<J: Origin> {
     /// The totals before that superstep.
     pub totals: Totals,
-    /// The aggregate of each slot in the superstep before.
+    /// The value of each aggregator in the superstep before.
     pub aggregates: [i64; 8],
     /// The slices, one for each part and in order.
     pub slices: Vec<Slice<J>>,

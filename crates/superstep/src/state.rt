@@ -183,7 +183,7 @@ impl State {
         self.dropped
     }
 
-    /// Returns the aggregate of each slot in the superstep before.
+    /// Returns the value of each aggregator in the superstep before.
     pub fn aggregates(&self) -> [i64; 8]
         ensures { result ≡ self.now.aggregates }
     {

@@ -98,7 +98,7 @@ pub struct Done<J: Origin> {
     pub(crate) units: u128,
     pub(crate) vertices: PartStates,
     pub(crate) letters: Vec<Letter>,
-    pub(crate) slots: [i64; 8],
+    pub(crate) aggregators: [i64; 8],
     pub(crate) origin: PhantomData<J>,
 }
 
@@ -121,7 +121,7 @@ impl<J: Origin> Model for Done<J> {
           part = done.part;
           units = done.units;
         })
-        done.vertices done.letters.items done.slots };
+        done.vertices done.letters.items done.aggregators };
 }
 
 impl<J: Origin> Done<J> {
@@ -171,7 +171,7 @@ impl<J: Origin> Done<J> {
             units: self.units,
             vertices,
             letters,
-            slots: self.slots,
+            aggregators: self.aggregators,
             origin: PhantomData,
         })
     }
@@ -227,7 +227,7 @@ pub fn run_task<J: Origin>(
     };
     let PartOutput {
         letters,
-        slots,
+        aggregators,
         units,
     } = left;
     Ok(Done {
@@ -240,7 +240,7 @@ pub fn run_task<J: Origin>(
             due: active,
         },
         letters,
-        slots,
+        aggregators,
         origin,
     })
 }

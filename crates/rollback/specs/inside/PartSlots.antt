@@ -42,7 +42,7 @@ pub record IsKept (work : Work) (honest : Bool) (totals : Totals) (aggregates : 
   pub telling : AreTotals totals
   pub sums : honest ≡ true → AreTotalsOf work totals
   pub since : honest ≡ true → totals.since ≡ 0
-  pub slots : honest ≡ true → AreAggregatesAt work totals.superstep aggregates
+  pub aggregators : honest ≡ true → AreAggregatesAt work totals.superstep aggregates
   pub in_slots : AreInSlots totals.superstep part_slots
 
 -- each has what came back of its part

@@ -4,7 +4,7 @@ use Rattle.std.specs.Option.{option_to_list}
 use Rattle.sources.specs.declared.input.Input.{Input}
 use Rattle.sources.specs.declared.input_line.Line.{Line}
 use Rattle.sources.specs.declared.input_line.Line.TheVariants.{Id, Superstep, Count, Value}
-use Rattle.sources.specs.InputSays.{is_good, id_by, superstep_by, count_by, value_by, message_by, edge_by, slot_by, slots_after}
+use Rattle.sources.specs.InputSays.{is_good, id_by, superstep_by, count_by, value_by, message_by, edge_by, aggregator_by, aggregators_after}
 
 -- the declaration of a good line was added to the stored input
 pub record Adds (line : Line) (old new : Input) : Type 0 where
@@ -15,7 +15,7 @@ pub record Adds (line : Line) (old new : Input) : Type 0 where
   pub value : option_to_list new.value ≡ option_to_list old.value ++ value_by line
   pub messages : new.messages.items ≡ old.messages.items ++ message_by line
   pub edges : new.edges.items ≡ old.edges.items ++ edge_by line
-  pub aggregated : new.aggregated ≡ slots_after old.aggregated (slot_by line)
+  pub aggregated : new.aggregated ≡ aggregators_after old.aggregated (aggregator_by line)
 
 -- the line may be added: it is good, and what may be declared once was not declared
 abbrev pub fits : Line → Input → Bool

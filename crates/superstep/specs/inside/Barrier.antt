@@ -46,7 +46,7 @@ pub record IsGathered (work : Work) (honest : Bool) (dones : List DoneStamp) (ga
   pub each : AllByRecursion (IsPartLeft work honest) parts
   pub vertices : gathered.vertices.items ≡ map (λ (part : PartLeft). map emptied part.1) parts
   pub letters : IsPermutation (letters_of (spread parts)) (joined (map vec_items gathered.letters.items))
-  pub slots : gathered.slots ≡ aggregated (contributions_of (outcomes_in (spread parts)))
+  pub aggregators : gathered.aggregators ≡ aggregated (contributions_of (outcomes_in (spread parts)))
   pub units : gathered.units ≡ capped (units_left (outcomes_in (spread parts)))
 
 -- `lefts` has the outcomes part by part, with these ids and letters, and `ordered` has them by rising id

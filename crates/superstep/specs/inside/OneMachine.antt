@@ -73,7 +73,7 @@ called_row row outcome = record { id = row.id; value = outcome.value; edges = ro
 -- The outcome of a call is added to the output of others. If the total of their units was capped, the new total is capped too.
 pub record Leaves (outcome : Outcome) (old new : Sent) : Type 0 where
   pub messages : new.messages.items ≡ old.messages.items ++ outcome.sends
-  pub slots : new.slots ≡ fold give old.slots outcome.contributions
+  pub aggregators : new.aggregators ≡ fold give old.aggregators outcome.contributions
   pub units : (total : ℕ) → old.units ≡ capped total → new.units ≡ capped (total + outcome.units)
 
 -- the vertex is called, and has this outcome
@@ -89,7 +89,7 @@ messages_of outcomes = flat_map (λ (outcome : Outcome). outcome.sends) outcomes
 pub record AreLeft (left_by : Row → Outcome) (before after : List Row) (sent : Sent) : Type 0 where
   pub rows : after ≡ map (λ row. called_row row (left_by row)) before
   pub messages : sent.messages.items ≡ messages_of (map left_by before)
-  pub slots : sent.slots ≡ aggregated (contributions_of (map left_by before))
+  pub aggregators : sent.aggregators ≡ aggregated (contributions_of (map left_by before))
   pub units : sent.units ≡ capped (units_left (map left_by before))
 
 -- ---- delivery

@@ -3,5 +3,5 @@ use Rattle.std.specs.List.{flat_map}
 use Rattle.sources.specs.OutputLines.{give_line}
 use Rattle.sources.proofs.output_lines.push_contributions.Given as goal
 
-abbrev pub invariant-loop-slot : goal.invariant-loop-slot
-invariant-loop-slot l = string_bytes l.text ≡ string_bytes l.initial.text ++ flat_map give_line (take l.slot-index l.contributions)
+abbrev pub invariant-loop-aggregator : goal.invariant-loop-aggregator
+invariant-loop-aggregator l = string_bytes l.text ≡ string_bytes l.initial.text ++ flat_map give_line (take l.aggregator-index l.contributions)

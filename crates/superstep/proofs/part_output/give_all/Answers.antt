@@ -7,5 +7,5 @@ pub loop-given-preserved : goal.loop-given-preserved
 loop-given-preserved c =
     let given = c.args.contributions.now in
     c.give.ensures
-    ∙ ap (λ slots. give slots (get_or given c.loop-given.given-index (0, pos 0))) c.loop-given.invariant
-    ∙ sym (fold_more give c.args.slots.now given c.loop-given.given-index (0, pos 0) c.loop-given-test.true)
+    ∙ ap (λ aggregators. give aggregators (get_or given c.loop-given.given-index (0, pos 0))) c.loop-given.invariant
+    ∙ sym (fold_more give c.args.aggregators.now given c.loop-given.given-index (0, pos 0) c.loop-given-test.true)

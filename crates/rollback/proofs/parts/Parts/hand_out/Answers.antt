@@ -26,7 +26,7 @@ new-requires g c = λ sure.
     let h = subst (λ (x : Placement). IsHome x c.args.part) (sym c.self.view_is) c.requires in
     let below = h.0 in let long = length-map i.part_slots.items spot_of in
     let at = subst (λ x. IsInSlot i.totals.superstep c.args.part x) (sym (c.replace-slot.ensures.value ∙ c.index_mut.ensures.value) ∙ c.slice_of.ensures) (c.self.invariant.in_slots c.args.part c.index_mut.result.now (omega (arith, below, long))) in
-    rw at.0 (c.self.invariant.slots sure)
+    rw at.0 (c.self.invariant.aggregators sure)
 
 pub returns-clause-after : goal.returns-clause-after
 returns-clause-after g c =

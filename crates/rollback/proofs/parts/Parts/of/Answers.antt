@@ -11,7 +11,7 @@ invariant_of-result g c =
       telling = apart.totals;
       sums = λ sure. apart.at g.J.Origin.work (c.requires.at sure).at;
       since = λ sure. of.since ∙ (c.requires.at sure).since;
-      slots = λ sure. rw (of.superstep, apart.aggregates) (λ meaning. ((c.requires.at sure).at meaning).aggregates);
+      aggregators = λ sure. rw (of.superstep, apart.aggregates) (λ meaning. ((c.requires.at sure).at meaning).aggregates);
       in_slots = rw of.superstep (in_slots_home c.in_ok-part_slots.part_slots.items c.args.state.superstep c.args.job.now.settings.parts (c.in_ok-part_slots.ensures ∙ ap (λ xs. map Here xs) apart.slices));
     }
 

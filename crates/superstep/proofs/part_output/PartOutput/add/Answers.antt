@@ -7,6 +7,6 @@ use Rattle.superstep.proofs.part_output.PartOutput.add.Goals as goal
 pub returns : goal.returns
 returns c = record {
   letters = c.in_ok-push_letters.ensures;
-  slots = c.give_all.ensures ∙ ap (λ given. fold give c.args.self.now.slots given) c.deref.ensures.value;
+  aggregators = c.give_all.ensures ∙ ap (λ given. fold give c.args.self.now.aggregators given) c.deref.ensures.value;
   units = λ total was. units_added c.args.self.now.units c.saturating_add-self.result total c.args.outcome.now.units was c.saturating_add-self.ensures;
 }

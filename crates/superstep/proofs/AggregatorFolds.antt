@@ -1,4 +1,4 @@
--- How a slot combines numbers: the order makes no difference.
+-- How an aggregator combines numbers: the order makes no difference.
 use Rattle.std.proofs.Common.{◌≡◌, ℕ, ℤ, pos, ◌+ℤ◌, zero, suc, ◌+◌, ◌-◌, ◌%◌, ◌^◌, ◌<◌, ◌≤◌, min, Bool, true, false, cond, ltb, bit_or, FitsSigned, ⊎_elim, refl, ap, sym, ◌∙◌, arith, nat_lt, get_or}
 use Rattle.std.specs.Int.{w64, cast_signed, cast_unsigned, int_wrapping_add, int_min, int_max, int_bit_or, int_wrap}
 use Rattle.std.specs.Int.Bits.{or_zero_r}
@@ -106,9 +106,9 @@ sum_start x fits =
 union_start : (x : ℤ) → FitsSigned w64 x → int_bit_or w64 x (pos 0) ≡ x
 union_start x fits = ap (cast_signed w64) (or_zero_r (cast_unsigned w64 x)) ∙ to_z-of_z w64 x fits
 
--- what holds of the four ways holds of each slot's
-each_way : (P : (ℤ → ℤ → ℤ) → Type 0) → P (int_wrapping_add w64) → P int_min → P int_max → P (int_bit_or w64) → (slot : ℕ) → P (combined slot)
-each_way P sums least greatest unites slot = by (nat_lt slot 2) (nat_lt slot 4) (nat_lt slot 6)
+-- what holds of the four ways holds of each aggregator's
+each_way : (P : (ℤ → ℤ → ℤ) → Type 0) → P (int_wrapping_add w64) → P int_min → P int_max → P (int_bit_or w64) → (aggregator : ℕ) → P (combined aggregator)
+each_way P sums least greatest unites aggregator = by (nat_lt aggregator 2) (nat_lt aggregator 4) (nat_lt aggregator 6)
   where
     by : (a b c : Bool) → P (λ old given. cond a (int_wrapping_add w64 old given) (cond b (int_min old given) (cond c (int_max old given) (int_bit_or w64 old given))))
     by true b c = sums
@@ -116,23 +116,23 @@ each_way P sums least greatest unites slot = by (nat_lt slot 2) (nat_lt slot 4) 
     by false false true = greatest
     by false false false = unites
 
--- ---- a slot
+-- ---- an aggregator
 
-pub combined_comm : (slot : ℕ) (x y : ℤ) → combined slot x y ≡ combined slot y x
+pub combined_comm : (aggregator : ℕ) (x y : ℤ) → combined aggregator x y ≡ combined aggregator y x
 combined_comm = each_way IsCommutative sum_comm least_comm greatest_comm union_comm
 
-pub combined_turns : (slot : ℕ) (x y z : ℤ) → combined slot (combined slot x y) z ≡ combined slot (combined slot x z) y
+pub combined_turns : (aggregator : ℕ) (x y z : ℤ) → combined aggregator (combined aggregator x y) z ≡ combined aggregator (combined aggregator x z) y
 combined_turns = each_way TakesEitherFirst sum_turns least_turns greatest_turns union_turns
 
-pub combined_assoc : (slot : ℕ) (x y z : ℤ) → combined slot (combined slot x y) z ≡ combined slot x (combined slot y z)
-combined_assoc slot x y z =
-    ap (λ t. combined slot t z) (combined_comm slot x y) ∙ combined_turns slot y x z ∙ combined_comm slot (combined slot y z) x
+pub combined_assoc : (aggregator : ℕ) (x y z : ℤ) → combined aggregator (combined aggregator x y) z ≡ combined aggregator x (combined aggregator y z)
+combined_assoc aggregator x y z =
+    ap (λ t. combined aggregator t z) (combined_comm aggregator x y) ∙ combined_turns aggregator y x z ∙ combined_comm aggregator (combined aggregator y z) x
 
-pub combined_fits : (slot : ℕ) (x y : ℤ) → FitsSigned w64 x → FitsSigned w64 y → FitsSigned w64 (combined slot x y)
+pub combined_fits : (aggregator : ℕ) (x y : ℤ) → FitsSigned w64 x → FitsSigned w64 y → FitsSigned w64 (combined aggregator x y)
 combined_fits = each_way KeepsFit (λ x y f g. read_fits_signed _) (λ x y f g. omega (arith, ints, clamps)) (λ x y f g. omega (arith, ints, clamps)) (λ x y f g. read_fits_signed _)
 
--- a number of 64 bits, combined with what its slot starts with
-pub combined_start : (slot : ℕ) (x : ℤ) → slot < 8 → FitsSigned w64 x → combined slot x (get_or aggregator_starts slot (pos 0)) ≡ x
+-- a number of 64 bits, combined with what its aggregator starts with
+pub combined_start : (aggregator : ℕ) (x : ℤ) → aggregator < 8 → FitsSigned w64 x → combined aggregator x (get_or aggregator_starts aggregator (pos 0)) ≡ x
 combined_start zero x below fits = sum_start x fits
 combined_start (suc zero) x below fits = sum_start x fits
 combined_start (suc (suc zero)) x below fits = omega (arith, ints, clamps)
@@ -141,4 +141,4 @@ combined_start (suc (suc (suc (suc zero)))) x below fits = omega (arith, ints, c
 combined_start (suc (suc (suc (suc (suc zero))))) x below fits = omega (arith, ints, clamps)
 combined_start (suc (suc (suc (suc (suc (suc zero)))))) x below fits = union_start x fits
 combined_start (suc (suc (suc (suc (suc (suc (suc zero))))))) x below fits = union_start x fits
-combined_start (suc (suc (suc (suc (suc (suc (suc (suc slot)))))))) x below fits = absurd (omega arith)
+combined_start (suc (suc (suc (suc (suc (suc (suc (suc aggregator)))))))) x below fits = absurd (omega arith)

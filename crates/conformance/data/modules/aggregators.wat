@@ -1,5 +1,5 @@
-;; For each of its edges a vertex gives its value to the slot that the edge's value names, and takes
-;; what this slot was aggregated to before the superstep.
+;; For each of its edges a vertex contributes its value to the aggregator that the edge's value names, and takes
+;; the aggregator's value of the superstep before.
 (module
   (import "pregel" "get_value" (func $get_value (result i64)))
   (import "pregel" "set_value" (func $set_value (param i64)))

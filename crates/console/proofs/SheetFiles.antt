@@ -12,16 +12,13 @@ use Rattle.console.specs.Importing.{TriesAll, WritesAll}
 use Rattle.console.specs.Sheets.{IsReported, MayWriteSheets, TriesNoted, TriesSheets, WritesSheets, names_in, sheet_at}
 use Rattle.console.specs.inside.SheetFiles.{TriesChart, TriesReport, WritesChart, WritesReport}
 use Rattle.console.specs.declared.noting.RunNotes.{RunNotes}
-use Rattle.console.proofs.Writes.{tries_front, tries_later, tries_one, tries_rest, writes_none, writes_one, writes_rest, written_tried}
+use Rattle.console.proofs.Writes.{tries_front, tries_later, tries_one, tries_rest, writes_one, writes_rest, written_tried}
 
 pub OnOk-along : {A E P Q : Type 0} (r : Result A E) → (P → Q) → OnOk r P → OnOk r Q
 OnOk-along (Ok x) go h = go h
 OnOk-along (Err e) go h = h
 
 -- ---- one file
-
-pub no_sheet : (asked : Option (Bor (List ℕ))) (bytes : List ℕ) (disk : Disk) → asked ≡ None → WritesAll (sheet_at asked bytes) disk disk
-no_sheet asked bytes disk none = subst (λ found. WritesAll (sheet_at found bytes) disk disk) (sym none) (writes_none disk)
 
 pub sheet_written : (asked : Option (Bor (List ℕ))) (path : Bor (List ℕ)) (bytes : List ℕ) (before after : Disk) → asked ≡ Some path
     → Writes path.now bytes before after → WritesAll (sheet_at asked bytes) before after
@@ -32,10 +29,6 @@ pub sheet_tried : (asked : Option (Bor (List ℕ))) (path : Bor (List ℕ)) (byt
     → Tries path.now bytes before after → TriesAll (sheet_at asked bytes) before after
 sheet_tried asked path bytes before after some is =
     subst (λ found. TriesAll (sheet_at found bytes) before after) (sym some) (tries_one path.now bytes before after is)
-
--- where no report is asked for, any text will do
-pub none_reported : (asked : RunRequest) (report : RunReport) (json : List ℕ) → asked.report ≡ None → IsReported asked report json
-none_reported asked report json none = subst (λ found. IfSome found (λ path. IsJsonOf (names_in asked) report json)) (sym none) tt
 
 pub some_reported : (asked : RunRequest) (path : Bor (List ℕ)) (report : RunReport) (json : List ℕ) → asked.report ≡ Some path
     → IsJsonOf (names_in asked) report json → IsReported asked report json
@@ -79,7 +72,7 @@ tried_then asked report before middle after (inl stays) then = inl (stays_again 
 tried_then asked report before middle after (inr (json, is, chart, tried)) then =
     inr (json, is, chart, all_tried (sheet_at asked.report json ++ sheet_at asked.plot chart) before middle after tried then)
 
-pub noted_stays : (asked : RunRequest) (noted : Option RunReport) (before after : Disk) → Stays before after → TriesNoted asked noted before after
+noted_stays : (asked : RunRequest) (noted : Option RunReport) (before after : Disk) → Stays before after → TriesNoted asked noted before after
 noted_stays asked None before after stays = stays
 noted_stays asked (Some report) before after stays = inl stays
 

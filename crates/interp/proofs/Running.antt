@@ -88,6 +88,10 @@ ends_at n m same typed bounded input size told most e x s =
     let ends = ends_within m typed bounded input size told x t in
     subst (λ (k : Module). EndsWithin k x most) (sym same) (subst (λ (b : ℕ). EndsWithin m x b) (sym e) ends)
 
+-- a run that ends within some units ends within more
+pub ends_sooner : (m : Module) (x : Machine) (few many : ℕ) → few ≤ many → EndsWithin m x few → EndsWithin m x many
+ends_sooner m x few many h e = record { steps = e.steps; final = e.final; done = e.done; within = omega (arith, e.within, h); touches = e.touches }
+
 -- ---- the function with the number
 
 begun_at : (m : Module) (n : ℕ) (b : BeginsAt m n) → slice_get (functions_of m) n ≡ Some (defined b.function)

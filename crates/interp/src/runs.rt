@@ -1,12 +1,13 @@
 //! Compute calls.
 
-ghost use Rattle.std.specs.Prelude.{◌≡◌, ◌↔◌, ◌+◌, ◌*◌, IfOk, IsOk, IsTrue, OnErr};
+ghost use Rattle.std.specs.Prelude.{◌≡◌, ◌↔◌, ◌+◌, ◌*◌, ◌≤◌, IfOk, IsOk, IsTrue, OnErr};
 ghost use Rattle.wasm_ast.specs.Limits.{IsWithinLimits};
 ghost use Rattle.interp.specs.inside.Begun.{BeginsWith, EndsInRoom, HasStartRoom, Sends};
 ghost use Rattle.interp.specs.Bounded.{HasIds, IsWithinBound, NeverFails, items_of};
 ghost use Rattle.interp.specs.Call.{IsOutcome};
 ghost use Rattle.interp.specs.Room.{IsSilent};
 ghost use Rattle.interp.specs.inside.Meaning.{AreImports};
+ghost use Rattle.interp.specs.inside.Walk.{max_count};
 
 use crate::program::Program;
 use crate::scratch::Scratch;
@@ -40,9 +41,10 @@ pub fn run(
     ensures reserved { IsSilent verified.now input.now → IsOk result }
 {
     let program = scratch.program_for(verified);
-    let most = most_units(verified.size(), input);
+    // Bounds the units of the call, so that their count fits.
+    let _most = most_units(verified.size(), input);
     let function = program.defined(verified.compute());
-    scratch.call(alloc, program, function, input, most)
+    scratch.call(alloc, program, function, input)
 }
 
 /// Decides whether the id and the targets of the edges are in range, which is a precondition of `run`.
@@ -54,7 +56,8 @@ pub fn has_ids(input: &CallInput) -> bool
 
 // Returns the bound on the units of a call: the size, times one more than there are messages and edges.
 fn most_units(size: u32, input: &CallInput) -> u128
-    ensures { result ≡ size * (1 + items_of input.now) }
+    ensures is { result ≡ size * (1 + items_of input.now) }
+    ensures fits { result ≤ max_count }
 {
     let items = input.messages.len() as u128 + input.edges.len() as u128;
     u128::from(size) * (1 + items)
@@ -67,7 +70,6 @@ pub(crate) fn call_in<'a>(
     program: Program<'a>,
     function: &'a Function,
     input: &CallInput,
-    most: u128,
     walk: &mut Walk<'a>,
 ) -> Result<CallOutcome, AllocError>
     requires own { image.now ≡ program.«module».now }
@@ -75,7 +77,7 @@ pub(crate) fn call_in<'a>(
     requires begins { BeginsWith program.«module».now function.now }
     requires within { IsWithinLimits program.«module».now }
     requires room { HasStartRoom program.«module».now function.now walk.old.room }
-    requires ends { EndsInRoom program.«module».now input.now most walk.old.room }
+    requires ends { EndsInRoom program.«module».now input.now max_count walk.old.room }
     ensures room { walk.new.room ≡ walk.old.room }
     ensures sends { OnErr result (Sends program.entry.«module».now input.now) }
     ensures outcome { IfOk result (IsOutcome program.entry.«module».now input.now) }
@@ -83,6 +85,6 @@ pub(crate) fn call_in<'a>(
     image.reset(function, walk);
     let code = function.body.as_slice();
     let mut host = CallState::new(alloc, input);
-    let count = walk.finish(program, code, most, &mut host)?;
+    let count = walk.finish(program, code, &mut host)?;
     Ok(host.into_outcome(count))
 }

@@ -8,6 +8,7 @@ ghost use Rattle.interp.specs.Call.{IsOutcome};
 ghost use Rattle.interp.specs.Room.{most_entries, most_locals};
 ghost use Rattle.interp.specs.inside.Begun.{BeginsWith, EndsEachWithin, HasRoom, Sends, room_in};
 ghost use Rattle.interp.specs.inside.Meaning.{AreImports};
+ghost use Rattle.interp.specs.inside.Walk.{max_count};
 
 use crate::buffers::Buffers;
 use crate::program::Program;
@@ -94,7 +95,6 @@ impl<'a> Scratch<'a> {
         program: Program<'a>,
         function: &'a Function,
         input: &CallInput,
-        most: u128,
     ) -> Result<CallOutcome, AllocError>
         requires same { program.«module».now ≡ self.old }
         requires typed { IsTyped self.old }
@@ -103,7 +103,7 @@ impl<'a> Scratch<'a> {
         requires calls { AreImports program.calls.now program.«module».now }
         requires begins { BeginsWith program.«module».now function.now }
         requires few { length function.now.locals ≤ max_locals }
-        requires ends { EndsEachWithin program.«module».now input.now most }
+        requires ends { EndsEachWithin program.«module».now input.now max_count }
         ensures kept { self.new ≡ self.old }
         ensures sends { OnErr result (Sends program.entry.«module».now input.now) }
         ensures outcome { IfOk result (IsOutcome program.entry.«module».now input.now) }
@@ -115,7 +115,6 @@ impl<'a> Scratch<'a> {
             program,
             function,
             input,
-            most,
             &mut lists.walk,
         )
     }

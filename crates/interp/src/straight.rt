@@ -13,6 +13,7 @@ ghost use Rattle.interp.specs.inside.Kept.{count_kept};
 ghost use Rattle.interp.specs.inside.OperandStack.{operand_stack};
 ghost use Rattle.interp.specs.inside.Meaning.{AreImports};
 ghost use Rattle.interp.specs.inside.Split.{free_of};
+ghost use Rattle.interp.specs.inside.Walk.{max_count};
 ghost use Rattle.interp.specs.inside.Straight.{GoesIn, GoesPast, GoesStraight, IsBranchIf, IsEqz, IsTest, LeadsAmid, Passes, SendsAmid, Takes, is_straight, skips_zero, spot, straight_asks, straight_effect, straight_gives, straight_units, zero_asks};
 
 use crate::call_globals::CallGlobals;
@@ -73,7 +74,6 @@ pub fn go_straight<'a>(
     program: Program<'a>,
     code: &'a [Instr],
     count: u128,
-    most: u128,
     operands: &mut Operands,
     locals: &mut Locals,
     globals: &mut CallGlobals,
@@ -82,13 +82,13 @@ pub fn go_straight<'a>(
 ) -> Result<Stop<'a>, AllocError>
     requires calls { AreImports program.calls.now program.«module».now }
     requires leads { LeadsAmid program.«module».now (spot operands.old.here (code_of code.now)
-        locals.old.here globals.old.here bytes.old host.old count) most (free_of operands.old) }
-    ensures passes { IfOk result (λ stop. Passes program.entry.«module».now most
+        locals.old.here globals.old.here bytes.old host.old count) max_count (free_of operands.old) }
+    ensures passes { IfOk result (λ stop. Passes program.entry.«module».now max_count
         (spot operands.old.here (code_of code.entry.now)
         locals.old.here globals.old.here bytes.old host.old count)
         (spot operands.new.here (code_of stop.code.now)
         locals.new.here globals.new.here bytes.new host.new stop.count)) }
-    ensures sends { OnErr result (SendsAmid program.entry.«module».now most
+    ensures sends { OnErr result (SendsAmid program.entry.«module».now max_count
         (spot operands.old.here (code_of code.entry.now)
         locals.old.here globals.old.here bytes.old host.old count)) }
     ensures more { IfOk result (λ stop. count ≤ stop.count) }
@@ -110,7 +110,6 @@ pub fn go_straight<'a>(
         program,
         code,
         count,
-        most,
         &mut operands.cells[floor..],
         top,
         &mut locals.cells[base..],
@@ -127,7 +126,6 @@ fn run_straight<'a>(
     program: Program<'a>,
     code: &'a [Instr],
     count: u128,
-    most: u128,
     cells: &mut [u64],
     top: usize,
     locals: &mut [u64],
@@ -139,14 +137,14 @@ fn run_straight<'a>(
     requires within { top ≤ length cells.old }
     requires leads { LeadsAmid program.«module».now
         (spot (operand_stack cells.old top) (code_of code.now) (map I64 locals.old)
-        globals.old.here bytes.old host.old count) most
+        globals.old.here bytes.old host.old count) max_count
         (length cells.old) }
-    ensures passes { IfOk result (λ stop. Passes program.entry.«module».now most
+    ensures passes { IfOk result (λ stop. Passes program.entry.«module».now max_count
         (spot (operand_stack cells.old top) (code_of code.entry.now)
         (map I64 locals.old) globals.old.here bytes.old host.old count)
         (spot (operand_stack cells.new stop.top) (code_of stop.code.now)
         (map I64 locals.new) globals.new.here bytes.new host.new stop.count)) }
-    ensures sends { OnErr result (SendsAmid program.entry.«module».now most
+    ensures sends { OnErr result (SendsAmid program.entry.«module».now max_count
         (spot (operand_stack cells.old top) (code_of code.entry.now)
         (map I64 locals.old) globals.old.here bytes.old host.old count)) }
     ensures more { IfOk result (λ stop. count ≤ stop.count) }

@@ -8,7 +8,7 @@ ghost use Rattle.interp.specs.inside.Cells.{cell_advance, in_width, of_any_width
 ghost use Rattle.interp.specs.inside.Going.{goes_on, is_going};
 ghost use Rattle.interp.specs.inside.Meaning.{AreImports};
 ghost use Rattle.interp.specs.inside.Place.{HasFrameRoom, at, hosted, running, state_of};
-ghost use Rattle.interp.specs.inside.Walk.{Arrives, Concludes, HasCountRoom, LeadsWithin, SendsFrom, Turned, Turns, left_of, taken};
+ghost use Rattle.interp.specs.inside.Walk.{Arrives, Concludes, HasCountRoom, LeadsWithin, SendsFrom, Turned, Turns, left_of, max_count, taken};
 ghost use Rattle.interp.specs.inside.Straight.{is_straight};
 
 mod branches;
@@ -62,30 +62,29 @@ impl<'a> Model for Walk<'a> {
 }
 
 impl<'a> Walk<'a> {
-    /// Runs to the end, and returns the units that the run took. The run ends within `most` units, which it never
-    /// compares. The only error is that an allocation fails, in a call that sends or aggregates.
+    /// Runs to the end, and returns the units that the run took. The run ends before their count overflows. The only
+    /// error is that an allocation fails, in a call that sends or aggregates.
     pub fn finish(
         &mut self,
         program: Program<'a>,
         code: &'a [Instr],
-        most: u128,
         host: &mut CallState,
     ) -> Result<u128, AllocError>
         requires calls { AreImports program.calls.now program.«module».now }
         requires within { IsWithinLimits program.«module».now }
         requires ends { LeadsWithin program.«module».now self.old.room
-            (at (hosted self.old host.old) (code_of code.now) 0) most }
+            (at (hosted self.old host.old) (code_of code.now) 0) max_count }
         ensures sends { OnErr result (SendsFrom program.entry.«module».now
-            (at (hosted self.old host.old) (code_of code.now) 0) most) }
+            (at (hosted self.old host.old) (code_of code.now) 0) max_count) }
         ensures concludes { IfOk result (λ count. Concludes program.entry.«module».now
-            (at (hosted self.old host.old) (code_of code.now) 0) most
+            (at (hosted self.old host.old) (code_of code.now) 0) max_count
             (state_of (hosted self.new host.new) count)) }
         ensures room { self.new.room ≡ self.old.room }
     {
         let mut rest = code;
         let mut count = 0;
         'turns: loop {
-            let stop = self.go_on(program, rest, count, most, host)?;
+            let stop = self.go_on(program, rest, count, host)?;
             match self.turn(program, stop.code, stop.count) {
                 Turn::Next {
                     code: next,
@@ -113,29 +112,27 @@ impl<'a> Walk<'a> {
         program: Program<'a>,
         code: &'a [Instr],
         count: u128,
-        most: u128,
         host: &mut CallState,
     ) -> Result<Stop<'a>, AllocError>
         requires calls { AreImports program.calls.now program.«module».now }
         requires leads { LeadsWithin program.«module».now self.old.room
-            (at (hosted self.old host.old) (code_of code.now) count) most }
-        ensures passes { IfOk result (λ stop. Arrives program.entry.«module».now most
+            (at (hosted self.old host.old) (code_of code.now) count) max_count }
+        ensures passes { IfOk result (λ stop. Arrives program.entry.«module».now max_count
             (at (hosted self.old host.old) (code_of code.entry.now) count)
             (at (hosted self.new host.new) (code_of stop.code.now) stop.count)) }
         ensures sends { OnErr result (SendsFrom program.entry.«module».now
-            (at (hosted self.old host.old) (code_of code.entry.now) count) most) }
+            (at (hosted self.old host.old) (code_of code.entry.now) count) max_count) }
         ensures stops { IfOk result (λ stop. is_straight program.entry.calls.now
             (code_of stop.code.now) ≡ false) }
         ensures closer { IfOk result (λ stop.
-            left_of most (at self.new (code_of stop.code.now) stop.count)
-            ≤ left_of most (at self.old (code_of code.entry.now) count)) }
+            left_of max_count (at self.new (code_of stop.code.now) stop.count)
+            ≤ left_of max_count (at self.old (code_of code.entry.now) count)) }
         ensures room { self.new.room ≡ self.old.room }
     {
         let stop = go_straight(
             program,
             code,
             count,
-            most,
             &mut self.operands,
             &mut self.locals,
             &mut self.globals,

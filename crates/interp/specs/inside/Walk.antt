@@ -74,6 +74,10 @@ UnwindsFrame old new = (top : Option Value) (st : State) → back top old st ≡
 abbrev pub HasCountRoom : Module → Place → Type 0
 HasCountRoom m p = p.state.count + next_units m p.code < 2 ^ 128
 
+-- the greatest number of units that a walk can count: each call ends within it
+abbrev pub max_count : ℕ
+max_count = 2 ^ 128 - 1
+
 -- ---- runs
 
 -- the run is done after this many steps and no fewer

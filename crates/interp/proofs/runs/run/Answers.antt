@@ -6,7 +6,8 @@ use Rattle.validate.specs.Modules.{IsTyped}
 use Rattle.bounded_profile.specs.Profile.{IsBounded}
 use Rattle.interp.specs.Call.{IsOutcome}
 use Rattle.interp.specs.inside.Begun.{BeginsAt, IsDefinedAt}
-use Rattle.interp.proofs.Running.{begins_at, begins_with, bound_told, defined_at, ends_at, fails_never, few_of_its_own}
+use Rattle.interp.specs.inside.Walk.{max_count}
+use Rattle.interp.proofs.Running.{begins_at, begins_with, bound_told, defined_at, ends_at, ends_sooner, fails_never, few_of_its_own}
 use Rattle.interp.proofs.Sending.{silent_ok}
 use Rattle.interp.proofs.runs.run.Goals as goal
 
@@ -39,7 +40,9 @@ call-requires-clause-few c =
 pub call-requires-clause-ends : goal.call-requires-clause-ends
 call-requires-clause-ends c =
     let told = c.program_for-program.ensures in
-    ends_at c.program_for-program.result.module.now c.args.verified.now told.same told.typed told.bounded c.args.input.now c.size.result c.size.ensures c.most_units-most.result c.most_units-most.ensures
+    let most = c.most_units-most in
+    λ x starts. ends_sooner c.program_for-program.result.module.now x most.result max_count most.ensures.fits
+    (ends_at c.program_for-program.result.module.now c.args.verified.now told.same told.typed told.bounded c.args.input.now c.size.result c.size.ensures most.result most.ensures.is x starts)
 
 pub returns-clause-outcome : goal.returns-clause-outcome
 returns-clause-outcome c =

@@ -8,6 +8,7 @@ use Rattle.interp.proofs.Lent.{IsLent, back_lower, back_cells, back_here, back_u
 use Rattle.interp.proofs.Passing.{leads_same, passes_same, sends_same}
 use Rattle.interp.proofs.OperandStacks.{free_is, held}
 use Rattle.interp.proofs.Sending.{on_any}
+use Rattle.interp.specs.inside.Walk.{max_count}
 use Rattle.interp.proofs.straight.go_straight.Goals as goal
 
 pub run_straight-requires-clause-leads : goal.run_straight-requires-clause-leads
@@ -22,7 +23,7 @@ run_straight-requires-clause-leads c =
     lent_cells l.base others l.cells.items c.deref_mut-2.ensures.value ∙ ap (λ s. s.here) c.locals.view_is in
     let free : free_of c.args.operands.now ≡ length (lent o.floor whole) =
     ap free_of (sym c.operands.view_is) ∙ free_is (length o.cells.items) o.floor o.top o.cells.items c.operands.invariant.0 c.operands.invariant.1 ∙ sym (lent_long o.floor whole o.cells.items c.deref_mut.ensures.value) in
-    leads_same c.args.program.module.now c.args.most (code_of c.args.code.now) (code_of c.args.code.now) (operand_stack (lent o.floor whole) (o.top - o.floor)) c.args.operands.now.here (map I64 (lent l.base others)) c.args.locals.now.here here cells c.args.globals.now.here c.args.bytes.now c.args.host.now c.args.host.now c.args.count (free_of c.args.operands.now) (length (lent o.floor whole)) free c.requires.leads
+    leads_same c.args.program.module.now max_count (code_of c.args.code.now) (code_of c.args.code.now) (operand_stack (lent o.floor whole) (o.top - o.floor)) c.args.operands.now.here (map I64 (lent l.base others)) c.args.locals.now.here here cells c.args.globals.now.here c.args.bytes.now c.args.host.now c.args.host.now c.args.count (free_of c.args.operands.now) (length (lent o.floor whole)) free c.requires.leads
 
 pub returns-clause-passes : goal.returns-clause-passes
 returns-clause-passes c =
@@ -48,7 +49,7 @@ returns-clause-passes c =
       within = omega (arith, ap (λ k. length k) c.deref_mut-2.ensures.value, c.locals.invariant.0);
       kept = omega (arith, r.auto.locals);
     } in
-    passes_same c.args.program.module.now c.args.most (code_of c.args.code.now) (code_of stop.code.now) (operand_stack (lent o.floor whole) (o.top - o.floor)) c.args.operands.now.here (map I64 (lent l.base others)) c.args.locals.now.here here cells c.args.globals.now.here c.args.bytes.now c.args.host.now r.new.host c.args.count
+    passes_same c.args.program.module.now max_count (code_of c.args.code.now) (code_of stop.code.now) (operand_stack (lent o.floor whole) (o.top - o.floor)) c.args.operands.now.here (map I64 (lent l.base others)) c.args.locals.now.here here cells c.args.globals.now.here c.args.bytes.now c.args.host.now r.new.host c.args.count
     (reverse (drop o.floor (held (o.floor + stop.top) (given_back o.floor o.cells.len whole r.new.cells o.cells.items)))) (operand_stack r.new.cells stop.top) (drop l.base (map I64 (given_back l.base l.cells.len others r.new.locals l.cells.items))) (map I64 r.new.locals)
     (back_here o.floor o.cells.len whole r.new.cells o.cells.items h stop.top) (back_cells l.base l.cells.len others r.new.locals l.cells.items g) r.new.globals.here r.new.bytes stop.count c.in_ok-stop.ensures.passes
 
@@ -116,4 +117,4 @@ returns-in_err-stop-clause-sends c =
     lent_here o.floor whole o.cells.items c.deref_mut.ensures.value o.top c.operands.invariant.0 ∙ ap (λ s. s.here) c.operands.view_is in
     let cells : map I64 (lent l.base others) ≡ c.args.locals.now.here =
     lent_cells l.base others l.cells.items c.deref_mut-2.ensures.value ∙ ap (λ s. s.here) c.locals.view_is in
-    on_any _ _ (sends_same c.args.program.module.now c.args.most (code_of c.args.code.now) (code_of c.args.code.now) (operand_stack (lent o.floor whole) (o.top - o.floor)) c.args.operands.now.here (map I64 (lent l.base others)) c.args.locals.now.here here cells c.args.globals.now.here c.args.bytes.now c.args.host.now c.args.host.now c.args.count c.in_err-stop.ensures.sends)
+    on_any _ _ (sends_same c.args.program.module.now max_count (code_of c.args.code.now) (code_of c.args.code.now) (operand_stack (lent o.floor whole) (o.top - o.floor)) c.args.operands.now.here (map I64 (lent l.base others)) c.args.locals.now.here here cells c.args.globals.now.here c.args.bytes.now c.args.host.now c.args.host.now c.args.count c.in_err-stop.ensures.sends)

@@ -4,7 +4,7 @@ use Rattle.wasm_ast.specs.View.{code_of}
 use Rattle.interp.specs.Machine.{Done, run}
 use Rattle.interp.specs.inside.Cells.{cell_advance, in_width}
 use Rattle.interp.specs.inside.Place.{at, hosted, running, state_of}
-use Rattle.interp.specs.inside.Walk.{BeginsAgain, Follows, IsWithinRoom, SendsFrom}
+use Rattle.interp.specs.inside.Walk.{BeginsAgain, Follows, IsWithinRoom, SendsFrom, max_count}
 use Rattle.interp.proofs.Following.{again_falls, again_follows, again_room, cell_goes, cell_room, falls_on, finishes_on, follows_on, frame_room}
 use Rattle.interp.proofs.Hosting.{goes_without, turned_hosted}
 use Rattle.interp.proofs.Sending.{on_any}
@@ -24,8 +24,8 @@ turn-requires-clause-fits c =
     let leads = c.requires.ends.leads in
     let here = at (hosted c.go_on.new.self c.go_on.new.host) (code_of c.in_ok-stop.stop.code.now) c.in_ok-stop.stop.count in
     let follows = c.in_ok-stop.ensures.passes leads.from (c.turns.invariant.follows leads.from leads.follows leads.ends) leads.ends in
-    let within = cell_room c.args.program.module.now leads.from here follows c.args.most leads.ends in
-    omega (arith, within, c.ranges.most.fits)
+    let within = cell_room c.args.program.module.now leads.from here follows max_count leads.ends in
+    omega (arith, within)
 
 pub turn-requires-clause-goes : goal.turn-requires-clause-goes
 turn-requires-clause-goes c =
@@ -33,7 +33,7 @@ turn-requires-clause-goes c =
     let here = at (hosted c.go_on.new.self c.go_on.new.host) (code_of c.in_ok-stop.stop.code.now) c.in_ok-stop.stop.count in
     let follows = c.in_ok-stop.ensures.passes leads.from (c.turns.invariant.follows leads.from leads.follows leads.ends) leads.ends in
     goes_without c.go_on.new.host c.args.program.module.now c.args.program.calls.now c.requires.calls c.go_on.new.self (code_of c.in_ok-stop.stop.code.now) c.in_ok-stop.ensures.stops c.in_ok-stop.stop.count
-    (cell_goes c.args.program.module.now leads.from here follows c.args.most leads.ends)
+    (cell_goes c.args.program.module.now leads.from here follows max_count leads.ends)
 
 pub turn-requires-clause-room : goal.turn-requires-clause-room
 turn-requires-clause-room c =
@@ -50,8 +50,8 @@ overflow_add-count c =
     let follows = c.in_ok-stop.ensures.passes leads.from (c.turns.invariant.follows leads.from leads.follows leads.ends) leads.ends in
     let turned = turned_hosted c.go_on.new.host c.args.program.module.now c.args.program.calls.now c.requires.calls c.go_on.new.self (code_of c.in_ok-stop.stop.code.now) c.in_ok-stop.ensures.stops c.in_ok-stop.stop.count c.turn.result c.turn.new.self c.turn.ensures.turned in
     let again : BeginsAgain (cell_advance in_width m (running here)) c.in-Again.body.now (hosted c.turn.new.self c.go_on.new.host) c.in-Again.counted = rw c.in-Again.is at turned in
-    let room = again_room m leads.from here follows c.args.most leads.ends c.in-Again.body.now (hosted c.turn.new.self c.go_on.new.host) c.in-Again.counted again in
-    omega (arith, room, c.ranges.most.fits)
+    let room = again_room m leads.from here follows max_count leads.ends c.in-Again.body.now (hosted c.turn.new.self c.go_on.new.host) c.in-Again.counted again in
+    omega (arith, room)
 
 pub turns-init : goal.turns-init
 turns-init c = record { follows = λ from follows ends. follows; room = refl }
@@ -64,7 +64,7 @@ turns-smaller-in-Next c =
     let step : cell_advance in_width c.args.program.module.now (running here) ≡ running next = rw c.in-Next.is at turned in
     let leads = c.requires.ends.leads in
     let follows = c.in_ok-stop.ensures.passes leads.from (c.turns.invariant.follows leads.from leads.follows leads.ends) leads.ends in
-    let less = falls_on c.args.program.module.now leads.from here follows c.args.most leads.ends next step in
+    let less = falls_on c.args.program.module.now leads.from here follows max_count leads.ends next step in
     omega (arith, less, c.in_ok-stop.ensures.closer)
 
 pub turns-preserved-in-Next : goal.turns-preserved-in-Next
@@ -74,7 +74,7 @@ turns-preserved-in-Next c =
     let turned = turned_hosted c.go_on.new.host c.args.program.module.now c.args.program.calls.now c.requires.calls c.go_on.new.self (code_of c.in_ok-stop.stop.code.now) c.in_ok-stop.ensures.stops c.in_ok-stop.stop.count c.turn.result c.turn.new.self c.turn.ensures.turned in
     let step : cell_advance in_width c.args.program.module.now (running here) ≡ running next = rw c.in-Next.is at turned in
     record {
-      follows = λ from follows ends. follows_on c.args.program.module.now from here (c.in_ok-stop.ensures.passes from (c.turns.invariant.follows from follows ends) ends) c.args.most ends next step;
+      follows = λ from follows ends. follows_on c.args.program.module.now from here (c.in_ok-stop.ensures.passes from (c.turns.invariant.follows from follows ends) ends) max_count ends next step;
       room = c.turn.ensures.room ∙ c.go_on.ensures.room ∙ c.turns.invariant.room;
     }
 
@@ -86,7 +86,7 @@ turns-smaller c =
     let follows = c.in_ok-stop.ensures.passes leads.from (c.turns.invariant.follows leads.from leads.follows leads.ends) leads.ends in
     let turned = turned_hosted c.go_on.new.host c.args.program.module.now c.args.program.calls.now c.requires.calls c.go_on.new.self (code_of c.in_ok-stop.stop.code.now) c.in_ok-stop.ensures.stops c.in_ok-stop.stop.count c.turn.result c.turn.new.self c.turn.ensures.turned in
     let again : BeginsAgain (cell_advance in_width m (running here)) c.in-Again.body.now (hosted c.turn.new.self c.go_on.new.host) c.in-Again.counted = rw c.in-Again.is at turned in
-    let less = again_falls m leads.from here follows c.args.most leads.ends c.in-Again.body.now (hosted c.turn.new.self c.go_on.new.host) c.in-Again.counted again in
+    let less = again_falls m leads.from here follows max_count leads.ends c.in-Again.body.now (hosted c.turn.new.self c.go_on.new.host) c.in-Again.counted again in
     omega (arith, less, c.in_ok-stop.ensures.closer)
 
 pub turns-preserved : goal.turns-preserved
@@ -97,7 +97,7 @@ turns-preserved c =
     let again : BeginsAgain (cell_advance in_width m (running here)) c.in-Again.body.now (hosted c.turn.new.self c.go_on.new.host) c.in-Again.counted = rw c.in-Again.is at turned in
     record {
       follows = λ from follows ends.
-          let on = again_follows m from here (c.in_ok-stop.ensures.passes from (c.turns.invariant.follows from follows ends) ends) c.args.most ends c.in-Again.body.now (hosted c.turn.new.self c.go_on.new.host) c.in-Again.counted again in
+          let on = again_follows m from here (c.in_ok-stop.ensures.passes from (c.turns.invariant.follows from follows ends) ends) max_count ends c.in-Again.body.now (hosted c.turn.new.self c.go_on.new.host) c.in-Again.counted again in
           subst (λ (k : Code). Follows m from (at (hosted c.turn.new.self c.go_on.new.host) k (c.in-Again.counted + 1))) (sym c.as_slice-rest.ensures) on;
       room = c.turn.ensures.room ∙ c.go_on.ensures.room ∙ c.turns.invariant.room;
     }
@@ -108,13 +108,13 @@ returns-in-Finished-clause-concludes c =
     let final = state_of (hosted c.turn.new.self c.go_on.new.host) c.in-Finished.counted in
     let turned = turned_hosted c.go_on.new.host c.args.program.module.now c.args.program.calls.now c.requires.calls c.go_on.new.self (code_of c.in_ok-stop.stop.code.now) c.in_ok-stop.ensures.stops c.in_ok-stop.stop.count c.turn.result c.turn.new.self c.turn.ensures.turned in
     let step : cell_advance in_width c.args.program.module.now (running here) ≡ Done final = rw c.in-Finished.is at turned in
-    λ from follows ends. finishes_on c.args.program.module.now from here (c.in_ok-stop.ensures.passes from (c.turns.invariant.follows from follows ends) ends) c.args.most ends final step
+    λ from follows ends. finishes_on c.args.program.module.now from here (c.in_ok-stop.ensures.passes from (c.turns.invariant.follows from follows ends) ends) max_count ends final step
 
 pub returns-in-Finished-clause-room : goal.returns-in-Finished-clause-room
 returns-in-Finished-clause-room c = c.turn.ensures.room ∙ c.go_on.ensures.room ∙ c.turns.invariant.room
 
 pub returns-in_err-stop-clause-sends : goal.returns-in_err-stop-clause-sends
 returns-in_err-stop-clause-sends c =
-    let all : SendsFrom c.args.program.module.now (at (hosted c.args.self.now c.args.host.now) (code_of c.args.code.now) 0) c.args.most = λ from follows ends.
+    let all : SendsFrom c.args.program.module.now (at (hosted c.args.self.now c.args.host.now) (code_of c.args.code.now) 0) max_count = λ from follows ends.
     c.in_err-stop.ensures.sends from (c.turns.invariant.follows from follows ends) ends in
     on_any _ _ all

@@ -3,7 +3,7 @@ use Rattle.wasm_ast.specs.View.{code_of}
 use Rattle.interp.specs.inside.Meaning.{entries_of, standing_of}
 use Rattle.interp.specs.inside.Place.{at, hosted}
 use Rattle.interp.specs.inside.Straight.{amid, spot}
-use Rattle.interp.specs.inside.Walk.{Follows, SendsFrom}
+use Rattle.interp.specs.inside.Walk.{Follows, SendsFrom, max_count}
 use Rattle.interp.proofs.Sending.{on_any}
 use Rattle.interp.proofs.Stacked.{beneath_is}
 use Rattle.interp.proofs.walk.Walk.go_on.Goals as goal
@@ -47,7 +47,7 @@ returns-clause-closer c =
 pub returns-in_err-stop-clause-sends : goal.returns-in_err-stop-clause-sends
 returns-in_err-stop-clause-sends c =
     let m = c.args.program.module.now in
-    let all : SendsFrom m (at (hosted c.args.self.now c.args.host.now) (code_of c.args.code.now) c.args.count) c.args.most = λ from follows ends.
+    let all : SendsFrom m (at (hosted c.args.self.now c.args.host.now) (code_of c.args.code.now) c.args.count) max_count = λ from follows ends.
     let here = subst (λ t. Follows m from (at (hosted t c.args.host.now) (code_of c.args.code.now) c.args.count)) (sym c.self.view_is) follows in
     c.in_err-stop.ensures.sends (standing_of c.self.inside).entries from here ends in
     on_any _ _ all

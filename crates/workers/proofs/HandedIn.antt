@@ -68,7 +68,7 @@ module _ {J : Type 0} where
       let here : w < staff ends = omega arith in
       let whole : of sender_of (w + 1) (received ends) ≡ handed_in_by r = old.0.events.whole (byes (w + 1) (omega arith)) in (
         spent w here ∙ ap cut (units_of_sender w (received ends) ∙ ap (λ l. units_by w (stamps_in l)) whole),
-        charged ends report (w + 1) rs byes spent old.1 (omega arith),
+        charged ends report (w + 1) rs byes spent old.2 (omega arith),
       )
 
   handed_in_some : (ends : CoordinatorEnds J) (receipts : Receipts J) (report : Report) → IsSettledHub ends receipts → HasByes (staff ends) (received ends)

@@ -6,7 +6,7 @@ use Rattle.channels.specs.Orders.{at, coordinator, stops}
 use Rattle.workers.specs.Messages.{closes, sender_of}
 use Rattle.workers.specs.Passes as pass
 use Rattle.channels.specs.Protocol.{IsOnceInOrder}
-use Rattle.workers.specs.Threads.{AreSpawned, AreSettled, AreThreadsOf, IsSpawned}
+use Rattle.workers.specs.Threads.{AreSpawned, AreSettled, AreThreadsOf, IsSpawned, JoinsAfterLoss}
 use Rattle.workers.specs.declared.coordinator_ends.CoordinatorEnds.{CoordinatorEnds}
 use Rattle.workers.specs.declared.thread_promises.HubThreads.{HubThreads}
 use Rattle.workers.specs.declared.thread_promises.WorkerPromise.{WorkerPromise}
@@ -66,7 +66,7 @@ module _ {J : Type 0} where
   pub settled_same : (ends now : CoordinatorEnds J) (n : ℕ) (rs : List (WorkerReceipt J))
       → received now ≡ received ends → handed now ≡ handed ends → channels_of now ≡ channels_of ends → AreSettled ends n rs → AreSettled now n rs
   settled_same ends now n [] a b c old = tt
-  settled_same ends now n (r ∷ rs) a b c old = (settled_still ends now n r a b c old.0, settled_same ends now (n + 1) rs a b c old.1)
+  settled_same ends now n (r ∷ rs) a b c old = (settled_still ends now n r a b c old.0, old.1, settled_same ends now (n + 1) rs a b c old.2)
 
   pub ticker_same : (ends now : CoordinatorEnds J) (receipt : TickReceipt J) → received now ≡ received ends → channels_of now ≡ channels_of ends → IsTickerSettled ends receipt → IsTickerSettled now receipt
   ticker_same ends now receipt a c s = record {
@@ -75,7 +75,7 @@ module _ {J : Type 0} where
   }
 
   pub settled_more : (ends : CoordinatorEnds J) (n : ℕ) (rs : List (WorkerReceipt J)) (r : WorkerReceipt J)
-      → AreSettled ends n rs → IsSettled ends (n + length rs) r → AreSettled ends n (rs ++ r ∷ [])
-  settled_more ends n [] r old new = (subst (λ (k : ℕ). IsSettled ends k r) (let z : n + 0 ≡ n = omega arith in z) new, tt)
-  settled_more ends n (x ∷ xs) r old new =
-      (old.0, settled_more ends (n + 1) xs r old.1 (subst (λ (k : ℕ). IsSettled ends k r) (let z : n + length (x ∷ xs) ≡ n + 1 + length xs = omega arith in z) new))
+      → AreSettled ends n rs → IsSettled ends (n + length rs) r → JoinsAfterLoss r → AreSettled ends n (rs ++ r ∷ [])
+  settled_more ends n [] r old new joins = (subst (λ (k : ℕ). IsSettled ends k r) (let z : n + 0 ≡ n = omega arith in z) new, joins, tt)
+  settled_more ends n (x ∷ xs) r old new joins =
+      (old.0, old.1, settled_more ends (n + 1) xs r old.2 (subst (λ (k : ℕ). IsSettled ends k r) (let z : n + length (x ∷ xs) ≡ n + 1 + length xs = omega arith in z) new) joins)

@@ -122,7 +122,7 @@ module _ {J : Type 0} where
   IsIdle coordinator = IsIdleOn coordinator.ends
 
   -- It has the receipts of all senders. All that the ticker and the workers sent was received, once and in order, and
-  -- what workers took is what they were sent.
+  -- what workers took is what they were sent. A worker joins again only right after a loss that it reported.
   abbrev pub IsSettled : Coordinator J → Type 0
   IsSettled coordinator = IsSettledOn coordinator.ends coordinator.receipts
 

@@ -1,9 +1,10 @@
 -- The threads of a hub, and their receipts.
-use Rattle.std.specs.Prelude.{◌≡◌, ◌≤◌, ◌+◌, ℕ, Option, Some, None, List, [], ◌∷◌, vec_len, vec_capacity, slice_index_or}
+use Rattle.std.specs.Prelude.{◌≡◌, ◌≤◌, ◌+◌, ℕ, Option, Some, None, List, [], ◌∷◌, vec_len, vec_capacity, slice_index_or, false, true}
 use Rattle.std.specs.declared.thread.PromisedHandle.{PromisedHandle}
 use Rattle.rollback.specs.declared.report.Report.{Report}
 use Rattle.workers.specs.Hub.{IsSettled, IsTickerSettled, channels_of, handed, received, staff}
 use Rattle.channels.specs.Orders.{at, tasks_in}
+use Rattle.workers.specs.Messages.{joins_follow}
 use Rattle.workers.specs.Passes.{handed_in_by}
 use Rattle.workers.specs.Steps.{stamps_in}
 use Rattle.workers.specs.Units.{cut, units_by}
@@ -36,13 +37,18 @@ module _ {J : Type 0} where
     pub nothing : spawned.receipts.items ≡ []
     pub room : staff ends ≤ vec_capacity spawned.receipts
 
+  -- A worker joins again only after it was lost by its gate: each `Joined` comes right after a `Lost` of its own.
+  abbrev pub JoinsAfterLoss : WorkerReceipt J → Type 0
+  JoinsAfterLoss receipt = joins_follow false (handed_in_by receipt) ≡ true
+
   -- the receipts of the workers from w on are settled
   abbrev pub AreSettled : CoordinatorEnds J → ℕ → List (WorkerReceipt J) → Type 0
   AreSettled ends w [] = Unit {0}
-  AreSettled ends w (receipt ∷ receipts) = IsSettled ends w receipt × AreSettled ends (w + 1) receipts
+  AreSettled ends w (receipt ∷ receipts) =
+      IsSettled ends w receipt × JoinsAfterLoss receipt × AreSettled ends (w + 1) receipts
 
   -- All that the ticker and the workers sent was received, once and in order, and what workers took is what they were
-  -- sent.
+  -- sent. Workers join again only after a loss of their own.
   pub record IsSettledHub (ends : CoordinatorEnds J) (receipts : Receipts J) : Type 0 where
     pub ticker : IsTickerSettled ends receipts.ticker
     pub workers : AreSettled ends 0 receipts.workers.items

@@ -1,10 +1,10 @@
 //! Starting the threads of a hub.
 
-ghost use Rattle.std.specs.Prelude.{◌≡◌, vec_len, IfErr, IfOk};
+ghost use Rattle.std.specs.Prelude.{◌≡◌, [], vec_len, IfErr, IfOk};
 ghost use Rattle.superstep.specs.declared.fault.JobFault.TheVariants.{ThreadRefused};
 ghost use Rattle.workers.specs.Hub.{AreNewPasses, IsNewPass, IsNewTicker, channels_of, staff};
-ghost use Rattle.workers.specs.Passes.{IsReceipt};
-ghost use Rattle.workers.specs.Threads.{AreSpawned, AreThreadsOf, IsSpawned, IsSpawnedTicker};
+ghost use Rattle.workers.specs.Passes.{IsReceipt, handed_in};
+ghost use Rattle.workers.specs.Threads.{AreSpawned, AreThreadsOf, IsSpawned, IsSpawnedTicker, JoinsAfterLoss};
 
 use crate::coordinator_ends::CoordinatorEnds;
 use crate::gate::Gate;
@@ -101,8 +101,10 @@ fn spawn_worker<'s, E, J: Origin + Send + Sync + 's, G: Gate + Sync + 's, R: Wai
         hub: Snapshot::of(ends),
     };
     let work = move || -> Result<WorkerReceipt<J>, JobFault>
-        requires { J.work ≡ job.now }
-        ensures { IfOk result (IsReceipt pass) }
+        requires job { J.work ≡ job.now }
+        requires new { handed_in pass ≡ [] }
+        ensures whose { IfOk result (IsReceipt pass) }
+        ensures joins { IfOk result JoinsAfterLoss }
     { work_all(rt, alloc, job, gate, pass) };
     match scope.spawn_with(promise, work) {
         Ok(thread) => Ok(thread),

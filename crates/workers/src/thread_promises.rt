@@ -6,7 +6,8 @@ use std::snapshot::Snapshot;
 use std::thread::{Promise, PromisedHandle};
 use superstep::{JobFault, Origin};
 
-/// The promise of a worker's thread: it returns this worker's receipt, on the channels of this hub.
+/// The promise of a worker's thread: it returns this worker's receipt, on the channels of this hub. The worker joined again only
+/// right after a loss that it reported.
 #[derive(Drop)]
 pub struct WorkerPromise<J: Origin> {
     pub worker: u32,
@@ -22,9 +23,11 @@ pub struct TickerPromise<J: Origin> {
 impl<J: Origin> Promise<Result<WorkerReceipt<J>, JobFault>> for WorkerPromise<J> {
     ghost use Rattle.std.specs.Prelude.{IfOk};
     ghost use Rattle.workers.specs.Hub.{IsReceiptOn, channels_of};
+    ghost use Rattle.workers.specs.Threads.{JoinsAfterLoss};
 
-    ghost kept_by = { λ promise result.
-        IfOk result (IsReceiptOn (channels_of promise.hub.value) promise.worker) };
+    ghost kept_by = { λ promise result. IfOk result (λ receipt.
+        IsReceiptOn (channels_of promise.hub.value) promise.worker receipt
+        × JoinsAfterLoss receipt) };
 }
 
 impl<J: Origin> Promise<Result<TickReceipt<J>, JobFault>> for TickerPromise<J> {

@@ -1,8 +1,9 @@
 //! The loops of the workers' threads and of the ticker's.
 
-ghost use Rattle.std.specs.Prelude.{◌≡◌, ◌+◌, IfOk, IfSome};
-ghost use Rattle.workers.specs.Messages.{event_sender};
-ghost use Rattle.workers.specs.Passes.{IsReceipt, IsSamePass, IsTickReceipt, worker_of};
+ghost use Rattle.std.specs.Prelude.{◌≡◌, ◌+◌, [], false, IfOk, IfSome, OnOk};
+ghost use Rattle.workers.specs.Messages.{AddsJoins, event_sender, is_joined};
+ghost use Rattle.workers.specs.Passes.{IsReceipt, IsSamePass, IsTickReceipt, handed_in, worker_of};
+ghost use Rattle.workers.specs.Threads.{JoinsAfterLoss};
 
 use crate::gate::{Gate, Turn, Worked};
 use crate::pass::{TickPass, TickReceipt, WorkerPass, WorkerReceipt};
@@ -46,6 +47,7 @@ fn outcome<'a, J: Origin>(
     requires job { J.work ≡ job.now }
     requires fits { IfSome scratch.old (λ scratch. scratch ≡ job.now.«module») }
     ensures own { event_sender result ≡ worker + 1 }
+    ensures work { is_joined result ≡ false }
     ensures fits { IfSome scratch.new (λ scratch. scratch ≡ job.now.«module») }
 {
     match work_on(alloc, job, task, scratch) {
@@ -91,6 +93,7 @@ fn be_lost<J: Origin, G: Gate, R: Wait>(
     pass: &mut WorkerPass<J>,
 ) -> Result<bool, JobFault>
     ensures same { IsSamePass pass.old pass.new }
+    ensures joins { OnOk result (AddsJoins (handed_in pass.old) (handed_in pass.new)) }
 {
     let worker = pass.worker();
     pass.hand_in(rt, Event::Lost(worker))?;
@@ -115,6 +118,7 @@ fn work_one<'a, J: Origin, G: Gate, R: Wait>(
     requires fits { IfSome scratch.old (λ scratch. scratch ≡ job.now.«module») }
     ensures fits { IfSome scratch.new (λ scratch. scratch ≡ job.now.«module») }
     ensures same { IsSamePass pass.old pass.new }
+    ensures joins { OnOk result (AddsJoins (handed_in pass.old) (handed_in pass.new)) }
 {
     let worker = pass.worker();
     match gate.before(worker, task.superstep(), task.part()) {
@@ -132,6 +136,30 @@ fn work_one<'a, J: Origin, G: Gate, R: Wait>(
     }
 }
 
+// Does the same, unless the worker is lost for good: then it drops the task.
+fn work_unless_lost<'a, J: Origin, G: Gate, R: Wait>(
+    rt: &R,
+    alloc: Global,
+    job: &'a Job,
+    gate: &G,
+    lost: bool,
+    pass: &mut WorkerPass<J>,
+    task: Task<J>,
+    scratch: &mut Option<Scratch<'a>>,
+) -> Result<bool, JobFault>
+    requires job { J.work ≡ job.now }
+    requires fits { IfSome scratch.old (λ scratch. scratch ≡ job.now.«module») }
+    ensures fits { IfSome scratch.new (λ scratch. scratch ≡ job.now.«module») }
+    ensures same { IsSamePass pass.old pass.new }
+    ensures joins { OnOk result (AddsJoins (handed_in pass.old) (handed_in pass.new)) }
+{
+    if lost {
+        drop(task);
+        return Ok(true);
+    }
+    work_one(rt, alloc, job, gate, pass, task, scratch)
+}
+
 // Takes tasks until the worker is stopped. As the gate says, it works on each task or is lost with it, and sends the
 // event.
 fn work_until_stopped<'a, J: Origin, G: Gate, R: Wait>(
@@ -145,15 +173,14 @@ fn work_until_stopped<'a, J: Origin, G: Gate, R: Wait>(
     requires job { J.work ≡ job.now }
     requires fits { IfSome scratch.old (λ scratch. scratch ≡ job.now.«module») }
     ensures same { IsSamePass pass.old pass.new }
+    ensures joins { OnOk result (AddsJoins (handed_in pass.old) (handed_in pass.new)) }
 {
     let mut lost = false;
     for _ in rt.forever() {
         let Some(task) = pass.take(rt)? else {
             break;
         };
-        if !lost {
-            lost = work_one(rt, alloc, job, gate, pass, task, scratch)?;
-        }
+        lost = work_unless_lost(rt, alloc, job, gate, lost, pass, task, scratch)?;
     }
     Ok(())
 }
@@ -167,8 +194,10 @@ pub fn work_all<J: Origin, G: Gate, R: Wait>(
     gate: &G,
     mut pass: WorkerPass<J>,
 ) -> Result<WorkerReceipt<J>, JobFault>
-    requires { J.work ≡ job.now }
-    ensures { IfOk result (IsReceipt pass) }
+    requires job { J.work ≡ job.now }
+    requires new { handed_in pass ≡ [] }
+    ensures whose { IfOk result (IsReceipt pass) }
+    ensures joins { IfOk result JoinsAfterLoss }
 {
     let mut scratch = None;
     let worked = work_until_stopped(rt, alloc, job, gate, &mut pass, &mut scratch);

@@ -1,9 +1,11 @@
 use Rattle.std.proofs.Common.{◌≡◌, IfSome}
-use Rattle.workers.specs.Passes.{IsSamePass}
+use Rattle.workers.specs.Messages.{AddsJoins}
+use Rattle.workers.specs.Passes.{IsSamePass, handed_in}
 use Rattle.workers.proofs.worker_loop.work_until_stopped.Given as goal
 
 abbrev pub invariant-loop : goal.invariant-loop
 invariant-loop g l = record {
   fits : IfSome l.scratch (λ scratch. scratch ≡ l.job.«module»);
   same : IsSamePass l.initial.pass l.pass;
+  joins : AddsJoins (handed_in l.initial.pass) (handed_in l.pass);
 }

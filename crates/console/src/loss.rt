@@ -66,7 +66,15 @@ impl LossGate {
 }
 
 impl Gate for LossGate {
-    fn before(&self, worker: u32, superstep: u32, _part: u32) -> Turn {
+    ghost use Rattle.std.specs.Prelude.{◌≡◌, IsSomeAnd, false, is_some, true};
+    ghost use Rattle.console.specs.Loss.{is_due};
+    ghost use Rattle.workers.specs.declared.gate.Turn.TheVariants.{Lose};
+
+    fn before(&self, worker: u32, superstep: u32, _part: u32) -> Turn
+        // A worker is lost only with a task of the loss.
+        ensures { result ≡ Lose
+            → IsSomeAnd self.now.loss (λ loss. is_due loss worker superstep ≡ true) }
+    {
         let Some(loss) = self.loss else {
             return Turn::Go;
         };
@@ -76,15 +84,21 @@ impl Gate for LossGate {
         Turn::Lose
     }
 
-    fn again(&self, _worker: u32) -> bool {
+    fn again(&self, _worker: u32) -> bool
+        ensures { result ≡ self.now.again }
+    {
         self.again
     }
 
-    fn tick(&self, _n: u64) -> bool {
+    fn tick(&self, _n: u64) -> bool
+        ensures { result ≡ false }
+    {
         false
     }
 
-    fn counts(&self) -> bool {
+    fn counts(&self) -> bool
+        ensures { result ≡ is_some self.now.watch }
+    {
         self.watch.is_some()
     }
 

@@ -90,7 +90,7 @@ prove_copy() {
 
 # Proves all that the program stands on, and builds it in the folder $1/whole.
 prove_in_stages() {
-    local job
+    local job crate
     # (each job in a process group of its own, which ends with all that it has started)
     set -m
     trap 'for job in $(jobs -p); do kill -- "-$job" 2>/dev/null || true; done; wait; exit 143' TERM
@@ -98,14 +98,20 @@ prove_in_stages() {
         # rt reckons with more memory than there may be
         export RT_JOBS=${RT_JOBS:-$(checks_that_fit)}
     elif [ -z "${RT_JOBS:-}" ] && [ "$(nproc)" -ge 4 ] && keeps_proofs; then
-        # rt gives a check several processors only where no other check waits, and fewer where the memory that it reckons with is
-        # taken. So the longest chain of crates has a run of its own, beside one for the largest crates at its side. Each run takes
+        # rt gives a check two processors only where no other crate of its run is ready. So the longest chain of crates is proved in
+        # runs of its own, in which one crate at a time is ready, and the crates at its side are proved beside it. Each run takes
         # over what another has proved, or waits for it.
+        RT_JOBS=3 prove_copy "$1/small" graph inbox host_calls &
         prove_copy "$1/first" wasm_ast &
-        RT_JOBS=2 prove_copy "$1/small" graph inbox &
-        wait
-        (RT_JOBS=2 prove_copy "$1/beside" wat_asm wasm_decode && RT_JOBS=2 prove_copy "$1/next" explain command_line graph_import) &
-        prove_copy "$1/chain" workers &
+        wait $! || true
+        (
+            RT_JOBS=2 prove_copy "$1/beside" wat_asm wasm_decode &&
+                RT_JOBS=2 prove_copy "$1/next" fit explain command_line graph_import run_report job_file channels &&
+                prove_copy "$1/session" session
+        ) &
+        for crate in validate rollback workers console; do
+            prove_copy "$1/$crate" "$crate" || exit
+        done &
         wait
     fi
     prove_copy "$1/whole" pregel &

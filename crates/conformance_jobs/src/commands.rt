@@ -17,7 +17,7 @@ use command_line::{Options, options};
 use conformance_cases::{is_case, one_line};
 use console::{NoView, RunNotes, call, command, write_sheets};
 use lent_files::{LentFiles, lent_files};
-use session::{JobRunner, ServeFault, serve};
+use session::{ServeFault, serve_in_threads};
 use sources::{Source, refusal_line};
 use std::alloc::{AllocError, Global};
 use std::io::Write;
@@ -175,7 +175,7 @@ fn status_of<W: Write>(
     match options {
         Options::Session => {
             let mut lines = SESSION.as_bytes();
-            serve(rt, alloc, &mut lines, out, files, &JobRunner::new(&NoLoss))?;
+            serve_in_threads(rt, alloc, &mut lines, out, files, &NoLoss)?;
             Ok(0)
         }
         Options::Command { request, explains } => {

@@ -17,7 +17,7 @@ use anyhow::Result;
 use conformance_cases::{bytes, is_case, named, one_line, spelled};
 use console::{Loss, LossGate};
 use lines::{Given, Taken};
-use session::{JobRunner, ServeFault, serve};
+use session::{ServeFault, serve_in_threads, serve_on_one_machine};
 use std::alloc::{AllocError, Global};
 use std::rt::Files;
 use std::sync::Wait;
@@ -75,7 +75,7 @@ fn answer_to(
     match way {
         "threads" => in_threads(rt, lines, files, &NoLoss),
         "holds" => held(rt, lines, files),
-        _ => served(rt, way, lines, files, &JobRunner::<NoLoss>::OnOneMachine),
+        _ => on_one_machine(rt, way, lines, files),
     }
 }
 
@@ -85,7 +85,11 @@ fn in_threads<G: Gate + Sync>(
     files: &mut LentFiles,
     gate: &G,
 ) -> Result<String> {
-    served(rt, "whole", lines, files, &JobRunner::new(gate))
+    let alloc = rt.alloc();
+    let mut reader = Given::new(lines);
+    let mut writer = Taken::new(alloc);
+    let served = serve_in_threads(rt, alloc, &mut reader, &mut writer, files, gate);
+    told(alloc, "whole", &writer.bytes, served)
 }
 
 fn held(
@@ -106,12 +110,11 @@ fn content(alloc: Global, way: &str, lines: &str) -> Result<Vec<u8>, AllocError>
     Ok(text.into_bytes())
 }
 
-fn served<G: Gate + Sync>(
-    rt: &(impl Wait + Threads + Sync + Files + AllocGlobal),
+fn on_one_machine(
+    rt: &(impl Threads + Sync + AllocGlobal),
     way: &str,
     lines: &[u8],
     files: &mut LentFiles,
-    runner: &JobRunner<'_, G>,
 ) -> Result<String> {
     let (word, number) = way.split_once(' ').unwrap_or((way, "0"));
     let number = number.parse::<u32>()?;
@@ -127,7 +130,7 @@ fn served<G: Gate + Sync>(
         "writes" => writer.left = number,
         _ => {}
     }
-    let served = serve(rt, alloc, &mut reader, &mut writer, files, runner);
+    let served = serve_on_one_machine(rt, alloc, &mut reader, &mut writer, files);
     told(alloc, word, &writer.bytes, served)
 }
 

@@ -10,7 +10,7 @@ ghost use Rattle.pregel.specs.Program.{CommandTold, Does, IsCommandTold, may_wri
 use command_line::{Options, Request};
 use console::{RunNotes, View, command, write_sheets};
 use line_text::WriteFailure;
-use session::{JobRunner, ServeFault, serve};
+use session::{ServeFault, serve_in_threads};
 use sources::Files;
 use std::alloc::Global;
 use std::io::{Read, Write};
@@ -42,7 +42,7 @@ pub fn execute<R: Read, W: Write, F: Files, V: View + Sync>(
 {
     match options {
         Options::Session => {
-            serve(rt, alloc, reader, writer, files, &JobRunner::new(&NoLoss))?;
+            serve_in_threads(rt, alloc, reader, writer, files, &NoLoss)?;
             Ok(0)
         }
         Options::Command { request, explains } => {

@@ -1,5 +1,5 @@
 -- What is told to commands one after another.
-use Rattle.std.proofs.Common.{inl, inr, ◌≡◌, ℕ, true, false, Bool, List, [], ◌∷◌, ◌++◌, Option, Ok, Err, refl, ap, sym, subst, ◌∙◌, append_assoc, MatchBool}
+use Rattle.std.proofs.Common.{inl, inr, ◌≡◌, ℕ, true, false, Bool, List, [], ◌∷◌, ◌++◌, Option, refl, ap, sym, subst, ◌∙◌, append_assoc, MatchBool}
 use Rattle.std.specs.Io.KnownBytes.{Appends}
 use Rattle.line_text.specs.Output.{HasBegun}
 use Rattle.line_text.proofs.Writing.{appends_more, appends_nothing, begun_piece}

@@ -1,17 +1,22 @@
 -- What contracts say of how jobs run.
 use Rattle.std.specs.Prelude.{◌≡◌, [], Result, Ok, Err}
+use Rattle.std.specs.Borrow.{Bor}
+use Rattle.std.specs.Fn.{Shared}
 use Rattle.superstep.specs.declared.fault.JobFault.{JobFault}
 use Rattle.superstep.specs.declared.fault.JobFault.TheVariants as job_fault
 use Rattle.superstep.specs.Ending.{IsEndOf}
 use Rattle.superstep.specs.Job.{Work}
 use Rattle.workers.specs.JobAnswers.{IsRunFault}
 use Rattle.rollback.specs.declared.report.Report.{Report}
-use Rattle.session.specs.declared.runner.JobRunner.{JobRunner}
-use Rattle.session.specs.declared.runner.JobRunner.TheVariants as way
 
 -- the possible ends of a job's run
 pub record Runs : Type 1 where
   pub may_end : Work → Result Report JobFault → Type 0
+
+-- This function may be called for any job, and its runs may end so.
+pub record EndsAs {F : Type 0} (runs : Runs) (calls : Shared F (Bor Work × Unit {0}) (Result Report JobFault)) (run : F) : Type 0 where
+  pub callable : (job : Bor Work) → calls.pre run (job, tt)
+  pub ends : (job : Bor Work) (end : Result Report JobFault) → calls.post run (job, tt) end → runs.may_end job.now end
 
 -- ---- runs on one machine
 
@@ -42,7 +47,3 @@ IsThreadedEnd work (Err fault) = IsRunFault fault
 
 abbrev pub threaded : Runs
 threaded = record { may_end = IsThreadedEnd }
-
-abbrev pub runs_of : {G : _} → JobRunner G → Runs
-runs_of (way.InThreads gate) = threaded
-runs_of way.OnOneMachine = plain

@@ -1,23 +1,21 @@
 //! A law of all sessions.
 
-ghost use Rattle.session.specs.Runs.{runs_of};
 ghost use Rattle.session.specs.Same.{HaveSameValues};
 
-use crate::runner::JobRunner;
+use crate::runner::Runner;
 use interp::calls_are_a_function;
 use sources::Files;
-use workers::Gate;
 
 /// Shows that two sessions report the same values of two jobs, if these have the same module, graph and limit. The files,
 /// the way of running jobs and the other commands do not matter.
-pub fn same_values<F: Files, G: Files, P: Gate + Sync, Q: Gate + Sync>(
+pub fn same_values<F: Files, G: Files, N: Runner, M: Runner>(
     files: &F,
-    runner: &JobRunner<'_, P>,
+    runner: &N,
     other_files: &G,
-    other_runner: &JobRunner<'_, Q>,
+    other_runner: &M,
 )
-    ensures { HaveSameValues (F.disk files.now) (G.disk other_files.now) (runs_of runner.now)
-        (runs_of other_runner.now) }
+    ensures { HaveSameValues (F.disk files.now) (G.disk other_files.now) (N.runs runner.now)
+        (M.runs other_runner.now) }
 {
     calls_are_a_function();
 }

@@ -15,8 +15,10 @@ mod serving;
 mod sessions;
 mod status;
 mod texts;
+mod ways;
 mod word;
 
 pub use laws::same_values;
-pub use runner::JobRunner;
+pub use runner::{JobRunner, PlainRunner, Runner};
 pub use serving::{ServeFault, serve};
+pub use ways::{serve_in_threads, serve_on_one_machine};

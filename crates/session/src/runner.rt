@@ -1,73 +1,74 @@
 //! The ways of running the jobs of a session.
 
-ghost use Rattle.std.specs.Prelude.{◌≡◌, IfOk, IfErr, OnOk};
+ghost use Rattle.std.specs.Prelude.{◌≡◌, IfOk};
 ghost use Rattle.superstep.specs.Ending.{IsEndOf};
-ghost use Rattle.session.specs.Runs.{IsPlainEnd, runs_of};
-ghost use Rattle.session.specs.declared.runner.JobRunner.TheVariants as way;
+ghost use Rattle.session.specs.Runs.{Runs, EndsAs, plain, threaded};
 
-use checkpoint::MemoryKeep;
 use rollback::Report;
-use std::alloc::Global;
-use std::rt::Files;
-use std::sync::Wait;
-use std::thread::Threads;
-use superstep::{Job, JobFault, Place, one_machine};
-use workers::{Gate, run_in_threads};
+use superstep::{Job, JobFault};
 
 /// A way of running the jobs of a session.
-#[derive(Drop)]
-pub enum JobRunner<'a, G: Gate + Sync> {
-    /// In threads. States are kept in memory, and workers are lost as the gate says.
-    InThreads(&'a G),
-    /// On this machine, superstep after superstep. No worker is lost, and no state is saved.
-    OnOneMachine,
-}
+pub trait Runner {
+    /// The ways in which its runs may end.
+    ghost runs: { Self → Runs };
 
-impl<'a, G: Gate + Sync> JobRunner<'a, G> {
-    /// Makes a runner of threads whose workers are lost as the gate says.
-    pub fn new(gate: &'a G) -> JobRunner<'a, G>
-        ensures { result ≡ way.InThreads gate.entry }
-    {
-        JobRunner::InThreads(gate)
-    }
+    /// Whether it may run jobs.
+    ghost can_run: { Self → Type 0 };
 
     /// Runs a job. Its report has the end of the plain run on one machine.
-    ///
-    /// In threads it fails as `run_in_threads` does. On one machine it fails only if memory runs out, always with the place
-    /// `Call`.
-    pub fn run<R: Wait + Threads + Sync + Files + AllocGlobal>(
-        &self,
-        rt: &R,
-        alloc: Global,
-        job: &Job,
-    ) -> Result<Report, JobFault>
-        ensures end { (runs_of self.now).may_end job.now result }
-        ensures answer { IfOk result (λ report. IsEndOf job.now report.ended) }
+    fn run(&self, job: &Job) -> Result<Report, JobFault>
+        requires { can_run self.now }
+        ensures end { (runs self.now).may_end job.now result }
+        ensures answer { IfOk result (λ report. IsEndOf job.now report.ended) };
+}
+
+/// The runner of jobs in threads, by a function that runs a job so.
+#[derive(Drop)]
+pub struct JobRunner<F> {
+    run_job: F,
+}
+
+impl<F> JobRunner<F> {
+    /// Makes a runner of a function that runs a job in threads.
+    pub fn new(run_job: F) -> JobRunner<F>
+        ensures { result.run_job ≡ run_job }
     {
-        match self {
-            JobRunner::InThreads(gate) => run_in_threads(
-                rt,
-                alloc,
-                job,
-                MemoryKeep::new(alloc),
-                *gate,
-            ),
-            JobRunner::OnOneMachine => run_plainly(rt, alloc, job),
-        }
+        JobRunner { run_job }
     }
 }
 
-fn run_plainly<R: Threads + Sync>(rt: &R, alloc: Global, job: &Job) -> Result<Report, JobFault>
-    ensures { IsPlainEnd job.now result }
-{
-    match one_machine(rt, alloc, job) {
-        Ok(ended) => Ok(Report {
-            ended,
-            epoch: 0,
-            missed: 0,
-            restarts: 0,
-            spent: Vec::new(alloc),
-        }),
-        Err(_) => Err(JobFault::OutOfMemory(Place::Call)),
+// It waits where the function does.
+impl<F: Fn(&Job) -> Result<Report, JobFault>> Runner for JobRunner<F> {
+    ghost runs = { λ _. threaded };
+
+    ghost can_run = { λ runner. EndsAs threaded F.Fn runner.run_job };
+
+    fn run(&self, job: &Job) -> Result<Report, JobFault> {
+        (self.run_job)(job)
+    }
+}
+
+/// The runner of jobs on this machine, by a function that runs a job so. No worker is lost, and no state is saved.
+#[derive(Drop)]
+pub struct PlainRunner<F> {
+    run_job: F,
+}
+
+impl<F> PlainRunner<F> {
+    /// Makes a runner of a function that runs a job on this machine.
+    pub fn new(run_job: F) -> PlainRunner<F>
+        ensures { result.run_job ≡ run_job }
+    {
+        PlainRunner { run_job }
+    }
+}
+
+impl<F: Fn(&Job) -> Result<Report, JobFault>> Runner for PlainRunner<F> {
+    ghost runs = { λ _. plain };
+
+    ghost can_run = { λ runner. EndsAs plain F.Fn runner.run_job };
+
+    fn run(&self, job: &Job) -> Result<Report, JobFault> {
+        (self.run_job)(job)
     }
 }

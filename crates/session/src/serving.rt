@@ -7,23 +7,19 @@ ghost use Rattle.sources.specs.Disk.{Stays};
 ghost use Rattle.session.specs.declared.serving.ServeFault.TheVariants as fault;
 ghost use Rattle.session.specs.Commands.{asked_of, is_quit};
 ghost use Rattle.session.specs.Maps.{nothing};
-ghost use Rattle.session.specs.Runs.{runs_of};
 ghost use Rattle.session.specs.Serving.{Serves};
 ghost use Rattle.session.specs.inside.Seen.{asked, maps_of};
 ghost use Rattle.session.specs.inside.Underway.{AnswersBytes, AnswersLine, GetsSome};
 
 use crate::command::{Command, command_of};
 use crate::lines::{KEPT, cut_line, keep};
-use crate::runner::JobRunner;
+use crate::runner::Runner;
 use crate::sessions::{Session, answer};
 use line_text::{WriteFailure, write_all};
 use sources::Files;
 use std::alloc::{AllocError, Global};
 use std::io::{ErrorKind, Read, Write};
-use std::sync::Wait;
-use std::thread::Threads;
 use thiserror::Error;
-use workers::Gate;
 
 // The most bytes of one read.
 const CHUNK: usize = 4_096;
@@ -63,22 +59,21 @@ impl From<WriteFailure> for ServeFault {
 /// A line has at most 4,096 bytes without its line feed. A longer one gets one reply, `no 1 Usage`. Bytes after the last
 /// line feed are no line. At most 18,446,744,073,709,551,615 reads are made; then it fails with `Read`. After a fault
 /// nothing more is read or written.
-pub fn serve<R: Read, W: Write, F: Files, G: Gate + Sync>(
-    rt: &(impl Wait + Threads + Sync + std::rt::Files + AllocGlobal),
+pub fn serve<R: Read, W: Write, F: Files, N: Runner>(
     alloc: Global,
     reader: &mut R,
     writer: &mut W,
     files: &mut F,
-    runner: &JobRunner<'_, G>,
+    runner: &N,
 ) -> Result<(), ServeFault>
-    ensures served { Serves (F.disk files.old) (runs_of runner.now) nothing (R.remaining reader.old)
+    requires { N.can_run runner.now }
+    ensures served { Serves (F.disk files.old) (N.runs runner.now) nothing (R.remaining reader.old)
         (R.remaining reader.new) (W.contents writer.old) (W.contents writer.new) result }
     ensures files { Stays (F.disk files.old) (F.disk files.new) }
 {
     let mut session = Session::new(alloc);
     let mut line = Vec::with_capacity(alloc, KEPT)?;
     serve_lines(
-        rt,
         alloc,
         reader,
         &mut line,
@@ -90,18 +85,18 @@ pub fn serve<R: Read, W: Write, F: Files, G: Gate + Sync>(
 }
 
 // Serves a session from the beginning of a line.
-fn serve_lines<R: Read, W: Write, F: Files, G: Gate + Sync>(
-    rt: &(impl Wait + Threads + Sync + std::rt::Files + AllocGlobal),
+fn serve_lines<R: Read, W: Write, F: Files, N: Runner>(
     alloc: Global,
     reader: &mut R,
     line: &mut Vec<u8>,
     session: &mut Session,
     writer: &mut W,
     files: &mut F,
-    runner: &JobRunner<'_, G>,
+    runner: &N,
 ) -> Result<(), ServeFault>
-    requires { line.old.items ≡ [] }
-    ensures served { Serves (F.disk files.old) (runs_of runner.now) (maps_of session.old)
+    requires empty { line.old.items ≡ [] }
+    requires ready { N.can_run runner.now }
+    ensures served { Serves (F.disk files.old) (N.runs runner.now) (maps_of session.old)
         (R.remaining reader.old) (R.remaining reader.new) (W.contents writer.old)
         (W.contents writer.new) result }
     ensures files { Stays (F.disk files.old) (F.disk files.new) }
@@ -115,7 +110,7 @@ fn serve_lines<R: Read, W: Write, F: Files, G: Gate + Sync>(
             return Ok(());
         }
         let bytes = &chunk[..count];
-        if answer_bytes(rt, alloc, bytes, line, session, writer, files, runner)? {
+        if answer_bytes(alloc, bytes, line, session, writer, files, runner)? {
             return Ok(());
         }
     }
@@ -137,18 +132,18 @@ fn read_some<R: Read>(reader: &mut R, chunk: &mut [u8]) -> Result<Option<usize>,
 
 // Answers the lines that end in these bytes, up to `quit`, and keeps the bytes after the last line feed. Returns whether a
 // line was `quit`.
-fn answer_bytes<W: Write, F: Files, G: Gate + Sync>(
-    rt: &(impl Wait + Threads + Sync + std::rt::Files + AllocGlobal),
+fn answer_bytes<W: Write, F: Files, N: Runner>(
     alloc: Global,
     bytes: &[u8],
     line: &mut Vec<u8>,
     session: &mut Session,
     writer: &mut W,
     files: &mut F,
-    runner: &JobRunner<'_, G>,
+    runner: &N,
 ) -> Result<bool, ServeFault>
-    requires { vec_len line.old ≤ KEPT }
-    ensures answered { AnswersBytes (F.disk files.old) (runs_of runner.now) (maps_of session.old)
+    requires room { vec_len line.old ≤ KEPT }
+    requires ready { N.can_run runner.now }
+    ensures answered { AnswersBytes (F.disk files.old) (N.runs runner.now) (maps_of session.old)
         line.old.items bytes.now (W.contents writer.old) (W.contents writer.new)
         (maps_of session.new) line.new.items result }
     ensures room { vec_len line.new ≤ KEPT }
@@ -158,7 +153,7 @@ fn answer_bytes<W: Write, F: Files, G: Gate + Sync>(
     while let Some((front, others)) = cut_line(rest) {
         keep(line, front)?;
         rest = others;
-        if answer_line(rt, alloc, line.as_slice(), session, writer, files, runner)? {
+        if answer_line(alloc, line.as_slice(), session, writer, files, runner)? {
             return Ok(true);
         }
         line.clear();
@@ -168,22 +163,22 @@ fn answer_bytes<W: Write, F: Files, G: Gate + Sync>(
 }
 
 // Answers a line, and returns whether it was `quit`.
-fn answer_line<W: Write, F: Files, G: Gate + Sync>(
-    rt: &(impl Wait + Threads + Sync + std::rt::Files + AllocGlobal),
+fn answer_line<W: Write, F: Files, N: Runner>(
     alloc: Global,
     line: &[u8],
     session: &mut Session,
     writer: &mut W,
     files: &mut F,
-    runner: &JobRunner<'_, G>,
+    runner: &N,
 ) -> Result<bool, ServeFault>
-    ensures answered { AnswersLine (F.disk files.old) (runs_of runner.now) (maps_of session.old)
+    requires { N.can_run runner.now }
+    ensures answered { AnswersLine (F.disk files.old) (N.runs runner.now) (maps_of session.old)
         (asked_of line.now) (W.contents writer.old) (W.contents writer.new)
         (maps_of session.new) result }
     ensures files { Stays (F.disk files.old) (F.disk files.new) }
 {
     let command = command_of(line);
-    let reply = answer(rt, alloc, command, session, files, runner);
+    let reply = answer(alloc, command, session, files, runner);
     tell(reply.as_bytes(), writer)?;
     Ok(is_quit(command))
 }

@@ -8,7 +8,6 @@ ghost use Rattle.sources.specs.Jobs.{IsJobOf, RefusesSettings};
 ghost use Rattle.session.specs.Commands.{add_graph, add_job, add_module, drop, run, status, values};
 ghost use Rattle.session.specs.Maps.{nothing};
 ghost use Rattle.session.specs.Replies.{graph_line};
-ghost use Rattle.session.specs.Runs.{runs_of};
 ghost use Rattle.session.specs.Transcript.{Answers, holds, without};
 ghost use Rattle.session.specs.inside.Answered.{GivesName, IsSet, IsSoundAt, NamesJob, ReportsHeldValues, is_waiting, never};
 ghost use Rattle.session.specs.inside.Seen.{IsModuleLine, IsToldOf, asked, state_of, maps_of, reply_text};
@@ -19,7 +18,7 @@ use crate::maps::{hold, is_held, let_go};
 use crate::reading::{graph_at, module_at};
 use crate::refusals::refusal;
 use crate::reply::Reply;
-use crate::runner::JobRunner;
+use crate::runner::Runner;
 use crate::status::status_text;
 use crate::texts::{end_text, graph_text, job_text, module_text, values_text};
 use bounded_profile::Verified;
@@ -28,10 +27,7 @@ use rollback::Report;
 use sources::{CommandFault, Files};
 use std::alloc::{AllocError, Global};
 use std::collections::BTreeMap;
-use std::sync::Wait;
-use std::thread::Threads;
 use superstep::{Job, JobFault, Settings};
-use workers::Gate;
 
 /// The modules, graphs and jobs of a session, by name.
 #[derive(Drop)]
@@ -55,15 +51,15 @@ impl Session {
 }
 
 /// Executes a command and returns the reply.
-pub fn answer<F: Files, G: Gate + Sync>(
-    rt: &(impl Wait + Threads + Sync + std::rt::Files + AllocGlobal),
+pub fn answer<F: Files, N: Runner>(
     alloc: Global,
     command: Command<'_>,
     session: &mut Session,
     files: &mut F,
-    runner: &JobRunner<'_, G>,
+    runner: &N,
 ) -> Reply
-    ensures answered { Answers (F.disk files.old) (runs_of runner.now) (maps_of session.old)
+    requires { N.can_run runner.now }
+    ensures answered { Answers (F.disk files.old) (N.runs runner.now) (maps_of session.old)
         (asked command.entry) (reply_text result) (maps_of session.new) }
     ensures files { Stays (F.disk files.old) (F.disk files.new) }
 {
@@ -76,7 +72,7 @@ pub fn answer<F: Files, G: Gate + Sync>(
             graph,
             settings,
         } => add_job(alloc, name, module, graph, settings, session),
-        Command::Run(name) => run_job(rt, alloc, name, session, runner),
+        Command::Run(name) => run_job(alloc, name, session, runner),
         Command::Status(name) => report_status(alloc, name, session),
         Command::Values(name) => report_values(alloc, name, session),
         Command::Drop(kind, name) => drop_named(kind, name, session),
@@ -258,14 +254,9 @@ fn name_job(alloc: Global, name: &str, job: Job, jobs: &mut BTreeMap<String, Hel
 }
 
 // Runs a job that waits. It keeps how the run ended, if that can be reported.
-fn run_job<G: Gate + Sync>(
-    rt: &(impl Wait + Threads + Sync + std::rt::Files + AllocGlobal),
-    alloc: Global,
-    name: &str,
-    session: &mut Session,
-    runner: &JobRunner<'_, G>,
-) -> Reply
-    ensures { Answers unknown (runs_of runner.now) (maps_of session.old) (run name.now)
+fn run_job<N: Runner>(alloc: Global, name: &str, session: &mut Session, runner: &N) -> Reply
+    requires { N.can_run runner.now }
+    ensures { Answers unknown (N.runs runner.now) (maps_of session.old) (run name.now)
         (reply_text result) (maps_of session.new) }
 {
     let Some(held) = session.jobs.get(name) else {
@@ -274,7 +265,7 @@ fn run_job<G: Gate + Sync>(
     if !is_waiting(&held.state) {
         return Reply::NotWaiting;
     }
-    let end = runner.run(rt, alloc, &held.job);
+    let end = runner.run(&held.job);
     match end_text(alloc, name, &end) {
         Ok(text) => {
             set_state(name, state_of(end), &mut session.jobs);

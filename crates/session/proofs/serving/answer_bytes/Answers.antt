@@ -2,13 +2,12 @@ use Rattle.std.proofs.Common.{◌∙◌, arith}
 use Rattle.sources.proofs.Faults.{is_fault}
 use Rattle.session.specs.inside.Seen.{maps_of}
 use Rattle.session.proofs.Loops.{answers_so, at_break, at_next, at_quit, at_start, at_want}
-use Rattle.session.specs.Runs.{runs_of}
 use Rattle.session.proofs.serving.answer_bytes.Goals as goal
 
 pub loop-front-init : goal.loop-front-init
 loop-front-init g c = record {
-  room = c.requires;
-  at = at_start (g.F.Files.disk c.args.files.now) (runs_of c.args.runner.now) (maps_of c.args.session.now) c.args.line.now.items c.args.bytes.now
+  room = c.requires.room;
+  at = at_start (g.F.Files.disk c.args.files.now) (g.N.Runner.runs c.args.runner.now) (maps_of c.args.session.now) c.args.line.now.items c.args.bytes.now
       (g.W.Write.contents c.args.writer.now);
 }
 

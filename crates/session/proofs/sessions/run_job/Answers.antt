@@ -5,7 +5,6 @@ use Rattle.session.specs.inside.Answered.{IsSet, is_waiting}
 use Rattle.session.specs.inside.Seen.{maps_of}
 use Rattle.session.specs.Replies.{not_waiting_line}
 use Rattle.session.proofs.Answering.{copied_some, job_ran, run_again, sound_of}
-use Rattle.session.specs.Runs.{runs_of}
 use Rattle.session.proofs.sessions.run_job.Goals as goal
 
 pub returns-then-not-is_waiting : goal.returns-then-not-is_waiting
@@ -14,7 +13,7 @@ returns-then-not-is_waiting g c =
     let name = c.args.name.now in
     let held = c.in-Some.held.now in
     let ran : is_waiting held.state ≡ false = sym c.is_waiting.ensures ∙ c.if-not-is_waiting.true in
-    run_again (runs_of c.args.runner.now) maps name not_waiting_line held
+    run_again (g.N.Runner.runs c.args.runner.now) maps name not_waiting_line held
     (copied_some c.get.result c.in-Some.held (maps.jobs name) c.get.ensures.value c.in-Some.is) ran refl
 
 pub set_state-requires : goal.set_state-requires
@@ -30,7 +29,7 @@ returns-in-Ok g c =
     let name = c.args.name.now in
     let held = c.in-Some.held.now in
     let waits : is_waiting held.state ≡ true = sym c.is_waiting.ensures ∙ c.if-not-is_waiting.false in
-    job_ran (runs_of c.args.runner.now) maps name (string_bytes c.in-Ok.text) held c.run-end.result (get_by_text c.set_state.new.jobs)
+    job_ran (g.N.Runner.runs c.args.runner.now) maps name (string_bytes c.in-Ok.text) held c.run-end.result (get_by_text c.set_state.new.jobs)
     (copied_some c.get.result c.in-Some.held (maps.jobs name) c.get.ensures.value c.in-Some.is) waits c.run-end.ensures.end c.run-end.ensures.answer
     c.in-Ok.ensures
     (subst (IsSet maps.jobs (get_by_text c.set_state.new.jobs) name) c.state_of.ensures c.set_state.ensures)

@@ -1,0 +1,85 @@
+//! Serving a session whose jobs run in threads or on this machine.
+
+ghost use Rattle.std.specs.Prelude.{◌≡◌};
+ghost use Rattle.sources.specs.Disk.{Stays};
+ghost use Rattle.session.specs.Maps.{nothing};
+ghost use Rattle.session.specs.Runs.{IsPlainEnd, IsThreadedEnd, plain, threaded};
+ghost use Rattle.session.specs.Serving.{Serves};
+
+use crate::runner::{JobRunner, PlainRunner};
+use crate::serving::{ServeFault, serve};
+use checkpoint::MemoryKeep;
+use rollback::Report;
+use sources::Files;
+use std::alloc::Global;
+use std::io::{Read, Write};
+use std::sync::Wait;
+use std::thread::Threads;
+use superstep::{Job, JobFault, Place, one_machine};
+use workers::{Gate, run_in_threads};
+
+/// Serves a session as `serve` does. Each job runs in threads. States are kept in memory, and workers are lost as the gate
+/// says. A run fails as `run_in_threads` does.
+pub fn serve_in_threads<R: Read, W: Write, F: Files, G: Gate + Sync>(
+    rt: &(impl Wait + Threads + Sync + std::rt::Files + AllocGlobal),
+    alloc: Global,
+    reader: &mut R,
+    writer: &mut W,
+    files: &mut F,
+    gate: &G,
+) -> Result<(), ServeFault>
+    ensures served { Serves (F.disk files.old) threaded nothing (R.remaining reader.old)
+        (R.remaining reader.new) (W.contents writer.old) (W.contents writer.new) result }
+    ensures files { Stays (F.disk files.old) (F.disk files.new) }
+{
+    let run = |job: &Job| -> Result<Report, JobFault>
+        ensures { IsThreadedEnd job.now result }
+    { run_with_threads(rt, alloc, job, gate) };
+    serve(alloc, reader, writer, files, &JobRunner::new(run))
+}
+
+fn run_with_threads<G: Gate + Sync, R: Wait + Threads + Sync + std::rt::Files + AllocGlobal>(
+    rt: &R,
+    alloc: Global,
+    job: &Job,
+    gate: &G,
+) -> Result<Report, JobFault>
+    ensures { IsThreadedEnd job.now result }
+{
+    run_in_threads(rt, alloc, job, MemoryKeep::new(alloc), gate)
+}
+
+/// Serves a session as `serve` does. Each job runs on this machine, superstep after superstep. It waits for nobody.
+///
+/// A run fails only if memory runs out, always with the place `Call`.
+pub fn serve_on_one_machine<R: Read, W: Write, F: Files>(
+    rt: &(impl Threads + Sync),
+    alloc: Global,
+    reader: &mut R,
+    writer: &mut W,
+    files: &mut F,
+) -> Result<(), ServeFault>
+    ensures served { Serves (F.disk files.old) plain nothing (R.remaining reader.old)
+        (R.remaining reader.new) (W.contents writer.old) (W.contents writer.new) result }
+    ensures files { Stays (F.disk files.old) (F.disk files.new) }
+{
+    let run = |job: &Job| -> Result<Report, JobFault>
+        ensures { IsPlainEnd job.now result }
+    { run_plainly(rt, alloc, job) };
+    serve(alloc, reader, writer, files, &PlainRunner::new(run))
+}
+
+fn run_plainly<R: Threads + Sync>(rt: &R, alloc: Global, job: &Job) -> Result<Report, JobFault>
+    ensures { IsPlainEnd job.now result }
+{
+    match one_machine(rt, alloc, job) {
+        Ok(ended) => Ok(Report {
+            ended,
+            epoch: 0,
+            missed: 0,
+            restarts: 0,
+            spent: Vec::new(alloc),
+        }),
+        Err(_) => Err(JobFault::OutOfMemory(Place::Call)),
+    }
+}

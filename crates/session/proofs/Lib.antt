@@ -10,3 +10,4 @@ pub mod Telling
 pub mod Loops
 pub mod Proper
 pub mod Ends
+pub mod Threaded

@@ -8,7 +8,7 @@ ghost use Rattle.session.specs.Serving.{Serves};
 
 use crate::runner::{JobRunner, PlainRunner};
 use crate::serving::{ServeFault, serve};
-use checkpoint::MemoryKeep;
+use checkpoint::{MemoryKeep, a_memory_keep_loads_nothing_else};
 use rollback::Report;
 use sources::Files;
 use std::alloc::Global;
@@ -18,8 +18,8 @@ use std::thread::Threads;
 use superstep::{Job, JobFault, Place, one_machine};
 use workers::{Gate, run_in_threads};
 
-/// Serves a session as `serve` does. Each job runs in threads. States are kept in memory, and workers are lost as the gate
-/// says. A run fails as `run_in_threads` does.
+/// Serves a session as `serve` does. Each job runs in threads. States are kept in memory, where no save fails, and workers are lost as the
+/// gate says. A run fails as `run_in_threads` does.
 pub fn serve_in_threads<R: Read, W: Write, F: Files, G: Gate + Sync>(
     rt: &(impl Wait + Threads + Sync + std::rt::Files + AllocGlobal),
     alloc: Global,
@@ -46,6 +46,7 @@ fn run_with_threads<G: Gate + Sync, R: Wait + Threads + Sync + std::rt::Files + 
 ) -> Result<Report, JobFault>
     ensures { IsThreadedEnd job.now result }
 {
+    a_memory_keep_loads_nothing_else();
     run_in_threads(rt, alloc, job, MemoryKeep::new(alloc), gate)
 }
 

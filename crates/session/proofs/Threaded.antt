@@ -1,0 +1,14 @@
+-- How runs in threads end.
+use Rattle.std.proofs.Common.{◌≡◌, Err, IfOk, Ok}
+use Rattle.std.specs.Prelude.{IfErr, Result}
+use Rattle.rollback.specs.declared.report.Report.{Report}
+use Rattle.superstep.specs.declared.fault.JobFault.{JobFault}
+use Rattle.superstep.specs.Ending.{IsEndOf}
+use Rattle.superstep.specs.Job.{Work}
+use Rattle.workers.specs.JobAnswers.{IsCalmReport, IsRunFault}
+use Rattle.session.specs.Runs.{IsThreadedEnd}
+
+pub threaded_end : (work : Work) (end : Result Report JobFault) → IfOk end (λ report. IsEndOf work report.ended)
+    → IfOk end (λ report. report.ended.since ≡ 0) → IfOk end IsCalmReport → IfErr end IsRunFault → IsThreadedEnd work end
+threaded_end work (Ok report) answer since calm refused = (answer, (since, calm))
+threaded_end work (Err fault) answer since calm refused = refused

@@ -10,5 +10,5 @@ use Rattle.session.specs.Runs.{IsThreadedEnd}
 
 pub threaded_end : (work : Work) (end : Result Report JobFault) → IfOk end (λ report. IsEndOf work report.ended)
     → IfOk end (λ report. report.ended.since ≡ 0) → IfOk end IsCalmReport → IfErr end IsRunFault → IsThreadedEnd work end
-threaded_end work (Ok report) answer since calm refused = (answer, (since, calm))
+threaded_end work (Ok report) answer since calm refused = (answer, since, calm)
 threaded_end work (Err fault) answer since calm refused = refused

@@ -88,9 +88,49 @@ prove_copy() {
     (cd "$copy" && exec rt ci)
 }
 
+# Proves what the program stands on, in copies in this folder, on four processors.
+#
+# rt gives a check two processors only where no other crate of its run is ready, and where the memory that was free at the start
+# of the run is enough for both. So each crate of the longest chain has a run of its own. The crates at its side are proved beside
+# it, one processor a run. A run takes over what another has proved, or waits for it.
+prove_side_by_side() {
+    local room=$1 crate small formats
+    {
+        RT_JOBS=1 prove_copy "$room/small" graph inbox graph_import run_report job_file
+        wait_for "$room/past_checkpoint"
+        RT_JOBS=1 prove_copy "$room/channels" channels
+    } &
+    small=$!
+    prove_copy "$room/first" wasm_ast &
+    wait $! || true
+    {
+        RT_JOBS=1 prove_copy "$room/hosts" host_calls
+        RT_JOBS=1 prove_copy "$room/formats" wat_asm wasm_decode
+        wait_for "$room/past_checkpoint"
+        RT_JOBS=2 prove_copy "$room/reading" fit explain command_line sources
+    } &
+    formats=$!
+    {
+        for crate in validate cost bounded_profile interp superstep checkpoint rollback workers; do
+            prove_copy "$room/$crate" "$crate" || break
+            touch "$room/past_$crate"
+        done
+        touch "$room/past_checkpoint"
+    } &
+    wait $! "$small" "$formats" || true
+    prove_copy "$room/session" session &
+    prove_copy "$room/console" console &
+    wait
+}
+
+# Waits until there is this file.
+wait_for() {
+    until [ -e "$1" ]; do sleep 1; done
+}
+
 # Proves all that the program stands on, and builds it in the folder $1/whole.
 prove_in_stages() {
-    local job crate
+    local job
     # (each job in a process group of its own, which ends with all that it has started)
     set -m
     trap 'for job in $(jobs -p); do kill -- "-$job" 2>/dev/null || true; done; wait; exit 143' TERM
@@ -98,21 +138,7 @@ prove_in_stages() {
         # rt reckons with more memory than there may be
         export RT_JOBS=${RT_JOBS:-$(checks_that_fit)}
     elif [ -z "${RT_JOBS:-}" ] && [ "$(nproc)" -ge 4 ] && keeps_proofs; then
-        # rt gives a check two processors only where no other crate of its run is ready. So the longest chain of crates is proved in
-        # runs of its own, in which one crate at a time is ready, and the crates at its side are proved beside it. Each run takes
-        # over what another has proved, or waits for it.
-        RT_JOBS=3 prove_copy "$1/small" graph inbox host_calls &
-        prove_copy "$1/first" wasm_ast &
-        wait $! || true
-        (
-            RT_JOBS=2 prove_copy "$1/beside" wat_asm wasm_decode &&
-                RT_JOBS=2 prove_copy "$1/next" fit explain command_line graph_import run_report job_file channels &&
-                prove_copy "$1/session" session
-        ) &
-        for crate in validate rollback workers console; do
-            prove_copy "$1/$crate" "$crate" || exit
-        done &
-        wait
+        prove_side_by_side "$1"
     fi
     prove_copy "$1/whole" pregel &
     wait $!

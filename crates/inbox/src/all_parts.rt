@@ -72,7 +72,7 @@ struct Delivered {
     count: u128,
 }
 
-// Counts the letters of all lists.
+/// Counts the letters of all lists.
 pub fn letter_count(lists: &[Vec<Letter>]) -> u128
     ensures { result ≡ sum_by (λ list. vec_len list) lists.now }
 {
@@ -166,8 +166,8 @@ fn delivered_to_parts(
 ) -> Result<Vec<Delivered>, AllocError>
     requires distinct { IsDistinct are_one (all_of lists.now) }
     requires order { IsOrderOf (all_of lists.now) targets (all_of ordered.now) }
-    requires targets { AllByRecursion (λ ids. AllByRecursion (λ id. has targets id ≡ true) ids.items)
-        parts.now }
+    requires targets { AllByRecursion
+        (λ ids. AllByRecursion (λ id. has targets id ≡ true) ids.items) parts.now }
     ensures { IfOk result (λ all. AllZip (IsDelivered (all_of lists.now)) parts.now all.items) }
 {
     let mut all = Vec::with_capacity(alloc, parts.len())?;
@@ -223,8 +223,8 @@ fn delivered_by_target(
     parts: &[Vec<u64>],
 ) -> Result<Vec<Delivered>, AllocError>
     requires distinct { IsDistinct are_one (all_of lists.now) }
-    requires targets { AllByRecursion (λ ids. AllByRecursion (λ id. has targets id ≡ true) ids.items)
-        parts.now }
+    requires targets { AllByRecursion
+        (λ ids. AllByRecursion (λ id. has targets id ≡ true) ids.items) parts.now }
     ensures { IfOk result (λ all. AllZip (IsDelivered (all_of lists.now)) parts.now all.items) }
 {
     let letters = by_target(alloc, lists, targets, room)?;
@@ -346,7 +346,8 @@ fn letters_in(
     targets: TargetSet,
     room: usize,
 ) -> Result<Vec<Letter>, AllocError>
-    ensures { IfOk result (λ letters. letters.items ≡ filter (goes_into targets) (all_of lists.now)) }
+    ensures { IfOk result (λ letters.
+        letters.items ≡ filter (goes_into targets) (all_of lists.now)) }
 {
     let mut letters = Vec::with_capacity(alloc, room)?;
     for list in lists {

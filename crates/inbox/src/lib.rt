@@ -14,7 +14,7 @@ mod letters;
 mod merging;
 mod shares;
 
-pub use all_parts::merge_parts;
+pub use all_parts::{letter_count, merge_parts};
 pub use arrivals::{Arrival, merge_few};
 pub use inboxes::Inbox;
 pub use laws::{

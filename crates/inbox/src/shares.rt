@@ -76,8 +76,8 @@ impl TargetSet {
 
     // Checks that all ids of these parts are among the targets.
     fn has_all(self, parts: &[Vec<u64>]) -> bool
-        ensures { IsTrue result
-            ↔ AllByRecursion (λ ids. AllByRecursion (λ id. has self id ≡ true) ids.items) parts.now }
+        ensures { IsTrue result ↔ AllByRecursion
+            (λ ids. AllByRecursion (λ id. has self id ≡ true) ids.items) parts.now }
     {
         parts.iter().all(|ids| self.has_each(ids))
     }

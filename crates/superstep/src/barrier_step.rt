@@ -11,7 +11,7 @@ ghost use Rattle.superstep.specs.State.{HasIdsOf, IsStateAt};
 ghost use Rattle.superstep.specs.Superstep.{dropped_by, messages_to};
 ghost use Rattle.superstep.specs.Tasks.{DoneStamp, IsRow, VertexOutcome, emptied, outcomes_in};
 ghost use Rattle.superstep.specs.Totals.{AreTotals, AreTotalsOf};
-ghost use Rattle.superstep.specs.inside.Barrier.{IsGathered, IsSpread, all_filled, filled, left_ids};
+ghost use Rattle.superstep.specs.inside.Barrier.{AreSpread, IsGathered, all_filled, filled, left_ids};
 ghost use Rattle.superstep.specs.inside.Handed.{HasNoInbox};
 ghost use Rattle.superstep.specs.inside.Uniting.{united};
 
@@ -132,16 +132,18 @@ fn handed_out(
     ids: &[Vec<u64>],
 ) -> Result<(Vec<PartStates>, u128), AllocError>
     requires spread { (lefts : List (List VertexOutcome)) × (ordered : List VertexOutcome)
-        × IsSpread (map vec_items ids.now) (map vec_items letters.now) lefts ordered
+        × AreSpread ids.now letters.now lefts ordered
         × (vertices.items ≡ map (map emptied) lefts) }
     requires rising { All (λ part. IsStrictlyIncreasing part.items) ids.now }
-    ensures parts { IfOk result (λ out. (lefts : List (List VertexOutcome)) (ordered : List VertexOutcome)
-        → IsSpread (map vec_items ids.now) (map vec_items letters.now) lefts ordered
+    ensures parts { IfOk result (λ out.
+        (lefts : List (List VertexOutcome)) (ordered : List VertexOutcome)
+        → AreSpread ids.now letters.now lefts ordered
         → vertices.items ≡ map (map emptied) lefts
         → out.0.items ≡ all_filled vertices.items
         (map (λ left. map (messages_to (outcomes_in ordered)) (left_ids left)) lefts)) }
-    ensures dropped { IfOk result (λ out. (lefts : List (List VertexOutcome)) (ordered : List VertexOutcome)
-        → IsSpread (map vec_items ids.now) (map vec_items letters.now) lefts ordered
+    ensures dropped { IfOk result (λ out.
+        (lefts : List (List VertexOutcome)) (ordered : List VertexOutcome)
+        → AreSpread ids.now letters.now lefts ordered
         → out.1 ≡ sum_by (dropped_by (left_ids ordered)) (outcomes_in ordered)) }
 {
     if are_few(letters, &vertices) {
@@ -169,17 +171,17 @@ fn are_few(letters: &[Vec<Letter>], parts: &[PartStates]) -> bool {
 // Shows where these letters go and in which order.
 fn letters_are_spread(letters: &[Vec<Letter>], ids: &[Vec<u64>])
     ensures apart { (lefts : List (List VertexOutcome)) (ordered : List VertexOutcome)
-        → IsSpread (map vec_items ids.now) (map vec_items letters.now) lefts ordered
+        → AreSpread ids.now letters.now lefts ordered
         → IsDistinct nat_eq (all_of ids.now) }
     ensures distinct { (lefts : List (List VertexOutcome)) (ordered : List VertexOutcome)
-        → IsSpread (map vec_items ids.now) (map vec_items letters.now) lefts ordered
+        → AreSpread ids.now letters.now lefts ordered
         → IsDistinct are_one (all_of letters.now) }
     ensures sent { (lefts : List (List VertexOutcome)) (ordered : List VertexOutcome)
-        → IsSpread (map vec_items ids.now) (map vec_items letters.now) lefts ordered
+        → AreSpread ids.now letters.now lefts ordered
         → (sent : List AnyLetter) × IsBySource (all_of letters.now) sent
         × ((id : ℕ) → inbox_of sent id ≡ messages_to (outcomes_in ordered) id) }
     ensures dropped { (lefts : List (List VertexOutcome)) (ordered : List VertexOutcome)
-        → IsSpread (map vec_items ids.now) (map vec_items letters.now) lefts ordered
+        → AreSpread ids.now letters.now lefts ordered
         → dropped_of (all_of letters.now) (all_of ids.now)
         ≡ sum_by (dropped_by (left_ids ordered)) (outcomes_in ordered) }
 {
@@ -198,13 +200,15 @@ fn delivered(
     ids: &[Vec<u64>],
 ) -> Result<(Vec<Vec<Inbox>>, u128), AllocError>
     requires { (lefts : List (List VertexOutcome)) × (ordered : List VertexOutcome)
-        × IsSpread (map vec_items ids.now) (map vec_items letters.now) lefts ordered }
-    ensures inboxes { IfOk result (λ merged. (lefts : List (List VertexOutcome)) (ordered : List VertexOutcome)
-        → IsSpread (map vec_items ids.now) (map vec_items letters.now) lefts ordered
+        × AreSpread ids.now letters.now lefts ordered }
+    ensures inboxes { IfOk result (λ merged.
+        (lefts : List (List VertexOutcome)) (ordered : List VertexOutcome)
+        → AreSpread ids.now letters.now lefts ordered
         → map vec_items merged.0.items
         ≡ map (λ left. map (messages_to (outcomes_in ordered)) (left_ids left)) lefts) }
-    ensures dropped { IfOk result (λ merged. (lefts : List (List VertexOutcome)) (ordered : List VertexOutcome)
-        → IsSpread (map vec_items ids.now) (map vec_items letters.now) lefts ordered
+    ensures dropped { IfOk result (λ merged.
+        (lefts : List (List VertexOutcome)) (ordered : List VertexOutcome)
+        → AreSpread ids.now letters.now lefts ordered
         → merged.1 ≡ sum_by (dropped_by (left_ids ordered)) (outcomes_in ordered)) }
 {
     letters_are_spread(letters, ids);
@@ -218,14 +222,17 @@ fn few_delivered(
     ids: &[Vec<u64>],
 ) -> Result<(Vec<Vec<Arrival>>, u128), AllocError>
     requires spread { (lefts : List (List VertexOutcome)) × (ordered : List VertexOutcome)
-        × IsSpread (map vec_items ids.now) (map vec_items letters.now) lefts ordered }
+        × AreSpread ids.now letters.now lefts ordered }
     requires rising { All (λ part. IsStrictlyIncreasing part.items) ids.now }
-    ensures arrivals { IfOk result (λ merged. (lefts : List (List VertexOutcome)) (ordered : List VertexOutcome)
-        → IsSpread (map vec_items ids.now) (map vec_items letters.now) lefts ordered
+    ensures arrivals { IfOk result (λ merged.
+        (lefts : List (List VertexOutcome)) (ordered : List VertexOutcome)
+        → AreSpread ids.now letters.now lefts ordered
         → map vec_items merged.0.items
-        ≡ map (arrivals_from 0) (map (λ left. map (messages_to (outcomes_in ordered)) (left_ids left)) lefts)) }
-    ensures dropped { IfOk result (λ merged. (lefts : List (List VertexOutcome)) (ordered : List VertexOutcome)
-        → IsSpread (map vec_items ids.now) (map vec_items letters.now) lefts ordered
+        ≡ map (arrivals_from 0)
+        (map (λ left. map (messages_to (outcomes_in ordered)) (left_ids left)) lefts)) }
+    ensures dropped { IfOk result (λ merged.
+        (lefts : List (List VertexOutcome)) (ordered : List VertexOutcome)
+        → AreSpread ids.now letters.now lefts ordered
         → merged.1 ≡ sum_by (dropped_by (left_ids ordered)) (outcomes_in ordered)) }
 {
     letters_are_spread(letters, ids);

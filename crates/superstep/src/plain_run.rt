@@ -244,7 +244,8 @@ fn call_all(
     ensures same { OnOk result (entries_in vertices.new ≡ entries_in vertices.old) }
     ensures calls { IfOk result (λ sent. (outcomes : Given → Outcome)
         → Tells shared.now.verified.now outcomes
-        → AreLeft (left_in outcomes shared.now) (rows_in vertices.old) (rows_in vertices.new) sent) }
+        → AreLeft (left_in outcomes shared.now)
+        (rows_in vertices.old) (rows_in vertices.new) sent) }
 {
     let mut sent = Sent {
         messages: Vec::new(alloc),
@@ -269,8 +270,10 @@ fn call(
     requires fits { scratch.old ≡ shared.now.verified.now }
     ensures kept { scratch.new ≡ scratch.old }
     ensures same { OnOk result (entry_in held.new ≡ entry_in held.old) }
-    ensures calls { OnOk result ((outcomes : Given → Outcome) → Tells shared.now.verified.now outcomes
-        → Calls (left_in outcomes shared.now) (row_in held.old) (row_in held.new) sent.old sent.new) }
+    ensures calls { OnOk result ((outcomes : Given → Outcome)
+        → Tells shared.now.verified.now outcomes
+        → Calls (left_in outcomes shared.now)
+        (row_in held.old) (row_in held.new) sent.old sent.new) }
 {
     if !held.is_called() {
         return Ok(());

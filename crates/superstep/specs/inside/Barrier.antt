@@ -1,5 +1,6 @@
 -- The next state from the results of all parts, as the code has it.
 use Rattle.std.specs.Prelude.{◌≡◌, ◌+◌, ◌++◌, ◌∷◌, ℕ, ℤ, Bool, true, List, [], map, slice_get, Some, vec_items}
+use Rattle.std.specs.Global.{Vec}
 use Rattle.std.specs.List.{AllByRecursion, flat_map, zip}
 use Rattle.std.specs.List.Sorted.{IsPermutation, IsStrictlyIncreasing}
 use Rattle.graph.specs.Entry.{ids}
@@ -55,6 +56,10 @@ pub record IsSpread (all_ids : List (List ℕ)) (all_letters : List (List Letter
   pub letters : IsPermutation (letters_of (joined lefts)) (joined all_letters)
   pub same : IsPermutation (joined lefts) ordered
   pub rising : IsStrictlyIncreasing (left_ids ordered)
+
+-- the same, where each part has a vector of ids and one of letters
+abbrev pub AreSpread : List (Vec ℕ) → List (Vec Letter) → List (List VertexOutcome) → List VertexOutcome → Type 0
+AreSpread ids letters lefts ordered = IsSpread (map vec_items ids) (map vec_items letters) lefts ordered
 
 abbrev pub with_inbox : VertexState × List ℤ → VertexState
 with_inbox given = record { id = given.0.id; value = given.0.value; active = given.0.active; inbox = given.1 }

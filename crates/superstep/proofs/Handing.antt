@@ -4,7 +4,7 @@ use Rattle.std.proofs.Math.Bool.{or-true}
 use Rattle.std.proofs.lemmas.Bool.{lt-ltb}
 use Rattle.std.proofs.lemmas.List.{map-id}
 use Rattle.std.proofs.lemmas.List.Sorted.{IsNonDecreasingBy-from_sort, IsPermutation-cons, IsPermutation-sym, IsPermutation-to_front, IsPermutation-trans}
-use Rattle.std.specs.List.{AllByRecursion, fold}
+use Rattle.std.specs.List.{AllByRecursion, AllZip, fold, zip}
 use Rattle.std.specs.List.Sorted.{IsNonDecreasing, IsPermutation, IsSorted}
 use Rattle.std.specs.Ordering.{nat_cmp}
 use Rattle.std.proofs.lemmas.Simd.{map-map}
@@ -17,7 +17,7 @@ use Rattle.superstep.specs.declared.state.VertexState.{VertexState}
 use Rattle.superstep.specs.State.{is_due}
 use Rattle.superstep.specs.Superstep.{messages_to}
 use Rattle.superstep.specs.Tasks.{VertexOutcome, emptied, outcomes_in}
-use Rattle.superstep.specs.inside.Barrier.{filled, left_ids, with_inbox}
+use Rattle.superstep.specs.inside.Barrier.{all_filled, filled, left_ids, with_inbox}
 use Rattle.superstep.specs.inside.DueRows.{due_rows}
 use Rattle.superstep.specs.inside.Handed.{HasNoInbox, handed, put_inbox, put_some}
 use Rattle.superstep.proofs.DueRows.{due_rows_rise}
@@ -172,3 +172,27 @@ none_left (one ∷ left) = (refl, none_left left)
 pub no_inboxes : (lefts : List (List VertexOutcome)) → AllByRecursion (AllByRecursion HasNoInbox) (map (map emptied) lefts)
 no_inboxes [] = tt
 no_inboxes (left ∷ lefts) = (none_left left, no_inboxes lefts)
+
+-- the vertices of a part, and the inboxes that are handed to them
+abbrev pub Delivery : Type 0
+Delivery = List VertexState × Vec Arrival Global
+
+abbrev pub IsHanded : Delivery → List VertexState → Type 0
+IsHanded pair part = (inboxes : List (List ℤ)) → pair.1.items ≡ arrivals_from 0 inboxes → length pair.0 ≡ length inboxes → AllByRecursion HasNoInbox pair.0 → part ≡ filled (pair.0, inboxes)
+
+pub pairs_handed : (vertices : List (List VertexState)) (arrivals : List (Vec Arrival Global)) (parts : List (List VertexState)) (inboxes : List (List (List ℤ)))
+    → AllZip IsHanded (zip vertices arrivals) parts → map vec_items arrivals ≡ map (arrivals_from 0) inboxes → map length vertices ≡ map length inboxes
+    → AllByRecursion (AllByRecursion HasNoInbox) vertices → parts ≡ all_filled vertices inboxes
+pairs_handed [] arrivals [] inboxes each same long none = refl
+pairs_handed [] arrivals (part ∷ parts) inboxes each same long none = absurd each
+pairs_handed (own ∷ vertices) [] parts [] each same long none = cc
+pairs_handed (own ∷ vertices) [] parts (inbox ∷ inboxes) each same long none = cc
+pairs_handed (own ∷ vertices) (found ∷ arrivals) [] inboxes each same long none = absurd each
+pairs_handed (own ∷ vertices) (found ∷ arrivals) (part ∷ parts) [] each same long none = cc
+pairs_handed (own ∷ vertices) (found ∷ arrivals) (part ∷ parts) (inbox ∷ inboxes) each same long none =
+    let first : found.items ≡ arrivals_from 0 inbox = cc in
+    let rest : map vec_items arrivals ≡ map (arrivals_from 0) inboxes = cc in
+    let own_long : length own ≡ length inbox = cc in
+    let rest_long : map length vertices ≡ map length inboxes = cc in
+    let here = each.0 inbox first own_long none.0 in
+    λ i. here i ∷ pairs_handed vertices arrivals parts inboxes each.1 rest rest_long none.1 i

@@ -25,8 +25,8 @@ use crate::totals::Totals;
 use host_calls::aggregator_starts;
 use inbox::{
     Arrival, Inbox, Letter, drops_add_up_over_sources, inboxes_are_concatenated_by_source,
-    letters_drop_alike_in_any_order, letters_keep_their_order_in_any_lists, merge_few, merge_parts,
-    sources_send_in_any_order,
+    letter_count, letters_drop_alike_in_any_order, letters_keep_their_order_in_any_lists,
+    merge_few, merge_parts, sources_send_in_any_order,
 };
 use rayon::prelude::*;
 use std::alloc::{AllocError, Global};
@@ -148,7 +148,7 @@ fn handed_out(
 {
     if are_few(letters, &vertices) {
         let (arrivals, dropped) = few_delivered(alloc, letters, ids)?;
-        let parts = all_handed(rt, alloc, vertices, arrivals)?;
+        let parts = all_handed(alloc, vertices, arrivals)?;
         return Ok((parts, dropped));
     }
     let (inboxes, dropped) = delivered(rt, alloc, letters, ids)?;
@@ -158,14 +158,12 @@ fn handed_out(
 
 // The least number of vertices for each letter and part, where letters are few: looking up their targets in every part costs
 // less than going over all vertices.
-const FEW: usize = 8;
+const FEW: u128 = 8;
 
 // Checks that there are few letters for so many vertices.
 fn are_few(letters: &[Vec<Letter>], parts: &[PartStates]) -> bool {
-    let count = letters
-        .iter()
-        .fold(0usize, |count, list| count.saturating_add(list.len()));
-    count.saturating_mul(parts.len()).saturating_mul(FEW) < vertex_count(parts)
+    let work = letter_count(letters).saturating_mul(parts.len() as u128);
+    work.saturating_mul(FEW) < vertex_count(parts) as u128
 }
 
 // Shows where these letters go and in which order.
@@ -288,7 +286,6 @@ fn all_filled(
 
 // Gives the inboxes that are not empty to the vertices of each part. All vertices have empty ones.
 fn all_handed(
-    rt: &(impl Threads + Sync),
     alloc: Global,
     vertices: Vec<PartStates>,
     arrivals: Vec<Vec<Arrival>>,
@@ -299,19 +296,11 @@ fn all_handed(
         → AllByRecursion (AllByRecursion HasNoInbox) vertices.items
         → parts.items ≡ all_filled vertices.items inboxes) }
 {
-    let pairs: Vec<(PartStates, Vec<Arrival>)> = vertices.into_iter().zip(arrivals).collect(alloc)?;
-    pairs
-        .into_par_iter()
-        .with_min_len(usize::MAX)
-        .map(
-            |pair: (PartStates, Vec<Arrival>)| -> Result<PartStates, AllocError>
-                ensures { IfOk result (λ part. (inboxes : List (List ℤ))
-                    → pair.1.items ≡ arrivals_from 0 inboxes → length pair.0 ≡ length inboxes
-                    → AllByRecursion HasNoInbox pair.0 → part ≡ filled (pair.0, inboxes)) }
-            {
-                let (vertices, arrivals) = pair;
-                vertices.handed(arrivals)
-            },
-        )
-        .collect::<Result<Vec<PartStates>, AllocError>>(rt, alloc)?
+    let mut parts = Vec::with_capacity(alloc, vertices.len())?;
+    for pair in vertices.into_iter().zip(arrivals) {
+        let (vertices, arrivals) = pair;
+        let part = vertices.handed(arrivals)?;
+        parts.push(part)?;
+    }
+    Ok(parts)
 }

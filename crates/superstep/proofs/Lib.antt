@@ -3,6 +3,7 @@ pub mod Delivering
 pub mod DueFound
 pub mod DueRows
 pub mod DueRuns
+pub mod Filling
 pub mod Firsts
 pub mod Gathering
 pub mod Graphs

@@ -278,7 +278,7 @@ fn all_filled(
                     → part ≡ filled (pair.0, pair.1.items)) }
             {
                 let (vertices, inboxes) = pair;
-                vertices.filled(alloc, inboxes)
+                vertices.filled(inboxes)
             },
         )
         .collect::<Result<Vec<PartStates>, AllocError>>(rt, alloc)?

@@ -6,7 +6,7 @@ ghost use Rattle.std.specs.List.Sorted.{IsPermutation};
 ghost use Rattle.inbox.specs.Arrivals.{arrivals_from};
 ghost use Rattle.superstep.specs.Found.{nothing_found, with_vertex};
 ghost use Rattle.superstep.specs.State.{is_due};
-ghost use Rattle.superstep.specs.inside.Barrier.{filled};
+ghost use Rattle.superstep.specs.inside.Barrier.{filled, with_some_inbox};
 ghost use Rattle.superstep.specs.inside.DueRows.{due_rows};
 ghost use Rattle.superstep.specs.inside.Handed.{HasNoInbox, handed};
 
@@ -87,11 +87,24 @@ impl PartStates {
     }
 
     /// Gives the vertices these inboxes, of which there is one for each. The vertices are changed in place.
-    pub fn filled(self, alloc: Global, inboxes: Vec<Inbox>) -> Result<PartStates, AllocError>
+    pub fn filled(self, inboxes: Vec<Inbox>) -> Result<PartStates, AllocError>
         ensures { IfOk result (λ part. length self ≡ length inboxes.items
             → part ≡ filled (self, inboxes.items)) }
     {
-        PartStates::of(alloc, filled(self.into_vertices(), inboxes))
+        let PartStates {
+            mut vertices,
+            mut due,
+        } = self;
+        let mut inboxes = inboxes.into_iter();
+        due.clear();
+        for row in 0..vertices.len() {
+            let vertex = &mut vertices[row];
+            fill_some(vertex, inboxes.next());
+            if is_due(vertex) {
+                due.push(row)?;
+            }
+        }
+        Ok(PartStates { vertices, due })
     }
 
     /// Gives these inboxes to the vertices in their rows. The other vertices stay as they are.
@@ -148,16 +161,11 @@ fn hand(
     Ok(())
 }
 
-// Gives the vertices of a part their inboxes, of which there is one for each. The vertices are changed in place.
-fn filled(mut vertices: Vec<VertexState>, inboxes: Vec<Inbox>) -> Vec<VertexState>
-    ensures { length vertices.items ≡ length inboxes.items
-        → result.items ≡ filled (vertices.items, inboxes.items) }
+// Replaces the inbox of a vertex by this one, if there is one.
+fn fill_some(vertex: &mut VertexState, inbox: Option<Inbox>)
+    ensures { vertex.new ≡ with_some_inbox vertex.old inbox }
 {
-    let mut inboxes = inboxes.into_iter();
-    for vertex in vertices.iter_mut() {
-        if let Some(inbox) = inboxes.next() {
-            vertex.fill(inbox);
-        }
+    if let Some(inbox) = inbox {
+        vertex.fill(inbox);
     }
-    vertices
 }

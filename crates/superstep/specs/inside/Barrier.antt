@@ -1,5 +1,5 @@
 -- The next state from the results of all parts, as the code has it.
-use Rattle.std.specs.Prelude.{◌≡◌, ◌+◌, ◌++◌, ◌∷◌, ℕ, ℤ, Bool, true, List, [], map, slice_get, Some, vec_items}
+use Rattle.std.specs.Prelude.{◌≡◌, ◌+◌, ◌++◌, ◌∷◌, ℕ, ℤ, Bool, true, List, [], Option, None, Some, map, slice_get, vec_items}
 use Rattle.std.specs.Global.{Vec}
 use Rattle.std.specs.List.{AllByRecursion, flat_map, zip}
 use Rattle.std.specs.List.Sorted.{IsPermutation, IsStrictlyIncreasing}
@@ -63,6 +63,11 @@ AreSpread ids letters lefts ordered = IsSpread (map vec_items ids) (map vec_item
 
 abbrev pub with_inbox : VertexState × List ℤ → VertexState
 with_inbox given = record { id = given.0.id; value = given.0.value; active = given.0.active; inbox = given.1 }
+
+-- the vertex with this inbox, if there is one
+abbrev pub with_some_inbox : VertexState → Option (List ℤ) → VertexState
+with_some_inbox vertex None = vertex
+with_some_inbox vertex (Some inbox) = with_inbox (vertex, inbox)
 
 -- the vertices of a part, each with its inbox
 abbrev pub filled : List VertexState × List (List ℤ) → List VertexState

@@ -54,6 +54,20 @@ impl<'a> CallState<'a> {
     pub fn new(alloc: Global, input: &CallInput<'a>) -> CallState<'a>
         ensures { result ≡ host_of input.now }
     {
+        CallState::with_lists(input, Vec::new(alloc), Vec::new(alloc))
+    }
+
+    /// Creates the state before the call, with two lists from an earlier call. It empties them and keeps their capacity: up
+    /// to there, messages and contributions need no allocation.
+    pub fn with_lists(
+        input: &CallInput<'a>,
+        mut sends: Vec<(i64, i64)>,
+        mut contributions: Vec<(u32, i64)>,
+    ) -> CallState<'a>
+        ensures { result ≡ host_of input.now }
+    {
+        sends.clear();
+        contributions.clear();
         CallState {
             id: input.id,
             superstep: input.superstep,
@@ -64,8 +78,8 @@ impl<'a> CallState<'a> {
             last_message: 0,
             last_edge: (0, 0),
             aggregated: input.aggregated,
-            sends: Vec::new(alloc),
-            contributions: Vec::new(alloc),
+            sends,
+            contributions,
             halted: false,
         }
     }

@@ -1,0 +1,2 @@
+-- Definitions that mirror the code, for its proofs.
+pub mod Mirrors

@@ -2,6 +2,7 @@
 
 ghost use Rattle.std.specs.Prelude.{◌≡◌, min, IfOk, IfErr, OnOk, IsOkUnless};
 ghost use Rattle.wasm_ast.specs.Limits.{IsWithinLimits};
+ghost use Rattle.flat_code.specs.Bodies.{bodies_of};
 ghost use Rattle.validate.specs.Modules.{IsTyped};
 ghost use Rattle.bounded_profile.specs.Cells.{IsDefined, MayRun, locals_at, own_height, most_told};
 ghost use Rattle.bounded_profile.specs.Compute.{IsComputeNumber};
@@ -17,6 +18,7 @@ use crate::extents::bytes_below;
 use crate::fault::ProfileFault;
 use crate::memory_rules::memory_bytes;
 use crate::tables::Tables;
+use flat_code::{FlatBody, flat_bodies};
 use host_calls::HostCall;
 use std::alloc::{AllocError, Global};
 use std::marker::Model;
@@ -30,11 +32,12 @@ pub struct Verified {
     judged: Box<Judged>,
 }
 
-/// A module with its tables.
+/// A module with its tables and the flat forms of its functions' bodies.
 #[derive(Drop)]
 pub struct Judged {
     valid: Valid,
     tables: Tables,
+    bodies: Vec<FlatBody>,
 }
 
 impl Model for Verified {
@@ -43,6 +46,8 @@ impl Model for Verified {
     ghost use Rattle.bounded_profile.specs.Profile.{IsBounded};
     ghost use Rattle.bounded_profile.specs.inside.Tables.{AreTables};
     ghost use Rattle.wasm_ast.specs.contracts.module.Module as module_type;
+    ghost use Rattle.flat_code.specs.Bodies.{bodies_of};
+    ghost use Rattle.std.specs.Prelude.{◌≡◌};
 
     ghost Value = { AnyModule };
 
@@ -52,7 +57,8 @@ impl Model for Verified {
 
     ghost invariant = { λ verified. IsBounded verified.judged.value.valid
         × IsTyped verified.judged.value.valid
-        × AreTables verified.judged.value.valid verified.judged.value.tables };
+        × AreTables verified.judged.value.valid verified.judged.value.tables
+        × (verified.judged.value.bodies.items ≡ bodies_of verified.judged.value.valid) };
 }
 
 impl Verified {
@@ -73,6 +79,13 @@ impl Verified {
         ensures bounded { IsBounded self.now }
     {
         &self.judged.tables
+    }
+
+    /// Returns the flat form of the body of each function that the module defines, in order. It allocates nothing.
+    pub fn flat_bodies(&self) -> &[FlatBody]
+        ensures { result.now ≡ bodies_of self.now }
+    {
+        self.judged.bodies.as_slice()
     }
 
     /// Returns the number of `compute`. It allocates nothing.
@@ -149,7 +162,15 @@ impl Verified {
     {
         let valid = copy_valid(alloc, self.module())?;
         let tables = self.judged.tables.copy(alloc)?;
-        let judged = Box::new(alloc, Judged { valid, tables })?;
+        let bodies = flat_bodies(alloc, valid.module())?;
+        let judged = Box::new(
+            alloc,
+            Judged {
+                valid,
+                tables,
+                bodies,
+            },
+        )?;
         Ok(Verified { judged })
     }
 }
@@ -180,6 +201,14 @@ pub fn verify(alloc: Global, valid: Valid) -> Result<Verified, ProfileFault>
     ensures told { IfErr result (Refuses valid) }
 {
     let tables = Tables::of(alloc, &valid)?;
-    let judged = Box::new(alloc, Judged { valid, tables })?;
+    let bodies = flat_bodies(alloc, valid.module())?;
+    let judged = Box::new(
+        alloc,
+        Judged {
+            valid,
+            tables,
+            bodies,
+        },
+    )?;
     Ok(Verified { judged })
 }

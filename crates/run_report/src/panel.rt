@@ -76,12 +76,13 @@ pub fn push_panel(
     text.push_str("</g>\n")
 }
 
-// The ticks of the values, each with a line across.
+// The ticks of the values, each with a line across. The last is at the top, also where a step more would go past 64 bits.
 fn push_values(text: &mut String, axes: Axes) -> Result<(), AllocError> {
     for tick in 0..6 {
         let value = axes.step.saturating_mul(tick);
-        if value <= axes.top {
-            push_value(text, value, axes)?;
+        push_value(text, value, axes)?;
+        if value >= axes.top {
+            return Ok(());
         }
     }
     Ok(())

@@ -1,8 +1,9 @@
 -- What is counted of a superstep.
-use Rattle.std.specs.Prelude.{◌≡◌, ◌≢◌, ℕ, zero, suc, ◌+◌, ◌-◌, ◌^◌, ◌<◌, ◌==◌, List, Option, Some, None, IfSome, map, min, nat_lt, option_map, slice_index_or, unwrap_or, if◌then◌else◌}
-use Rattle.std.specs.List.{range_with_len}
+use Rattle.std.specs.Prelude.{◌≡◌, ◌≢◌, ℕ, zero, suc, ◌+◌, ◌-◌, ◌^◌, ◌<◌, ◌==◌, List, [], ◌∷◌, Option, Some, None, IfSome, map, min, nat_le, nat_lt, option_map, slice_get, slice_index_or, unwrap_or, if◌then◌else◌}
+use Rattle.std.specs.List.{fold, range_with_len}
 use Rattle.std.specs.Option.{option_or}
 use Rattle.run_report.specs.declared.report.SuperstepCounts.{SuperstepCounts}
+use Rattle.run_report.specs.declared.tally.Ended.{Ended}
 use Rattle.run_report.specs.declared.tally.Tallied.{Tallied}
 use Rattle.run_report.specs.declared.tally.Tally.{Tally}
 
@@ -82,3 +83,54 @@ counts_at tally superstep units = record {
 -- the counts of the first supersteps, of which no units are known already
 abbrev pub counts_until : Tally → ℕ → List SuperstepCounts
 counts_until tally count = map (λ superstep. counts_at tally superstep None) (range_with_len 0 count)
+
+-- ---- of a job with an answer
+
+-- a total, which stops at the greatest number of 64 bits
+abbrev pub capped : ℕ → ℕ
+capped total = min total (2 ^ 64 - 1)
+
+-- the units of a superstep, where the answer has them
+abbrev pub units_known : Ended → ℕ → Option ℕ
+units_known ended superstep = option_map capped (slice_get ended.units.now (superstep - ended.since))
+
+-- the counts of each superstep whose units the answer has
+abbrev pub counts_since : Tally → Ended → (count : ℕ) → List SuperstepCounts
+counts_since tally ended count =
+    map (λ superstep. counts_at tally superstep (units_known ended superstep)) (range_with_len ended.since count)
+
+-- what is left of a number, where both are known and the other is not greater
+abbrev pub less : Option ℕ → Option ℕ → Option ℕ
+less (Some rest) (Some dropped) = if nat_le dropped rest then Some (rest - dropped) else None
+less _ _ = None
+
+-- what is left of this many messages that went to no vertex, for the superstep behind these
+abbrev pub rest_behind : List SuperstepCounts → (dropped : Option ℕ) → Option ℕ
+rest_behind others dropped = fold (λ rest (counts : SuperstepCounts). less rest counts.dropped) dropped others
+
+abbrev pub with_dropped : SuperstepCounts → (dropped : Option ℕ) → SuperstepCounts
+with_dropped counts dropped = record {
+  superstep = counts.superstep;
+  units = counts.units;
+  called = counts.called;
+  sent = counts.sent;
+  dropped = dropped;
+}
+
+-- the counts of a superstep and of those behind it, the last of which has what is left
+abbrev pub closed_from : SuperstepCounts → List SuperstepCounts → (dropped : Option ℕ) → List SuperstepCounts
+closed_from counts [] dropped = with_dropped counts dropped ∷ []
+closed_from counts (next ∷ others) dropped = counts ∷ closed_from next others (less dropped counts.dropped)
+
+-- the counts of all supersteps, of which this many messages went to no vertex
+abbrev pub closed : List SuperstepCounts → (dropped : Option ℕ) → List SuperstepCounts
+closed [] dropped = []
+closed (counts ∷ others) dropped = closed_from counts others dropped
+
+-- The counts of each superstep of a job that ended so. Which messages of the last one went to no vertex is known where the
+-- answer has the units from superstep 0 on.
+abbrev pub counts_of_end : Tally → Ended → List SuperstepCounts
+counts_of_end tally ended =
+    if ended.since == 0
+    then closed (counts_since tally ended (ended.superstep - ended.since)) (Some (capped ended.dropped))
+    else counts_since tally ended (ended.superstep - ended.since)

@@ -1,7 +1,7 @@
 //! What is counted while a job runs.
 
-ghost use Rattle.std.specs.Prelude.{◌≡◌, ◌≤◌, ◌<◌, ◌-◌, ◌^◌, ℕ, IfOk, IsSome, min, vec_len, OnOk};
-ghost use Rattle.run_report.specs.Tally.{Counts, IsNoTally, StopsAt, counts_at, counts_until, dropped_of, row_in, whole, whole_in, with_task};
+ghost use Rattle.std.specs.Prelude.{◌≡◌, ◌≤◌, ◌<◌, ◌-◌, ◌^◌, ℕ, IfOk, IsSome, Some, min, vec_len, OnOk};
+ghost use Rattle.run_report.specs.Tally.{Counts, IsNoTally, StopsAt, closed, counts_at, counts_of_end, counts_since, counts_until, dropped_of, less, rest_behind, row_in, units_known, whole, whole_in, with_task};
 
 use crate::report::SuperstepCounts;
 use std::alloc::{AllocError, Global};
@@ -148,16 +148,28 @@ impl Tally {
         alloc: Global,
         ended: Ended,
     ) -> Result<Vec<SuperstepCounts>, AllocError>
-        ensures { IfOk result (λ all.
+        ensures long { IfOk result (λ all.
             vec_len all ≡ ended.entry.superstep - ended.entry.since) }
+        ensures counts { IfOk result (λ all. all.items ≡ counts_of_end self.now ended.entry) }
+    {
+        let mut all = self.counts_since(alloc, ended)?;
+        if ended.since == 0 {
+            close(&mut all, capped(ended.dropped));
+        }
+        Ok(all)
+    }
+
+    // The counts of each superstep whose units the answer has.
+    fn counts_since(&self, alloc: Global, ended: Ended) -> Result<Vec<SuperstepCounts>, AllocError>
+        ensures long { IfOk result (λ all.
+            vec_len all ≡ ended.entry.superstep - ended.entry.since) }
+        ensures counts { IfOk result (λ all. all.items
+            ≡ counts_since self.now ended.entry (ended.entry.superstep - ended.entry.since)) }
     {
         let mut all = Vec::new(alloc);
         for superstep in ended.since..ended.superstep {
-            let units = ended.units.get((superstep - ended.since) as usize);
-            all.push(self.counts_at(superstep, units.map(|units| capped(*units))))?;
-        }
-        if ended.since == 0 {
-            close(&mut all, capped(ended.dropped));
+            let units = units_known(ended, superstep);
+            all.push(self.counts_at(superstep, units))?;
         }
         Ok(all)
     }
@@ -204,19 +216,43 @@ fn pad(rows: &mut Vec<Option<Tallied>>, length: usize) -> Result<(), AllocError>
     Ok(())
 }
 
+// The units of a superstep, where the answer has them.
+fn units_known(ended: Ended, superstep: u32) -> Option<u64>
+    requires { ended.since ≤ superstep }
+    ensures { result ≡ units_known ended.entry superstep }
+{
+    match ended.units.get((superstep - ended.since) as usize) {
+        Some(units) => Some(capped(*units)),
+        None => None,
+    }
+}
+
 // The messages of the last superstep that went to no vertex are those that did so in none before.
-fn close(all: &mut [SuperstepCounts], dropped: u64) {
+fn close(all: &mut [SuperstepCounts], dropped: u64)
+    ensures { all.new ≡ closed all.old (Some dropped) }
+{
     let Some((last, others)) = all.split_last_mut() else {
         return;
     };
-    last.dropped = rest_of(others, dropped);
+    last.dropped = rest_behind(others, dropped);
 }
 
 // What is left of so many for the superstep behind these. It is known where each of these is, from superstep 0 on.
-fn rest_of(others: &[SuperstepCounts], dropped: u64) -> Option<u64> {
-    let mut rest = dropped;
+fn rest_behind(others: &[SuperstepCounts], dropped: u64) -> Option<u64>
+    ensures { result ≡ rest_behind others.now (Some dropped) }
+{
+    let mut rest = Some(dropped);
     for counts in others {
-        rest = rest.checked_sub(counts.dropped?)?;
+        rest = less(rest, counts.dropped);
     }
-    Some(rest)
+    rest
+}
+
+fn less(rest: Option<u64>, dropped: Option<u64>) -> Option<u64>
+    ensures { result ≡ less rest dropped }
+{
+    match (rest, dropped) {
+        (Some(rest), Some(dropped)) => rest.checked_sub(dropped),
+        _ => None,
+    }
 }

@@ -3,6 +3,8 @@ pub mod StepLine
 pub mod Steps
 -- the lost worker of a run
 pub mod Loss
+-- what is noted of a run for its report
+pub mod Notes
 -- what a call, a job and a replay print, and what a command prints
 pub mod ComputeCall
 pub mod Jobs

@@ -1,6 +1,8 @@
 //! What is noted of a run for its report.
 
-ghost use Rattle.std.specs.Prelude.{◌≡◌, false, None};
+ghost use Rattle.std.specs.Prelude.{◌≡◌, false, map, IfOk, IsSome, None};
+ghost use Rattle.run_report.specs.Tally.{capped};
+ghost use Rattle.console.specs.Notes.{HasNoted, IsOfEnd, IsOfFault, IsOfJob, IsOutcomeOf, IsOutcomeOfFault, IsReportOf, settings_in};
 
 use crate::watching::Watch;
 use rollback::Report;
@@ -39,7 +41,10 @@ impl RunNotes {
         job: &Job,
         watch: Option<&Watch>,
         answer: &Result<Report, JobFault>,
-    ) {
+    )
+        ensures unwatched { watch.entry ≡ None → self.new ≡ self.old }
+        ensures noted { IsSome watch.entry → HasNoted job.now answer.now self.new }
+    {
         let Some(watch) = watch else {
             return;
         };
@@ -57,7 +62,9 @@ fn report_of<R: Wait>(
     job: &Job,
     watch: &Watch,
     answer: &Result<Report, JobFault>,
-) -> Result<RunReport, AllocError> {
+) -> Result<RunReport, AllocError>
+    ensures { IfOk result (IsReportOf job.now answer.now) }
+{
     if watch.is_short() {
         return Err(AllocError);
     }
@@ -73,7 +80,10 @@ fn report_of_end(
     job: &Job,
     tally: &Tally,
     report: &Report,
-) -> Result<RunReport, AllocError> {
+) -> Result<RunReport, AllocError>
+    ensures of_job { IfOk result (IsOfJob job.now) }
+    ensures of_end { IfOk result (IsOfEnd report.now) }
+{
     let ended = Ended {
         superstep: report.ended.superstep,
         since: report.ended.since,
@@ -93,7 +103,9 @@ fn report_of_end(
     })
 }
 
-fn outcome_of_end(report: &Report) -> Outcome {
+fn outcome_of_end(report: &Report) -> Outcome
+    ensures { IsOutcomeOf report.now result }
+{
     Outcome {
         how: end_word(report.ended.how),
         fault: None,
@@ -111,24 +123,30 @@ fn report_of_fault(
     job: &Job,
     tally: &Tally,
     fault: JobFault,
-) -> Result<RunReport, AllocError> {
+) -> Result<RunReport, AllocError>
+    ensures of_job { IfOk result (IsOfJob job.now) }
+    ensures of_fault { IfOk result (IsOfFault fault) }
+{
     let supersteps = tally.supersteps_reached(alloc)?;
+    let reached = supersteps.len() as u64;
     Ok(RunReport {
         settings: settings_of(job.settings()),
         size: u64::from(job.verified().size()),
         vertices: u64::from(job.count()),
         edges: job.edge_count(),
-        outcome: outcome_of_fault(tally.reached(), fault),
+        outcome: outcome_of_fault(reached, fault),
         spent: Vec::new(alloc),
         supersteps,
     })
 }
 
-fn outcome_of_fault(reached: u32, fault: JobFault) -> Outcome {
+fn outcome_of_fault(reached: u64, fault: JobFault) -> Outcome
+    ensures { IsOutcomeOfFault fault reached result }
+{
     Outcome {
         how: "fault",
         fault: Some(fault.word()),
-        superstep: Some(u64::from(reached)),
+        superstep: Some(reached),
         units: None,
         dropped: None,
         epoch: None,
@@ -138,11 +156,7 @@ fn outcome_of_fault(reached: u32, fault: JobFault) -> Outcome {
 }
 
 fn settings_of(settings: Settings) -> RunSettings
-    ensures parts { result.parts ≡ settings.parts }
-    ensures workers { result.workers ≡ settings.workers }
-    ensures every { result.every ≡ settings.every }
-    ensures limit { result.limit ≡ settings.limit }
-    ensures lease { result.lease ≡ settings.lease }
+    ensures { result ≡ settings_in settings }
 {
     RunSettings {
         parts: settings.parts,
@@ -153,7 +167,9 @@ fn settings_of(settings: Settings) -> RunSettings
     }
 }
 
-fn capped_all(alloc: Global, numbers: &[u128]) -> Result<Vec<u64>, AllocError> {
+fn capped_all(alloc: Global, numbers: &[u128]) -> Result<Vec<u64>, AllocError>
+    ensures { IfOk result (λ all. all.items ≡ map capped numbers.now) }
+{
     let mut all = Vec::with_capacity(alloc, numbers.len())?;
     for number in numbers {
         all.push(capped(*number))?;

@@ -25,7 +25,7 @@ const MAX_ID: u64 = 9_223_372_036_854_775_807;
 ///
 /// The call ends within a bound that is known beforehand, and it never compares anything with that bound. The only
 /// error is that an allocation fails. A call that sends no message and contributes to no aggregator allocates nothing and
-/// always succeeds.
+/// always succeeds. Once the outcome is read, `Scratch::reuse` saves the next call its allocations.
 pub fn run(
     alloc: Global,
     verified: &Verified,
@@ -41,9 +41,8 @@ pub fn run(
     ensures reserved { IsSilent verified.now input.now → IsOk result }
 {
     let program = scratch.program_for(verified);
-    // Bounds the units of the call, so that their count fits.
-    let _most = most_units(verified.size(), input);
     let function = program.defined(verified.compute());
+    units_fit(verified.size(), input);
     scratch.call(alloc, program, function, input)
 }
 
@@ -54,22 +53,23 @@ pub fn has_ids(input: &CallInput) -> bool
     input.id <= MAX_ID && input.edges.iter().all(|edge| edge.0 <= MAX_ID)
 }
 
-// Returns the bound on the units of a call: the size, times one more than there are messages and edges.
-fn most_units(size: u32, input: &CallInput) -> u128
-    ensures is { result ≡ size * (1 + items_of input.now) }
-    ensures fits { result ≤ max_count }
+// Proves that the count of a call's units fits: it is at most the size, times one more than there are messages and edges.
+// It only reads the two lengths, whose type bounds them.
+fn units_fit(size: u32, input: &CallInput)
+    ensures { size * (1 + items_of input.now) ≤ max_count }
 {
-    let items = input.messages.len() as u128 + input.edges.len() as u128;
-    u128::from(size) * (1 + items)
+    let _messages = input.messages.len();
+    let _edges = input.edges.len();
 }
 
-/// Calls the function in this walk, which keeps its room.
+/// Calls the function in this walk, which keeps its room. The lists become those of the outcome, whatever they hold.
 pub(crate) fn call_in<'a>(
-    alloc: Global,
     image: &Image<'a>,
     program: Program<'a>,
     function: &'a Function,
     input: &CallInput,
+    sends: Vec<(i64, i64)>,
+    contributions: Vec<(u32, i64)>,
     walk: &mut Walk<'a>,
 ) -> Result<CallOutcome, AllocError>
     requires own { image.now ≡ program.«module».now }
@@ -84,7 +84,7 @@ pub(crate) fn call_in<'a>(
 {
     image.reset(function, walk);
     let code = function.body.as_slice();
-    let mut host = CallState::new(alloc, input);
+    let mut host = CallState::with_lists(input, sends, contributions);
     let count = walk.finish(program, code, &mut host)?;
     Ok(host.into_outcome(count))
 }

@@ -20,6 +20,7 @@ use bounded_profile::Verified;
 use host_calls::{CallInput, CallOutcome};
 use std::alloc::{AllocError, Global};
 use std::marker::Model;
+use std::mem::replace;
 use wasm_ast::{Function, MAX_LOCALS, MAX_NESTING};
 
 /// The state that the calls of one module share: what each call begins with, and buffers that one call leaves to the
@@ -31,11 +32,13 @@ pub struct Scratch<'a> {
     lists: Box<Lists<'a>>,
 }
 
-/// What each call begins with, and the walk of the last call.
+/// What each call begins with, the walk of the last call, and the lists of an outcome that was given back.
 #[derive(Drop)]
 pub struct Lists<'a> {
     image: Image<'a>,
     walk: Walk<'a>,
+    sends: Vec<(i64, i64)>,
+    contributions: Vec<(u32, i64)>,
 }
 
 impl<'a> Model for Scratch<'a> {
@@ -65,7 +68,13 @@ impl<'a> Scratch<'a> {
         let mut buffers = Buffers::new(alloc, verified);
         make_room(alloc, verified, &image, &mut buffers)?;
         let walk = begin(buffers);
-        let lists = Box::new(alloc, Lists { image, walk })?;
+        let lists = Lists {
+            image,
+            walk,
+            sends: Vec::new(alloc),
+            contributions: Vec::new(alloc),
+        };
+        let lists = Box::new(alloc, lists)?;
         Ok(Scratch { verified, lists })
     }
 
@@ -74,6 +83,17 @@ impl<'a> Scratch<'a> {
         ensures { IsTrue result ↔ (self.now ≡ verified.now) }
     {
         *self.verified.module() == *verified.module()
+    }
+
+    /// Takes back an outcome that is read: the next call fills its lists instead of new ones. So calls allocate only where one
+    /// sends or contributes more than those before it. The scratch keeps the capacity of these lists, which is that of the
+    /// largest call so far.
+    pub fn reuse(&mut self, outcome: CallOutcome)
+        ensures { self.new ≡ self.old }
+    {
+        let lists = &mut *self.lists;
+        lists.sends = outcome.sends;
+        lists.contributions = outcome.contributions;
     }
 
     // Returns the functions of the module that it was made for, which is that of `verified`.
@@ -88,7 +108,7 @@ impl<'a> Scratch<'a> {
         Program::of(self.verified)
     }
 
-    // Calls the function, in the walk of the last call.
+    // Calls the function, in the walk of the last call and in the lists that were given back.
     pub(crate) fn call(
         &mut self,
         alloc: Global,
@@ -109,12 +129,15 @@ impl<'a> Scratch<'a> {
         ensures outcome { IfOk result (IsOutcome program.entry.«module».now input.now) }
     {
         let lists = &mut *self.lists;
+        let sends = replace(&mut lists.sends, Vec::new(alloc));
+        let contributions = replace(&mut lists.contributions, Vec::new(alloc));
         call_in(
-            alloc,
             &lists.image,
             program,
             function,
             input,
+            sends,
+            contributions,
             &mut lists.walk,
         )
     }

@@ -1,9 +1,10 @@
-use Rattle.std.proofs.Common.{sym, subst}
+use Rattle.std.proofs.Common.{◌+◌, ◌*◌, refl, sym, subst}
 use Rattle.std.specs.Prelude.{IfOk}
 use Rattle.wasm_ast.specs.declared.module.Module.{Module}
 use Rattle.wasm_ast.specs.Limits.{IsWithinLimits}
 use Rattle.validate.specs.Modules.{IsTyped}
 use Rattle.bounded_profile.specs.Profile.{IsBounded}
+use Rattle.interp.specs.Bounded.{items_of}
 use Rattle.interp.specs.Call.{IsOutcome}
 use Rattle.interp.specs.inside.Begun.{BeginsAt, IsDefinedAt}
 use Rattle.interp.specs.inside.Walk.{max_count}
@@ -40,9 +41,9 @@ call-requires-clause-few c =
 pub call-requires-clause-ends : goal.call-requires-clause-ends
 call-requires-clause-ends c =
     let told = c.program_for-program.ensures in
-    let most = c.most_units-most in
-    λ x starts. ends_sooner c.program_for-program.result.module.now x most.result max_count most.ensures.fits
-    (ends_at c.program_for-program.result.module.now c.args.verified.now told.same told.typed told.bounded c.args.input.now c.size.result c.size.ensures most.result most.ensures.is x starts)
+    let most = c.size.result * (1 + items_of c.args.input.now) in
+    λ x starts. ends_sooner c.program_for-program.result.module.now x most max_count c.units_fit.ensures
+    (ends_at c.program_for-program.result.module.now c.args.verified.now told.same told.typed told.bounded c.args.input.now c.size.result c.size.ensures most refl x starts)
 
 pub returns-clause-outcome : goal.returns-clause-outcome
 returns-clause-outcome c =

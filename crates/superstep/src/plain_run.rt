@@ -290,6 +290,7 @@ fn call(
     let outcome = run(alloc, shared.verified, &input, scratch)?;
     sent.add(&outcome)?;
     held.take(alloc, &outcome);
+    scratch.reuse(outcome);
     Ok(())
 }
 

@@ -316,6 +316,7 @@ fn run_vertex(
     left.add(vertex.id, &outcome)?;
     vertex.value = outcome.value;
     vertex.active = !outcome.halted;
+    scratch.reuse(outcome);
     vertex.fill(Inbox::empty(alloc));
     Ok(())
 }

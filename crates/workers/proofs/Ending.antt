@@ -16,8 +16,10 @@ use Rattle.rollback.specs.Events.{Heard, begun}
 use Rattle.rollback.specs.Machine.{Machine, has_answer, opened}
 use Rattle.workers.specs.JobAnswers.{HasSpent, IsAnswerAt, IsCalmReport, IsDriveFault, IsOpened, IsRunFault, IsTold, EndedOver, EndedOverKeep, EndedOverOwn, LoadsMadeAt, RanFrom, RanFromKeep, RanFromOver, RanOn, RanOnOver, RanOnOwn, WhereEnded, WhereOpened, WhereRefused, WhereRun, has_ended}
 use Rattle.channels.specs.Orders.{at}
+use Rattle.workers.specs.Joining.{JoinedFrom, JoinedOn, JoinedOver}
 use Rattle.workers.specs.Steps.{AreMoves, KeptAlong, Steps, after, events, hands, outs_in, stamps_in}
 use Rattle.workers.specs.inside.EventLoop.{IsUnspent, StepsOver, is_own, is_own_fault}
+use Rattle.workers.specs.inside.Joins.{StepsTold, ToldFrom}
 use Rattle.workers.specs.declared.message.Message.{Message}
 use Rattle.channels.specs.declared.order.Order.{Order}
 use Rattle.workers.proofs.Accounts.{begun_unspent, opened_unspent, spent_of}
@@ -42,6 +44,14 @@ where_mapped (Err NoWorkers) P Q f p = f p
 where_mapped (Err (Settings setting)) P Q f p = tt
 where_mapped (Err ThreadRefused) P Q f p = tt
 where_mapped (Err Closed) P Q f p = tt
+
+pub where_two : (r : Result Report JobFault) (P Q R : Type 0) → (P → Q → R) → WhereEnded r P → WhereEnded r Q → WhereEnded r R
+where_two (Ok report) P Q R f p q = f p q
+where_two (Err (OutOfMemory place)) P Q R f p q = f p q
+where_two (Err NoWorkers) P Q R f p q = f p q
+where_two (Err (Settings setting)) P Q R f p q = tt
+where_two (Err ThreadRefused) P Q R f p q = tt
+where_two (Err Closed) P Q R f p q = tt
 
 pub not_ended : (r : Result Report JobFault) (P : Type 0) → has_ended r ≡ false → WhereEnded r P
 not_ended (Ok report) P e = absurd (cc)
@@ -138,6 +148,11 @@ module _ {J : Type 0} (work : Work) (honest : Bool) (m n : Machine) (got got' : 
     answers = is;
   }
 
+  pub told_from : {K : Type 0} (kept : Machine → Machine → K → K → Type 0) (k k' : K) (told : List (List Bool)) (r : Result Report JobFault) → StepsTold kept work honest m n got got' ls ls' k k' told
+      → got ≡ [] → ((w : ℕ) → at ls w ≡ []) → work.settings.workers ≡ length ls → IsAnswerAt work honest n n.ending r → ToldFrom work honest m got' ls' told r
+  unfolding ran_of
+  told_from kept k k' told r p none empty many is = record { ran = ran_of r p.over.steps none empty many is; told_is = p.told_is }
+
   pub has_spent : (r : Result Report JobFault) (k : ℕ) → Steps work honest m n got got' ls ls' → IsUnspent work m → got ≡ [] → k ≡ work.settings.workers
       → IsAnswerAt work honest n n.ending r → IfOk r (HasSpent k got')
   has_spent (Ok report) k p u none many is =
@@ -161,6 +176,12 @@ module _ {J : Type 0} (work : Work) (honest : Bool) (m : Machine) (got : List (M
     gave = p.gave;
     answers = p.answers;
   }
+
+  pub joined_opened : IsOpened work m → JoinedFrom work honest m got ls r → JoinedOver work honest got ls r
+  joined_opened o p = (o.0, o.1, subst (λ (x : Machine). JoinedFrom work honest x got ls r) o.2 p)
+
+  pub joined_begun : (superstep : ℕ) (heard : Heard) → m ≡ begun heard work.settings superstep → JoinedFrom work honest m got ls r → JoinedOn work honest superstep got ls r
+  joined_begun superstep heard is p = (heard, subst (λ (x : Machine). JoinedFrom work honest x got ls r) is p)
 
   -- from a book on that goes on
   pub ran_begun : (superstep : ℕ) (heard : Heard) → m ≡ begun heard work.settings superstep → RanFrom work honest m got ls r → RanOn work honest superstep got ls r

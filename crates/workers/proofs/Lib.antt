@@ -4,6 +4,7 @@ pub mod Ending
 pub mod Faults
 pub mod HandedIn
 pub mod Handing
+pub mod Joins
 pub mod SpawnedThreads
 pub mod Moving
 pub mod Opening

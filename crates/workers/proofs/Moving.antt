@@ -1,13 +1,17 @@
 -- Lists of hands and events follow one another.
 use Rattle.std.proofs.lemmas.Bool.Decides.{eqb_tells}
-use Rattle.std.proofs.Common.{◌≡◌, ◌≢◌, ℕ, zero, suc, ◌<◌, Bool, cond, Option, Some, List, [], ◌∷◌, ◌++◌, map, length, set, sym, refl, ap, ◌∙◌, subst, append_assoc, eq-eqb, ne_eqb, ◌⊎◌, ⊎_elim, inl, inr}
+use Rattle.std.proofs.Common.{◌≡◌, ◌≢◌, ℕ, zero, suc, ◌<◌, Bool, cond, Option, Some, None, Result, List, [], ◌∷◌, ◌++◌, map, length, set, sym, refl, ap, ◌∙◌, subst, append_assoc, eq-eqb, ne_eqb, ◌⊎◌, ⊎_elim, inl, inr}
 use mathlib.Core.List.{append-nil, map-append}
 use Rattle.superstep.specs.Job.{Work}
+use Rattle.superstep.specs.declared.fault.JobFault.{JobFault}
 use Rattle.superstep.specs.declared.task.Task.{Task}
 use Rattle.rollback.specs.declared.control.Out.{Out}
+use Rattle.rollback.specs.declared.event.Answer.{Answer}
 use Rattle.rollback.specs.declared.event.Event.{Event}
+use Rattle.rollback.specs.declared.event.Event.TheVariants as happened
 use Rattle.rollback.specs.Machine.{Machine, hand, handed, task_of}
-use Rattle.rollback.specs.Events.{Heard, accepted}
+use Rattle.rollback.specs.Events.{Heard, accepted, reply_of}
+use Rattle.rollback.specs.Events.Stamp.{LostBy}
 use Rattle.rollback.specs.Book.{stamp_of, task_out}
 use Rattle.rollback.specs.Saving.{IsKeptStep, KeepsFor}
 use Rattle.rollback.proofs.Keeps.{keeps_same}
@@ -17,7 +21,11 @@ use Rattle.workers.specs.Hub.{events_in}
 use Rattle.workers.specs.JobAnswers.{IsLeftBy}
 use Rattle.workers.specs.Steps.{AreMoves, IsMove, KeptAlong, Move, Steps, after, event_of, events, hand_of, hands, moved, outs_in, stamps_in}
 use Rattle.workers.specs.Steps.Move.{Hand, Take}
+use Rattle.workers.specs.Joining.{loss_in, losses}
+use Rattle.workers.specs.Verdicts.{told_to}
 use Rattle.workers.specs.inside.EventLoop.{StepsOver}
+use Rattle.workers.specs.inside.Joins.{AreUntold, IsToldNext, StepsDue, StepsTold, due_by, due_to, lost_in}
+use Rattle.workers.specs.declared.event_loop.Due.{Due}
 use Rattle.workers.specs.declared.message.Message.{Message}
 use Rattle.workers.specs.declared.message.Message.TheVariants as message
 use Rattle.channels.specs.declared.order.Order.{Order}
@@ -51,10 +59,10 @@ module _ {J : Type 0} where
   events_in-append (message.Event event ∷ a) b = ap (λ l. event ∷ l) (events_in-append a b)
   events_in-append (message.Bye sender ∷ a) b = events_in-append a b
 
-  stamps_event : (a : List (Message J)) (event : Event J) → stamps_in (a ++ message.Event event ∷ []) ≡ stamps_in a ++ stamp_of event ∷ []
+  pub stamps_event : (a : List (Message J)) (event : Event J) → stamps_in (a ++ message.Event event ∷ []) ≡ stamps_in a ++ stamp_of event ∷ []
   stamps_event a event = ap (map stamp_of) (events_in-append a (message.Event event ∷ [])) ∙ map-append stamp_of (events_in a) (event ∷ [])
 
-  stamps_bye : (a : List (Message J)) (sender : Sender) → stamps_in (a ++ message.Bye sender ∷ []) ≡ stamps_in a
+  pub stamps_bye : (a : List (Message J)) (sender : Sender) → stamps_in (a ++ message.Bye sender ∷ []) ≡ stamps_in a
   stamps_bye a sender = ap (map stamp_of) (events_in-append a (message.Bye sender ∷ []) ∙ append-nil (events_in a))
 
   outs_task : (a : List (Order J)) (task : Task J) → outs_in (a ++ Do task ∷ []) ≡ outs_in a ++ task_out task ∷ []
@@ -71,7 +79,7 @@ hand_else w v task e = append-nil (hand_of w (Hand v task)) ∙ ap (λ b. cond b
 either_way : (v w : ℕ) → (v ≡ w) ⊎ (v ≢ w)
 either_way v w = ⊎_elim (λ x. inl x.1) (λ x. inr x.1) (eqb_tells v w)
 
-length_set : {A : Type 0} (xs : List A) (w : ℕ) (x : A) → length (set xs w x) ≡ length xs
+pub length_set : {A : Type 0} (xs : List A) (w : ℕ) (x : A) → length (set xs w x) ≡ length xs
 length_set [] w x = refl
 length_set (y ∷ ys) zero x = refl
 length_set (y ∷ ys) (suc w) x = ap suc (length_set ys w x)
@@ -174,6 +182,38 @@ module _ {J : Type 0} (work : Work) (honest : Bool) where
     width = wide ∙ p.width;
   }
 
+-- ---- losses
+
+losses-append : (w : ℕ) (m : Machine) (xs ys : List Move) → losses w m (xs ++ ys) ≡ losses w m xs ++ losses w (after m xs) ys
+losses-append w m [] ys = refl
+losses-append w m (x ∷ xs) ys =
+    ap (λ l. loss_in w m x ++ l) (losses-append w (moved m x) xs ys)
+    ∙ sym (append_assoc (loss_in w m x) (losses w (moved m x) xs) (losses w (after (moved m x) xs) ys))
+
+-- hands lose nobody
+hands_lose : (w : ℕ) (m : Machine) (moves : List Move) → events moves ≡ [] → losses w m moves ≡ []
+hands_lose w m [] none = refl
+hands_lose w m (Hand v task ∷ moves) none = hands_lose w (moved m (Hand v task)) moves none
+hands_lose w m (Take heard stamp ∷ moves) none = absurd (cc)
+
+losses_over : (w : ℕ) (m n : Machine) (xs ys zs : List Move) → events ys ≡ [] → after (after m xs) ys ≡ n
+    → losses w m (xs ++ (ys ++ zs)) ≡ losses w m xs ++ losses w n zs
+losses_over w m n xs ys zs none leads =
+    losses-append w m xs (ys ++ zs)
+    ∙ ap (λ l. losses w m xs ++ l) (losses-append w (after m xs) ys zs
+    ∙ ap (λ l. l ++ losses w (after (after m xs) ys) zs) (hands_lose w (after m xs) ys none)
+    ∙ ap (λ (x : Machine). losses w x zs) leads)
+
+-- the verdict on an event is that on the loss in it
+due_event : {J : Type 0} (w : ℕ) (m : Machine) (heard : Heard) (x : Event J) (answer : Result Answer JobFault) → answer ≡ reply_of (accepted heard m (stamp_of x))
+    → due_to w (due_by (lost_in x) answer) ≡ losses w m (Take heard (stamp_of x) ∷ [])
+due_event w m heard (happened.Done v done) answer e = refl
+due_event w m heard (happened.Failed v place) answer e = refl
+due_event w m heard (happened.Lost v) answer e =
+    ap (λ r. due_to w (due_by (Some v) r)) e ∙ sym (append-nil (loss_in w m (Take heard (LostBy v))))
+due_event w m heard (happened.Joined v) answer e = refl
+due_event w m heard happened.Tick answer e = refl
+
 -- ---- steps, and what they leave of the Keep
 
 nothing_more : {A : Type 0} (xs ys : List A) → xs ≡ xs ++ ys → ys ≡ []
@@ -251,3 +291,58 @@ module _ {K : Type 0} (honest : K → Bool) (saved : K → Option ℕ) (may_load
 
     pub left_none : (m : Machine) (got : List (Message J)) (k : K) → KeepsFor work trusted (honest k) (saved k) (may_load k) m → IsLeftBy honest saved may_load faults work trusted m got got k k
     left_none m got k keeps = record { moves = []; are = tt; took = sym (append-nil (stamps_in got)); kept = refl; keeps = keeps }
+
+    -- ---- and what workers are told
+
+    -- nothing yet
+    pub told_none : (m : Machine) (got : List (Message J)) (ls : List (List (Order J))) (k : K) (told : List (List Bool)) → AreUntold told → StepsTold Kept work trusted m m got got ls ls k k told
+    unfolding steps_none over_none
+    told_none m got ls k told untold = record { over = over_none m got ls k; told_is = λ w h. untold w }
+
+    -- an event is taken, and what is due is known
+    pub due_taken : (m n : Machine) (heard : Heard) (got got' : List (Message J)) (ls ls' : List (List (Order J))) (event : Event J) (k k' : K) (answer : Result Answer JobFault)
+        → IsMove work trusted m (Take heard (stamp_of event)) → (accepted heard m (stamp_of event)).0 ≡ n → got' ≡ got ++ message.Event event ∷ [] → ls' ≡ ls → Kept m n k k'
+        → answer ≡ reply_of (accepted heard m (stamp_of event)) → StepsDue Kept work trusted m n got got' ls ls' k k' (due_by (lost_in event) answer)
+    unfolding steps_event over_event
+    due_taken m n heard got got' ls ls' event k k' answer may to more same kept said = record {
+      over = over_event m n heard got got' ls ls' event k k' may to more same kept;
+      due_is = λ w. due_event w m heard event answer said;
+    }
+
+    -- a bye is taken
+    pub due_bye : (m n : Machine) (got got' : List (Message J)) (ls ls' : List (List (Order J))) (sender : Sender) (k : K)
+        → n ≡ m → got' ≡ got ++ message.Bye sender ∷ [] → ls' ≡ ls → StepsDue Kept work trusted m n got got' ls ls' k k None
+    unfolding steps_bye over_bye
+    due_bye m n got got' ls ls' sender k is more same = record { over = over_bye m n got got' ls ls' sender k is more same; due_is = λ w. refl }
+
+    -- tasks are sent, a message is taken, and what is due is told
+    pub told_next : {a b c d : Machine} {g1 g2 g3 g4 : List (Message J)} {l1 l2 l3 l4 : List (List (Order J))} {k1 k2 k4 : K} (told told' : List (List Bool)) (due : Option Due)
+        → StepsTold Kept work trusted a b g1 g2 l1 l2 k1 k2 told → Steps work trusted b c g2 g3 l2 l3 → g3 ≡ g2 → KeepsFor work trusted (honest k2) (saved k2) (may_load k2) b
+        → StepsDue Kept work trusted c d g3 g4 l3 l4 k2 k4 due → IsToldNext told told' due → StepsTold Kept work trusted a d g1 g4 l1 l4 k1 k4 told'
+    unfolding steps_then over_then over_hands
+    told_next {a = a} {b = b} {c = c} {g2 = g2} {k2 = k2} told told' due p q same keeps t next =
+        let xs = p.over.steps.moves in
+        let none : events q.moves ≡ [] = nothing_more (stamps_in g2) (events q.moves) (ap stamps_in (sym same) ∙ q.took) in
+        let leads : after (after a xs) q.moves ≡ c = ap (λ (x : Machine). after x q.moves) p.over.steps.leads ∙ q.leads in
+        record {
+          over = over_then p.over (over_then (over_hands k2 q same keeps) t.over);
+          told_is = λ w h.
+              let here : w < length told = subst (λ (n : ℕ). w < n) next.width h in
+              next.next w here ∙ ap (λ l. l ++ due_to w due) (p.told_is w here) ∙ ap (λ l. losses w a xs ++ l) (t.due_is w)
+              ∙ sym (losses_over w a c xs q.moves t.over.steps.moves none leads);
+        }
+
+    -- tasks are sent
+    pub told_still : {a b c : Machine} {g1 g2 g3 : List (Message J)} {l1 l2 l3 : List (List (Order J))} {k1 k2 : K} (told : List (List Bool))
+        → StepsTold Kept work trusted a b g1 g2 l1 l2 k1 k2 told → Steps work trusted b c g2 g3 l2 l3 → g3 ≡ g2 → KeepsFor work trusted (honest k2) (saved k2) (may_load k2) b
+        → StepsTold Kept work trusted a c g1 g3 l1 l3 k1 k2 told
+    unfolding steps_then over_then over_hands
+    told_still {a = a} {g2 = g2} {k2 = k2} told p q same keeps =
+        let xs = p.over.steps.moves in
+        let none : events q.moves ≡ [] = nothing_more (stamps_in g2) (events q.moves) (ap stamps_in (sym same) ∙ q.took) in
+        record {
+          over = over_then p.over (over_hands k2 q same keeps);
+          told_is = λ w h.
+              p.told_is w h ∙ sym (append-nil (losses w a xs)) ∙ ap (λ l. losses w a xs ++ l) (sym (hands_lose w (after a xs) q.moves none))
+              ∙ sym (losses-append w a xs q.moves);
+        }

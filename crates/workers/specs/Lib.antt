@@ -7,6 +7,9 @@ pub mod Hub
 pub mod Steps
 pub mod Units
 pub mod JobAnswers
+-- which losses were counted, and what workers are told of them
+pub mod Joining
+pub mod Verdicts
 -- the threads of a hub, and its coordinator
 pub mod Threads
 pub mod Coordinator

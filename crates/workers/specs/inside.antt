@@ -1,2 +1,3 @@
 pub mod EventLoop
+pub mod Joins
 pub mod Opening

@@ -184,7 +184,10 @@ impl<J: Origin> Coordinator<J> {
         ensures hub { IsSameHub self.old self.new }
     {
         match &mut self.ends {
-            Some(ends) => ends.drive(rt, book, keep),
+            Some(ends) => {
+                let mut nobody = Vec::new(rt.alloc());
+                ends.drive(rt, book, keep, &mut nobody)
+            }
             None => {
                 drop(book);
                 Err(JobFault::Closed)

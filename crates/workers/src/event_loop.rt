@@ -1,14 +1,17 @@
 //! The event loop, which drives a job to its end.
 
-ghost use Rattle.std.specs.Prelude.{◌≡◌, ◌<◌, ◌+◌, ◌∷◌, false, true, ℕ, IfErr, IfOk, OnErr, OnOk};
+ghost use Rattle.std.specs.Prelude.{◌≡◌, ◌<◌, ◌+◌, ◌∷◌, false, true, map, vec_len, ℕ, IfErr, IfOk, OnErr, OnOk};
 ghost use Rattle.rollback.specs.Saving.{IsKeptStep, KeepsFor};
 ghost use Rattle.rollback.specs.Machine.{is_running};
 ghost use Rattle.workers.specs.JobAnswers.{HasSpent, IsAnswerAt, IsDriveFault, IsLeftBy, RanFromOver, WhereEnded};
 ghost use Rattle.workers.specs.Steps.{Steps};
-ghost use Rattle.workers.specs.inside.EventLoop.{IsOver, IsUnspent, StepsOver};
+ghost use Rattle.workers.specs.Verdicts.{sends_on, told_on};
+ghost use Rattle.workers.specs.inside.EventLoop.{IsOver, IsUnspent};
+ghost use Rattle.workers.specs.inside.Joins.{AreUntold, IsToldNext, StepsDue, StepsTold, ToldFrom, due_by, lost_in};
 
 use crate::coordinator_ends::CoordinatorEnds;
 use crate::message::Message;
+use crate::verdict::VerdictSender;
 use channels::Closed;
 use checkpoint::Keep;
 use rollback::{Answer, Book, Event, JobStatus, Report};
@@ -23,6 +26,21 @@ enum Free {
     Nobody,
     One(u32),
     All,
+}
+
+// The verdict that is due to a worker which has reported a loss.
+#[derive(Clone, Copy)]
+struct Due {
+    worker: u32,
+    // whether the loss was counted and the job goes on
+    counted: bool,
+}
+
+// What follows a message that was taken: the workers that may be free then, and the verdict that is due.
+#[derive(Clone, Copy)]
+struct Taken {
+    free: Free,
+    due: Option<Due>,
 }
 
 // Returns who is free if the superstep stays the same: the worker that returned a result.
@@ -40,6 +58,51 @@ fn free_after(freed: Free, answer: Result<Answer, JobFault>) -> Free {
         Ok(Answer::Advanced(_)) | Ok(Answer::RolledBack(_)) => Free::All,
         Ok(Answer::Ended) | Err(_) => Free::Nobody,
     }
+}
+
+// Returns the worker that this event reports as lost.
+fn lost_by<J: Origin>(event: &Event<J>) -> Option<u32>
+    ensures { result ≡ lost_in event.now }
+{
+    match event {
+        Event::Lost(worker) => Some(*worker),
+        Event::Done(..) | Event::Failed(..) | Event::Joined(_) | Event::Tick => None,
+    }
+}
+
+// Returns the verdict on a loss, by the answer to it.
+fn verdict_on(lost: Option<u32>, answer: &Result<Answer, JobFault>) -> Option<Due>
+    ensures { result ≡ due_by lost answer.now }
+{
+    match lost {
+        Some(worker) => Some(Due {
+            worker,
+            counted: matches!(answer, Ok(Answer::RolledBack(_))),
+        }),
+        None => None,
+    }
+}
+
+// Tells a worker that listens the verdict that is due to it.
+fn tell_due<R: Wait>(
+    rt: &R,
+    verdicts: &mut Vec<VerdictSender>,
+    due: Option<Due>,
+) -> Result<(), Closed>
+    ensures told { OnOk result
+        (IsToldNext (map told_on verdicts.old.items) (map told_on verdicts.new.items) due) }
+    ensures linked { map sends_on verdicts.new.items ≡ map sends_on verdicts.old.items }
+    ensures lines { vec_len verdicts.new ≡ vec_len verdicts.old }
+{
+    let Some(due) = due else {
+        return Ok(());
+    };
+    let worker = due.worker as usize;
+    if worker >= verdicts.len() {
+        return Ok(());
+    }
+    let sender = &mut verdicts[worker];
+    sender.tell(rt, due.counted)
 }
 
 fn goes_on<J: Origin>(book: &Book<J>) -> bool
@@ -121,19 +184,20 @@ impl<J: Origin> CoordinatorEnds<J> {
         }
     }
 
-    // Takes one message, and gives it to the book if it is an event. Returns who may be free then.
+    // Takes one message, and gives it to the book if it is an event. Returns who may be free then, and the verdict that is
+    // due if the event is a loss.
     fn take_one<K: Keep, R: Wait + Threads + Sync + Files + AllocGlobal>(
         &mut self,
         rt: &R,
         book: &mut Book<J>,
         keep: &mut K,
-    ) -> Result<Free, Closed>
+    ) -> Result<Taken, Closed>
         requires keep { KeepsFor J.work J.honest (K.honest keep.old) (K.saved keep.old)
             (K.may_load keep.old) book.old }
-        ensures steps { OnOk result (StepsOver
+        ensures steps { IfOk result (λ taken. StepsDue
             (IsKeptStep K.honest K.saved K.may_load K.faults J.work J.honest)
             J.work J.honest book.old book.new (received self.old) (received self.new)
-            (handed self.old) (handed self.new) keep.old keep.new) }
+            (handed self.old) (handed self.new) keep.old keep.new taken.due) }
         ensures keep { KeepsFor J.work J.honest (K.honest keep.new) (K.saved keep.new)
             (K.may_load keep.new) book.new }
         ensures err { OnErr result
@@ -144,10 +208,18 @@ impl<J: Origin> CoordinatorEnds<J> {
         match self.take_event(rt)? {
             Message::Event(event) => {
                 let freed = freed_by(&event);
+                let lost = lost_by(&event);
                 let answer = book.accept(rt, event, keep);
-                Ok(free_after(freed, answer))
+                let due = verdict_on(lost, &answer);
+                Ok(Taken {
+                    free: free_after(freed, answer),
+                    due,
+                })
             }
-            Message::Bye(_) => Ok(Free::Nobody),
+            Message::Bye(_) => Ok(Taken {
+                free: Free::Nobody,
+                due: None,
+            }),
         }
     }
 
@@ -178,20 +250,25 @@ impl<J: Origin> CoordinatorEnds<J> {
         Ok(())
     }
 
-    // Runs the job to its end: sends tasks and takes messages. Then stops all, and takes messages until every sender
-    // has said bye.
+    // Runs the job to its end: sends tasks, takes messages, and tells workers that listen of their losses. Then stops all,
+    // and takes messages until every sender has said bye.
     fn run_out<K: Keep, R: Wait + Threads + Sync + Files + AllocGlobal>(
         &mut self,
         rt: &R,
         book: &mut Book<J>,
         keep: &mut K,
+        verdicts: &mut Vec<VerdictSender>,
     ) -> Result<(), Closed>
         requires keep { KeepsFor J.work J.honest (K.honest keep.old) (K.saved keep.old)
             (K.may_load keep.old) book.old }
-        ensures steps { OnOk result (StepsOver
+        requires untold { AreUntold (map told_on verdicts.old.items) }
+        ensures steps { OnOk result (StepsTold
             (IsKeptStep K.honest K.saved K.may_load K.faults J.work J.honest)
             J.work J.honest book.old book.new (received self.old) (received self.new)
-            (handed self.old) (handed self.new) keep.old keep.new) }
+            (handed self.old) (handed self.new) keep.old keep.new
+            (map told_on verdicts.new.items)) }
+        ensures linked { map sends_on verdicts.new.items ≡ map sends_on verdicts.old.items }
+        ensures lines { vec_len verdicts.new ≡ vec_len verdicts.old }
         ensures keep { OnOk result (KeepsFor J.work J.honest (K.honest keep.new)
             (K.saved keep.new) (K.may_load keep.new) book.new) }
         ensures left { IsLeftBy K.honest K.saved K.may_load K.faults J.work J.honest
@@ -208,27 +285,36 @@ impl<J: Origin> CoordinatorEnds<J> {
             if stopped && self.all_gone() {
                 return Ok(());
             }
-            free = self.take_one(rt, book, keep)?;
+            let taken = self.take_one(rt, book, keep)?;
+            tell_due(rt, verdicts, taken.due)?;
+            free = taken.free;
         }
         unreachable!()
     }
 
-    /// Drives a job to its end, stops all, waits for every bye, and returns the report. If a channel is closed, it
-    /// stops all and returns `Closed`.
+    /// Drives a job to its end, stops all, waits for every bye, and returns the report. It tells each worker that listens, the
+    /// first ones by their numbers, which of its losses were counted. If a channel is closed, it stops all and returns `Closed`.
     pub fn drive<K: Keep, R: Wait + Threads + Sync + Files + AllocGlobal>(
         &mut self,
         rt: &R,
         mut book: Book<J>,
         keep: &mut K,
+        verdicts: &mut Vec<VerdictSender>,
     ) -> Result<Report, JobFault>
         requires unused { IsUnused self.old }
         requires workers { staff self.old ≡ J.work.settings.workers }
         requires book { IsUnspent J.work book }
         requires keep { KeepsFor J.work J.honest (K.honest keep.old) (K.saved keep.old)
             (K.may_load keep.old) book }
+        requires untold { AreUntold (map told_on verdicts.old.items) }
         ensures ran { WhereEnded result
             (RanFromOver K.honest K.saved K.may_load K.faults J.work J.honest book.entry
             (received self.new) (handed self.new) keep.old keep.new result) }
+        ensures told { WhereEnded result
+            (ToldFrom J.work J.honest book.entry (received self.new) (handed self.new)
+            (map told_on verdicts.new.items) result) }
+        ensures linked { map sends_on verdicts.new.items ≡ map sends_on verdicts.old.items }
+        ensures lines { vec_len verdicts.new ≡ vec_len verdicts.old }
         ensures left { IsLeftBy K.honest K.saved K.may_load K.faults J.work J.honest
             book.entry (received self.old) (received self.new) keep.old keep.new }
         ensures byes { WhereEnded result (HasByes (staff self.new) (received self.new)) }
@@ -238,7 +324,7 @@ impl<J: Origin> CoordinatorEnds<J> {
         ensures refused { IfErr result IsDriveFault }
         ensures hub { IsSameHub self.old self.new }
     {
-        match self.run_out(rt, &mut book, keep) {
+        match self.run_out(rt, &mut book, keep, verdicts) {
             Ok(()) => answer_of(book),
             Err(_) => {
                 drop(book);

@@ -36,7 +36,8 @@ pub trait Gate {
     /// Returns what the worker does with the task of this part. It is called before each task.
     fn before(&self, worker: u32, superstep: u32, part: u32) -> Turn;
 
-    /// Returns whether a lost worker joins again. It is called right after each `Lose`.
+    /// Returns whether a lost worker joins again. It is called right after each `Lose`. A worker that its lease has lost before does
+    /// not join.
     fn again(&self, worker: u32) -> bool;
 
     /// Returns whether the tick of this number comes. Ticks are numbered from 1. It is called before each tick.

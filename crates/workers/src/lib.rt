@@ -13,6 +13,7 @@ mod run;
 mod spawning;
 mod thread_promises;
 mod threads;
+mod verdict;
 mod worker_loop;
 
 pub use coordinator::Coordinator;

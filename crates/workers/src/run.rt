@@ -1,15 +1,18 @@
 //! Running a job in threads.
 
 ghost use Rattle.std.specs.Thread.{IsSync};
-ghost use Rattle.std.specs.Prelude.{◌≡◌, ◌<◌, true, IfErr, IfOk, Some};
+ghost use Rattle.std.specs.Prelude.{◌≡◌, ◌<◌, true, map, vec_len, IfErr, IfOk, Some};
 ghost use Rattle.rollback.specs.Saving.{HasLeft, KeepsFor};
 ghost use Rattle.checkpoint.specs.Keep.{LoadsNothingElse};
 ghost use Rattle.rollback.specs.Simulation.{NeverFails};
 ghost use Rattle.workers.specs.JobAnswers.{HasSpent, IsCalmReport, IsDriveFault, IsRunFault, EndedOver, EndedOverOwn, LoadsMadeAt, RanFromKeep, RanOn, RanOnOwn, WhereEnded, WhereRefused, WhereRun, has_ended};
 ghost use Rattle.workers.specs.Coordinator as lent;
 ghost use Rattle.workers.specs.Hub.{HasByes, IsNewHubOf, IsSameHub, IsUnused, handed, received, staff};
+ghost use Rattle.workers.specs.Joining.{JoinedFrom, JoinedOn, JoinedOver};
 ghost use Rattle.workers.specs.Threads.{AreThreadsOf, HasSettled, IsIdle};
+ghost use Rattle.workers.specs.Verdicts.{sends_on, told_on};
 ghost use Rattle.workers.specs.inside.EventLoop.{IsUnspent};
+ghost use Rattle.workers.specs.inside.Joins.{AreLinked, AreUntold};
 
 use crate::audit::settle_all;
 use crate::coordinator::{Coordinator, Receipts};
@@ -18,6 +21,7 @@ use crate::gate::Gate;
 use crate::pass::{TickPass, WorkerPass};
 use crate::spawning::spawn_all;
 use crate::thread_promises::HubThreads;
+use crate::verdict::VerdictSender;
 use checkpoint::Keep;
 use rollback::{Book, Report};
 use std::alloc::Global;
@@ -37,11 +41,13 @@ fn was_driven(answer: &Result<Report, JobFault>) -> bool
     }
 }
 
-// Drives the job to its end, joins all threads, and compares their receipts.
+// Drives the job to its end, joins all threads, and compares their receipts. Workers that wait for a verdict hear at the
+// latest at its end that none comes.
 fn drive_all<J: Origin, K: Keep, R: Wait + Threads + Sync + Files + AllocGlobal>(
     rt: &R,
     ends: &mut CoordinatorEnds<J>,
     spawned: HubThreads<J>,
+    mut verdicts: Vec<VerdictSender>,
     book: Book<J>,
     keep: &mut K,
 ) -> (Option<Receipts<J>>, Result<Report, JobFault>)
@@ -51,21 +57,26 @@ fn drive_all<J: Origin, K: Keep, R: Wait + Threads + Sync + Files + AllocGlobal>
     requires keep { KeepsFor J.work J.honest (K.honest keep.old) (K.saved keep.old)
         (K.may_load keep.old) book }
     requires spawned { AreThreadsOf ends.old spawned }
+    requires lines { vec_len verdicts ≡ staff ends.old }
+    requires linked { AreLinked (map sends_on verdicts.items) 0 spawned.workers.items }
+    requires untold { AreUntold (map told_on verdicts.items) }
     ensures ran { WhereEnded result.1
         (RanFromKeep K.honest K.saved K.may_load K.faults J.work J.honest book.entry
         (received ends.new) (handed ends.new) keep.old result.1) }
+    ensures joins { WhereEnded result.1 (JoinedFrom J.work J.honest book.entry
+        (received ends.new) (handed ends.new) result.1) }
     ensures byes { WhereEnded result.1 (HasByes (staff ends.new) (received ends.new)) }
     ensures spent { IfOk result.1 (HasSpent (staff ends.new) (received ends.new)) }
     ensures settled { WhereEnded result.1 (HasSettled ends.new result.0) }
     ensures refused { IfErr result.1 IsDriveFault }
     ensures hub { IsSameHub ends.old ends.new }
 {
-    let answer = ends.drive(rt, book, keep);
+    let answer = ends.drive(rt, book, keep, &mut verdicts);
     if !was_driven(&answer) {
         drop(spawned);
         return (None, answer);
     }
-    match settle_all(rt, ends, spawned) {
+    match settle_all(rt, ends, spawned, &mut verdicts) {
         Ok(receipts) => (Some(receipts), answer),
         Err(_) => {
             drop(answer);
@@ -104,6 +115,8 @@ fn run_spawned<
     ensures ran { WhereEnded result.2
         (RanFromKeep K.honest K.saved K.may_load K.faults J.work J.honest book.entry
         (received result.0) (handed result.0) keep result.2) }
+    ensures joins { WhereEnded result.2 (JoinedFrom J.work J.honest book.entry
+        (received result.0) (handed result.0) result.2) }
     ensures byes { WhereEnded result.2 (HasByes (staff result.0) (received result.0)) }
     ensures spent { IfOk result.2 (HasSpent (staff result.0) (received result.0)) }
     ensures settled { WhereEnded result.2 (HasSettled result.0 result.1) }
@@ -125,6 +138,8 @@ fn run_spawned<
             ensures ran { WhereEnded result.2
                 (RanFromKeep K.honest K.saved K.may_load K.faults J.work J.honest book.entry
                 (received result.0) (handed result.0) keep result.2) }
+            ensures joins { WhereEnded result.2 (JoinedFrom J.work J.honest book.entry
+                (received result.0) (handed result.0) result.2) }
             ensures byes { WhereEnded result.2 (HasByes (staff result.0) (received result.0)) }
             ensures spent { IfOk result.2 (HasSpent (staff result.0) (received result.0)) }
             ensures settled { WhereEnded result.2 (HasSettled result.0 result.1) }
@@ -135,8 +150,10 @@ fn run_spawned<
             let mut mine = ends;
             let mut keep = keep;
             match spawn_all(scope, rt, alloc, job, gate, &mine, passes, ticker) {
-                Ok(spawned) => {
-                    let (receipts, answer) = drive_all(rt, &mut mine, spawned, book, &mut keep);
+                Ok((spawned, verdicts)) => {
+                    let (receipts, answer) = drive_all(
+                        rt, &mut mine, spawned, verdicts, book, &mut keep,
+                    );
                     (mine, receipts, answer)
                 }
                 Err(fault) => {
@@ -181,6 +198,11 @@ pub fn run_job<
     ensures kept { WhereRun result
         (EndedOverOwn K.honest K.saved K.may_load K.faults J.work J.honest
         (lent.received coordinator.new) (lent.handed coordinator.new) keep result) }
+    // In one such list each join of a worker comes right after a loss that it reported and that was counted. So a worker that was
+    // lost by its lease never joins again.
+    ensures joins { WhereRun result
+        (JoinedOver J.work J.honest (lent.received coordinator.new)
+        (lent.handed coordinator.new) result) }
     // If the Keep loads only what was saved and its device never fails, no save is missed and the job never begins again.
     ensures calm { LoadsNothingElse K.saved K.may_load → NeverFails K.faults
         → IfOk result IsCalmReport }
@@ -251,6 +273,10 @@ pub fn resume_job<
     ensures kept { WhereRun result
         (RanOnOwn K.honest K.saved K.may_load K.faults J.work J.honest superstep
         (lent.received coordinator.new) (lent.handed coordinator.new) keep result) }
+    // In one such list each join of a worker comes right after a loss that it reported and that was counted.
+    ensures joins { WhereRun result
+        (JoinedOn J.work J.honest superstep (lent.received coordinator.new)
+        (lent.handed coordinator.new) result) }
     // If the Keep loads only what was saved and its device never fails, and what it may load is a checkpoint of a state that
     // fits there, no save is missed and the job never begins again.
     ensures calm { LoadsNothingElse K.saved K.may_load → NeverFails K.faults

@@ -1,24 +1,27 @@
 //! Starting the threads of a hub.
 
-ghost use Rattle.std.specs.Prelude.{◌≡◌, [], vec_len, IfErr, IfOk};
+ghost use Rattle.std.specs.Prelude.{◌≡◌, [], map, vec_len, IfErr, IfOk};
 ghost use Rattle.superstep.specs.declared.fault.JobFault.TheVariants.{ThreadRefused};
 ghost use Rattle.workers.specs.Hub.{AreNewPasses, IsNewPass, IsNewTicker, channels_of, staff};
 ghost use Rattle.workers.specs.Passes.{IsReceipt, handed_in};
 ghost use Rattle.workers.specs.Threads.{AreSpawned, AreThreadsOf, IsSpawned, IsSpawnedTicker, JoinsAfterLoss};
+ghost use Rattle.workers.specs.Verdicts.{heard_on, reads_on, sends_on, told_on};
+ghost use Rattle.workers.specs.inside.Joins.{AreLinked, AreUntold, HasJoined, line_of};
 
 use crate::coordinator_ends::CoordinatorEnds;
 use crate::gate::Gate;
-use crate::pass::{TickPass, WorkerPass, WorkerReceipt};
+use crate::pass::{TickPass, WorkerPass};
 use crate::thread_promises::{HubThreads, TickThread, TickerPromise, WorkerPromise, WorkerThread};
-use crate::worker_loop::{tick_all, work_all};
+use crate::verdict::VerdictSender;
+use crate::worker_loop::{WorkerEnd, tick_all, work_all};
 use std::alloc::Global;
 use std::snapshot::Snapshot;
 use std::sync::Wait;
 use std::thread::Scope;
 use superstep::{Job, JobFault, Origin};
 
-/// Starts the threads of a hub: those of the workers and then the ticker's. `ThreadRefused`, its only fault: one cannot
-/// be started.
+/// Starts the threads of a hub: those of the workers and then the ticker's. Returns them, and the channel end on which each
+/// worker is told of its losses. `ThreadRefused`, its only fault: one cannot be started.
 pub fn spawn_all<'s, E, J: Origin + Send + Sync + 's, G: Gate + Sync + 's, R: Wait + Sync + 's>(
     scope: &Scope<'s, E>,
     rt: &'s R,
@@ -28,31 +31,38 @@ pub fn spawn_all<'s, E, J: Origin + Send + Sync + 's, G: Gate + Sync + 's, R: Wa
     ends: &CoordinatorEnds<J>,
     passes: Vec<WorkerPass<J>>,
     ticker: TickPass<J>,
-) -> Result<HubThreads<J>, JobFault>
+) -> Result<(HubThreads<J>, Vec<VerdictSender>), JobFault>
     requires job { J.work ≡ job.now }
     requires passes { AreNewPasses (channels_of ends.now) 0 passes.items }
     requires all { vec_len passes ≡ staff ends.now }
     requires ticker { IsNewTicker (channels_of ends.now) ticker }
-    ensures spawned { IfOk result (AreThreadsOf ends.now) }
+    ensures spawned { IfOk result (λ pair. AreThreadsOf ends.now pair.0) }
+    ensures linked { IfOk result (λ pair.
+        AreLinked (map sends_on pair.1.items) 0 pair.0.workers.items) }
+    ensures lines { IfOk result (λ pair. vec_len pair.1 ≡ staff ends.now) }
+    ensures untold { IfOk result (λ pair. AreUntold (map told_on pair.1.items)) }
     ensures refused { IfErr result (λ fault. fault ≡ ThreadRefused) }
 {
     let Ok(receipts) = Vec::with_capacity(alloc, passes.len()) else {
         drop(ticker);
         return Err(JobFault::ThreadRefused);
     };
-    let workers = match spawn_workers(scope, rt, alloc, job, gate, ends, passes) {
-        Ok(workers) => workers,
+    let (workers, verdicts) = match spawn_workers(scope, rt, alloc, job, gate, ends, passes) {
+        Ok(pair) => pair,
         Err(fault) => {
             drop(ticker);
             return Err(fault);
         }
     };
     let ticker = spawn_ticker(scope, rt, gate, ends, ticker)?;
-    Ok(HubThreads {
-        ticker,
-        workers,
-        receipts,
-    })
+    Ok((
+        HubThreads {
+            ticker,
+            workers,
+            receipts,
+        },
+        verdicts,
+    ))
 }
 
 // Starts a thread for each worker.
@@ -64,24 +74,31 @@ fn spawn_workers<'s, E, J: Origin + Send + Sync + 's, G: Gate + Sync + 's, R: Wa
     gate: &'s G,
     ends: &CoordinatorEnds<J>,
     passes: Vec<WorkerPass<J>>,
-) -> Result<Vec<WorkerThread<J>>, JobFault>
+) -> Result<(Vec<WorkerThread<J>>, Vec<VerdictSender>), JobFault>
     requires job { J.work ≡ job.now }
     requires passes { AreNewPasses (channels_of ends.now) 0 passes.items }
-    ensures spawned { IfOk result (λ threads. AreSpawned ends.now 0 threads.items) }
-    ensures all { IfOk result (λ threads. vec_len threads ≡ vec_len passes) }
+    ensures spawned { IfOk result (λ pair. AreSpawned ends.now 0 pair.0.items) }
+    ensures all { IfOk result (λ pair. vec_len pair.0 ≡ vec_len passes) }
+    ensures linked { IfOk result (λ pair. AreLinked (map sends_on pair.1.items) 0 pair.0.items) }
+    ensures lines { IfOk result (λ pair. vec_len pair.1 ≡ vec_len passes) }
+    ensures untold { IfOk result (λ pair. AreUntold (map told_on pair.1.items)) }
     ensures refused { IfErr result (λ fault. fault ≡ ThreadRefused) }
 {
     let Ok(mut threads) = Vec::with_capacity(alloc, passes.len()) else {
         return Err(JobFault::ThreadRefused);
     };
+    let Ok(mut verdicts) = Vec::with_capacity(alloc, passes.len()) else {
+        return Err(JobFault::ThreadRefused);
+    };
     for pass in passes {
-        let thread = spawn_worker(scope, rt, alloc, job, gate, ends, pass)?;
+        let (thread, sender) = spawn_worker(scope, rt, alloc, job, gate, ends, pass)?;
         threads.push_reserved(thread);
+        verdicts.push_reserved(sender);
     }
-    Ok(threads)
+    Ok((threads, verdicts))
 }
 
-// Starts the thread of a worker.
+// Starts the thread of a worker, with a channel on which it is told of its losses.
 fn spawn_worker<'s, E, J: Origin + Send + Sync + 's, G: Gate + Sync + 's, R: Wait + Sync + 's>(
     scope: &Scope<'s, E>,
     rt: &'s R,
@@ -90,24 +107,33 @@ fn spawn_worker<'s, E, J: Origin + Send + Sync + 's, G: Gate + Sync + 's, R: Wai
     gate: &'s G,
     ends: &CoordinatorEnds<J>,
     pass: WorkerPass<J>,
-) -> Result<WorkerThread<J>, JobFault>
+) -> Result<(WorkerThread<J>, VerdictSender), JobFault>
     requires job { J.work ≡ job.now }
     requires pass { IsNewPass (channels_of ends.now) pass.worker pass }
-    ensures spawned { IfOk result (IsSpawned ends.now pass.worker) }
+    ensures spawned { IfOk result (λ pair. IsSpawned ends.now pass.worker pair.0) }
+    ensures line { IfOk result (λ pair. line_of pair.0 ≡ sends_on pair.1) }
+    ensures untold { IfOk result (λ pair. told_on pair.1 ≡ []) }
     ensures refused { IfErr result (λ fault. fault ≡ ThreadRefused) }
 {
+    let Ok((reader, sender)) = VerdictSender::open(alloc) else {
+        return Err(JobFault::ThreadRefused);
+    };
     let promise = WorkerPromise {
         worker: pass.worker(),
         hub: Snapshot::of(ends),
+        line: Snapshot::of(&sender),
     };
-    let work = move || -> Result<WorkerReceipt<J>, JobFault>
+    let work = move || -> Result<WorkerEnd<J>, JobFault>
         requires job { J.work ≡ job.now }
         requires new { handed_in pass ≡ [] }
-        ensures whose { IfOk result (IsReceipt pass) }
-        ensures joins { IfOk result JoinsAfterLoss }
-    { work_all(rt, alloc, job, gate, pass) };
+        requires unheard { heard_on reader ≡ [] }
+        ensures whose { IfOk result (λ end. IsReceipt pass end.receipt) }
+        ensures joins { IfOk result (λ end. JoinsAfterLoss end.receipt) }
+        ensures counted { IfOk result HasJoined }
+        ensures line { IfOk result (λ end. reads_on end.reader ≡ reads_on reader) }
+    { work_all(rt, alloc, job, gate, pass, reader) };
     match scope.spawn_with(promise, work) {
-        Ok(thread) => Ok(thread),
+        Ok(thread) => Ok((thread, sender)),
         Err(_) => Err(JobFault::ThreadRefused),
     }
 }

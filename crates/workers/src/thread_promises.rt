@@ -2,16 +2,19 @@
 
 use crate::coordinator_ends::CoordinatorEnds;
 use crate::pass::{TickReceipt, WorkerReceipt};
+use crate::verdict::VerdictSender;
+use crate::worker_loop::WorkerEnd;
 use std::snapshot::Snapshot;
 use std::thread::{Promise, PromisedHandle};
 use superstep::{JobFault, Origin};
 
 /// The promise of a worker's thread: it returns this worker's receipt, on the channels of this hub. The worker joined again only
-/// right after a loss that it reported.
+/// right after a loss that it reported, and of which it heard on this line that it was counted.
 #[derive(Drop)]
 pub struct WorkerPromise<J: Origin> {
     pub worker: u32,
     pub hub: Snapshot<CoordinatorEnds<J>>,
+    pub line: Snapshot<VerdictSender>,
 }
 
 /// The promise of the ticker's thread: it returns the ticker's receipt, on the channels of this hub.
@@ -20,14 +23,16 @@ pub struct TickerPromise<J: Origin> {
     pub hub: Snapshot<CoordinatorEnds<J>>,
 }
 
-impl<J: Origin> Promise<Result<WorkerReceipt<J>, JobFault>> for WorkerPromise<J> {
+impl<J: Origin> Promise<Result<WorkerEnd<J>, JobFault>> for WorkerPromise<J> {
     ghost use Rattle.std.specs.Prelude.{IfOk};
     ghost use Rattle.workers.specs.Hub.{IsReceiptOn, channels_of};
     ghost use Rattle.workers.specs.Threads.{JoinsAfterLoss};
+    ghost use Rattle.workers.specs.inside.Joins.{IsEndOn};
 
-    ghost kept_by = { λ promise result. IfOk result (λ receipt.
-        IsReceiptOn (channels_of promise.hub.value) promise.worker receipt
-        × JoinsAfterLoss receipt) };
+    ghost kept_by = { λ promise result. IfOk result (λ end.
+        IsReceiptOn (channels_of promise.hub.value) promise.worker end.receipt
+        × JoinsAfterLoss end.receipt
+        × IsEndOn promise.line.value end) };
 }
 
 impl<J: Origin> Promise<Result<TickReceipt<J>, JobFault>> for TickerPromise<J> {
@@ -38,7 +43,7 @@ impl<J: Origin> Promise<Result<TickReceipt<J>, JobFault>> for TickerPromise<J> {
         IfOk result (IsTickReceiptOn (channels_of promise.hub.value)) };
 }
 
-pub type WorkerThread<J> = PromisedHandle<Result<WorkerReceipt<J>, JobFault>, WorkerPromise<J>>;
+pub type WorkerThread<J> = PromisedHandle<Result<WorkerEnd<J>, JobFault>, WorkerPromise<J>>;
 
 pub type TickThread<J> = PromisedHandle<Result<TickReceipt<J>, JobFault>, TickerPromise<J>>;
 

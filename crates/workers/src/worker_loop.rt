@@ -1,17 +1,27 @@
 //! The loops of the workers' threads and of the ticker's.
 
 ghost use Rattle.std.specs.Prelude.{◌≡◌, ◌+◌, [], false, IfOk, IfSome, OnOk};
-ghost use Rattle.workers.specs.Messages.{AddsJoins, event_sender, is_joined};
+ghost use Rattle.workers.specs.Messages.{AddsJoins, event_sender, is_joined, is_lost};
 ghost use Rattle.workers.specs.Passes.{IsReceipt, IsSamePass, IsTickReceipt, handed_in, worker_of};
 ghost use Rattle.workers.specs.Threads.{JoinsAfterLoss};
+ghost use Rattle.workers.specs.Verdicts.{heard_on, reads_on};
+ghost use Rattle.workers.specs.inside.Joins.{AddsCounted, HasJoined};
 
 use crate::gate::{Gate, Turn, Worked};
 use crate::pass::{TickPass, TickReceipt, WorkerPass, WorkerReceipt};
+use crate::verdict::VerdictReader;
 use interp::Scratch;
 use rollback::Event;
 use std::alloc::Global;
 use std::sync::Wait;
 use superstep::{Done, Found, Job, JobFault, Origin, Place, Task, TaskLost, run_task};
+
+/// The ends of a worker that has said bye.
+#[derive(Drop)]
+pub struct WorkerEnd<J: Origin> {
+    pub receipt: WorkerReceipt<J>,
+    pub reader: VerdictReader,
+}
 
 // Runs a task. The scratch is made for the first one.
 fn work_on<'a, J: Origin>(
@@ -48,6 +58,7 @@ fn outcome<'a, J: Origin>(
     requires fits { IfSome scratch.old (λ scratch. scratch ≡ job.now.«module») }
     ensures own { event_sender result ≡ worker + 1 }
     ensures work { is_joined result ≡ false }
+    ensures stays { is_lost result ≡ false }
     ensures fits { IfSome scratch.new (λ scratch. scratch ≡ job.now.«module») }
 {
     match work_on(alloc, job, task, scratch) {
@@ -86,19 +97,29 @@ fn show<J: Origin, G: Gate, R: Wait>(
     }
 }
 
-// Reports the worker as lost, and as joined again if the gate says so. Returns whether it is lost for good.
+// Reports the worker as lost, and as joined again if the gate says so and the loss was counted. A worker that was lost
+// before, by its lease, does not join. Returns whether it is lost for good.
 fn be_lost<J: Origin, G: Gate, R: Wait>(
     rt: &R,
     gate: &G,
     pass: &mut WorkerPass<J>,
+    reader: &mut VerdictReader,
 ) -> Result<bool, JobFault>
     ensures same { IsSamePass pass.old pass.new }
     ensures joins { OnOk result (AddsJoins (handed_in pass.old) (handed_in pass.new)) }
+    ensures counted { OnOk result (AddsCounted (handed_in pass.old) (handed_in pass.new)
+        (heard_on reader.old) (heard_on reader.new)) }
+    ensures line { reads_on reader.new ≡ reads_on reader.old }
 {
     let worker = pass.worker();
     pass.hand_in(rt, Event::Lost(worker))?;
-    if !gate.again(worker) {
+    let again = gate.again(worker);
+    let counted = reader.hear(rt)?;
+    if !again {
         return Ok(true);
+    }
+    if !counted {
+        return Ok(false);
     }
     pass.hand_in(rt, Event::Joined(worker))?;
     Ok(false)
@@ -111,6 +132,7 @@ fn work_one<'a, J: Origin, G: Gate, R: Wait>(
     job: &'a Job,
     gate: &G,
     pass: &mut WorkerPass<J>,
+    reader: &mut VerdictReader,
     task: Task<J>,
     scratch: &mut Option<Scratch<'a>>,
 ) -> Result<bool, JobFault>
@@ -119,6 +141,9 @@ fn work_one<'a, J: Origin, G: Gate, R: Wait>(
     ensures fits { IfSome scratch.new (λ scratch. scratch ≡ job.now.«module») }
     ensures same { IsSamePass pass.old pass.new }
     ensures joins { OnOk result (AddsJoins (handed_in pass.old) (handed_in pass.new)) }
+    ensures counted { OnOk result (AddsCounted (handed_in pass.old) (handed_in pass.new)
+        (heard_on reader.old) (heard_on reader.new)) }
+    ensures line { reads_on reader.new ≡ reads_on reader.old }
 {
     let worker = pass.worker();
     match gate.before(worker, task.superstep(), task.part()) {
@@ -131,7 +156,7 @@ fn work_one<'a, J: Origin, G: Gate, R: Wait>(
         }
         Turn::Lose => {
             drop(task);
-            be_lost(rt, gate, pass)
+            be_lost(rt, gate, pass, reader)
         }
     }
 }
@@ -144,6 +169,7 @@ fn work_unless_lost<'a, J: Origin, G: Gate, R: Wait>(
     gate: &G,
     lost: bool,
     pass: &mut WorkerPass<J>,
+    reader: &mut VerdictReader,
     task: Task<J>,
     scratch: &mut Option<Scratch<'a>>,
 ) -> Result<bool, JobFault>
@@ -152,12 +178,15 @@ fn work_unless_lost<'a, J: Origin, G: Gate, R: Wait>(
     ensures fits { IfSome scratch.new (λ scratch. scratch ≡ job.now.«module») }
     ensures same { IsSamePass pass.old pass.new }
     ensures joins { OnOk result (AddsJoins (handed_in pass.old) (handed_in pass.new)) }
+    ensures counted { OnOk result (AddsCounted (handed_in pass.old) (handed_in pass.new)
+        (heard_on reader.old) (heard_on reader.new)) }
+    ensures line { reads_on reader.new ≡ reads_on reader.old }
 {
     if lost {
         drop(task);
         return Ok(true);
     }
-    work_one(rt, alloc, job, gate, pass, task, scratch)
+    work_one(rt, alloc, job, gate, pass, reader, task, scratch)
 }
 
 // Takes tasks until the worker is stopped. As the gate says, it works on each task or is lost with it, and sends the
@@ -168,42 +197,53 @@ fn work_until_stopped<'a, J: Origin, G: Gate, R: Wait>(
     job: &'a Job,
     gate: &G,
     pass: &mut WorkerPass<J>,
+    reader: &mut VerdictReader,
     scratch: &mut Option<Scratch<'a>>,
 ) -> Result<(), JobFault>
     requires job { J.work ≡ job.now }
     requires fits { IfSome scratch.old (λ scratch. scratch ≡ job.now.«module») }
     ensures same { IsSamePass pass.old pass.new }
     ensures joins { OnOk result (AddsJoins (handed_in pass.old) (handed_in pass.new)) }
+    ensures counted { OnOk result (AddsCounted (handed_in pass.old) (handed_in pass.new)
+        (heard_on reader.old) (heard_on reader.new)) }
+    ensures line { reads_on reader.new ≡ reads_on reader.old }
 {
     let mut lost = false;
     for _ in rt.forever() {
         let Some(task) = pass.take(rt)? else {
             break;
         };
-        lost = work_unless_lost(rt, alloc, job, gate, lost, pass, task, scratch)?;
+        lost = work_unless_lost(rt, alloc, job, gate, lost, pass, reader, task, scratch)?;
     }
     Ok(())
 }
 
-/// Runs a worker's loop. It asks the gate before each task, works on it or is lost with it, and sends the event. Once
-/// it is lost for good, it drops all tasks. When it is stopped, it says bye.
+/// Runs a worker's loop. It asks the gate before each task, works on it or is lost with it, and sends the event. It joins
+/// again only after a loss that was counted. Once it is lost for good, it drops all tasks. When it is stopped, it says bye.
 pub fn work_all<J: Origin, G: Gate, R: Wait>(
     rt: &R,
     alloc: Global,
     job: &Job,
     gate: &G,
     mut pass: WorkerPass<J>,
-) -> Result<WorkerReceipt<J>, JobFault>
+    mut reader: VerdictReader,
+) -> Result<WorkerEnd<J>, JobFault>
     requires job { J.work ≡ job.now }
     requires new { handed_in pass ≡ [] }
-    ensures whose { IfOk result (IsReceipt pass) }
-    ensures joins { IfOk result JoinsAfterLoss }
+    requires unheard { heard_on reader ≡ [] }
+    ensures whose { IfOk result (λ end. IsReceipt pass end.receipt) }
+    ensures joins { IfOk result (λ end. JoinsAfterLoss end.receipt) }
+    ensures counted { IfOk result HasJoined }
+    ensures line { IfOk result (λ end. reads_on end.reader ≡ reads_on reader) }
 {
     let mut scratch = None;
-    let worked = work_until_stopped(rt, alloc, job, gate, &mut pass, &mut scratch);
+    let worked = work_until_stopped(rt, alloc, job, gate, &mut pass, &mut reader, &mut scratch);
     drop(scratch);
     match worked {
-        Ok(()) => pass.bye(rt),
+        Ok(()) => {
+            let receipt = pass.bye(rt)?;
+            Ok(WorkerEnd { receipt, reader })
+        }
         Err(fault) => {
             drop(pass);
             Err(fault)

@@ -1,7 +1,9 @@
-use Rattle.std.proofs.Common.{◌≡◌, ◌+◌, ◌≤◌, vec_len, vec_capacity}
+use Rattle.std.proofs.Common.{◌≡◌, ◌+◌, ◌≤◌, map, vec_len, vec_capacity}
 use Rattle.std.specs.Vec.Iter.{into_iter_items, into_iter_len}
 use Rattle.workers.specs.Hub.{IsSameHub, IsTickerSettled, handed, received, staff}
 use Rattle.workers.specs.Threads.{AreSpawned, AreSettled}
+use Rattle.workers.specs.Verdicts.{sends_on, told_on}
+use Rattle.workers.specs.inside.Joins.{AreJoined, AreLinked}
 use Rattle.workers.proofs.audit.settle_all.Given as goal
 
 abbrev pub invariant-loop-thread : goal.invariant-loop-thread
@@ -11,6 +13,10 @@ invariant-loop-thread g l = record {
   room : staff l.fn.ends ≤ vec_capacity l.receipts;
   ticker : IsTickerSettled l.ends l.ticker;
   settled : AreSettled l.ends 0 l.receipts.items;
+  linked : AreLinked (map sends_on l.verdicts.items) (vec_len l.receipts) (into_iter_items l.thread-iterator);
+  lines : vec_len l.verdicts ≡ staff l.fn.ends;
+  joined : AreJoined (map told_on l.verdicts.items) 0 l.receipts.items;
+  told : map told_on l.verdicts.items ≡ map told_on l.fn.verdicts.items;
   received : received l.ends ≡ received l.fn.ends;
   handed : handed l.ends ≡ handed l.fn.ends;
   hub : IsSameHub l.fn.ends l.ends;

@@ -1,4 +1,4 @@
-use Rattle.workers.proofs.Ending.{calm_told_on, on_own, own_begun, unspent_begun, where_mapped, where_run}
+use Rattle.workers.proofs.Ending.{calm_told_on, joined_begun, on_own, own_begun, unspent_begun, where_mapped, where_run}
 use Rattle.workers.proofs.HandedIn.{handed_in}
 use Rattle.workers.specs.Hub.{handed, received}
 use Rattle.workers.proofs.run.resume_job.Goals as goal
@@ -24,6 +24,13 @@ returns-clause-kept g c =
     let b = c.in-Ok.ensures.begun in
     where_run r.2 _
     (where_mapped r.2 _ _ (own_begun g.K.Keep.honest g.K.Keep.saved g.K.Keep.may_load g.K.Keep.faults g.J.Origin.work g.J.Origin.honest c.args.superstep b.heard c.in-Ok.book (received r.0) (handed r.0) c.args.keep c.resume.new.keep r.2 b.machine b.told) c.run_spawned-ends.ensures.ran)
+
+pub returns-clause-joins : goal.returns-clause-joins
+returns-clause-joins g c =
+    let r = c.run_spawned-ends.result in
+    let b = c.in-Ok.ensures.begun in
+    where_run r.2 _
+    (where_mapped r.2 _ _ (joined_begun g.J.Origin.work g.J.Origin.honest c.in-Ok.book (received r.0) (handed r.0) r.2 c.args.superstep b.heard b.machine) c.run_spawned-ends.ensures.joins)
 
 pub returns-clause-calm : goal.returns-clause-calm
 returns-clause-calm g c = λ one never made.

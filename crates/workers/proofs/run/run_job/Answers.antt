@@ -1,4 +1,4 @@
-use Rattle.workers.proofs.Ending.{calm_told, ended_own, keeps_first, opened_of, own_opened, unspent_opened, where_mapped, where_run}
+use Rattle.workers.proofs.Ending.{calm_told, ended_own, joined_opened, keeps_first, opened_of, own_opened, unspent_opened, where_mapped, where_run}
 use Rattle.workers.specs.Hub.{handed, received}
 use Rattle.workers.proofs.HandedIn.{handed_in}
 use Rattle.workers.proofs.run.run_job.Goals as goal
@@ -16,6 +16,13 @@ returns-clause-kept g c =
     let o = opened_of g.J.Origin.work c.args.job.now c.in-Ok.book c.requires.job c.in-Ok.ensures.opened in
     where_run r.2 _
     (where_mapped r.2 _ _ (own_opened g.K.Keep.honest g.K.Keep.saved g.K.Keep.may_load g.K.Keep.faults g.J.Origin.work g.J.Origin.honest c.in-Ok.book (received r.0) (handed r.0) c.args.keep r.2 o) c.run_spawned-ends.ensures.ran)
+
+pub returns-clause-joins : goal.returns-clause-joins
+returns-clause-joins g c =
+    let r = c.run_spawned-ends.result in
+    let o = opened_of g.J.Origin.work c.args.job.now c.in-Ok.book c.requires.job c.in-Ok.ensures.opened in
+    where_run r.2 _
+    (where_mapped r.2 _ _ (joined_opened g.J.Origin.work g.J.Origin.honest c.in-Ok.book (received r.0) (handed r.0) r.2 o) c.run_spawned-ends.ensures.joins)
 
 pub returns-clause-calm : goal.returns-clause-calm
 returns-clause-calm g c = λ one never.

@@ -1,4 +1,9 @@
-use Rattle.std.proofs.Common.{rules, arith}
+use Rattle.std.proofs.Common.{◌∷◌, [], ◌∙◌, ap, map, rules, arith}
+use mathlib.Core.List.{map-append}
+use Rattle.channels.proofs.Handing.{length_map}
+use Rattle.workers.specs.Verdicts.{sends_on, told_on, told_to}
+use Rattle.workers.proofs.Joins.{linked_next}
+use Rattle.workers.proofs.Opening.{at_more}
 use Rattle.workers.proofs.SpawnedThreads.{spawned_next, pass_first, pass_rest}
 use Rattle.workers.proofs.spawning.spawn_workers.Goals as goal
 
@@ -8,9 +13,18 @@ loop-pass-preserved g c =
     let step = c.in-Some.ensures.steps in
     let pass = c.in-Some.pass in
     let new = pass_first _ _ _ pass _ step.0 i.rest in
+    let one = c.in_ok-thread in
+    let threads = c.loop-pass.threads in
+    let verdicts = c.loop-pass.verdicts in
+    let added = c.push_reserved-in-loop-pass.ensures.items in
     record {
       rest = pass_rest _ _ _ _ pass _ step.0 c.push_reserved.ensures.len i.rest;
       all = search rules;
-      spawned = spawned_next c.args.ends.now pass.worker c.loop-pass.threads.items _ c.in_ok-thread.thread c.push_reserved.ensures.items (omega (arith, new.worker)) i.spawned c.in_ok-thread.ensures.spawned;
+      spawned = spawned_next c.args.ends.now pass.worker threads.items _ one.thread c.push_reserved.ensures.items (omega (arith, new.worker)) i.spawned one.ensures.spawned;
       room = search rules;
+      linked = linked_next (map sends_on verdicts.items) _ (sends_on one.sender) threads.items _ one.thread (ap (map sends_on) added ∙ map-append sends_on verdicts.items (one.sender ∷ [])) c.push_reserved.ensures.items
+          (omega (arith, i.lines, threads.ok.0, verdicts.ok.0, length_map sends_on verdicts.items)) one.ensures.line i.linked;
+      lines = search rules;
+      lines_room = search rules;
+      untold = λ w. ap (λ xs. told_to (map told_on xs) w) added ∙ at_more told_on verdicts.items one.sender one.ensures.untold i.untold w;
     }

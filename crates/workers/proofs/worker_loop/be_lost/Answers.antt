@@ -1,9 +1,24 @@
-use Rattle.std.proofs.Common.{refl}
+use Rattle.std.proofs.Common.{◌≡◌, true, refl}
+use Rattle.workers.proofs.Joins.{counted_join, counted_loss}
 use Rattle.workers.proofs.Passing.{joins_event, joins_pair}
 use Rattle.workers.proofs.worker_loop.be_lost.Goals as goal
 
 pub returns-then-not-again-clause-joins : goal.returns-then-not-again-clause-joins
 returns-then-not-again-clause-joins g c = joins_event _ _ _ c.in_ok-hand_in.ensures.handed_in refl
 
+pub returns-then-not-again-clause-counted : goal.returns-then-not-again-clause-counted
+returns-then-not-again-clause-counted g c = counted_loss _ _ _ _ _ _ c.in_ok-hand_in.ensures.handed_in c.in_ok-counted.ensures.heard
+
+pub returns-then-not-counted-clause-joins : goal.returns-then-not-counted-clause-joins
+returns-then-not-counted-clause-joins g c = joins_event _ _ _ c.in_ok-hand_in.ensures.handed_in refl
+
+pub returns-then-not-counted-clause-counted : goal.returns-then-not-counted-clause-counted
+returns-then-not-counted-clause-counted g c = counted_loss _ _ _ _ _ _ c.in_ok-hand_in.ensures.handed_in c.in_ok-counted.ensures.heard
+
 pub returns-clause-joins : goal.returns-clause-joins
 returns-clause-joins g c = joins_pair _ _ _ _ _ c.in_ok-hand_in.ensures.handed_in c.in_ok-hand_in-2.ensures.handed_in (λ lost. refl)
+
+pub returns-clause-counted : goal.returns-clause-counted
+returns-clause-counted g c =
+    let sure : c.in_ok-counted.counted ≡ true = cc in
+    counted_join _ _ _ _ _ _ _ c.in_ok-hand_in.ensures.handed_in c.in_ok-hand_in-2.ensures.handed_in c.in_ok-counted.ensures.heard sure

@@ -1,5 +1,11 @@
+use Rattle.workers.specs.Verdicts.{heard_on}
+use Rattle.workers.proofs.Joins.{counted_event}
 use Rattle.workers.proofs.Passing.{joins_event}
 use Rattle.workers.proofs.worker_loop.work_one.Goals as goal
 
 pub returns-in_ok-hand_in-in-Go-clause-joins : goal.returns-in_ok-hand_in-in-Go-clause-joins
 returns-in_ok-hand_in-in-Go-clause-joins g c = joins_event _ _ _ c.in_ok-hand_in-in-Go.ensures.handed_in c.outcome-event.ensures.work
+
+pub returns-in_ok-hand_in-in-Go-clause-counted : goal.returns-in_ok-hand_in-in-Go-clause-counted
+returns-in_ok-hand_in-in-Go-clause-counted g c =
+    counted_event _ _ _ (heard_on c.args.reader.now) c.in_ok-hand_in-in-Go.ensures.handed_in c.outcome-event.ensures.work c.outcome-event.ensures.stays

@@ -1,6 +1,8 @@
 use Rattle.std.proofs.Common.{◌≡◌, IfSome}
 use Rattle.workers.specs.Messages.{AddsJoins}
 use Rattle.workers.specs.Passes.{IsSamePass, handed_in}
+use Rattle.workers.specs.Verdicts.{heard_on, reads_on}
+use Rattle.workers.specs.inside.Joins.{AddsCounted}
 use Rattle.workers.proofs.worker_loop.work_until_stopped.Given as goal
 
 abbrev pub invariant-loop : goal.invariant-loop
@@ -8,4 +10,6 @@ invariant-loop g l = record {
   fits : IfSome l.scratch (λ scratch. scratch ≡ l.job.«module»);
   same : IsSamePass l.initial.pass l.pass;
   joins : AddsJoins (handed_in l.initial.pass) (handed_in l.pass);
+  counted : AddsCounted (handed_in l.initial.pass) (handed_in l.pass) (heard_on l.initial.reader) (heard_on l.reader);
+  line : reads_on l.reader ≡ reads_on l.initial.reader;
 }

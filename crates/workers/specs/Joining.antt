@@ -1,0 +1,97 @@
+-- A worker joins again only after a loss that was counted.
+use Rattle.std.specs.Prelude.{◌≡◌, ◌<◌, ◌+◌, ◌==◌, ◌&&◌, ℕ, Bool, true, false, List, [], ◌∷◌, ◌++◌, Result, Ok, Err, if◌then◌else◌}
+use Rattle.superstep.specs.Job.{Work}
+use Rattle.superstep.specs.declared.fault.JobFault.{JobFault}
+use Rattle.channels.specs.Protocol.{of}
+use Rattle.channels.specs.declared.order.Order.{Order}
+use Rattle.rollback.specs.declared.event.Answer.{Answer}
+use Rattle.rollback.specs.declared.event.Answer.TheVariants.{Advanced, Ended, RolledBack, Stale, Taken}
+use Rattle.rollback.specs.declared.report.Report.{Report}
+use Rattle.rollback.specs.Book.{IsQuietAt}
+use Rattle.rollback.specs.Events.{Heard, Stamp, accepted, begun, reply_of}
+use Rattle.rollback.specs.Events.Stamp.{DoneBy, FailedBy, JoinedBy, LostBy, Ticked}
+use Rattle.rollback.specs.Machine.{Machine, opened}
+use Rattle.workers.specs.JobAnswers.{RanFrom}
+use Rattle.workers.specs.Steps.{Move, events, moved}
+use Rattle.workers.specs.Steps.Move.{Hand, Take}
+use Rattle.workers.specs.declared.message.Message.{Message}
+
+-- ---- the losses of a worker
+
+abbrev pub is_rollback : Answer → Bool
+is_rollback Taken = false
+is_rollback (Advanced superstep) = false
+is_rollback (RolledBack superstep) = true
+is_rollback Stale = false
+is_rollback Ended = false
+
+-- A loss was counted if it rolled the job back. It was not if the worker was lost before, by its lease, or has not joined yet, or if the
+-- job has ended.
+abbrev pub is_counted : Result Answer JobFault → Bool
+is_counted (Ok answer) = is_rollback answer
+is_counted (Err fault) = false
+
+abbrev pub is_loss_of : ℕ → Stamp → Bool
+is_loss_of w (DoneBy v task units) = false
+is_loss_of w (FailedBy v place) = false
+is_loss_of w (LostBy v) = v == w
+is_loss_of w (JoinedBy v) = false
+is_loss_of w Ticked = false
+
+abbrev pub loss_in : ℕ → Machine → Move → List Bool
+loss_in w m (Hand v task) = []
+loss_in w m (Take heard stamp) = if is_loss_of w stamp then is_counted (reply_of (accepted heard m stamp)) ∷ [] else []
+
+-- whether each loss that worker w reported in the list was counted, in order
+abbrev pub losses : ℕ → Machine → List Move → List Bool
+losses w m [] = []
+losses w m (move ∷ moves) = loss_in w m move ++ losses w (moved m move) moves
+
+-- ---- its joins
+
+-- the sender of an event
+abbrev pub stamp_sender : Stamp → ℕ
+stamp_sender (DoneBy w task units) = w + 1
+stamp_sender (FailedBy w place) = w + 1
+stamp_sender (LostBy w) = w + 1
+stamp_sender (JoinedBy w) = w + 1
+stamp_sender Ticked = 0
+
+-- the events of worker w
+abbrev pub events_by : ℕ → List Stamp → List Stamp
+events_by w stamps = of stamp_sender (w + 1) stamps
+
+abbrev pub first_of : List Bool → Bool
+first_of [] = false
+first_of (b ∷ bs) = b
+
+abbrev pub rest_of : List Bool → List Bool
+rest_of [] = []
+rest_of (b ∷ bs) = bs
+
+-- Of the events of one worker, each join comes right after a loss that was counted. The list of losses says of each, in order,
+-- whether it was; `counted` says it of the event before the first.
+abbrev pub joins_counted : (counted : Bool) → (losses : List Bool) → List Stamp → Bool
+joins_counted counted ls [] = true
+joins_counted counted ls (DoneBy w task units ∷ stamps) = joins_counted false ls stamps
+joins_counted counted ls (FailedBy w place ∷ stamps) = joins_counted false ls stamps
+joins_counted counted ls (LostBy w ∷ stamps) = joins_counted (first_of ls) (rest_of ls) stamps
+joins_counted counted ls (JoinedBy w ∷ stamps) = counted && joins_counted false ls stamps
+joins_counted counted ls (Ticked ∷ stamps) = joins_counted false ls stamps
+
+-- ---- whole runs
+
+-- There is a list as in `RanFrom`. In it a worker joins again only right after a loss that it reported and that was counted.
+pub record JoinedFrom {J : Type 0} (work : Work) (honest : Bool) (first : Machine) (received : List (Message J)) (handed : List (List (Order J))) (answer : Result Report JobFault) : Type 0 where
+  pub ran : RanFrom work honest first received handed answer
+  pub joins : (w : ℕ) → w < work.settings.workers → joins_counted false (losses w first ran.moves) (events_by w (events ran.moves)) ≡ true
+
+-- from superstep 0 on
+abbrev pub JoinedOver : {J : Type 0} → Work → Bool → List (Message J) → List (List (Order J)) → Result Report JobFault → Type 0
+JoinedOver work honest received handed answer =
+    (quiet : Bool) × IsQuietAt work 0 quiet × JoinedFrom work honest (opened work.settings quiet) received handed answer
+
+-- from a superstep on whose state was loaded
+abbrev pub JoinedOn : {J : Type 0} → Work → Bool → (superstep : ℕ) → List (Message J) → List (List (Order J)) → Result Report JobFault → Type 0
+JoinedOn work honest superstep received handed answer =
+    (heard : Heard) × JoinedFrom work honest (begun heard work.settings superstep) received handed answer

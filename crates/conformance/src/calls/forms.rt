@@ -1,6 +1,9 @@
 //! The two forms of a compute call: the reference call, and that of `interp`. Each answer is one line: the lines of the
 //! outcome, or why there is none.
 
+ghost use Rattle.std.specs.Prelude.{◌≡◌};
+ghost use Rattle.interp.specs.Bounded.{HasIds};
+
 use crate::reference_call;
 use bounded_profile::{Verified, verify};
 use host_calls::{CallInput, CallOutcome};
@@ -71,8 +74,19 @@ fn second_answer(
     if !has_ids(input) || !scratch.fits(verified) {
         return String::from_str(alloc, "not called");
     }
-    let _ = run(alloc, verified, input, scratch);
+    call_before(alloc, verified, input, scratch);
     told(alloc, run(alloc, verified, input, scratch))
+}
+
+// Makes a call, and leaves its buffers to the next.
+fn call_before(alloc: Global, verified: &Verified, input: &CallInput, scratch: &mut Scratch)
+    requires fits { scratch.old ≡ verified.now }
+    requires ids { HasIds input.now }
+    ensures { scratch.new ≡ scratch.old }
+{
+    if let Ok(outcome) = run(alloc, verified, input, scratch) {
+        scratch.reuse(outcome);
+    }
 }
 
 fn told<F: Debug + Drop>(

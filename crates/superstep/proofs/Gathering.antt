@@ -67,7 +67,7 @@ pub record HasMore (old new : Gathered) (units : ℕ) (vertices : List VertexSta
   pub more_aggregators : new.aggregators ≡ united old.aggregators given
   pub more_units : new.units ≡ capped (old.units + units)
 
-pub gathered_more : (work : Work) (honest : Bool) (dones : List DoneStamp) (done : DoneStamp) (old new : Gathered)
+pub gathered_more : (work : Work) (honest : ℕ → Bool) (dones : List DoneStamp) (done : DoneStamp) (old new : Gathered)
     (vertices : List VertexState) (letters : List Letter) (given : List ℤ)
     → IsGathered work honest dones old → IsDone work honest done vertices letters given
     → HasMore old new done.units vertices letters given
@@ -96,7 +96,7 @@ gathered_more work honest dones done old new vertices letters given before is mo
     }
 
 -- nothing is gathered yet
-pub gathered_none : (work : Work) (honest : Bool) (gathered : Gathered) → gathered.vertices.items ≡ []
+pub gathered_none : (work : Work) (honest : ℕ → Bool) (gathered : Gathered) → gathered.vertices.items ≡ []
     → gathered.letters.items ≡ [] → gathered.aggregators ≡ aggregator_starts → gathered.units ≡ 0 → IsGathered work honest [] gathered
 gathered_none work honest gathered no_vertices no_letters aggregators units = record {
   parts = [];

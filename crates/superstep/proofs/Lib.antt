@@ -21,4 +21,5 @@ pub mod Runs
 pub mod Sending
 pub mod AggregatorFolds
 pub mod Spreading
+pub mod Trusting
 pub mod VertexCalls

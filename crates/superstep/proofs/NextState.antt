@@ -1,5 +1,5 @@
 -- The state after a superstep.
-use Rattle.std.proofs.Common.{◌≡◌, ℕ, ℤ, suc, ◌+◌, ◌-◌, ◌^◌, ◌<◌, ◌≤◌, Bool, true, None, not, List, [], ◌∷◌, ◌++◌, length, map, vec_items, refl, ap, sym, ◌∙◌, subst, arith, length-append}
+use Rattle.std.proofs.Common.{◌≡◌, ℕ, ℤ, suc, ◌+◌, ◌-◌, ◌^◌, ◌<◌, ◌≤◌, Bool, None, not, List, [], ◌∷◌, ◌++◌, length, map, vec_items, refl, ap, sym, ◌∙◌, subst, arith, length-append}
 use Rattle.std.specs.List.{range_with_len, sum, sum_by}
 use Rattle.std.specs.List.Sorted.{IsPermutation, IsStrictlyIncreasing}
 use Rattle.std.proofs.lemmas.List.{length-map}
@@ -21,7 +21,7 @@ use Rattle.superstep.specs.Job.{HasGraph, IsGraphOf, Meaning, Work}
 use Rattle.superstep.specs.Settings.{first_bad}
 use Rattle.superstep.specs.Ordering.{by_key}
 use Rattle.superstep.specs.State.{HasIdsOf, IsState, ShowsAt, bare, in_order, state_id}
-use Rattle.superstep.specs.Tasks.{DoneStamp, IsRow, VertexOutcome, emptied, outcomes_in}
+use Rattle.superstep.specs.Tasks.{AreTrusted, DoneStamp, IsRow, VertexOutcome, emptied, outcomes_in}
 use Rattle.superstep.specs.Totals.{AreTotals, SumsAt, standing_of}
 use Rattle.superstep.specs.inside.Barrier.{Follows, IsGathered, IsSpread, all_filled, filled, left_id, left_ids}
 use Rattle.superstep.specs.inside.Rows.{IsKept}
@@ -161,7 +161,7 @@ next_shows work meaning left old new took lost aggregates vertices from is at =
 -- ---- the barrier
 
 -- What it begins with, and what the parts left.
-pub record IsReady (work now : Work) (honest : Bool) (totals : Totals) (dones : List DoneStamp) (gathered : Gathered) : Type 0 where
+pub record IsReady (work now : Work) (honest : ℕ → Bool) (totals : Totals) (dones : List DoneStamp) (gathered : Gathered) : Type 0 where
   pub job : work ≡ now
   pub good : first_bad now.settings ≡ None
   pub graph : HasGraph now
@@ -169,7 +169,7 @@ pub record IsReady (work now : Work) (honest : Bool) (totals : Totals) (dones : 
   pub sums : AreTotals totals
   pub parts : IsGathered work honest dones gathered
 
-module _ (work now : Work) (honest : Bool) (totals : Totals) (dones : List DoneStamp) (gathered : Gathered) (ready : IsReady work now honest totals dones gathered) where
+module _ (work now : Work) (honest : ℕ → Bool) (totals : Totals) (dones : List DoneStamp) (gathered : Gathered) (ready : IsReady work now honest totals dones gathered) where
   own_graph : IsGraphOf work ready.graph.0
   own_graph = subst (λ (of : Work). IsGraphOf of ready.graph.0) (sym ready.job) ready.graph.1
 
@@ -240,7 +240,7 @@ module _ (work now : Work) (honest : Bool) (totals : Totals) (dones : List DoneS
           ∙ parts_ids work honest totals.superstep dones gathered ready.graph.0 own_graph ready.parts own_row);
     }
 
-    pub next_is_at : honest ≡ true → (meaning : Meaning work) → SumsAt work meaning totals
+    pub next_is_at : AreTrusted honest dones → (meaning : Meaning work) → SumsAt work meaning totals
         → ShowsAt meaning.outcomes meaning.graph (suc totals.superstep) (standing_of later gathered.aggregators (in_order parts))
     next_is_at sure meaning at =
         next_shows work meaning all totals later gathered.units lost gathered.aggregators (in_order parts)

@@ -167,9 +167,9 @@ whole_slice {X} old new len same long =
     ∙ take_all len new (omega arith)
 
 -- What is kept of a part whose calls were run.
-pub done_here : (work : Work) (honest : Bool) (epoch part : ℕ) (shared : Shared) (before after : List VertexState) (all : PartOutput) → FitsPart work part before
-    → CallsPart shared (get_or work.parts part []) before after all → (honest ≡ true → IsPartAt work shared.superstep part before)
-    → (honest ≡ true → AreAggregatesAt work shared.superstep shared.aggregated) → IsCount work shared.count
+pub done_here : (work : Work) (honest : ℕ → Bool) (epoch part : ℕ) (shared : Shared) (before after : List VertexState) (all : PartOutput) → FitsPart work part before
+    → CallsPart shared (get_or work.parts part []) before after all → (honest epoch ≡ true → IsPartAt work shared.superstep part before)
+    → (honest epoch ≡ true → AreAggregatesAt work shared.superstep shared.aggregated) → IsCount work shared.count
     → ((outcomes : Given → Outcome) → AreOutcomes work.«module» outcomes → Tells shared.verified.now outcomes)
     → IsDone work honest (record { epoch = epoch; superstep = shared.superstep; part = part; units = all.units }) after all.letters.items all.aggregators
 done_here work honest epoch part shared before after all fits calls at aggregates counted told = record {
@@ -180,8 +180,8 @@ done_here work honest epoch part shared before after all fits calls at aggregate
 }
 
 -- its units are those of the calls
-pub units_here : (work : Work) (honest : Bool) (stamp : DoneStamp) (vertices : List VertexState) (letters : List Letter) (aggregators : List ℤ)
-    → IsDone work honest stamp vertices letters aggregators → honest ≡ true → AreUnitsAt work stamp.superstep stamp.part stamp.units
+pub units_here : (work : Work) (honest : ℕ → Bool) (stamp : DoneStamp) (vertices : List VertexState) (letters : List Letter) (aggregators : List ℤ)
+    → IsDone work honest stamp vertices letters aggregators → honest stamp.epoch ≡ true → AreUnitsAt work stamp.superstep stamp.part stamp.units
 units_here work honest stamp vertices letters aggregators done sure = λ meaning.
     let before = state_at meaning.outcomes meaning.graph stamp.superstep in
     done.comes.units

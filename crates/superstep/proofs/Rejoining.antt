@@ -19,7 +19,7 @@ use Rattle.superstep.specs.Snapshot.{Row, row_id, row_ids}
 use Rattle.superstep.specs.Superstep.{all_left, left_by, row_after}
 use Rattle.superstep.specs.PlainRun.{first_row, state_at}
 use Rattle.superstep.specs.Job.{IsGraphOf, Meaning, Work}
-use Rattle.superstep.specs.Tasks.{DoneStamp, IsRow, VertexOutcome, letters_of, part_rows}
+use Rattle.superstep.specs.Tasks.{AreTrusted, DoneStamp, IsRow, VertexOutcome, letters_of, part_rows}
 use Rattle.superstep.specs.inside.Barrier.{IsGathered, IsPartLeft, IsSpread, PartLeft, left_id, left_ids, spread}
 use Rattle.superstep.proofs.Graphs.{whole}
 use Rattle.superstep.proofs.Letters.{joined_map}
@@ -51,7 +51,7 @@ got [] k x d is = cc
 got (y ∷ xs) zero x d is = cc
 got (y ∷ xs) (suc k) x d is = got xs k x d is
 
-each_fits : (work : Work) (honest : Bool) (parts : List PartLeft) → AllByRecursion (IsPartLeft work honest) parts
+each_fits : (work : Work) (honest : ℕ → Bool) (parts : List PartLeft) → AllByRecursion (IsPartLeft work honest) parts
     → AllByRecursion (λ part. left_ids part.1 ≡ get_or (map ids work.parts) (part_number part) []) parts
 each_fits work honest [] all = tt
 each_fits work honest (part ∷ parts) all =
@@ -64,7 +64,7 @@ many_parts : (work : Work) (graph : List Entry) → IsGraphOf work graph → len
 many_parts work graph is =
     length-map work.parts ids ∙ ap length is.parts ∙ length-map-range_with_len (part_of_graph work.settings.parts graph) 0 work.settings.parts
 
-pub parts_ids : (work : Work) (honest : Bool) (s : ℕ) (dones : List DoneStamp) (gathered : Gathered) (graph : List Entry) → IsGraphOf work graph
+pub parts_ids : (work : Work) (honest : ℕ → Bool) (s : ℕ) (dones : List DoneStamp) (gathered : Gathered) (graph : List Entry) → IsGraphOf work graph
     → (is : IsGathered work honest dones gathered) → IsRow work.settings.parts s dones
     → map (λ (part : PartLeft). left_ids part.1) is.parts ≡ map ids work.parts
 parts_ids work honest s dones gathered graph is_graph is row =
@@ -76,7 +76,7 @@ pub joined_spread : (parts : List PartLeft) → joined (map part_left parts) ≡
 joined_spread parts = flat_map-map (λ (left : List VertexOutcome). left) part_left parts
 
 -- all of them have the ids of the graph
-pub all_ids : (work : Work) (honest : Bool) (s : ℕ) (dones : List DoneStamp) (gathered : Gathered) (graph : List Entry) → 0 < work.settings.parts
+pub all_ids : (work : Work) (honest : ℕ → Bool) (s : ℕ) (dones : List DoneStamp) (gathered : Gathered) (graph : List Entry) → 0 < work.settings.parts
     → IsGraphOf work graph → (is : IsGathered work honest dones gathered) → IsRow work.settings.parts s dones
     → IsPermutation (left_ids (joined (map part_left is.parts))) (ids graph)
 all_ids work honest s dones gathered graph some is_graph is row =
@@ -91,7 +91,7 @@ all_ids work honest s dones gathered graph some is_graph is row =
 abbrev pub ordered : List PartLeft → List Entry → List VertexOutcome
 ordered parts graph = map (at_id (joined (map part_left parts))) (ids graph)
 
-pub is_spread : (work : Work) (honest : Bool) (s : ℕ) (dones : List DoneStamp) (gathered : Gathered) (numbers : List (List ℕ)) (graph : List Entry) → 0 < work.settings.parts
+pub is_spread : (work : Work) (honest : ℕ → Bool) (s : ℕ) (dones : List DoneStamp) (gathered : Gathered) (numbers : List (List ℕ)) (graph : List Entry) → 0 < work.settings.parts
     → IsGraphOf work graph → (is : IsGathered work honest dones gathered) → IsRow work.settings.parts s dones
     → numbers ≡ map ids work.parts
     → IsSpread numbers (map vec_items gathered.letters.items) (map part_left is.parts) (ordered is.parts graph)
@@ -122,25 +122,27 @@ rows_at meaning s = (state_at meaning.outcomes meaning.graph s).rows
 abbrev left_at : (work : Work) → Meaning work → ℕ → ℕ → List VertexOutcome
 left_at work meaning s part = map (leaving meaning s) (part_rows work.settings.parts (state_at meaning.outcomes meaning.graph s) part)
 
-each_left : (work : Work) (honest : Bool) (meaning : Meaning work) (s : ℕ) (parts : List PartLeft) → honest ≡ true
+each_left : (work : Work) (honest : ℕ → Bool) (meaning : Meaning work) (s : ℕ) (parts : List PartLeft)
+    → AllByRecursion (λ (done : DoneStamp). honest done.epoch ≡ true) (map (λ (part : PartLeft). part.0) parts)
     → AllByRecursion (IsPartLeft work honest) parts → AllByRecursion (λ (done : DoneStamp). done.superstep ≡ s) (map (λ (part : PartLeft). part.0) parts)
     → AllByRecursion (λ part. part.1 ≡ left_at work meaning s (part_number part)) parts
 each_left work honest meaning s [] sure all at = tt
 each_left work honest meaning s (part ∷ parts) sure all at =
-    (subst (λ t. part.1 ≡ left_at work meaning t (part_number part)) at.0 (all.0.at sure meaning), each_left work honest meaning s parts sure all.1 at.1)
+    (subst (λ t. part.1 ≡ left_at work meaning t (part_number part)) at.0 (all.0.at sure.0 meaning), each_left work honest meaning s parts sure.1 all.1 at.1)
 
-parts_left : (work : Work) (honest : Bool) (s : ℕ) (dones : List DoneStamp) (gathered : Gathered) (meaning : Meaning work) → honest ≡ true
+parts_left : (work : Work) (honest : ℕ → Bool) (s : ℕ) (dones : List DoneStamp) (gathered : Gathered) (meaning : Meaning work) → AreTrusted honest dones
     → (is : IsGathered work honest dones gathered) → IsRow work.settings.parts s dones
     → map part_left is.parts ≡ map (map (leaving meaning s)) (parts_by row_id work.settings.parts (rows_at meaning s))
 parts_left work honest s dones gathered meaning sure is row =
     let at = subst (λ stamps. AllByRecursion (λ (done : DoneStamp). done.superstep ≡ s) stamps) (sym is.stamps) (recursion_from_All _ dones row.supersteps) in
-    by_number part_left (left_at work meaning s) is.parts (each_left work honest meaning s is.parts sure is.each at)
+    let trusted = subst (λ stamps. AllByRecursion (λ (done : DoneStamp). honest done.epoch ≡ true) stamps) (sym is.stamps) (recursion_from_All _ dones sure) in
+    by_number part_left (left_at work meaning s) is.parts (each_left work honest meaning s is.parts trusted is.each at)
     ∙ ap (map (left_at work meaning s)) (numbers s work.settings.parts dones is.parts is.stamps row)
     ∙ sym (map-map (map (leaving meaning s)) (part_by row_id work.settings.parts (rows_at meaning s)) (range_with_len 0 work.settings.parts))
 
 -- by rising id, they are what the vertices of the rows leave
-pub ordered_left : (work : Work) (honest : Bool) (s : ℕ) (dones : List DoneStamp) (gathered : Gathered) (graph : List Entry) (meaning : Meaning work)
-    → 0 < work.settings.parts → IsGraphOf work graph → honest ≡ true → (is : IsGathered work honest dones gathered) → IsRow work.settings.parts s dones
+pub ordered_left : (work : Work) (honest : ℕ → Bool) (s : ℕ) (dones : List DoneStamp) (gathered : Gathered) (graph : List Entry) (meaning : Meaning work)
+    → 0 < work.settings.parts → IsGraphOf work graph → AreTrusted honest dones → (is : IsGathered work honest dones gathered) → IsRow work.settings.parts s dones
     → ordered is.parts graph ≡ map (leaving meaning s) (rows_at meaning s)
 ordered_left work honest s dones gathered graph meaning some is_graph sure is row =
     let rows = rows_at meaning s in

@@ -17,31 +17,31 @@ use Rattle.superstep.specs.Ending.{HasStopped, IsEndIn, IsEndOf, states_values}
 use Rattle.superstep.specs.inside.Running.{slice_of}
 use Rattle.superstep.specs.State.{is_due, is_settled}
 
-abbrev stamp_at : ℕ → ℕ → SliceStamp
-stamp_at s part = record { superstep = s; part = part }
+abbrev stamp_at : ℕ → ℕ → ℕ → SliceStamp
+stamp_at epoch s part = record { epoch = epoch; superstep = s; part = part }
 
-at_stamp : (count s k : ℕ) (d : SliceStamp) → k < count → (get_or (stamps_of s count) k d).superstep ≡ s
-at_stamp count s k d below = ap (λ (one : SliceStamp). one.superstep) (get_or-map-range_with_len (stamp_at s) 0 count k k d below (omega arith))
+at_stamp : (epoch count s k : ℕ) (d : SliceStamp) → k < count → (get_or (stamps_of epoch s count) k d).superstep ≡ s
+at_stamp epoch count s k d below = ap (λ (one : SliceStamp). one.superstep) (get_or-map-range_with_len (stamp_at epoch s) 0 count k k d below (omega arith))
 
-long_stamps : (count s : ℕ) → length (stamps_of s count) ≡ count
-long_stamps count s = length-map-range_with_len (stamp_at s) 0 count
+long_stamps : (epoch count s : ℕ) → length (stamps_of epoch s count) ≡ count
+long_stamps epoch count s = length-map-range_with_len (stamp_at epoch s) 0 count
 
 parts_of_dones : (dones : List DoneStamp) → map (λ (done : DoneStamp). done.part) dones ≡ map (λ (one : SliceStamp). one.part) (map slice_of dones)
 parts_of_dones [] = refl
 parts_of_dones (done ∷ dones) = ap (λ xs. done.part ∷ xs) (parts_of_dones dones)
 
-parts_back : (s : ℕ) (parts : List ℕ) → map (λ (one : SliceStamp). one.part) (map (stamp_at s) parts) ≡ parts
-parts_back s [] = refl
-parts_back s (part ∷ parts) = ap (λ xs. part ∷ xs) (parts_back s parts)
+parts_back : (epoch s : ℕ) (parts : List ℕ) → map (λ (one : SliceStamp). one.part) (map (stamp_at epoch s) parts) ≡ parts
+parts_back epoch s [] = refl
+parts_back epoch s (part ∷ parts) = ap (λ xs. part ∷ xs) (parts_back epoch s parts)
 
 -- what comes back of the slices of a superstep is one for each part
-pub is_row : (count s : ℕ) (dones : List DoneStamp) → map slice_of dones ≡ stamps_of s count → IsRow count s dones
-is_row count s dones is = record {
+pub is_row : (epoch count s : ℕ) (dones : List DoneStamp) → map slice_of dones ≡ stamps_of epoch s count → IsRow count s dones
+is_row epoch count s dones is = record {
   supersteps = λ k d below.
       ap (λ (one : SliceStamp). one.superstep)
       (sym (get_or-map slice_of dones k d (slice_of d) below) ∙ ap (λ (xs : List SliceStamp). get_or xs k (slice_of d)) is)
-      ∙ at_stamp count s k (slice_of d) (omega (arith, below, length-map dones slice_of, ap length is, long_stamps count s));
-  in_order = parts_of_dones dones ∙ ap (map (λ (one : SliceStamp). one.part)) is ∙ parts_back s (range_with_len 0 count);
+      ∙ at_stamp epoch count s k (slice_of d) (omega (arith, below, length-map dones slice_of, ap length is, long_stamps epoch count s));
+  in_order = parts_of_dones dones ∙ ap (map (λ (one : SliceStamp). one.part)) is ∙ parts_back epoch s (range_with_len 0 count);
 }
 
 -- what is summed up in a state is what stands in it

@@ -1,5 +1,5 @@
 -- Slices, tasks and results: the parts of a state that move. Each has its job in its type.
-use Rattle.std.specs.Prelude.{◌≡◌, ◌%◌, ◌==◌, ℕ, ℤ, Bool, true, not, List, [], map, filter, slice_get, Some}
+use Rattle.std.specs.Prelude.{◌≡◌, ◌%◌, ◌==◌, ℕ, zero, suc, ℤ, Bool, true, not, List, [], map, filter, slice_get, Some}
 use Rattle.std.specs.List.{All, enumerate_from, flat_map, range_with_len}
 use Rattle.std.specs.List.Sorted.{IsPermutation}
 use Rattle.interp.specs.Call.{Outcome}
@@ -32,19 +32,26 @@ abbrev pub AreAggregatesAt : Work → ℕ → List ℤ → Type 0
 AreAggregatesAt work s aggregates =
     (meaning : Meaning work) → aggregates ≡ (state_at meaning.outcomes meaning.graph s).aggregates
 
+-- In epoch 0 of a job that began with superstep 0 nothing was loaded. Later epochs are trusted if its Keep is honest.
+abbrev pub trusts : (honest : Bool) → (epoch : ℕ) → Bool
+trusts honest zero = true
+trusts honest (suc epoch) = honest
+
 -- the model of a slice
 pub record SliceStamp : Type 0 where
+  -- the one in which it was made
+  pub epoch : ℕ
   pub superstep : ℕ
   pub part : ℕ
 
 -- one for each part, in order
-abbrev pub stamps_of : ℕ → ℕ → List SliceStamp
-stamps_of s parts = map (λ part. record { superstep = s; part = part }) (range_with_len 0 parts)
+abbrev pub stamps_of : ℕ → ℕ → ℕ → List SliceStamp
+stamps_of epoch s parts = map (λ part. record { epoch = epoch; superstep = s; part = part }) (range_with_len 0 parts)
 
 -- what always holds for a slice
-pub record IsSlice (work : Work) (honest : Bool) (stamp : SliceStamp) (vertices : List VertexState) : Type 0 where
+pub record IsSlice (work : Work) (honest : ℕ → Bool) (stamp : SliceStamp) (vertices : List VertexState) : Type 0 where
   pub fits : FitsPart work stamp.part vertices
-  pub at : honest ≡ true → IsPartAt work stamp.superstep stamp.part vertices
+  pub at : honest stamp.epoch ≡ true → IsPartAt work stamp.superstep stamp.part vertices
 
 -- the model of a task
 pub record TaskStamp : Type 0 where
@@ -105,11 +112,15 @@ AreUnitsAt work s part units =
     (part_rows work.settings.parts (state_at meaning.outcomes meaning.graph s) part)))
 
 -- what always holds for a result
-pub record IsDone (work : Work) (honest : Bool) (stamp : DoneStamp) (vertices : List VertexState) (letters : List Letter) (aggregators : List ℤ) : Type 0 where
+pub record IsDone (work : Work) (honest : ℕ → Bool) (stamp : DoneStamp) (vertices : List VertexState) (letters : List Letter) (aggregators : List ℤ) : Type 0 where
   pub fits : FitsPart work stamp.part vertices
   pub left : List VertexOutcome
   pub comes : ComesBack left vertices letters aggregators stamp.units
-  pub at : honest ≡ true → IsLeftAt work stamp.superstep stamp.part left
+  pub at : honest stamp.epoch ≡ true → IsLeftAt work stamp.superstep stamp.part left
+
+-- their epochs are trusted
+abbrev pub AreTrusted : (ℕ → Bool) → List DoneStamp → Type 0
+AreTrusted honest dones = All (λ (done : DoneStamp). honest done.epoch ≡ true) dones
 
 -- one for each part, in order, all of this superstep
 pub record IsRow (parts s : ℕ) (dones : List DoneStamp) : Type 0 where

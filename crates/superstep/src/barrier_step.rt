@@ -1,6 +1,6 @@
 //! The barrier between two supersteps (Pregel 2010, 2), which makes the next state of the results of all parts.
 
-ghost use Rattle.std.specs.Prelude.{◌≡◌, ◌<◌, ◌++◌, ◌∷◌, [], suc, true, ℕ, ℤ, All, List, length, map, nat_eq, vec_items, IfOk, OnOk};
+ghost use Rattle.std.specs.Prelude.{◌≡◌, ◌<◌, ◌++◌, ◌∷◌, [], suc, ℕ, ℤ, All, List, length, map, nat_eq, vec_items, IfOk, OnOk};
 ghost use Rattle.std.specs.List.{AllByRecursion, IsDistinct, sum_by};
 ghost use Rattle.std.specs.List.Sorted.{IsStrictlyIncreasing};
 ghost use Rattle.inbox.specs.declared.letters.Letter.{Letter as AnyLetter};
@@ -9,7 +9,7 @@ ghost use Rattle.inbox.specs.Merging.{IsBySource, all_of, are_one, dropped_of, i
 ghost use Rattle.superstep.specs.Job.{Meaning};
 ghost use Rattle.superstep.specs.State.{HasIdsOf, IsStateAt};
 ghost use Rattle.superstep.specs.Superstep.{dropped_by, messages_to};
-ghost use Rattle.superstep.specs.Tasks.{DoneStamp, IsRow, VertexOutcome, emptied, outcomes_in};
+ghost use Rattle.superstep.specs.Tasks.{AreTrusted, DoneStamp, IsRow, VertexOutcome, emptied, outcomes_in};
 ghost use Rattle.superstep.specs.Totals.{AreTotals, AreTotalsOf};
 ghost use Rattle.superstep.specs.inside.Barrier.{AreSpread, IsGathered, all_filled, filled, left_ids};
 ghost use Rattle.superstep.specs.inside.Handed.{HasNoInbox};
@@ -46,11 +46,11 @@ pub fn barrier<J: Origin>(
     requires row { IsRow job.now.settings.parts totals.superstep dones.items }
     requires early { totals.superstep < job.now.settings.limit }
     requires totals { AreTotals totals }
-    requires at { J.honest ≡ true → AreTotalsOf J.work totals }
     // The plain run exists: there is a graph, and one function that gives the outcome of each call.
     ensures meaning { Meaning job.now }
-    ensures next { IfOk result (λ state. J.honest ≡ true
-        → IsStateAt J.work (suc totals.superstep) state) }
+    // Of the totals and the results of the plain run it makes the plain run's next state.
+    ensures next { IfOk result (λ state. AreTrusted J.honest dones.items
+        → AreTotalsOf J.work totals → IsStateAt J.work (suc totals.superstep) state) }
     ensures superstep { IfOk result (λ state. state.superstep ≡ suc totals.superstep) }
     ensures since { IfOk result (λ state. state.since ≡ totals.since) }
     ensures ids { IfOk result (HasIdsOf job.now) }

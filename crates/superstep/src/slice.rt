@@ -14,17 +14,20 @@ use crate::totals::Totals;
 use std::alloc::{AllocError, Global};
 use std::marker::{Brand, Model, PhantomData};
 
-/// A name of one job in the types of its slices, tasks and results. `work` is the job. `honest` says that each state that was
-/// loaded is one that was saved.
+/// A name of one job in the types of its slices, tasks and results. `work` is the job. `honest` says of each epoch that every state
+/// that was loaded so far is one that was saved.
 ///
 /// A caller names a job by a generic function that requires `J.work ≡ job.now` and is called with `Brand`.
 pub trait Origin {
-    ghost use Rattle.std.specs.Prelude.{Bool};
+    ghost use Rattle.std.specs.Prelude.{◌≡◌, ◌<◌, ℕ, Bool, true};
     ghost use Rattle.superstep.specs.Job.{Work};
 
     ghost work: { Work };
 
-    ghost honest: { Bool };
+    ghost honest: { ℕ → Bool };
+
+    /// If it is honest in some epoch after the first, it is in all of them.
+    ghost lasts: { (epoch other : ℕ) → 0 < epoch → honest epoch ≡ true → honest other ≡ true };
 }
 
 impl Origin for Brand {
@@ -33,15 +36,18 @@ impl Origin for Brand {
 
     ghost work = { no_work };
 
-    ghost honest = { false };
+    ghost honest = { λ _. false };
+
+    ghost lasts = { λ _ _ _ never. never };
 }
 
 /// The vertices of one part before a superstep.
 ///
-/// In contracts its model is the superstep and the part. The vertices are those of this part of the job's state, if the job
-/// is `honest`; their ids always fit the part.
+/// In contracts its model is the epoch, the superstep and the part. The vertices are those of this part of the job's state, if
+/// the job is `honest` in this epoch; their ids always fit the part.
 #[derive(Drop)]
 pub struct Slice<J: Origin> {
+    pub(crate) epoch: u64,
     pub(crate) part: u32,
     pub(crate) superstep: u32,
     pub(crate) vertices: PartStates,
@@ -53,13 +59,25 @@ impl<J: Origin> Model for Slice<J> {
 
     ghost Value = { SliceStamp };
 
-    ghost view = { λ slice. record { superstep = slice.superstep; part = slice.part } };
+    ghost view = { λ slice. record {
+      epoch = slice.epoch;
+      superstep = slice.superstep;
+      part = slice.part;
+    } };
 
     ghost invariant = { λ slice. IsSlice J.work J.honest
-        (record { superstep = slice.superstep; part = slice.part }) slice.vertices };
+        (record { epoch = slice.epoch; superstep = slice.superstep; part = slice.part })
+        slice.vertices };
 }
 
 impl<J: Origin> Slice<J> {
+    /// Returns the epoch in which it was made.
+    pub fn epoch(&self) -> u64
+        ensures { result ≡ self.now.epoch }
+    {
+        self.epoch
+    }
+
     /// Returns the part's number, counted from 0.
     pub fn part(&self) -> u32
         ensures { result ≡ self.now.part }
@@ -86,23 +104,28 @@ pub struct Apart<J: Origin> {
     pub slices: Vec<Slice<J>>,
 }
 
-/// Takes a state apart. All of it is moved, not copied, so the time does not depend on the number of supersteps. It fails only
-/// where memory runs out.
-pub fn take_apart<J: Origin>(alloc: Global, job: &Job, state: State) -> Result<Apart<J>, AllocError>
+/// Takes a state apart in this epoch. All of it is moved, not copied, so the time does not depend on the number of supersteps. It
+/// fails only where memory runs out.
+pub fn take_apart<J: Origin>(
+    alloc: Global,
+    job: &Job,
+    epoch: u64,
+    state: State,
+) -> Result<Apart<J>, AllocError>
     requires job { J.work ≡ job.now }
     requires fits { HasIdsOf job.now state }
-    requires at { J.honest ≡ true → IsStateAt J.work state.superstep state }
+    requires at { J.honest epoch ≡ true → IsStateAt J.work state.superstep state }
     ensures of { IfOk result (λ apart. IsTotalsOf state apart.totals) }
     ensures totals { IfOk result (λ apart. AreTotals apart.totals) }
     ensures at { IfOk result (λ apart. (work : Work)
         → IsStateAt work state.superstep state → AreTotalsOf work apart.totals) }
     ensures aggregates { IfOk result (λ apart. apart.aggregates ≡ state.aggregates) }
     ensures slices { IfOk result (λ apart.
-        apart.slices.items ≡ stamps_of state.superstep job.now.settings.parts) }
+        apart.slices.items ≡ stamps_of epoch state.superstep job.now.settings.parts) }
 {
     let aggregates = state.aggregates();
     let (totals, parts) = state.into_parts(alloc, job.settings().parts)?;
-    let slices = label(alloc, totals.superstep, parts)?;
+    let slices = label(alloc, epoch, totals.superstep, parts)?;
     Ok(Apart {
         totals,
         aggregates,
@@ -110,7 +133,7 @@ pub fn take_apart<J: Origin>(alloc: Global, job: &Job, state: State) -> Result<A
     })
 }
 
-/// Makes the slices of a state, one for each part and in order. The vertices are moved, not copied.
+/// Makes the slices of a state, one for each part and in order, in epoch 0. The vertices are moved, not copied.
 pub fn slices<J: Origin>(
     alloc: Global,
     job: &Job,
@@ -118,28 +141,31 @@ pub fn slices<J: Origin>(
 ) -> Result<Vec<Slice<J>>, AllocError>
     requires job { J.work ≡ job.now }
     requires fits { HasIdsOf job.now state }
-    requires at { J.honest ≡ true → IsStateAt J.work state.superstep state }
+    requires at { J.honest 0 ≡ true → IsStateAt J.work state.superstep state }
     ensures { IfOk result (λ slices.
-        slices.items ≡ stamps_of state.superstep job.now.settings.parts) }
+        slices.items ≡ stamps_of 0 state.superstep job.now.settings.parts) }
 {
-    let apart = take_apart(alloc, job, state)?;
+    let apart = take_apart(alloc, job, 0, state)?;
     Ok(apart.slices)
 }
 
 // Labels each part with its number.
 fn label<J: Origin>(
     alloc: Global,
+    epoch: u64,
     superstep: u32,
     cut: Vec<PartStates>,
 ) -> Result<Vec<Slice<J>>, AllocError>
     requires few { length cut.items ≤ 256 }
-    requires parts { AreSlices J.work J.honest superstep cut.items }
-    ensures { IfOk result (λ slices. slices.items ≡ stamps_of superstep (length cut.items)) }
+    requires parts { AreSlices J.work J.honest epoch superstep cut.items }
+    ensures { IfOk result (λ slices.
+        slices.items ≡ stamps_of epoch superstep (length cut.items)) }
 {
     let mut slices = Vec::with_capacity(alloc, cut.len())?;
     let mut part = 0;
     for vertices in cut {
         slices.push(Slice {
+            epoch,
             part,
             superstep,
             vertices,

@@ -43,14 +43,16 @@ impl<J: Origin> Model for Task<J> {
       part = task.slice.part;
     } };
 
-    ghost invariant = { λ task. J.honest ≡ true
-        → AreAggregatesAt J.work task.slice.superstep task.aggregated };
+    ghost invariant = { λ task. J.honest task.epoch ≡ true
+        → (J.honest task.slice.epoch ≡ true)
+        × AreAggregatesAt J.work task.slice.superstep task.aggregated };
 }
 
 impl<J: Origin> Task<J> {
     /// Makes the task of a slice. `aggregated` has the aggregates of the superstep before. It allocates nothing.
     pub fn new(epoch: u64, slice: Slice<J>, aggregated: [i64; 8]) -> Task<J>
-        requires { J.honest ≡ true → AreAggregatesAt J.work slice.superstep aggregated }
+        requires { J.honest epoch ≡ true
+            → (J.honest slice.epoch ≡ true) × AreAggregatesAt J.work slice.superstep aggregated }
         ensures epoch { result.epoch ≡ epoch }
         ensures superstep { result.superstep ≡ slice.superstep }
         ensures part { result.part ≡ slice.part }
@@ -197,7 +199,7 @@ pub fn run_task<J: Origin>(
     ensures epoch { IfOk result (λ done. done.epoch ≡ task.epoch) }
     ensures superstep { IfOk result (λ done. done.superstep ≡ task.superstep) }
     ensures part { IfOk result (λ done. done.part ≡ task.part) }
-    ensures units { IfOk result (λ done. J.honest ≡ true
+    ensures units { IfOk result (λ done. J.honest task.epoch ≡ true
         → AreUnitsAt J.work task.superstep task.part done.units) }
     ensures lost { IfErr result (λ lost. lost.place ≡ Call) }
 {
@@ -208,6 +210,7 @@ pub fn run_task<J: Origin>(
         aggregated,
     } = task;
     let Slice {
+        epoch: _,
         part,
         superstep,
         vertices: part_states,

@@ -32,16 +32,16 @@ left_ids left = map left_id left
 abbrev pub PartLeft : Type 0
 PartLeft = DoneStamp × List VertexOutcome
 
-pub record IsPartLeft (work : Work) (honest : Bool) (part : PartLeft) : Type 0 where
+pub record IsPartLeft (work : Work) (honest : ℕ → Bool) (part : PartLeft) : Type 0 where
   pub fits : slice_get (map ids work.parts) part.0.part ≡ Some (left_ids part.1)
-  pub at : honest ≡ true → IsLeftAt work part.0.superstep part.0.part part.1
+  pub at : honest part.0.epoch ≡ true → IsLeftAt work part.0.superstep part.0.part part.1
 
 -- the outcomes of these parts, one part after another
 abbrev pub spread : List PartLeft → List VertexOutcome
 spread parts = flat_map (λ (part : PartLeft). part.1) parts
 
 -- these are the gathered results of the parts with these stamps
-pub record IsGathered (work : Work) (honest : Bool) (dones : List DoneStamp) (gathered : Gathered) : Type 0 where
+pub record IsGathered (work : Work) (honest : ℕ → Bool) (dones : List DoneStamp) (gathered : Gathered) : Type 0 where
   pub parts : List PartLeft
   pub stamps : map (λ (part : PartLeft). part.0) parts ≡ dones
   pub each : AllByRecursion (IsPartLeft work honest) parts

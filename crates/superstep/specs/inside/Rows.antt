@@ -15,9 +15,9 @@ abbrev pub first_states : List Entry → List VertexState
 first_states entries = map first_state entries
 
 -- the vertices of each part fit the slice of its number
-abbrev pub AreSlices : Work → Bool → ℕ → List (List VertexState) → Type 0
-AreSlices work honest s parts =
-    (part : ℕ) → part < length parts → IsSlice work honest (record { superstep = s; part = part }) (slice_index_or parts part [])
+abbrev pub AreSlices : Work → (ℕ → Bool) → ℕ → ℕ → List (List VertexState) → Type 0
+AreSlices work honest epoch s parts =
+    (part : ℕ) → part < length parts → IsSlice work honest (record { epoch = epoch; superstep = s; part = part }) (slice_index_or parts part [])
 
 -- What always holds for a state's parts: they are the parts of its vertices.
 pub record IsKept (standing : Standing) (lists : List (List VertexState)) : Type 0 where

@@ -3,4 +3,4 @@ use Rattle.superstep.specs.Tasks.{DoneStamp, SliceStamp}
 
 -- the slice of this result
 abbrev pub slice_of : DoneStamp → SliceStamp
-slice_of done = record { superstep = done.superstep; part = done.part }
+slice_of done = record { epoch = done.epoch; superstep = done.superstep; part = done.part }

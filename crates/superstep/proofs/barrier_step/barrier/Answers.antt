@@ -53,9 +53,9 @@ pub of_parts-requires : goal.of_parts-requires
 of_parts-requires g c = next_is_kept _ _ _ _ _ _ (ready g c) _ _ _ _ (made g c)
 
 pub returns-clause-next : goal.returns-clause-next
-returns-clause-next g c = λ sure meaning.
+returns-clause-next g c = λ sure at meaning.
     let before = c.before.before in
-    rw c.of_parts.ensures (next_is_at _ _ _ _ _ _ (ready g before) _ _ _ _ (made g before) sure meaning (c.requires.at sure meaning))
+    rw c.of_parts.ensures (next_is_at _ _ _ _ _ _ (ready g before) _ _ _ _ (made g before) sure meaning (at meaning))
 
 pub returns-clause-ids : goal.returns-clause-ids
 returns-clause-ids g c = λ other is.

@@ -22,8 +22,8 @@ loop-vertices-preserved g c =
     record {
       named =
           c.in_ok-push.ensures.items
-          ∙ ap (λ xs. xs ++ record { superstep = c.args.superstep; part = c.loop-vertices.part } ∷ []) c.loop-vertices.invariant.named
-          ∙ sym (map-range_with_len_more (λ part. record { superstep = c.args.superstep; part = part }) 0 c.loop-vertices.part c.loop-vertices.part (omega arith));
+          ∙ ap (λ xs. xs ++ record { epoch = c.args.epoch; superstep = c.args.superstep; part = c.loop-vertices.part } ∷ []) c.loop-vertices.invariant.named
+          ∙ sym (map-range_with_len_more (λ part. record { epoch = c.args.epoch; superstep = c.args.superstep; part = part }) 0 c.loop-vertices.part c.loop-vertices.part (omega arith));
       counted = ap (λ n. n + 1) c.loop-vertices.invariant.counted ∙ sym (length-append yielded (c.in-Some.vertices ∷ []));
       left =
           append_assoc yielded (c.in-Some.vertices ∷ []) c.next.new.self.rest.items

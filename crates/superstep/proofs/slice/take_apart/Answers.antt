@@ -49,4 +49,5 @@ pub returns-clause-slices : goal.returns-clause-slices
 returns-clause-slices g c =
     let long = many c.in_ok-totals.parts.items c.settings.result.parts c.args.state.vertices c.in_ok-totals.ensures.parts in
     let parts = ap (λ settings. settings.parts) c.settings.ensures.settings in
-    c.in_ok-slices.ensures ∙ ap (λ s. stamps_of s (length c.in_ok-totals.parts.items)) c.in_ok-totals.ensures.of.superstep ∙ ap (stamps_of c.args.state.superstep) (long ∙ parts)
+    c.in_ok-slices.ensures ∙ ap (λ s. stamps_of c.args.epoch s (length c.in_ok-totals.parts.items)) c.in_ok-totals.ensures.of.superstep
+    ∙ ap (stamps_of c.args.epoch c.args.state.superstep) (long ∙ parts)

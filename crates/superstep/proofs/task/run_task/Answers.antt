@@ -1,4 +1,4 @@
-use Rattle.std.proofs.Common.{◌≡◌, ℕ, List, All, length, map, ap, sym, ◌∙◌, subst, arith}
+use Rattle.std.proofs.Common.{◌≡◌, ℕ, true, List, All, length, map, ap, sym, ◌∙◌, subst, arith}
 use Rattle.wasm_ast.specs.declared.module.Module.{Module}
 use Rattle.graph.specs.Entry.{Entry, entries_of, ids}
 use Rattle.superstep.specs.declared.state.VertexState.{VertexState}
@@ -68,8 +68,9 @@ invariant_of-result-2 g c =
     let known : shared.verified.now ≡ work.«module» = c.verified.ensures ∙ ap (λ (w : Work). w.«module») (sym c.requires.job) in
     let counted = subst (λ (w : Work). IsCount w shared.count) (sym c.requires.job) c.count.ensures in
     let done =
-    done_here work g.J.Origin.honest c.task.inside.epoch part shared before after left c.slice.invariant.fits calls c.slice.invariant.at
-    (λ honest. subst (λ (s : ℕ). AreAggregatesAt work s shared.aggregated) (ap (λ (stamp : SliceStamp). stamp.superstep) (sym c.slice.view_is)) (c.task.invariant honest))
+    done_here work g.J.Origin.honest c.task.inside.epoch part shared before after left c.slice.invariant.fits calls
+    (λ sure. c.slice.invariant.at (subst (λ (n : ℕ). g.J.Origin.honest n ≡ true) (ap (λ (stamp : SliceStamp). stamp.epoch) (sym c.slice.view_is)) (c.task.invariant sure).0))
+    (λ sure. subst (λ (s : ℕ). AreAggregatesAt work s shared.aggregated) (ap (λ (stamp : SliceStamp). stamp.superstep) (sym c.slice.view_is)) (c.task.invariant sure).1)
     counted
     (λ outcomes are. subst (λ (m : Module). Tells m outcomes) (sym known) (c.calls_are_a_function.ensures.told work.«module» outcomes are)) in
     let whole = whole_slice c.part_states.inside.vertices.items after c.part_states.inside.vertices.len (c.run_part-ran.auto.vertices ∙ ap length c.deref_mut.ensures.value) (omega (arith, c.part_states.inside.vertices.ok.0)) in
@@ -87,4 +88,5 @@ returns-clause-units g c = λ sure.
     subst (λ (n : ℕ). AreUnitsAt work n c.args.task.part units) superstep
     (subst (λ (n : ℕ). AreUnitsAt work c.slice.inside.superstep n units) part
     (units_here work g.J.Origin.honest (record { epoch = c.task.inside.epoch; superstep = c.slice.inside.superstep; part = c.slice.inside.part; units = units })
-    _ _ _ (invariant_of-result-2 g c.before) sure))
+    _ _ _ (invariant_of-result-2 g c.before)
+    (subst (λ (n : ℕ). g.J.Origin.honest n ≡ true) (ap (λ (stamp : TaskStamp). stamp.epoch) (sym c.task.view_is)) sure)))

@@ -6,13 +6,14 @@ use Rattle.superstep.specs.declared.fault.JobFault.{JobFault}
 use Rattle.superstep.specs.declared.ending.JobEnd.{JobEnd}
 use Rattle.superstep.specs.declared.settings.Settings.{Settings}
 use Rattle.superstep.specs.declared.settings.Setting.{Setting}
-use Rattle.superstep.specs.Ending.{Ends, answer_of}
+use Rattle.superstep.specs.Ending.{Ends, IsEndOf, answer_of}
 use Rattle.superstep.specs.Job.{Meaning, Work}
 use Rattle.superstep.specs.PlainRun.{units_at}
 use Rattle.superstep.specs.Settings.{Refuses, first_bad}
 use Rattle.std.specs.Prelude.{Option, Some, None}
-use Rattle.sources.specs.OutputLines.{job_lines, numbered_line, numbered_lines}
+use Rattle.sources.specs.OutputLines.{ended_lines, job_lines, numbered_line, numbered_lines}
 use Rattle.sources.specs.Jobs.{RefusesSettings}
+use Rattle.console.specs.Jobs.{AreJobLines}
 use Rattle.console.specs.inside.Answering.{opening_fault}
 
 -- ---- numbered lines, one more at a time
@@ -56,6 +57,15 @@ ended_printed job meaning tells_units ended told none ends printed =
     ∙ ap (λ xs. job_lines tells_units (answer_of ended) 0 xs)
     (ends.by_superstep ∙ ap (λ n. units (range_with_len n (ended.superstep - n))) none
     ∙ ap (λ n. units (range_with_len 0 n)) (minus_none ended.superstep))
+
+-- so they are the job's, if it is the end of the job
+pub answer_printed : (job : Work) (tells_units : Bool) (ended : JobEnd) (told : List ℕ) → IsEndOf job ended → ended.since ≡ 0
+    → told ≡ ended_lines tells_units ended → AreJobLines job tells_units told
+answer_printed job tells_units ended told ends none printed = λ meaning. record {
+  answer = answer_of ended;
+  ends = (ends meaning).answer;
+  printed = ended_printed job meaning tells_units ended told none (ends meaning) printed;
+}
 
 -- ---- a job that was not opened
 

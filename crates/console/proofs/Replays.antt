@@ -1,6 +1,7 @@
 -- What a simulation says of a replay.
 use Rattle.std.proofs.Common.{◌≡◌, inl, inr, ℕ, List, Bool, true, Ok, subst}
 use Rattle.superstep.specs.Job.{Work}
+use Rattle.superstep.specs.Tasks.{trusts}
 use Rattle.rollback.specs.Simulation.{IsRun, IsSimulated}
 use Rattle.rollback.specs.declared.simulation.Step.{Step}
 use Rattle.rollback.specs.declared.simulation.Trace.{Trace}
@@ -8,7 +9,7 @@ use Rattle.sources.specs.declared.fault.CommandFault.{CommandFault}
 use Rattle.console.specs.Replays.{AreReplayLines, IsFaultOfReplay}
 
 -- where there was memory to begin with
-pub is_run : (job : Work) (steps : List Step) (trace : Trace) → IsSimulated job true steps (Ok trace) → IsRun job true steps (Ok trace)
+pub is_run : (job : Work) (steps : List Step) (trace : Trace) → IsSimulated job (trusts true) steps (Ok trace) → IsRun job (trusts true) steps (Ok trace)
 is_run job steps trace (inl none) = absurd cc
 is_run job steps trace (inr (inl none)) = absurd cc
 is_run job steps trace (inr (inr ran)) = ran

@@ -1,10 +1,11 @@
 -- The lines that a job prints, and why there are none.
 use denote.Bor.{Bor}
-use Rattle.std.specs.Prelude.{◌≡◌, ◌⊎◌, ℕ, Bool, List, map, Option, Some, None}
+use Rattle.std.specs.Prelude.{◌≡◌, ◌⊎◌, ℕ, Bool, true, false, List, map, Option, Some, None}
 use Rattle.std.specs.List.{range_with_len}
 use Rattle.superstep.specs.declared.ending.JobEnd.{JobEnd}
 use Rattle.superstep.specs.Job.{Meaning, Work}
 use Rattle.superstep.specs.PlainRun.{Answer, IsAnswer, units_at}
+use Rattle.rollback.specs.declared.report.Report.{Report}
 use Rattle.workers.specs.JobAnswers.{IsRunFault}
 use Rattle.sources.specs.OutputLines.{ended_lines, job_lines}
 use Rattle.sources.specs.declared.fault.CommandFault.{CommandFault}
@@ -24,11 +25,20 @@ AreJobLines job tells_units lines = (meaning : Meaning job) → AreLinesOf job m
 abbrev pub AreEndLines : (tells_units : Bool) → List ℕ → Type 0
 AreEndLines tells_units lines = (ended : JobEnd) × (lines ≡ ended_lines tells_units ended)
 
+-- The lines of what a run in threads ended with. If it ended in epoch 0, nothing was loaded, and they are those of the job's
+-- answer.
+pub record AreKeptLines (job : Work) (tells_units : Bool) (lines : List ℕ) : Type 0 where
+  pub report : Report
+  pub printed : lines ≡ ended_lines tells_units report.ended
+  pub answer : report.epoch ≡ 0 → AreJobLines job tells_units lines
+
 -- The lines of a run in threads. If states are kept in memory, they are those of the job's answer. If states are kept in a
--- folder, they are those of some end, since others may change its files.
-abbrev pub AreRunLines : Work → (folder : Option (Bor (List ℕ))) → (tells_units : Bool) → List ℕ → Type 0
-AreRunLines job None tells_units lines = AreJobLines job tells_units lines
-AreRunLines job (Some folder) tells_units lines = AreEndLines tells_units lines
+-- folder, others may change its files: they are those of some end, and those of the answer if nothing was loaded. A run that
+-- resumes may begin with a load.
+abbrev pub AreRunLines : Work → (folder : Option (Bor (List ℕ))) → (resumes tells_units : Bool) → List ℕ → Type 0
+AreRunLines job None resumes tells_units lines = AreJobLines job tells_units lines
+AreRunLines job (Some folder) true tells_units lines = AreEndLines tells_units lines
+AreRunLines job (Some folder) false tells_units lines = AreKeptLines job tells_units lines
 
 -- ---- refusals
 

@@ -3,6 +3,7 @@ use Rattle.std.specs.Prelude.{◌≡◌, ℕ, Bool, true, List, ◌++◌, codes,
 use Rattle.std.specs.List.{flat_map}
 use Rattle.std.specs.Fmt.{decimal}
 use Rattle.superstep.specs.Job.{Work}
+use Rattle.superstep.specs.Tasks.{trusts}
 use Rattle.rollback.specs.Simulation.{IsCalm, IsRun, IsSimulated}
 use Rattle.rollback.specs.declared.event.Answer.{Answer}
 use Rattle.rollback.specs.declared.event.Answer.TheVariants.{Advanced, RolledBack, Stale, Taken}
@@ -60,12 +61,12 @@ trace_lines tells_units trace = flat_map answer_line trace.answers.items ++ repl
 -- step, and where the steps lead. A job that ends has the plain run's answer.
 pub record AreReplayLines (job : Work) (tells_units : Bool) (steps : List Step) (lines : List ℕ) : Type 0 where
   pub trace : Trace
-  pub ran : IsRun job true steps (Ok trace)
+  pub ran : IsRun job (trusts true) steps (Ok trace)
   pub calm : IsCalm trace.outcome
   pub printed : lines ≡ trace_lines tells_units trace
 
 -- the control model ends with this fault, or there is no memory to begin with, or none for the lines
 abbrev pub IsFaultOfReplay : Work → List Step → CommandFault → Type 0
-IsFaultOfReplay job steps (command.Job fault) = IsSimulated job true steps (Err fault)
+IsFaultOfReplay job steps (command.Job fault) = IsSimulated job (trusts true) steps (Err fault)
 IsFaultOfReplay job steps command.OutOfMemory = Unit {0}
 IsFaultOfReplay job steps _ = ⊥

@@ -5,7 +5,8 @@ ghost use Rattle.wasm_ast.specs.Limits.{IsWithinLimits};
 ghost use Rattle.wasm_decode.specs.Canonical.{canonical};
 ghost use Rattle.checkpoint.specs.Checkpoint.{checkpoint_bytes};
 ghost use Rattle.sources.specs.Disk.{Stays, Tries};
-ghost use Rattle.console.specs.Jobs.{AreEndLines, AreRunLines, IsFaultOfRun};
+ghost use Rattle.checkpoint.specs.Files.{superstep_on};
+ghost use Rattle.console.specs.Jobs.{AreEndLines, AreKeptLines, AreRunLines, IsFaultOfRun};
 ghost use Rattle.sources.specs.OutputLines.{IfText};
 ghost use Rattle.console.specs.Loss.{NamesLoss, RefusesLoss};
 ghost use Rattle.sources.specs.Source.{RefusesModule};
@@ -271,7 +272,7 @@ fn run_kept<'a, F: Files, V: View + Sync>(
     notes: &mut RunNotes,
 ) -> Result<String, CommandFault<'a>>
     ensures told { IfText result
-        (AreRunLines job.now asked.entry.keep asked.entry.job.tells_units) }
+        (AreRunLines job.now asked.entry.keep asked.entry.resume asked.entry.job.tells_units) }
     ensures kept { Stays (F.disk files.old) (F.disk files.new) }
     ensures refused { IfErr result (IsFaultOfKeeping (F.disk files.old) asked.entry) }
 {
@@ -306,6 +307,8 @@ fn run_in_folder<'a, F: Files, V: View + Sync>(
     warns: bool,
 ) -> Result<String, CommandFault<'a>>
     ensures told { IfText result (AreEndLines tells_units) }
+    ensures unloaded { superstep_on keep ≡ None
+        → IfText result (AreKeptLines job.now tells_units) }
     ensures kept { Stays (F.disk files.old) (F.disk files.new) }
     ensures refused { IfErr result IsFaultOfRun }
 {

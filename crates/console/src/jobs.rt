@@ -6,7 +6,7 @@ ghost use Rattle.superstep.specs.Ending.{answer_of};
 ghost use Rattle.sources.specs.Disk.{Stays};
 ghost use Rattle.sources.specs.OutputLines.{Gains, IfText, end_line, ended_lines, numbered_line, numbered_lines};
 ghost use Rattle.sources.specs.Jobs.{IsJobOf, RefusesSettings};
-ghost use Rattle.console.specs.Jobs.{AreEndLines, AreJobLines, IsFaultOfRun};
+ghost use Rattle.console.specs.Jobs.{AreEndLines, AreJobLines, AreKeptLines, IsFaultOfRun};
 ghost use Rattle.console.specs.inside.Answering.{opening_fault};
 
 use crate::noting::RunNotes;
@@ -106,6 +106,8 @@ pub fn run<'a, K: Keep + Drop, V: View + Sync, F: Files>(
 ) -> Result<String, CommandFault<'a>>
     ensures told { IfText result (AreEndLines tells_units) }
     ensures answered { K.honest keep ≡ true → IfText result (AreJobLines job.now tells_units) }
+    // So they are where the Keep loaded nothing, whatever it is.
+    ensures unloaded { IfText result (AreKeptLines job.now tells_units) }
     ensures kept { Stays (F.disk files.old) (F.disk files.new) }
     ensures refused { IfErr result IsFaultOfRun }
 {

@@ -1,6 +1,7 @@
 //! The folder in which a run keeps its states.
 
 ghost use Rattle.std.specs.Prelude.{◌≡◌, ◌⊎◌, true, false, None, IfOk, IfErr, IfSome};
+ghost use Rattle.checkpoint.specs.Files.{superstep_on};
 ghost use Rattle.sources.specs.Disk.{Stays};
 ghost use Rattle.sources.specs.Reading.{IsUnread};
 ghost use Rattle.sources.specs.declared.fault.CommandFault.TheVariants.{Resume};
@@ -30,6 +31,8 @@ pub fn keep_in<'a, F: Files>(
     folder: &'a str,
     files: &mut F,
 ) -> Result<FileKeep, CommandFault<'a>>
+    // Unless the run is to go on, nothing counts as saved.
+    ensures fresh { IfOk result (λ keep. asked.entry.resume ≡ false → superstep_on keep ≡ None) }
     ensures kept { Stays (F.disk files.old) (F.disk files.new) }
     ensures refused { IfErr result (λ fault.
         IsNotReady (F.disk files.old) asked.entry fault ⊎ IsNoFolder folder.now fault) }

@@ -13,7 +13,7 @@ some_is : (a b : ℕ) → Some a ≡ Some b → a ≡ b
 some_is a b e = cc
 
 -- a Keep that has what an earlier run left has what the book counts as saved
-pub keeps_resumed : (work : Work) (trusted honest : Bool) (kept : Option ℕ) (may_load : List ℕ → Type 0) (settings : Settings) (s : ℕ) (m : Machine) → m ≡ resumed settings s → kept ≡ Some s → (trusted ≡ true → honest ≡ true) → (trusted ≡ true → HasLeft work may_load s) → KeepsFor work trusted honest kept may_load m
+pub keeps_resumed : (work : Work) (trusted : ℕ → Bool) (honest : Bool) (kept : Option ℕ) (may_load : List ℕ → Type 0) (settings : Settings) (s : ℕ) (m : Machine) → m ≡ resumed settings s → kept ≡ Some s → (trusted 1 ≡ true → honest ≡ true) → (trusted 1 ≡ true → HasLeft work may_load s) → KeepsFor work trusted honest kept may_load m
 keeps_resumed work trusted honest kept may_load settings s m is has sure left =
     let saved : m.saved ≡ Some s = ap (λ (x : Machine). x.saved) is in
     record {
@@ -27,7 +27,7 @@ keeps_resumed work trusted honest kept may_load settings s m is has sure left =
 abbrev told_begun : (told : DeviceResult) (sliced : Bool) → Heard
 told_begun told sliced = record { quiet = true; merged = true; save = Good; load = told; sliced = sliced }
 
-pub is_begun : (work : Work) (trusted h h' : Bool) (k k' : Option ℕ) (ml ml' : List ℕ → Type 0) (f f' : ℕ) (settings : Settings) (s : ℕ) (m1 m2 : Machine) (told : DeviceResult) (sliced : Bool) → settings ≡ work.settings → m1 ≡ resumed settings s → m2 ≡ slicing sliced (loading m1.saved told m1) → IsLoadResult work h h' k k' ml ml' f f' m1.saved told → KeepsFor work trusted h k ml m1 → IsBegun work trusted h h' k k' ml ml' f f' s m2
+pub is_begun : (work : Work) (trusted : ℕ → Bool) (h h' : Bool) (k k' : Option ℕ) (ml ml' : List ℕ → Type 0) (f f' : ℕ) (settings : Settings) (s : ℕ) (m1 m2 : Machine) (told : DeviceResult) (sliced : Bool) → settings ≡ work.settings → m1 ≡ resumed settings s → m2 ≡ slicing sliced (loading m1.saved told m1) → IsLoadResult work h h' k k' ml ml' f f' m1.saved told → KeepsFor work trusted h k ml m1 → IsBegun work trusted h h' k k' ml ml' f f' s m2
 is_begun work trusted h h' k k' ml ml' f f' settings s m1 m2 told sliced same first loaded load keeps =
     let is : m1 ≡ resumed work.settings s = first ∙ ap (λ x. resumed x s) same in
     let x = loads work trusted m1 m1 h h' k k' ml ml' f f' told refl refl refl load keeps in

@@ -14,8 +14,12 @@ use Rattle.rollback.specs.Events.{after_load, after_save, loading, saving, slici
 use Rattle.rollback.specs.Saving.{IsFullStateAt, IsLoadResult, IsSavedOrLeft, KeepsFor, LoadsNoMore, MayLoadAfter, MayLoadMade, MayLoadOther}
 use Rattle.rollback.specs.inside.DeviceResults.{IsSaveResult}
 
-pub keeps_same : (work : Work) (trusted honest : Bool) (kept : Option ℕ) (may_load : List ℕ → Type 0) (m m' : Machine) → m'.saved ≡ m.saved → KeepsFor work trusted honest kept may_load m → KeepsFor work trusted honest kept may_load m'
+pub keeps_same : (work : Work) (trusted : ℕ → Bool) (honest : Bool) (kept : Option ℕ) (may_load : List ℕ → Type 0) (m m' : Machine) → m'.saved ≡ m.saved → KeepsFor work trusted honest kept may_load m → KeepsFor work trusted honest kept may_load m'
 keeps_same work trusted honest kept may_load m m' e k = record { trusts = k.trusts; saved = λ s is. k.saved s (sym e ∙ is); bytes = λ t s is. k.bytes t s (sym e ∙ is) }
+
+-- a Keep that is trusted less
+pub keeps_less : (work : Work) (trusted : ℕ → Bool) (sure honest : Bool) (kept : Option ℕ) (may_load : List ℕ → Type 0) (m : Machine) → (sure ≡ true → trusted 1 ≡ true) → KeepsFor work trusted honest kept may_load m → KeepsFor work (λ epoch. sure) honest kept may_load m
+keeps_less work trusted sure honest kept may_load m less k = record { trusts = λ t. k.trusts (less t); saved = k.saved; bytes = λ t. k.bytes (less t) }
 
 -- ---- what slices and joining leave
 
@@ -60,7 +64,7 @@ same_both a b c x y = record { saved = y.saved ∙ x.saved; missed = y.missed �
 -- ---- saves
 
 -- a save that was not good leaves what the book counts on
-keeps_left : (work : Work) (trusted : Bool) (m m' : Machine) (state : Standing) (h h' : Bool) (k k' : Option ℕ) (ml ml' : List ℕ → Type 0) (f f' : ℕ) (told : DeviceResult) → (told ≡ Good → ⊥) → saved_or_first m.saved < state.superstep → m'.saved ≡ m.saved → IsSaveResult state h h' k k' ml ml' f f' told → KeepsFor work trusted h k ml m → KeepsFor work trusted h' k' ml' m'
+keeps_left : (work : Work) (trusted : ℕ → Bool) (m m' : Machine) (state : Standing) (h h' : Bool) (k k' : Option ℕ) (ml ml' : List ℕ → Type 0) (f f' : ℕ) (told : DeviceResult) → (told ≡ Good → ⊥) → saved_or_first m.saved < state.superstep → m'.saved ≡ m.saved → IsSaveResult state h h' k k' ml ml' f f' told → KeepsFor work trusted h k ml m → KeepsFor work trusted h' k' ml' m'
 keeps_left work trusted m m' state h h' k k' ml ml' f f' told bad past same s old = record {
   trusts = λ t. s.honest_is ∙ old.trusts t;
   saved = λ n e.
@@ -75,7 +79,7 @@ keeps_left work trusted m m' state h h' k k' ml ml' f f' told bad past same s ol
 some_is : (a b : ℕ) → Some a ≡ Some b → a ≡ b
 some_is a b e = cc
 
-keeps_after : (work : Work) (trusted : Bool) (m : Machine) (state : Standing) (h h' : Bool) (k k' : Option ℕ) (ml ml' : List ℕ → Type 0) (f f' : ℕ) (told : DeviceResult) → (trusted ≡ true → IsFullStateAt work state.superstep state) → HasIdsOf work state → state.superstep ≡ m.superstep → saved_or_first m.saved < state.superstep → IsSaveResult state h h' k k' ml ml' f f' told → KeepsFor work trusted h k ml m → KeepsFor work trusted h' k' ml' (after_save told m)
+keeps_after : (work : Work) (trusted : ℕ → Bool) (m : Machine) (state : Standing) (h h' : Bool) (k k' : Option ℕ) (ml ml' : List ℕ → Type 0) (f f' : ℕ) (told : DeviceResult) → (trusted 1 ≡ true → IsFullStateAt work state.superstep state) → HasIdsOf work state → state.superstep ≡ m.superstep → saved_or_first m.saved < state.superstep → IsSaveResult state h h' k k' ml ml' f f' told → KeepsFor work trusted h k ml m → KeepsFor work trusted h' k' ml' (after_save told m)
 keeps_after work trusted m state h h' k k' ml ml' f f' Good at has same past s old = record {
   trusts = λ t. s.honest_is ∙ old.trusts t;
   saved = λ n e. s.saved_is refl ∙ ap Some same ∙ e;
@@ -104,7 +108,7 @@ made work state s h h' k k' ml ml' f f' has same t = record {
 }
 
 -- what a closed superstep leaves, where m has come, and c says whether a save is due
-pub record Saves (work : Work) (trusted : Bool) (m m' : Machine) (h h' : Bool) (k k' : Option ℕ) (ml ml' : List ℕ → Type 0) (f f' : ℕ) : Type 0 where
+pub record Saves (work : Work) (trusted : ℕ → Bool) (m m' : Machine) (h h' : Bool) (k k' : Option ℕ) (ml ml' : List ℕ → Type 0) (f f' : ℕ) : Type 0 where
   pub keeps : KeepsFor work trusted h' k' ml' m'
   pub missed : (m'.missed ≡ m.missed) ⊎ HasFailed f f'
   pub restarts : m'.restarts ≡ m.restarts
@@ -112,7 +116,7 @@ pub record Saves (work : Work) (trusted : Bool) (m m' : Machine) (h h' : Bool) (
   pub left : IsSavedNow m' k k'
   pub loads : MayLoadNow work m m' ml ml'
 
-saves_told : (work : Work) (trusted : Bool) (m : Machine) (state : Standing) (h h' : Bool) (k k' : Option ℕ) (ml ml' : List ℕ → Type 0) (f f' : ℕ) (told : DeviceResult) → (trusted ≡ true → IsFullStateAt work state.superstep state) → HasIdsOf work state → state.superstep ≡ m.superstep → saved_or_first m.saved < state.superstep → IsSaveResult state h h' k k' ml ml' f f' told → KeepsFor work trusted h k ml m → Saves work trusted m (after_save told m) h h' k k' ml ml' f f'
+saves_told : (work : Work) (trusted : ℕ → Bool) (m : Machine) (state : Standing) (h h' : Bool) (k k' : Option ℕ) (ml ml' : List ℕ → Type 0) (f f' : ℕ) (told : DeviceResult) → (trusted 1 ≡ true → IsFullStateAt work state.superstep state) → HasIdsOf work state → state.superstep ≡ m.superstep → saved_or_first m.saved < state.superstep → IsSaveResult state h h' k k' ml ml' f f' told → KeepsFor work trusted h k ml m → Saves work trusted m (after_save told m) h h' k k' ml ml' f f'
 saves_told work trusted m state h h' k k' ml ml' f f' Good at has same past s old = record {
   keeps = keeps_after work trusted m state h h' k k' ml ml' f f' Good at has same past s old;
   missed = inl refl;
@@ -138,15 +142,15 @@ saves_told work trusted m state h h' k k' ml ml' f f' NoMemory at has same past 
   loads = inl (s.left_bytes (λ e. cc), refl);
 }
 
-saves_if : (work : Work) (trusted : Bool) (m : Machine) (state : Standing) (h h' : Bool) (k k' : Option ℕ) (ml ml' : List ℕ → Type 0) (f f' : ℕ) (told : DeviceResult) (c : Bool) → (trusted ≡ true → IsFullStateAt work state.superstep state) → HasIdsOf work state → state.superstep ≡ m.superstep → saved_or_first m.saved < state.superstep → (c ≡ true → IsSaveResult state h h' k k' ml ml' f f' told) → (c ≡ false → KeepsFor work trusted h' k' ml' m × (k' ≡ k) × LoadsNoMore ml ml') → KeepsFor work trusted h k ml m → Saves work trusted m (cond c (after_save told m) m) h h' k k' ml ml' f f'
+saves_if : (work : Work) (trusted : ℕ → Bool) (m : Machine) (state : Standing) (h h' : Bool) (k k' : Option ℕ) (ml ml' : List ℕ → Type 0) (f f' : ℕ) (told : DeviceResult) (c : Bool) → (trusted 1 ≡ true → IsFullStateAt work state.superstep state) → HasIdsOf work state → state.superstep ≡ m.superstep → saved_or_first m.saved < state.superstep → (c ≡ true → IsSaveResult state h h' k k' ml ml' f f' told) → (c ≡ false → KeepsFor work trusted h' k' ml' m × (k' ≡ k) × LoadsNoMore ml ml') → KeepsFor work trusted h k ml m → Saves work trusted m (cond c (after_save told m) m) h h' k k' ml ml' f f'
 saves_if work trusted m state h h' k k' ml ml' f f' told true at has same past s other old = saves_told work trusted m state h h' k k' ml ml' f f' told at has same past (s refl) old
 saves_if work trusted m state h h' k k' ml ml' f f' told false at has same past s other old = record { keeps = (other refl).0; missed = inl refl; restarts = refl; superstep = refl; left = inr (inl (other refl).1); loads = inl ((other refl).2, refl) }
 
-pub saves : (work : Work) (trusted : Bool) (m : Machine) (state : Standing) (h h' : Bool) (k k' : Option ℕ) (ml ml' : List ℕ → Type 0) (f f' : ℕ) (told : DeviceResult) → (trusted ≡ true → IsFullStateAt work state.superstep state) → HasIdsOf work state → state.superstep ≡ m.superstep → saved_or_first m.saved < state.superstep → (is_saved_now m ≡ true → IsSaveResult state h h' k k' ml ml' f f' told) → (is_saved_now m ≡ false → KeepsFor work trusted h' k' ml' m × (k' ≡ k) × LoadsNoMore ml ml') → KeepsFor work trusted h k ml m → Saves work trusted m (saving told m) h h' k k' ml ml' f f'
+pub saves : (work : Work) (trusted : ℕ → Bool) (m : Machine) (state : Standing) (h h' : Bool) (k k' : Option ℕ) (ml ml' : List ℕ → Type 0) (f f' : ℕ) (told : DeviceResult) → (trusted 1 ≡ true → IsFullStateAt work state.superstep state) → HasIdsOf work state → state.superstep ≡ m.superstep → saved_or_first m.saved < state.superstep → (is_saved_now m ≡ true → IsSaveResult state h h' k k' ml ml' f f' told) → (is_saved_now m ≡ false → KeepsFor work trusted h' k' ml' m × (k' ≡ k) × LoadsNoMore ml ml') → KeepsFor work trusted h k ml m → Saves work trusted m (saving told m) h h' k k' ml ml' f f'
 saves work trusted m state h h' k k' ml ml' f f' told at has same past s other old = saves_if work trusted m state h h' k k' ml ml' f f' told (is_saved_now m) at has same past s other old
 
 -- numbers that a Keep does not know
-pub saves_same : (work : Work) (trusted : Bool) (m m' m'' : Machine) (h h' : Bool) (k k' : Option ℕ) (ml ml' : List ℕ → Type 0) (f f' : ℕ) → Saves work trusted m m' h h' k k' ml ml' f f' → AreSame m' m'' → Saves work trusted m m'' h h' k k' ml ml' f f'
+pub saves_same : (work : Work) (trusted : ℕ → Bool) (m m' m'' : Machine) (h h' : Bool) (k k' : Option ℕ) (ml ml' : List ℕ → Type 0) (f f' : ℕ) → Saves work trusted m m' h h' k k' ml ml' f f' → AreSame m' m'' → Saves work trusted m m'' h h' k k' ml ml' f f'
 saves_same work trusted m m' m'' h h' k k' ml ml' f f' s e = record {
   keeps = keeps_same work trusted h' k' ml' m' m'' e.saved s.keeps;
   missed = elim s.missed [ inl x ↦ inl (e.missed ∙ x) | inr x ↦ inr x ];
@@ -163,14 +167,14 @@ saves_same work trusted m m' m'' h h' k k' ml ml' f f' s e = record {
 }
 
 -- so it is after the superstep before it
-pub saves_left : (work : Work) (trusted : Bool) (before m m' : Machine) (h h' : Bool) (k k' : Option ℕ) (ml ml' : List ℕ → Type 0) (f f' : ℕ) → m'.superstep ≡ suc before.superstep → Saves work trusted m m' h h' k k' ml ml' f f' → IsSavedOrLeft before m' k k'
+pub saves_left : (work : Work) (trusted : ℕ → Bool) (before m m' : Machine) (h h' : Bool) (k k' : Option ℕ) (ml ml' : List ℕ → Type 0) (f f' : ℕ) → m'.superstep ≡ suc before.superstep → Saves work trusted m m' h h' k k' ml ml' f f' → IsSavedOrLeft before m' k k'
 saves_left work trusted before m m' h h' k k' ml ml' f f' next s =
     elim s.left [
       | inl x ↦ inr (next, inl x)
       | inr x ↦ elim x [ inl e ↦ inl e | inr y ↦ inr (next, inr y) ]
     ]
 
-pub saves_loads : (work : Work) (trusted : Bool) (before m m' : Machine) (h h' : Bool) (k k' : Option ℕ) (ml ml' : List ℕ → Type 0) (f f' : ℕ) → m'.superstep ≡ suc before.superstep → m.saved ≡ before.saved → Saves work trusted m m' h h' k k' ml ml' f f' → MayLoadAfter work before m' ml ml'
+pub saves_loads : (work : Work) (trusted : ℕ → Bool) (before m m' : Machine) (h h' : Bool) (k k' : Option ℕ) (ml ml' : List ℕ → Type 0) (f f' : ℕ) → m'.superstep ≡ suc before.superstep → m.saved ≡ before.saved → Saves work trusted m m' h h' k k' ml ml' f f' → MayLoadAfter work before m' ml ml'
 saves_loads work trusted before m m' h h' k k' ml ml' f f' next same s =
     elim s.loads [
       | inl x ↦ inl (x.0, inl (x.1 ∙ same))
@@ -183,7 +187,7 @@ saves_loads work trusted before m m' h h' k k' ml ml' f f' next same s =
 abbrev MayLoadStill : Machine → Machine → (ml ml' : List ℕ → Type 0) → Type 0
 MayLoadStill m m' ml ml' = LoadsNoMore ml ml' × ((m'.saved ≡ m.saved) ⊎ (m'.saved ≡ None))
 
-loads_keeps : (work : Work) (trusted : Bool) (m m' : Machine) (h h' : Bool) (k k' : Option ℕ) (ml ml' : List ℕ → Type 0) (f f' : ℕ) (asked : Option ℕ) (told : DeviceResult) → m'.saved ≡ m.saved → IsLoadResult work h h' k k' ml ml' f f' asked told → KeepsFor work trusted h k ml m → KeepsFor work trusted h' k' ml' m'
+loads_keeps : (work : Work) (trusted : ℕ → Bool) (m m' : Machine) (h h' : Bool) (k k' : Option ℕ) (ml ml' : List ℕ → Type 0) (f f' : ℕ) (asked : Option ℕ) (told : DeviceResult) → m'.saved ≡ m.saved → IsLoadResult work h h' k k' ml ml' f f' asked told → KeepsFor work trusted h k ml m → KeepsFor work trusted h' k' ml' m'
 loads_keeps work trusted m m' h h' k k' ml ml' f f' asked told same l old = record {
   trusts = λ t. l.honest_is ∙ old.trusts t;
   saved = λ s e. l.saved_is ∙ old.saved s (sym same ∙ e);
@@ -191,14 +195,14 @@ loads_keeps work trusted m m' h h' k k' ml ml' f f' asked told same l old = reco
 }
 
 -- what a loss leaves
-pub record Loads (work : Work) (trusted : Bool) (m m' : Machine) (h h' : Bool) (k k' : Option ℕ) (ml ml' : List ℕ → Type 0) (f f' : ℕ) : Type 0 where
+pub record Loads (work : Work) (trusted : ℕ → Bool) (m m' : Machine) (h h' : Bool) (k k' : Option ℕ) (ml ml' : List ℕ → Type 0) (f f' : ℕ) : Type 0 where
   pub keeps : KeepsFor work trusted h' k' ml' m'
   pub missed : m'.missed ≡ m.missed
   pub restarts : (m'.restarts ≡ m.restarts) ⊎ (HasFailed f f' ⊎ MayLoadOther work m.saved ml)
   pub left : k' ≡ k
   pub loads : MayLoadStill m m' ml ml'
 
-loads_if : (work : Work) (trusted : Bool) (m : Machine) (h h' : Bool) (k k' : Option ℕ) (ml ml' : List ℕ → Type 0) (f f' : ℕ) (asked : Option ℕ) (told : DeviceResult) → asked ≡ m.saved → IsLoadResult work h h' k k' ml ml' f f' asked told → KeepsFor work trusted h k ml m → Loads work trusted m (loading asked told m) h h' k k' ml ml' f f'
+loads_if : (work : Work) (trusted : ℕ → Bool) (m : Machine) (h h' : Bool) (k k' : Option ℕ) (ml ml' : List ℕ → Type 0) (f f' : ℕ) (asked : Option ℕ) (told : DeviceResult) → asked ≡ m.saved → IsLoadResult work h h' k k' ml ml' f f' asked told → KeepsFor work trusted h k ml m → Loads work trusted m (loading asked told m) h h' k k' ml ml' f f'
 loads_if work trusted m h h' k k' ml ml' f f' None told e l old = record { keeps = loads_keeps work trusted m m h h' k k' ml ml' f f' None told refl l old; missed = refl; restarts = inl refl; left = l.saved_is; loads = (l.bytes_are, inl refl) }
 loads_if work trusted m h h' k k' ml ml' f f' (Some s) Good e l old = record { keeps = loads_keeps work trusted m m h h' k k' ml ml' f f' (Some s) Good refl l old; missed = refl; restarts = inl refl; left = l.saved_is; loads = (l.bytes_are, inl refl) }
 loads_if work trusted m h h' k k' ml ml' f f' (Some s) Failed e l old = record {
@@ -210,7 +214,7 @@ loads_if work trusted m h h' k k' ml ml' f f' (Some s) Failed e l old = record {
 }
 loads_if work trusted m h h' k k' ml ml' f f' (Some s) NoMemory e l old = record { keeps = loads_keeps work trusted m (after_load NoMemory m) h h' k k' ml ml' f f' (Some s) NoMemory refl l old; missed = refl; restarts = inl refl; left = l.saved_is; loads = (l.bytes_are, inl refl) }
 
-pub loads : (work : Work) (trusted : Bool) (m m1 : Machine) (h h' : Bool) (k k' : Option ℕ) (ml ml' : List ℕ → Type 0) (f f' : ℕ) (told : DeviceResult) → m1.saved ≡ m.saved → m1.missed ≡ m.missed → m1.restarts ≡ m.restarts → IsLoadResult work h h' k k' ml ml' f f' m1.saved told → KeepsFor work trusted h k ml m → Loads work trusted m (loading m1.saved told m1) h h' k k' ml ml' f f'
+pub loads : (work : Work) (trusted : ℕ → Bool) (m m1 : Machine) (h h' : Bool) (k k' : Option ℕ) (ml ml' : List ℕ → Type 0) (f f' : ℕ) (told : DeviceResult) → m1.saved ≡ m.saved → m1.missed ≡ m.missed → m1.restarts ≡ m.restarts → IsLoadResult work h h' k k' ml ml' f f' m1.saved told → KeepsFor work trusted h k ml m → Loads work trusted m (loading m1.saved told m1) h h' k k' ml ml' f f'
 loads work trusted m m1 h h' k k' ml ml' f f' told saved missed restarts l old =
     let x = loads_if work trusted m1 h h' k k' ml ml' f f' m1.saved told refl l (keeps_same work trusted h k ml m m1 saved old) in
     record {
@@ -221,7 +225,7 @@ loads work trusted m m1 h h' k k' ml ml' f f' told saved missed restarts l old =
       restarts = elim x.restarts [ inl y ↦ inl (y ∙ restarts) | inr y ↦ inr (subst (λ a. HasFailed f f' ⊎ MayLoadOther work a ml) saved y) ];
     }
 
-pub loads_same : (work : Work) (trusted : Bool) (m m' m'' : Machine) (h h' : Bool) (k k' : Option ℕ) (ml ml' : List ℕ → Type 0) (f f' : ℕ) → Loads work trusted m m' h h' k k' ml ml' f f' → AreSame m' m'' → Loads work trusted m m'' h h' k k' ml ml' f f'
+pub loads_same : (work : Work) (trusted : ℕ → Bool) (m m' m'' : Machine) (h h' : Bool) (k k' : Option ℕ) (ml ml' : List ℕ → Type 0) (f f' : ℕ) → Loads work trusted m m' h h' k k' ml ml' f f' → AreSame m' m'' → Loads work trusted m m'' h h' k k' ml ml' f f'
 loads_same work trusted m m' m'' h h' k k' ml ml' f f' s e = record {
   keeps = keeps_same work trusted h' k' ml' m' m'' e.saved s.keeps;
   missed = e.missed ∙ s.missed;

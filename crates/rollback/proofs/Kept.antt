@@ -15,6 +15,7 @@ use Rattle.superstep.specs.Tasks.{DoneStamp}
 use Rattle.std.specs.List.{list_any}
 use Rattle.superstep.specs.State.{HasIdsOf, Standing, bare, is_due, is_settled}
 use Rattle.superstep.specs.Ending.{WasBusy}
+use Rattle.superstep.proofs.Trusting.{Lasts}
 use Rattle.rollback.specs.declared.control.Out.{Out}
 use Rattle.rollback.specs.declared.job_status.JobStatus.{JobStatus}
 use Rattle.rollback.specs.declared.job_status.JobStatus.TheVariants.{Fault, Finished, Limit, Running}
@@ -24,7 +25,7 @@ use Rattle.rollback.specs.declared.job_data.JobData.{JobData}
 use Rattle.rollback.specs.declared.job_data.JobData.TheVariants.{Nothing, Parts, Whole}
 use Rattle.rollback.specs.Machine.{Machine, all_set, begun_anew, closed, count_set, counts, either, ended_by, ending_at, finished, freed, hand, handed, has_answer, is_running, is_saved_now, joined, none_set, one_more, opened, restarted, resumed, saved_or_first, task_of, waits, welcomed}
 use Rattle.rollback.specs.Events.{after_save, loading, saving, slicing}
-use Rattle.rollback.specs.inside.Parts.{IsHome, Placement, Spot, all_home, is_returned, moved}
+use Rattle.rollback.specs.inside.Parts.{IsHome, Placement, Spot, all_home, is_returned, moved, returned}
 use Rattle.rollback.specs.inside.Parts.Spot.{Gone, Home, Returned}
 use Rattle.rollback.specs.Saving.{IsFullStateAt}
 use Rattle.rollback.specs.Book.{IsQuietAt, done_out, has_finished}
@@ -119,9 +120,10 @@ length-map_returned (x ∷ xs) = ap (λ n. suc n) (length-map_returned xs)
 
 -- ---- the parts of a state
 
-pub parts_home : (work : Work) (m : Machine) (s since : ℕ) (placement : Placement) → placement ≡ all_home s since work.settings.parts → is_running m.ending ≡ true → s ≡ m.superstep → m.superstep < work.settings.limit → m.done ≡ replicate work.settings.parts false → IsSound m → AreParts work m placement
-parts_home work m s since placement is run at early done sound =
+pub parts_home : (work : Work) (m : Machine) (e s since : ℕ) (placement : Placement) → placement ≡ all_home e s since work.settings.parts → e ≤ m.epoch → is_running m.ending ≡ true → s ≡ m.superstep → m.superstep < work.settings.limit → m.done ≡ replicate work.settings.parts false → IsSound m → AreParts work m placement
+parts_home work m e s since placement is before run at early done sound =
     subst (λ x. AreParts work m x) (sym is) (record {
+      epoch = before;
       running = run;
       superstep = at;
       early = early;
@@ -132,19 +134,19 @@ parts_home work m s since placement is run at early done sound =
     })
 
 -- a job that runs has its parts
-pub runs : (work : Work) (honest : Bool) (m : Machine) {J : _} (job_data : JobData J) → HoldsData work honest m job_data → is_running m.ending ≡ true → (placement : Placement) × (job_data ≡ Parts placement) × AreParts work m placement
+pub runs : (work : Work) (honest : ℕ → Bool) (m : Machine) {J : _} (job_data : JobData J) → HoldsData work honest m job_data → is_running m.ending ≡ true → (placement : Placement) × (job_data ≡ Parts placement) × AreParts work m placement
 runs work honest m (Parts placement) h run = (placement, refl, h)
 runs work honest m (Whole state) h run = absurd (running_not_answer m.ending run h.answer)
 runs work honest m Nothing h run = absurd (running_not_fault m.ending run h)
 
 -- ---- numbers that nothing hangs on
 
-held_rest : (work : Work) (honest : Bool) (m : Machine) {J : _} (job_data : JobData J) (waiting : List Bool) (age spent : List ℕ) (missed restarts : ℕ) → HoldsData work honest m job_data → HoldsData work honest (with_rest m waiting age spent missed restarts) job_data
-held_rest work honest m (Parts placement) waiting age spent missed restarts h = record { running = h.running; superstep = h.superstep; early = h.early; done = h.done; many = h.many; sound = sound_rest m waiting age spent missed restarts h.sound; backed = h.backed }
+held_rest : (work : Work) (honest : ℕ → Bool) (m : Machine) {J : _} (job_data : JobData J) (waiting : List Bool) (age spent : List ℕ) (missed restarts : ℕ) → HoldsData work honest m job_data → HoldsData work honest (with_rest m waiting age spent missed restarts) job_data
+held_rest work honest m (Parts placement) waiting age spent missed restarts h = record { epoch = h.epoch; running = h.running; superstep = h.superstep; early = h.early; done = h.done; many = h.many; sound = sound_rest m waiting age spent missed restarts h.sound; backed = h.backed }
 held_rest work honest m (Whole state) waiting age spent missed restarts h = record { answer = h.answer; superstep = h.superstep; ids = h.ids; at = h.at; quiet = h.quiet }
 held_rest work honest m Nothing waiting age spent missed restarts h = h
 
-pub book_rest : (work : Work) (honest : Bool) (own : Work) (m : Machine) (ids : List ℕ) {J : _} (job_data : JobData J) (waiting : List Bool) (age spent : List ℕ) (missed restarts : ℕ) → IsBook work honest own m ids job_data → IsBook work honest own (with_rest m waiting age spent missed restarts) ids job_data
+pub book_rest : (work : Work) (honest : ℕ → Bool) (own : Work) (m : Machine) (ids : List ℕ) {J : _} (job_data : JobData J) (waiting : List Bool) (age spent : List ℕ) (missed restarts : ℕ) → IsBook work honest own m ids job_data → IsBook work honest own (with_rest m waiting age spent missed restarts) ids job_data
 book_rest work honest own m ids job_data waiting age spent missed restarts b = record {
   job = b.job;
   settings = b.settings;
@@ -156,7 +158,7 @@ book_rest work honest own m ids job_data waiting age spent missed restarts b = r
 
 -- ---- an end by a fault
 
-pub book_ended : (work : Work) (honest : Bool) (own : Work) (m : Machine) (ids : List ℕ) {J : _} (job_data none : JobData J) (fault : JobFault) → none ≡ Nothing → IsBook work honest own m ids job_data → IsBook work honest own (ended_by fault m) ids none
+pub book_ended : (work : Work) (honest : ℕ → Bool) (own : Work) (m : Machine) (ids : List ℕ) {J : _} (job_data none : JobData J) (fault : JobFault) → none ≡ Nothing → IsBook work honest own m ids job_data → IsBook work honest own (ended_by fault m) ids none
 book_ended work honest own m ids job_data none fault is b = record {
   job = b.job;
   settings = b.settings;
@@ -169,10 +171,10 @@ book_ended work honest own m ids job_data none fault is b = record {
 -- ---- a state that has come
 
 -- all but what is held
-pub record IsFresh (work : Work) (honest : Bool) (m : Machine) : Type 0 where
+pub record IsFresh (work : Work) (honest : ℕ → Bool) (m : Machine) : Type 0 where
   pub settings : m.settings ≡ work.settings
   pub past : saved_or_first m.saved ≤ m.superstep
-  pub reached : honest ≡ true → IsReached work m
+  pub reached : honest m.epoch ≡ true → IsReached work m
   pub early : is_running m.ending ≡ true → m.superstep < work.settings.limit
   pub sound : IsSound m
   pub done : m.done ≡ replicate work.settings.parts false
@@ -208,7 +210,7 @@ running_early : (quiet : Bool) (s limit : ℕ) → is_running (ending_at quiet s
 running_early true s limit r = absurd (cc)
 running_early false s limit r = early_if s limit (nat_lt s limit) refl r
 
-pub fresh_closed : (work : Work) (honest : Bool) (own : Work) (m : Machine) (ids : List ℕ) {J : _} (job_data : JobData J) (quiet : Bool) → IsBook work honest own m ids job_data → is_running m.ending ≡ true → all_set m.done ≡ true → (honest ≡ true → IsQuietAt work (suc m.superstep) quiet) → IsFresh work honest (closed quiet m)
+pub fresh_closed : (work : Work) (honest : ℕ → Bool) (own : Work) (m : Machine) (ids : List ℕ) {J : _} (job_data : JobData J) (quiet : Bool) → IsBook work honest own m ids job_data → is_running m.ending ≡ true → all_set m.done ≡ true → (honest m.epoch ≡ true → IsQuietAt work (suc m.superstep) quiet) → IsFresh work honest (closed quiet m)
 fresh_closed work honest own m ids job_data quiet b run all at =
     let h = (runs work honest m job_data b.held run).2 in
     let long = ap length h.done ∙ length-map_returned (runs work honest m job_data b.held run).0.spots ∙ h.many in
@@ -221,7 +223,7 @@ fresh_closed work honest own m ids job_data quiet b run all at =
       done = ap (λ n. replicate n false) long;
     }
 
-fresh_saved : (work : Work) (honest : Bool) (m : Machine) (told : DeviceResult) → is_running m.ending ≡ true → IsFresh work honest m → IsFresh work honest (after_save told m)
+fresh_saved : (work : Work) (honest : ℕ → Bool) (m : Machine) (told : DeviceResult) → is_running m.ending ≡ true → IsFresh work honest m → IsFresh work honest (after_save told m)
 fresh_saved work honest m Good run f = record {
   settings = f.settings;
   past = omega arith;
@@ -247,7 +249,7 @@ fresh_saved work honest m NoMemory run f = record {
   reached = λ t. let r = f.reached t in record { busy = r.busy; saved = r.saved; stands = tt };
 }
 
-fresh_saving_if : (work : Work) (honest : Bool) (m : Machine) (told : DeviceResult) (c : Bool) → (c ≡ true → is_running m.ending ≡ true) → IsFresh work honest m → IsFresh work honest (cond c (after_save told m) m)
+fresh_saving_if : (work : Work) (honest : ℕ → Bool) (m : Machine) (told : DeviceResult) (c : Bool) → (c ≡ true → is_running m.ending ≡ true) → IsFresh work honest m → IsFresh work honest (cond c (after_save told m) m)
 fresh_saving_if work honest m told true run f = fresh_saved work honest m told (run refl) f
 fresh_saving_if work honest m told false run f = f
 
@@ -255,10 +257,10 @@ both_first : (a b : Bool) → (a && b) ≡ true → a ≡ true
 both_first true b h = refl
 both_first false b h = absurd (cc)
 
-pub fresh_saving : (work : Work) (honest : Bool) (m : Machine) (told : DeviceResult) → IsFresh work honest m → IsFresh work honest (saving told m)
+pub fresh_saving : (work : Work) (honest : ℕ → Bool) (m : Machine) (told : DeviceResult) → IsFresh work honest m → IsFresh work honest (saving told m)
 fresh_saving work honest m told f = fresh_saving_if work honest m told (is_saved_now m) (λ e. both_first (is_running m.ending) _ e) f
 
-fresh_slicing_if : (work : Work) (honest : Bool) (m : Machine) (c : Bool) → IsFresh work honest m → IsFresh work honest (cond c (ended_by (OutOfMemory Slice) m) m)
+fresh_slicing_if : (work : Work) (honest : ℕ → Bool) (m : Machine) (c : Bool) → IsFresh work honest m → IsFresh work honest (cond c (ended_by (OutOfMemory Slice) m) m)
 fresh_slicing_if work honest m true f = record {
   settings = f.settings;
   past = f.past;
@@ -269,7 +271,7 @@ fresh_slicing_if work honest m true f = record {
 }
 fresh_slicing_if work honest m false f = f
 
-pub fresh_slicing : (work : Work) (honest : Bool) (m : Machine) (sliced : Bool) → IsFresh work honest m → IsFresh work honest (slicing sliced m)
+pub fresh_slicing : (work : Work) (honest : ℕ → Bool) (m : Machine) (sliced : Bool) → IsFresh work honest m → IsFresh work honest (slicing sliced m)
 fresh_slicing work honest m sliced f = fresh_slicing_if work honest m (is_running m.ending && not sliced) f
 
 -- a save leaves the superstep, and how the job stands but for a fault
@@ -288,6 +290,15 @@ superstep_slicing_if m false = refl
 
 pub superstep_slicing : (m : Machine) (sliced : Bool) → (slicing sliced m).superstep ≡ m.superstep
 superstep_slicing m sliced = superstep_slicing_if m (is_running m.ending && not sliced)
+
+epoch_saving_if : (m : Machine) (told : DeviceResult) (c : Bool) → (cond c (after_save told m) m).epoch ≡ m.epoch
+epoch_saving_if m Good true = refl
+epoch_saving_if m Failed true = refl
+epoch_saving_if m NoMemory true = refl
+epoch_saving_if m told false = refl
+
+pub epoch_saving : (m : Machine) (told : DeviceResult) → (saving told m).epoch ≡ m.epoch
+epoch_saving m told = epoch_saving_if m told (is_saved_now m)
 
 answer_saving_if : (m : Machine) (told : DeviceResult) (c : Bool) → has_answer (cond c (after_save told m) m).ending ≡ true → (cond c (after_save told m) m).ending ≡ m.ending
 answer_saving_if m Good true h = refl
@@ -317,21 +328,21 @@ length-either alive waiting = length-by_place (λ w a. a || get_or waiting w fal
 abbrev new_epoch : Machine → Machine
 new_epoch m = record (joined m) { epoch = m.epoch + 1 }
 
-held_welcomed_if : (work : Work) (honest : Bool) (own : Work) (m : Machine) (ids : List ℕ) {J : _} (job_data : JobData J) (s since : ℕ) (placement : Placement) (c : Bool) → own ≡ work → AreIdsOf work ids → IsFresh work honest m → is_running m.ending ≡ true → s ≡ m.superstep → placement ≡ all_home s since work.settings.parts → job_data ≡ Parts placement → IsBook work honest own (cond c (new_epoch m) m) ids job_data
-held_welcomed_if work honest own m ids job_data s since placement true job is_ids f run at is all = record {
+held_welcomed_if : (work : Work) (honest : ℕ → Bool) (own : Work) (m : Machine) (ids : List ℕ) {J : _} (job_data : JobData J) (s since : ℕ) (placement : Placement) (c : Bool) → Lasts honest → own ≡ work → AreIdsOf work ids → IsFresh work honest m → is_running m.ending ≡ true → s ≡ m.superstep → placement ≡ all_home m.epoch s since work.settings.parts → job_data ≡ Parts placement → IsBook work honest own (cond c (new_epoch m) m) ids job_data
+held_welcomed_if work honest own m ids job_data s since placement true lasts job is_ids f run at is all = record {
   job = job;
   settings = f.settings;
   knows = is_ids;
   past = f.past;
-  held = subst (λ h. HoldsData work honest (new_epoch m) h) (sym all) (parts_home work (new_epoch m) s since placement is run at (f.early run) f.done (sound_anew m (new_epoch m) f.sound refl (length-either m.alive m.waiting) refl));
-  reached = λ t. let r = f.reached t in record { busy = r.busy; saved = r.saved; stands = r.stands };
+  held = subst (λ h. HoldsData work honest (new_epoch m) h) (sym all) (parts_home work (new_epoch m) m.epoch s since placement is (omega arith) run at (f.early run) f.done (sound_anew m (new_epoch m) f.sound refl (length-either m.alive m.waiting) refl));
+  reached = λ t. let r = f.reached (lasts (m.epoch + 1) m.epoch (omega arith) t) in record { busy = r.busy; saved = r.saved; stands = r.stands };
 }
-held_welcomed_if work honest own m ids job_data s since placement false job is_ids f run at is all = record {
+held_welcomed_if work honest own m ids job_data s since placement false lasts job is_ids f run at is all = record {
   job = job;
   settings = f.settings;
   knows = is_ids;
   past = f.past;
-  held = subst (λ h. HoldsData work honest m h) (sym all) (parts_home work m s since placement is run at (f.early run) f.done f.sound);
+  held = subst (λ h. HoldsData work honest m h) (sym all) (parts_home work m m.epoch s since placement is (omega arith) run at (f.early run) f.done f.sound);
   reached = f.reached;
 }
 
@@ -343,11 +354,11 @@ welcomed_over_if m false b h = refl
 pub welcomed_over : (m : Machine) → is_running m.ending ≡ false → welcomed m ≡ m
 welcomed_over m h = welcomed_over_if m (is_running m.ending) (nat_lt 0 (count_set m.waiting)) h
 
-pub book_shut : (work : Work) (honest : Bool) (own : Work) (m m' : Machine) (ids : List ℕ) {J : _} (job_data : JobData J) (quiet : Bool) (state : Standing) → own ≡ work → AreIdsOf work ids → IsFresh work honest m → IsFresh work honest m' → state.superstep ≡ m.superstep → HasIdsOf work state → (honest ≡ true → IsFullStateAt work state.superstep state) → (has_answer m.ending ≡ true → has_finished m.ending ≡ quiet) → quiet ≡ is_settled state → IsHeldOf work.settings.parts m m' state job_data → IsBook work honest own (welcomed m') ids job_data
-book_shut work honest own m m' ids {J = J} (Parts placement) quiet state job is_ids f f' at has at' ends settled h =
+pub book_shut : (work : Work) (honest : ℕ → Bool) (own : Work) (m m' : Machine) (ids : List ℕ) {J : _} (job_data : JobData J) (quiet : Bool) (state : Standing) → Lasts honest → own ≡ work → AreIdsOf work ids → IsFresh work honest m → IsFresh work honest m' → state.superstep ≡ m.superstep → HasIdsOf work state → (honest m.epoch ≡ true → IsFullStateAt work state.superstep state) → (has_answer m.ending ≡ true → has_finished m.ending ≡ quiet) → quiet ≡ is_settled state → IsHeldOf work.settings.parts m m' state job_data → IsBook work honest own (welcomed m') ids job_data
+book_shut work honest own m m' ids {J = J} (Parts placement) quiet state lasts job is_ids f f' at has at' ends settled h =
     subst (λ x. IsBook work honest own (welcomed x) ids {J = J} (Parts placement)) (sym h.1)
-    (held_welcomed_if work honest own m ids {J = J} (Parts placement) state.superstep state.since placement (is_running m.ending && nat_lt 0 (count_set m.waiting)) job is_ids f h.0 at h.2 refl)
-book_shut work honest own m m' ids {J = J} (Whole whole) quiet state job is_ids f f' at has at' ends settled h =
+    (held_welcomed_if work honest own m ids {J = J} (Parts placement) state.superstep state.since placement (is_running m.ending && nat_lt 0 (count_set m.waiting)) lasts job is_ids f h.0 at h.2 refl)
+book_shut work honest own m m' ids {J = J} (Whole whole) quiet state lasts job is_ids f f' at has at' ends settled h =
     let over = answer_not_running m.ending h.0 in
     let kept : IsBook work honest own m ids {J = J} (Whole state) = record {
       job = job;
@@ -360,7 +371,7 @@ book_shut work honest own m m' ids {J = J} (Whole whole) quiet state job is_ids 
     subst (λ x. IsBook work honest own (welcomed x) ids {J = J} (Whole whole)) (sym h.1)
     (subst (λ x. IsBook work honest own x ids {J = J} (Whole whole)) (sym (welcomed_over m over))
     (subst (λ x. IsBook work honest own m ids {J = J} (Whole x)) (sym h.2) kept))
-book_shut work honest own m m' ids {J = J} Nothing quiet state job is_ids f f' at has at' ends settled h =
+book_shut work honest own m m' ids {J = J} Nothing quiet state lasts job is_ids f f' at has at' ends settled h =
     subst (λ x. IsBook work honest own x ids {J = J} Nothing) (sym (welcomed_over m' (fault_not_running m'.ending h))) (record {
       job = job;
       settings = f'.settings;
@@ -376,7 +387,7 @@ abbrev pub with_alive : Machine → List Bool → Machine
 with_alive m alive = record m { alive = alive }
 
 -- nobody is left
-pub book_alone : (work : Work) (honest : Bool) (own : Work) (m : Machine) (ids : List ℕ) {J : _} (job_data none : JobData J) (alive : List Bool) → none ≡ Nothing → IsBook work honest own m ids job_data → IsBook work honest own (ended_by NoWorkers (joined (with_alive m alive))) ids none
+pub book_alone : (work : Work) (honest : ℕ → Bool) (own : Work) (m : Machine) (ids : List ℕ) {J : _} (job_data none : JobData J) (alive : List Bool) → none ≡ Nothing → IsBook work honest own m ids job_data → IsBook work honest own (ended_by NoWorkers (joined (with_alive m alive))) ids none
 book_alone work honest own m ids job_data none alive is b = record {
   job = b.job;
   settings = b.settings;
@@ -397,38 +408,38 @@ reached_back work m (Some s) x run to le =
     let below = now.1 in
     (λ meaning k lt. to meaning k (omega (arith, lt)), (λ meaning. to meaning s (omega arith), omega (arith, below, le)))
 
-long_done : (work : Work) (honest : Bool) (own : Work) (m : Machine) (ids : List ℕ) {J : _} (job_data : JobData J) → IsBook work honest own m ids job_data → is_running m.ending ≡ true → none_set m.done ≡ replicate work.settings.parts false
+long_done : (work : Work) (honest : ℕ → Bool) (own : Work) (m : Machine) (ids : List ℕ) {J : _} (job_data : JobData J) → IsBook work honest own m ids job_data → is_running m.ending ≡ true → none_set m.done ≡ replicate work.settings.parts false
 long_done work honest own m ids job_data b run =
     let h = (runs work honest m job_data b.held run).2 in
     ap (λ n. replicate n false) (ap length h.done ∙ length-map_returned (runs work honest m job_data b.held run).0.spots ∙ h.many)
 
-fresh_anew : (work : Work) (honest : Bool) (own : Work) (m : Machine) (ids : List ℕ) {J : _} (job_data : JobData J) (alive : List Bool) → length alive ≡ length m.alive → IsBook work honest own m ids job_data → is_running m.ending ≡ true → IsFresh work honest (begun_anew (joined (with_alive m alive)))
-fresh_anew work honest own m ids job_data alive wide b run =
+fresh_anew : (work : Work) (honest : ℕ → Bool) (own : Work) (m : Machine) (ids : List ℕ) {J : _} (job_data : JobData J) (alive : List Bool) → Lasts honest → length alive ≡ length m.alive → IsBook work honest own m ids job_data → is_running m.ending ≡ true → IsFresh work honest (begun_anew (joined (with_alive m alive)))
+fresh_anew work honest own m ids job_data alive lasts wide b run =
     let h = (runs work honest m job_data b.held run).2 in
     record {
       settings = b.settings;
       past = omega arith;
       early = λ r. let past = b.past in let early = h.early in omega (arith, past, early);
-      reached = λ t. let x = b.reached t in let y = reached_back work m m.saved x run x.saved b.past in
+      reached = λ t. let x = b.reached (lasts (m.epoch + 1) m.epoch (omega arith) t) in let y = reached_back work m m.saved x run x.saved b.past in
           record { busy = y.0; saved = x.saved; stands = subst (λ e. StandsAt work e (saved_or_first m.saved)) (sym (running_is m.ending run)) y.1 };
       sound = sound_anew m (begun_anew (joined (with_alive m alive))) h.sound refl (length-either alive m.waiting ∙ wide) refl;
       done = long_done work honest own m ids job_data b run;
     }
 
-fresh_restarted : (work : Work) (honest : Bool) (own : Work) (m : Machine) (ids : List ℕ) {J : _} (job_data : JobData J) (alive : List Bool) → length alive ≡ length m.alive → IsBook work honest own m ids job_data → is_running m.ending ≡ true → IsFresh work honest (restarted (begun_anew (joined (with_alive m alive))))
-fresh_restarted work honest own m ids job_data alive wide b run =
+fresh_restarted : (work : Work) (honest : ℕ → Bool) (own : Work) (m : Machine) (ids : List ℕ) {J : _} (job_data : JobData J) (alive : List Bool) → Lasts honest → length alive ≡ length m.alive → IsBook work honest own m ids job_data → is_running m.ending ≡ true → IsFresh work honest (restarted (begun_anew (joined (with_alive m alive))))
+fresh_restarted work honest own m ids job_data alive lasts wide b run =
     let h = (runs work honest m job_data b.held run).2 in
     record {
       settings = b.settings;
       past = omega arith;
       early = λ r. let early = h.early in omega (arith, early);
-      reached = λ t. let x = b.reached t in let y = reached_back work m None x run tt (omega arith) in
+      reached = λ t. let x = b.reached (lasts (m.epoch + 1) m.epoch (omega arith) t) in let y = reached_back work m None x run tt (omega arith) in
           record { busy = y.0; saved = tt; stands = subst (λ e. StandsAt work e 0) (sym (running_is m.ending run)) y.1 };
       sound = sound_anew m (restarted (begun_anew (joined (with_alive m alive)))) h.sound refl (length-either alive m.waiting ∙ wide) refl;
       done = long_done work honest own m ids job_data b run;
     }
 
-fresh_unloaded : (work : Work) (honest : Bool) (m : Machine) → IsFresh work honest m → IsFresh work honest (ended_by (OutOfMemory Load) m)
+fresh_unloaded : (work : Work) (honest : ℕ → Bool) (m : Machine) → IsFresh work honest m → IsFresh work honest (ended_by (OutOfMemory Load) m)
 fresh_unloaded work honest m f = record {
   settings = f.settings;
   past = f.past;
@@ -439,20 +450,20 @@ fresh_unloaded work honest m f = record {
 }
 
 -- whatever the load told
-pub fresh_loaded : (work : Work) (honest : Bool) (own : Work) (m : Machine) (ids : List ℕ) {J : _} (job_data : JobData J) (alive : List Bool) (saved : Option ℕ) (told : DeviceResult) → length alive ≡ length m.alive → IsBook work honest own m ids job_data → is_running m.ending ≡ true → IsFresh work honest (loading saved told (begun_anew (joined (with_alive m alive))))
-fresh_loaded work honest own m ids job_data alive None told wide b run = fresh_anew work honest own m ids job_data alive wide b run
-fresh_loaded work honest own m ids job_data alive (Some s) Good wide b run = fresh_anew work honest own m ids job_data alive wide b run
-fresh_loaded work honest own m ids job_data alive (Some s) Failed wide b run = fresh_restarted work honest own m ids job_data alive wide b run
-fresh_loaded work honest own m ids job_data alive (Some s) NoMemory wide b run = fresh_unloaded work honest (begun_anew (joined (with_alive m alive))) (fresh_anew work honest own m ids job_data alive wide b run)
+pub fresh_loaded : (work : Work) (honest : ℕ → Bool) (own : Work) (m : Machine) (ids : List ℕ) {J : _} (job_data : JobData J) (alive : List Bool) (saved : Option ℕ) (told : DeviceResult) → Lasts honest → length alive ≡ length m.alive → IsBook work honest own m ids job_data → is_running m.ending ≡ true → IsFresh work honest (loading saved told (begun_anew (joined (with_alive m alive))))
+fresh_loaded work honest own m ids job_data alive None told lasts wide b run = fresh_anew work honest own m ids job_data alive lasts wide b run
+fresh_loaded work honest own m ids job_data alive (Some s) Good lasts wide b run = fresh_anew work honest own m ids job_data alive lasts wide b run
+fresh_loaded work honest own m ids job_data alive (Some s) Failed lasts wide b run = fresh_restarted work honest own m ids job_data alive lasts wide b run
+fresh_loaded work honest own m ids job_data alive (Some s) NoMemory lasts wide b run = fresh_unloaded work honest (begun_anew (joined (with_alive m alive))) (fresh_anew work honest own m ids job_data alive lasts wide b run)
 
-pub book_back : (work : Work) (honest : Bool) (own : Work) (m : Machine) (ids : List ℕ) {J : _} (job_data : JobData J) → own ≡ work → AreIdsOf work ids → IsFresh work honest m → StandsBack work.settings.parts m.superstep m job_data → IsBook work honest own m ids job_data
+pub book_back : (work : Work) (honest : ℕ → Bool) (own : Work) (m : Machine) (ids : List ℕ) {J : _} (job_data : JobData J) → own ≡ work → AreIdsOf work ids → IsFresh work honest m → StandsBack work.settings.parts m.superstep m job_data → IsBook work honest own m ids job_data
 book_back work honest own m ids (Parts placement) job is_ids f h = record {
   job = job;
   settings = f.settings;
   knows = is_ids;
   past = f.past;
   reached = f.reached;
-  held = parts_home work m m.superstep h.1.0 placement h.1.1 h.0 refl (f.early h.0) f.done f.sound;
+  held = parts_home work m m.epoch m.superstep h.1.0 placement h.1.1 (omega arith) h.0 refl (f.early h.0) f.done f.sound;
 }
 book_back work honest own m ids (Whole state) job is_ids f h = absurd h
 book_back work honest own m ids Nothing job is_ids f h = record { job = job; settings = f.settings; knows = is_ids; past = f.past; reached = f.reached; held = h }
@@ -465,12 +476,12 @@ backed_freed m spots w never b p lt e =
     let ne : x.0 ≢ w = λ same. never x.1 (subst (λ k. get_or m.out k None ≡ Some x.1) same x.3) x.4 in
     (x.0, x.1, rw length-set x.2, get_or-set_other m.out w x.0 None None ne ∙ x.3, x.4, x.5)
 
-held_freed : (work : Work) (honest : Bool) (m : Machine) {J : _} (job_data : JobData J) (w : ℕ) → w < length m.out → HasNone m w → HoldsData work honest m job_data → HoldsData work honest (freed m w) job_data
-held_freed work honest m (Parts placement) w lt never h = record { running = h.running; superstep = h.superstep; early = h.early; done = h.done; many = h.many; sound = sound_freed m w lt h.sound; backed = backed_freed m placement.spots w never h.backed }
+held_freed : (work : Work) (honest : ℕ → Bool) (m : Machine) {J : _} (job_data : JobData J) (w : ℕ) → w < length m.out → HasNone m w → HoldsData work honest m job_data → HoldsData work honest (freed m w) job_data
+held_freed work honest m (Parts placement) w lt never h = record { epoch = h.epoch; running = h.running; superstep = h.superstep; early = h.early; done = h.done; many = h.many; sound = sound_freed m w lt h.sound; backed = backed_freed m placement.spots w never h.backed }
 held_freed work honest m (Whole state) w lt never h = record { answer = h.answer; superstep = h.superstep; ids = h.ids; at = h.at; quiet = h.quiet }
 held_freed work honest m Nothing w lt never h = h
 
-pub book_freed : (work : Work) (honest : Bool) (own : Work) (m : Machine) (ids : List ℕ) {J : _} (job_data : JobData J) (w : ℕ) → w < length m.out → HasNone m w → IsBook work honest own m ids job_data → IsBook work honest own (freed m w) ids job_data
+pub book_freed : (work : Work) (honest : ℕ → Bool) (own : Work) (m : Machine) (ids : List ℕ) {J : _} (job_data : JobData J) (w : ℕ) → w < length m.out → HasNone m w → IsBook work honest own m ids job_data → IsBook work honest own (freed m w) ids job_data
 book_freed work honest own m ids job_data w lt never b = record {
   job = b.job;
   settings = b.settings;
@@ -480,7 +491,7 @@ book_freed work honest own m ids job_data w lt never b = record {
   reached = λ t. let r = b.reached t in record { busy = r.busy; saved = r.saved; stands = r.stands };
 }
 
-pub book_waits : (work : Work) (honest : Bool) (own : Work) (m : Machine) (ids : List ℕ) {J : _} (job_data : JobData J) (w : ℕ) → w < length m.out → HasNone m w → IsBook work honest own m ids job_data → IsBook work honest own (waits m w) ids job_data
+pub book_waits : (work : Work) (honest : ℕ → Bool) (own : Work) (m : Machine) (ids : List ℕ) {J : _} (job_data : JobData J) (w : ℕ) → w < length m.out → HasNone m w → IsBook work honest own m ids job_data → IsBook work honest own (waits m w) ids job_data
 book_waits work honest own m ids job_data w lt never b =
     book_rest work honest own (freed m w) ids job_data (set m.waiting w true) m.age m.spent m.missed m.restarts (book_freed work honest own m ids job_data w lt never b)
 
@@ -491,7 +502,7 @@ backed_taken m spots w task lt is b in_range p plt e =
     let nw : y.0 ≢ w = λ same. let z : Some task ≡ Some y.1 = sym is ∙ subst (λ k. get_or m.out k None ≡ Some y.1) same y.3 in let z' : task ≡ y.1 = cc in ne (sym y.5 ∙ ap (λ t. t.part) (sym z')) in
     (y.0, y.1, rw length-set y.2, get_or-set_other m.out w y.0 None None nw ∙ y.3, y.4, y.5)
 
-pub book_taken : (work : Work) (honest : Bool) (own : Work) (m : Machine) (ids : List ℕ) {J : _} (job_data after : JobData J) (w : ℕ) (task : Out) (placement : Placement) → w < length m.out → is_running m.ending ≡ true → counts m w task ≡ true → job_data ≡ Parts placement → after ≡ Parts (moved placement task.part Returned) → IsBook work honest own m ids job_data → IsBook work honest own (finished (freed m w) task.part) ids after
+pub book_taken : (work : Work) (honest : ℕ → Bool) (own : Work) (m : Machine) (ids : List ℕ) {J : _} (job_data after : JobData J) (w : ℕ) (task : Out) (placement : Placement) → w < length m.out → is_running m.ending ≡ true → counts m w task ≡ true → job_data ≡ Parts placement → after ≡ Parts (returned placement task.part task.epoch) → IsBook work honest own m ids job_data → IsBook work honest own (finished (freed m w) task.part) ids after
 book_taken work honest own m ids job_data after w task placement lt run h is is' b =
     let x : AreParts work m placement = subst (λ k. HoldsData work honest m k) is b.held in
     let p = counted_part m w task x.sound lt h in
@@ -502,6 +513,7 @@ book_taken work honest own m ids job_data after w task placement lt run h is is'
       knows = b.knows;
       past = b.past;
       held = subst (λ k. HoldsData work honest (finished (freed m w) task.part) k) (sym is') (record {
+        epoch = let same = (counts_is m w task h).1.1 in omega (arith, same);
         running = x.running;
         superstep = x.superstep;
         early = x.early;
@@ -539,7 +551,7 @@ hand_home work m placement w p x e open' =
           apart m a.0 w p a.1.part ne (y.alive a.4) h.1.0 (y.own a.4) h.1.1 a.5),
     )
 
-pub book_handed : (work : Work) (honest : Bool) (own : Work) (m : Machine) (ids : List ℕ) {J : _} (job_data after : JobData J) (w p : ℕ) (placement : Placement) → w < length m.out → IsOpen m.done p → hand m w ≡ Some p → job_data ≡ Parts placement → after ≡ Parts (moved placement p Gone) → IsBook work honest own m ids job_data → IsBook work honest own (handed m w p) ids after
+pub book_handed : (work : Work) (honest : ℕ → Bool) (own : Work) (m : Machine) (ids : List ℕ) {J : _} (job_data after : JobData J) (w p : ℕ) (placement : Placement) → w < length m.out → IsOpen m.done p → hand m w ≡ Some p → job_data ≡ Parts placement → after ≡ Parts (moved placement p Gone) → IsBook work honest own m ids job_data → IsBook work honest own (handed m w p) ids after
 book_handed work honest own m ids job_data after w p placement lt open' e is is' b =
     let x : AreParts work m placement = subst (λ k. HoldsData work honest m k) is b.held in
     let s = open_spot work m placement p x open' in
@@ -549,6 +561,7 @@ book_handed work honest own m ids job_data after w p placement lt open' e is is'
       knows = b.knows;
       past = b.past;
       held = subst (λ k. HoldsData work honest (handed m w p) k) (sym is') (record {
+        epoch = x.epoch;
         running = x.running;
         superstep = x.superstep;
         early = x.early;
@@ -584,50 +597,56 @@ pub all_returned_is : (work : Work) (m : Machine) (placement : Placement) → Ar
 all_returned_is work m placement x h = all_back placement.spots (subst (λ ds. all_set ds ≡ true) x.done h) ∙ ap (λ n. replicate n Returned) x.many
 
 -- a result that counts is of a part of this superstep
-pub takes : (work : Work) (honest : Bool) (m : Machine) {J : _} (job_data : JobData J) (w : ℕ) (done : DoneStamp) → HoldsData work honest m job_data → is_running m.ending ≡ true → w < length m.alive → counts m w (done_out done) ≡ true → FitsPart job_data done
+pub takes : (work : Work) (honest : ℕ → Bool) (m : Machine) {J : _} (job_data : JobData J) (w : ℕ) (done : DoneStamp) → HoldsData work honest m job_data → is_running m.ending ≡ true → w < length m.alive → counts m w (done_out done) ≡ true → FitsPart job_data done
 takes work honest m (Parts placement) w done x run lt h =
     let p = counted_part m w (done_out done) x.sound (rw x.sound.width lt) h in
-    (p.0 ∙ sym x.superstep, subst (λ n. done.part < n) (ap length x.done ∙ length-map_returned placement.spots) p.1.0)
+    (p.0 ∙ sym x.superstep, subst (λ n. done.part < n) (ap length x.done ∙ length-map_returned placement.spots) p.1.0, subst (λ n. placement.epoch ≤ n) (sym (counts_is m w (done_out done) h).1.1) x.epoch)
 takes work honest m (Whole state) w done x run lt h = absurd (running_not_answer m.ending run x.answer)
 takes work honest m Nothing w done x run lt h = absurd (running_not_fault m.ending run x)
 
-pub counted_open : (work : Work) (honest : Bool) (m : Machine) {J : _} (job_data : JobData J) (w : ℕ) (task : Out) → HoldsData work honest m job_data → is_running m.ending ≡ true → w < length m.alive → counts m w task ≡ true → task.part < length m.done
+pub counted_open : (work : Work) (honest : ℕ → Bool) (m : Machine) {J : _} (job_data : JobData J) (w : ℕ) (task : Out) → HoldsData work honest m job_data → is_running m.ending ≡ true → w < length m.alive → counts m w task ≡ true → task.part < length m.done
 counted_open work honest m (Parts placement) w task x run lt h = (counted_part m w task x.sound (rw x.sound.width lt) h).1.0
 counted_open work honest m (Whole state) w task x run lt h = absurd (running_not_answer m.ending run x.answer)
 counted_open work honest m Nothing w task x run lt h = absurd (running_not_fault m.ending run x)
 
-pub has_home : (work : Work) (honest : Bool) (m : Machine) {J : _} (job_data : JobData J) (w p : ℕ) → HoldsData work honest m job_data → hand m w ≡ Some p → IsOpen m.done p → HasHome job_data p
+pub has_home : (work : Work) (honest : ℕ → Bool) (m : Machine) {J : _} (job_data : JobData J) (w p : ℕ) → HoldsData work honest m job_data → hand m w ≡ Some p → IsOpen m.done p → HasHome job_data p
 has_home work honest m (Parts placement) w p x e open' = hand_home work m placement w p x e open'
 has_home work honest m (Whole state) w p x e open' = absurd (running_not_answer m.ending (hand_is m w p e).0 x.answer)
 has_home work honest m Nothing w p x e open' = absurd (running_not_fault m.ending (hand_is m w p e).0 x)
 
 -- it is of this superstep
-pub home_superstep : (work : Work) (honest : Bool) (m : Machine) {J : _} (job_data : JobData J) (s : ℕ) → HoldsData work honest m job_data → Runs job_data (λ placement. s ≡ placement.superstep) → s ≡ m.superstep
+pub home_superstep : (work : Work) (honest : ℕ → Bool) (m : Machine) {J : _} (job_data : JobData J) (s : ℕ) → HoldsData work honest m job_data → Runs job_data (λ placement. s ≡ placement.superstep) → s ≡ m.superstep
 home_superstep work honest m (Parts placement) s x is = is ∙ x.superstep
 home_superstep work honest m (Whole state) s x is = absurd is
 home_superstep work honest m Nothing s x is = absurd is
 
-pub book_taken_in : (work : Work) (honest : Bool) (own : Work) (m : Machine) (ids : List ℕ) {J : _} (job_data after : JobData J) (w : ℕ) (task : Out) → w < length m.alive → is_running m.ending ≡ true → counts m w task ≡ true → Runs job_data (λ placement. after ≡ Parts (moved placement task.part Returned)) → IsBook work honest own m ids job_data → IsBook work honest own (finished (freed m w) task.part) ids after
+-- what is here is of this epoch or an earlier one
+pub home_epoch : (work : Work) (honest : ℕ → Bool) (m : Machine) {J : _} (job_data : JobData J) (p epoch : ℕ) → HoldsData work honest m job_data → HasHome job_data p → epoch ≡ m.epoch → Runs job_data (λ placement. placement.epoch ≤ epoch)
+home_epoch work honest m (Parts placement) p epoch x home same = subst (λ n. placement.epoch ≤ n) (sym same) x.epoch
+home_epoch work honest m (Whole state) p epoch x home same = absurd home
+home_epoch work honest m Nothing p epoch x home same = absurd home
+
+pub book_taken_in : (work : Work) (honest : ℕ → Bool) (own : Work) (m : Machine) (ids : List ℕ) {J : _} (job_data after : JobData J) (w : ℕ) (task : Out) → w < length m.alive → is_running m.ending ≡ true → counts m w task ≡ true → Runs job_data (λ placement. after ≡ Parts (returned placement task.part task.epoch)) → IsBook work honest own m ids job_data → IsBook work honest own (finished (freed m w) task.part) ids after
 book_taken_in work honest own m ids (Parts placement) after w task lt run h is b = book_taken work honest own m ids (Parts placement) after w task placement (rw b.held.sound.width lt) run h refl is b
 book_taken_in work honest own m ids (Whole state) after w task lt run h is b = absurd is
 book_taken_in work honest own m ids Nothing after w task lt run h is b = absurd is
 
-pub book_handed_in : (work : Work) (honest : Bool) (own : Work) (m : Machine) (ids : List ℕ) {J : _} (job_data after : JobData J) (w p : ℕ) → w < length m.alive → IsOpen m.done p → hand m w ≡ Some p → Runs job_data (λ placement. after ≡ Parts (moved placement p Gone)) → IsBook work honest own m ids job_data → IsBook work honest own (handed m w p) ids after
+pub book_handed_in : (work : Work) (honest : ℕ → Bool) (own : Work) (m : Machine) (ids : List ℕ) {J : _} (job_data after : JobData J) (w p : ℕ) → w < length m.alive → IsOpen m.done p → hand m w ≡ Some p → Runs job_data (λ placement. after ≡ Parts (moved placement p Gone)) → IsBook work honest own m ids job_data → IsBook work honest own (handed m w p) ids after
 book_handed_in work honest own m ids (Parts placement) after w p lt open' e is b = book_handed work honest own m ids (Parts placement) after w p placement (rw b.held.sound.width lt) open' e refl is b
 book_handed_in work honest own m ids (Whole state) after w p lt open' e is b = absurd is
 book_handed_in work honest own m ids Nothing after w p lt open' e is b = absurd is
 
 -- while the job runs
-pub running_sound : (work : Work) (honest : Bool) (m : Machine) {J : _} (job_data : JobData J) → HoldsData work honest m job_data → is_running m.ending ≡ true → IsSound m
+pub running_sound : (work : Work) (honest : ℕ → Bool) (m : Machine) {J : _} (job_data : JobData J) → HoldsData work honest m job_data → is_running m.ending ≡ true → IsSound m
 running_sound work honest m job_data h run = (runs work honest m job_data h run).2.sound
 
-pub book_opened : (work : Work) (honest : Bool) (own : Work) (settings : Settings) (ids : List ℕ) {J : _} (job_data : JobData J) (quiet : Bool) (state : Standing) → own ≡ work → settings ≡ work.settings → 0 < work.settings.limit → AreIdsOf work ids → HasIdsOf work state → state.superstep ≡ 0 → (honest ≡ true → IsFullStateAt work 0 state) → quiet ≡ is_settled state → IsFirst work.settings.parts quiet state job_data → IsBook work honest own (opened settings quiet) ids job_data
+pub book_opened : (work : Work) (honest : ℕ → Bool) (own : Work) (settings : Settings) (ids : List ℕ) {J : _} (job_data : JobData J) (quiet : Bool) (state : Standing) → own ≡ work → settings ≡ work.settings → 0 < work.settings.limit → AreIdsOf work ids → HasIdsOf work state → state.superstep ≡ 0 → (honest 0 ≡ true → IsFullStateAt work 0 state) → quiet ≡ is_settled state → IsFirst work.settings.parts quiet state job_data → IsBook work honest own (opened settings quiet) ids job_data
 book_opened work honest own settings ids (Parts placement) quiet state job same some knows has none at is h = record {
   job = job;
   settings = same;
   knows = knows;
   past = omega arith;
-  held = parts_home work (opened settings quiet) state.superstep state.since placement h.1 (ap (λ e. is_running e) (running_first quiet settings.limit h.0 (rw same some))) none some (ap (λ (x : Settings). replicate x.parts false) same) (sound_opened settings quiet);
+  held = parts_home work (opened settings quiet) 0 state.superstep state.since placement h.1 (omega arith) (ap (λ e. is_running e) (running_first quiet settings.limit h.0 (rw same some))) none some (ap (λ (x : Settings). replicate x.parts false) same) (sound_opened settings quiet);
   reached = λ t. record { busy = λ meaning k lt. absurd (omega arith); saved = tt; stands = subst (λ (x : Settings). StandsAt work (ending_at quiet 0 x.limit) 0) (sym same) (ends_at work quiet 0 (subst (λ b. IsQuietAt work 0 b) (sym is) (settled_quiet work 0 state (at t))) (omega arith)) };
 }
 book_opened work honest own settings ids {J = J} (Whole whole) quiet state job same some knows has none at is h =
@@ -648,9 +667,9 @@ book_opened work honest own settings ids {J = J} (Whole whole) quiet state job s
 book_opened work honest own settings ids Nothing quiet state job same some knows has none at is h = absurd h
 
 -- after a loss, and a load
-pub book_rolled : (work : Work) (honest : Bool) (own : Work) (m m1 m2 : Machine) (ids : List ℕ) {J : _} (job_data after : JobData J) (alive : List Bool) (told : DeviceResult) (sliced : Bool) (parts : ℕ) → length alive ≡ length m.alive → IsBook work honest own m ids job_data → is_running m.ending ≡ true → m1 ≡ begun_anew (joined (with_alive m alive)) → m2 ≡ slicing sliced (loading m1.saved told m1) → parts ≡ work.settings.parts → StandsBack parts m2.superstep m2 after → IsBook work honest own m2 ids after
-book_rolled work honest own m m1 m2 ids job_data after alive told sliced parts wide b run anew loaded many h =
-    let f = fresh_slicing work honest (loading m.saved told (begun_anew (joined (with_alive m alive)))) sliced (fresh_loaded work honest own m ids job_data alive m.saved told wide b run) in
+pub book_rolled : (work : Work) (honest : ℕ → Bool) (own : Work) (m m1 m2 : Machine) (ids : List ℕ) {J : _} (job_data after : JobData J) (alive : List Bool) (told : DeviceResult) (sliced : Bool) (parts : ℕ) → Lasts honest → length alive ≡ length m.alive → IsBook work honest own m ids job_data → is_running m.ending ≡ true → m1 ≡ begun_anew (joined (with_alive m alive)) → m2 ≡ slicing sliced (loading m1.saved told m1) → parts ≡ work.settings.parts → StandsBack parts m2.superstep m2 after → IsBook work honest own m2 ids after
+book_rolled work honest own m m1 m2 ids job_data after alive told sliced parts lasts wide b run anew loaded many h =
+    let f = fresh_slicing work honest (loading m.saved told (begun_anew (joined (with_alive m alive)))) sliced (fresh_loaded work honest own m ids job_data alive m.saved told lasts wide b run) in
     let is : m2 ≡ slicing sliced (loading m.saved told (begun_anew (joined (with_alive m alive)))) = loaded ∙ ap (λ (x : Machine). slicing sliced (loading x.saved told x)) anew in
     book_back work honest own m2 ids after b.job b.knows (subst (λ x. IsFresh work honest x) (sym is) f) (subst (λ n. StandsBack n m2.superstep m2 after) many h)
 
@@ -659,7 +678,7 @@ book_rolled work honest own m m1 m2 ids job_data after alive told sliced parts w
 resumed_early : (work : Work) (settings : Settings) (s : ℕ) → settings ≡ work.settings → s < settings.limit → s < work.settings.limit
 resumed_early work settings s same early = subst (λ (x : Settings). s < x.limit) same early
 
-fresh_resumed : (work : Work) (honest : Bool) (settings : Settings) (s : ℕ) → settings ≡ work.settings → s < settings.limit → (honest ≡ true → WasBusy work (suc s)) → IsFresh work honest (resumed settings s)
+fresh_resumed : (work : Work) (honest : ℕ → Bool) (settings : Settings) (s : ℕ) → settings ≡ work.settings → s < settings.limit → (honest 0 ≡ true → WasBusy work (suc s)) → IsFresh work honest (resumed settings s)
 fresh_resumed work honest settings s same early busy = record {
   settings = same;
   past = omega arith;
@@ -673,7 +692,7 @@ fresh_resumed work honest settings s same early busy = record {
   };
 }
 
-fresh_begun_first : (work : Work) (honest : Bool) (settings : Settings) (s : ℕ) → settings ≡ work.settings → s < settings.limit → (honest ≡ true → WasBusy work (suc s)) → IsFresh work honest (restarted (resumed settings s))
+fresh_begun_first : (work : Work) (honest : ℕ → Bool) (settings : Settings) (s : ℕ) → settings ≡ work.settings → s < settings.limit → (honest 0 ≡ true → WasBusy work (suc s)) → IsFresh work honest (restarted (resumed settings s))
 fresh_begun_first work honest settings s same early busy = record {
   settings = same;
   past = omega arith;
@@ -687,13 +706,13 @@ fresh_begun_first work honest settings s same early busy = record {
   };
 }
 
-fresh_begun : (work : Work) (honest : Bool) (settings : Settings) (s : ℕ) (told : DeviceResult) → settings ≡ work.settings → s < settings.limit → (honest ≡ true → WasBusy work (suc s)) → IsFresh work honest (loading (Some s) told (resumed settings s))
+fresh_begun : (work : Work) (honest : ℕ → Bool) (settings : Settings) (s : ℕ) (told : DeviceResult) → settings ≡ work.settings → s < settings.limit → (honest 0 ≡ true → WasBusy work (suc s)) → IsFresh work honest (loading (Some s) told (resumed settings s))
 fresh_begun work honest settings s Good same early busy = fresh_resumed work honest settings s same early busy
 fresh_begun work honest settings s Failed same early busy = fresh_begun_first work honest settings s same early busy
 fresh_begun work honest settings s NoMemory same early busy = fresh_unloaded work honest (resumed settings s) (fresh_resumed work honest settings s same early busy)
 
 -- whatever the load told
-pub book_begun : (work : Work) (honest : Bool) (own : Work) (settings : Settings) (s : ℕ) (m1 m2 : Machine) (ids : List ℕ) {J : _} (job_data : JobData J) (told : DeviceResult) (sliced : Bool) (parts : ℕ) → own ≡ work → AreIdsOf work ids → settings ≡ work.settings → s < settings.limit → (honest ≡ true → WasBusy work (suc s)) → m1 ≡ resumed settings s → m2 ≡ slicing sliced (loading m1.saved told m1) → parts ≡ work.settings.parts → StandsBack parts m2.superstep m2 job_data → IsBook work honest own m2 ids job_data
+pub book_begun : (work : Work) (honest : ℕ → Bool) (own : Work) (settings : Settings) (s : ℕ) (m1 m2 : Machine) (ids : List ℕ) {J : _} (job_data : JobData J) (told : DeviceResult) (sliced : Bool) (parts : ℕ) → own ≡ work → AreIdsOf work ids → settings ≡ work.settings → s < settings.limit → (honest 0 ≡ true → WasBusy work (suc s)) → m1 ≡ resumed settings s → m2 ≡ slicing sliced (loading m1.saved told m1) → parts ≡ work.settings.parts → StandsBack parts m2.superstep m2 job_data → IsBook work honest own m2 ids job_data
 book_begun work honest own settings s m1 m2 ids job_data told sliced parts job knows same early busy first loaded many h =
     let f = fresh_slicing work honest (loading (Some s) told (resumed settings s)) sliced (fresh_begun work honest settings s told same early busy) in
     let is : m2 ≡ slicing sliced (loading (Some s) told (resumed settings s)) = loaded ∙ ap (λ (x : Machine). slicing sliced (loading x.saved told x)) first in

@@ -27,7 +27,7 @@ fault_no_answer Limit h a = cc
 fault_no_answer (Fault fault) h a = cc
 
 -- a job that has an answer has the state that it ended with
-pub has_whole : (work : Work) (honest : Bool) (m : Machine) {J : _} (job_data : JobData J) → HoldsData work honest m job_data → has_answer m.ending ≡ true → HasWhole job_data
+pub has_whole : (work : Work) (honest : ℕ → Bool) (m : Machine) {J : _} (job_data : JobData J) → HoldsData work honest m job_data → has_answer m.ending ≡ true → HasWhole job_data
 has_whole work honest m (Parts placement) h a = absurd (running_no_answer m.ending h.running a)
 has_whole work honest m (Whole state) h a = tt
 has_whole work honest m Nothing h a = absurd (fault_no_answer m.ending h a)
@@ -45,10 +45,10 @@ last work Limit s h at n = at.1
 last work (Fault fault) s h at n = absurd (cc)
 
 -- the plain run stops there
-pub has_stopped : (work : Work) (m : Machine) (state : Standing) → IsWhole work true m state → IsReached work m → HasStopped work state
-has_stopped work m state x r = record {
+pub has_stopped : (work : Work) (honest : ℕ → Bool) (m : Machine) (state : Standing) → honest m.epoch ≡ true → IsWhole work honest m state → IsReached work m → HasStopped work state
+has_stopped work honest m state sure x r = record {
   come = record {
-    at = (x.at refl).at;
+    at = (x.at sure).at;
     has_ids = x.ids;
     within = subst (λ n. n ≤ work.settings.limit) (sym x.superstep) (within work m.ending m.superstep x.answer r.stands);
     busy = subst (λ n. WasBusy work n) (sym x.superstep) r.busy;
@@ -56,7 +56,7 @@ has_stopped work m state x r = record {
   last = λ due. x.superstep ∙ last work m.ending m.superstep x.answer r.stands (sym x.quiet ∙ due);
 }
 
-pub reports : (work : Work) (honest : Bool) (m : Machine) (state : Standing) (report : Report) → IsWhole work honest m state → (honest ≡ true → IsReached work m) → IsReportIn state m report → IsReport work honest m report
+pub reports : (work : Work) (honest : ℕ → Bool) (m : Machine) (state : Standing) (report : Report) → IsWhole work honest m state → (honest m.epoch ≡ true → IsReached work m) → IsReportIn state m report → IsReport work honest m report
 reports work honest m state report x reached is = record {
   finished = is.state_is.how ∙ x.quiet;
   superstep = is.state_is.superstep ∙ x.superstep;
@@ -65,5 +65,5 @@ reports work honest m state report x reached is = record {
   restarts = is.restarts;
   spent = is.spent;
   since = λ sure. is.state_is.since ∙ (x.at sure).since;
-  answer = λ sure. is.end work (has_stopped work m state (subst (λ b. IsWhole work b m state) sure x) (reached sure));
+  answer = λ sure. is.end work (has_stopped work honest m state sure x (reached sure));
 }

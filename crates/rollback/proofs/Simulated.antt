@@ -34,7 +34,7 @@ use Rattle.rollback.specs.Simulation.{IsCalm, IsCalmAt, IsEnded, IsOutcomeAt, Is
 use Rattle.rollback.specs.inside.Simulating.{HasSameCounts, LoadsMade, stamps, with_none_held}
 
 -- of any relation of steps and Keeps
-module _ {K : Type 0} (over : Machine → Machine → K → K → Type 0) (work : AnyWork) (honest : Bool) where
+module _ {K : Type 0} (over : Machine → Machine → K → K → Type 0) (work : AnyWork) (honest : ℕ → Bool) where
   snoc_none : (s : Sim) (k : K) (mid : Sim) (kmid : K) (x : Step) (a : StepAnswer) (after : Sim) (k' : K) → s ≡ mid → k ≡ kmid → IsSimStep work honest x mid after a → over mid.machine after.machine kmid k' → RanOver over work honest (x ∷ []) s k (a ∷ []) after k'
   snoc_none s k mid kmid x a after k' e f step kept =
       let step' : IsSimStep work honest x s after a = subst (λ z. IsSimStep work honest x z after a) (sym e) step in
@@ -94,11 +94,11 @@ abbrev nothing : StepInput
 nothing = record { heard = record { quiet = false; merged = true; save = Good; load = Good; sliced = true }; ran = false; units = 0 }
 
 -- a step in which the machine takes no event
-pub plain_sim : (work : AnyWork) (honest : Bool) (step : Step) (before after : Sim) (answer : StepAnswer) → after.machine.superstep ≡ before.machine.superstep → sim_step nothing before step ≡ (after, answer) → IsSimStep work honest step before after answer
+pub plain_sim : (work : AnyWork) (honest : ℕ → Bool) (step : Step) (before after : Sim) (answer : StepAnswer) → after.machine.superstep ≡ before.machine.superstep → sim_step nothing before step ≡ (after, answer) → IsSimStep work honest step before after answer
 plain_sim work honest step before after answer same next = record {
   told = nothing;
   quiet = λ h e. absurd (omega (arith, e, same));
-  costs = λ h ran task e. absurd (cc);
+  costs = λ ran task e h. absurd (cc);
   next = next;
 }
 
@@ -106,10 +106,10 @@ takes_is : (heard : Heard) (s : Sim) (stamp : Stamp) (after : Machine) (reply : 
 takes_is heard s stamp after reply answer e f g = rw (g, f) (ap (λ m. (record s { machine = m }, said (reply_of (accepted heard s.machine stamp)))) e)
 
 -- a step in which it takes one
-pub told_sim : (work : AnyWork) (honest : Bool) (step : Step) (before mid : Sim) (stamp : Stamp) (ran : Bool) (units : ℕ) (after : Machine) (reply : Result Answer JobFault) (answer : StepAnswer) → mid.machine.superstep ≡ before.machine.superstep → (honest ≡ true → ran ≡ true → (task : Out) → does before step ≡ Some task → AreUnitsAt work task.superstep task.part units) → ((heard : Heard) → sim_step (told_of heard ran units) before step ≡ takes heard mid stamp) → IsStep work honest (λ heard. accepted heard mid.machine stamp) mid.machine after reply → answer ≡ said reply → IsSimStep work honest step before (record mid { machine = after }) answer
-told_sim work honest step before mid stamp ran units after reply answer same costs is x e = record {
+pub told_sim : (work : AnyWork) (honest : ℕ → Bool) (step : Step) (before mid : Sim) (stamp : Stamp) (ran : Bool) (units : ℕ) (after : Machine) (reply : Result Answer JobFault) (answer : StepAnswer) → mid.machine.superstep ≡ before.machine.superstep → mid.machine.epoch ≡ before.machine.epoch → (ran ≡ true → (task : Out) → does before step ≡ Some task → honest task.epoch ≡ true → AreUnitsAt work task.superstep task.part units) → ((heard : Heard) → sim_step (told_of heard ran units) before step ≡ takes heard mid stamp) → IsStep work honest (λ heard. accepted heard mid.machine stamp) mid.machine after reply → answer ≡ said reply → IsSimStep work honest step before (record mid { machine = after }) answer
+told_sim work honest step before mid stamp ran units after reply answer same epoch costs is x e = record {
   told = told_of x.heard ran units;
-  quiet = λ h next. subst (λ n. IsQuietAt work (suc n) x.heard.quiet) same (x.quiet h (next ∙ ap suc (sym same)));
+  quiet = λ h next. subst (λ n. IsQuietAt work (suc n) x.heard.quiet) same (x.quiet (subst (λ n. honest n ≡ true) (sym epoch) h) (next ∙ ap suc (sym same)));
   costs = costs;
   next = is x.heard ∙ takes_is x.heard mid stamp after reply answer x.machine x.told e;
 }
@@ -117,50 +117,50 @@ told_sim work honest step before mid stamp ran units after reply answer same cos
 while_running_is : (s : Sim) (w : ℕ) (next : Sim × StepAnswer) → is_running s.machine.ending ≡ true → nat_lt w (length s.held) ≡ true → while_running s w next ≡ next
 while_running_is s w next run near = rw (run, near) refl
 
-pub take_over : (work : AnyWork) (honest : Bool) (w : ℕ) (s : Sim) → is_running s.machine.ending ≡ false → IsSimStep work honest (Take w) s s (Said Ended)
+pub take_over : (work : AnyWork) (honest : ℕ → Bool) (w : ℕ) (s : Sim) → is_running s.machine.ending ≡ false → IsSimStep work honest (Take w) s s (Said Ended)
 take_over work honest w s over = plain_sim work honest (Take w) s s (Said Ended) refl (rw over refl)
 
-pub take_far : (work : AnyWork) (honest : Bool) (w : ℕ) (s : Sim) → is_running s.machine.ending ≡ true → nat_lt w (length s.held) ≡ false → IsSimStep work honest (Take w) s s (Said Stale)
+pub take_far : (work : AnyWork) (honest : ℕ → Bool) (w : ℕ) (s : Sim) → is_running s.machine.ending ≡ true → nat_lt w (length s.held) ≡ false → IsSimStep work honest (Take w) s s (Said Stale)
 take_far work honest w s run far = plain_sim work honest (Take w) s s (Said Stale) refl (rw (run, far) refl)
 
-pub take_holder : (work : AnyWork) (honest : Bool) (w : ℕ) (s : Sim) → is_running s.machine.ending ≡ true → nat_lt w (length s.held) ≡ true → is_free (holds s w) ≡ false → IsSimStep work honest (Take w) s s Idle
+pub take_holder : (work : AnyWork) (honest : ℕ → Bool) (w : ℕ) (s : Sim) → is_running s.machine.ending ≡ true → nat_lt w (length s.held) ≡ true → is_free (holds s w) ≡ false → IsSimStep work honest (Take w) s s Idle
 take_holder work honest w s run near full = plain_sim work honest (Take w) s s Idle refl (rw (run, near, full) refl)
 
-pub take_none : (work : AnyWork) (honest : Bool) (w : ℕ) (s : Sim) → is_running s.machine.ending ≡ true → nat_lt w (length s.held) ≡ true → is_free (holds s w) ≡ true → hand s.machine w ≡ None → IsSimStep work honest (Take w) s s Idle
+pub take_none : (work : AnyWork) (honest : ℕ → Bool) (w : ℕ) (s : Sim) → is_running s.machine.ending ≡ true → nat_lt w (length s.held) ≡ true → is_free (holds s w) ≡ true → hand s.machine w ≡ None → IsSimStep work honest (Take w) s s Idle
 take_none work honest w s run near free none = plain_sim work honest (Take w) s s Idle refl (while_running_is s w _ run near ∙ rw free (ap (taken s w) none))
 
-pub take_some : (work : AnyWork) (honest : Bool) (w p : ℕ) (s : Sim) (after : Machine) (held : List (Option Out)) → is_running s.machine.ending ≡ true → nat_lt w (length s.held) ≡ true → is_free (holds s w) ≡ true → hand s.machine w ≡ Some p → after ≡ handed s.machine w p → held ≡ set s.held w (Some (task_of s.machine p)) → IsSimStep work honest (Take w) s (record { machine = after; held = held }) (Handed p)
+pub take_some : (work : AnyWork) (honest : ℕ → Bool) (w p : ℕ) (s : Sim) (after : Machine) (held : List (Option Out)) → is_running s.machine.ending ≡ true → nat_lt w (length s.held) ≡ true → is_free (holds s w) ≡ true → hand s.machine w ≡ Some p → after ≡ handed s.machine w p → held ≡ set s.held w (Some (task_of s.machine p)) → IsSimStep work honest (Take w) s (record { machine = after; held = held }) (Handed p)
 take_some work honest w p s after held run near free some e f = plain_sim work honest (Take w) s (record { machine = after; held = held }) (Handed p) (ap (λ (m : Machine). m.superstep) e) (while_running_is s w _ run near ∙ rw free (ap (taken s w) some ∙ rw (e, f) refl))
 
-pub work_over : (work : AnyWork) (honest : Bool) (w : ℕ) (s : Sim) (held : List (Option Out)) → holds s w ≡ None → held ≡ set s.held w None → is_running s.machine.ending ≡ false → IsSimStep work honest (Work w) s (record s { held = held }) (Said Ended)
+pub work_over : (work : AnyWork) (honest : ℕ → Bool) (w : ℕ) (s : Sim) (held : List (Option Out)) → holds s w ≡ None → held ≡ set s.held w None → is_running s.machine.ending ≡ false → IsSimStep work honest (Work w) s (record s { held = held }) (Said Ended)
 work_over work honest w s held none e over = plain_sim work honest (Work w) s (record s { held = held }) (Said Ended) refl (ap (work_on nothing (without_task s w) w) none ∙ rw (over, e) refl)
 
-pub work_far : (work : AnyWork) (honest : Bool) (w : ℕ) (s : Sim) (held : List (Option Out)) → holds s w ≡ None → held ≡ set s.held w None → is_running s.machine.ending ≡ true → nat_lt w (length held) ≡ false → IsSimStep work honest (Work w) s (record s { held = held }) (Said Stale)
+pub work_far : (work : AnyWork) (honest : ℕ → Bool) (w : ℕ) (s : Sim) (held : List (Option Out)) → holds s w ≡ None → held ≡ set s.held w None → is_running s.machine.ending ≡ true → nat_lt w (length held) ≡ false → IsSimStep work honest (Work w) s (record s { held = held }) (Said Stale)
 work_far work honest w s held none e run far =
     let far' : nat_lt w (length (set s.held w None)) ≡ false = subst (λ h. nat_lt w (length h) ≡ false) e far in
     plain_sim work honest (Work w) s (record s { held = held }) (Said Stale) refl (ap (work_on nothing (without_task s w) w) none ∙ rw (run, far', e) refl)
 
-pub work_none : (work : AnyWork) (honest : Bool) (w : ℕ) (s : Sim) (held : List (Option Out)) → holds s w ≡ None → held ≡ set s.held w None → is_running s.machine.ending ≡ true → nat_lt w (length held) ≡ true → hand s.machine w ≡ None → IsSimStep work honest (Work w) s (record s { held = held }) Idle
+pub work_none : (work : AnyWork) (honest : ℕ → Bool) (w : ℕ) (s : Sim) (held : List (Option Out)) → holds s w ≡ None → held ≡ set s.held w None → is_running s.machine.ending ≡ true → nat_lt w (length held) ≡ true → hand s.machine w ≡ None → IsSimStep work honest (Work w) s (record s { held = held }) Idle
 work_none work honest w s held none e run near nobody =
     let near' : nat_lt w (length (set s.held w None)) ≡ true = subst (λ h. nat_lt w (length h) ≡ true) e near in
     plain_sim work honest (Work w) s (record s { held = held }) Idle refl (ap (work_on nothing (without_task s w) w) none ∙ while_running_is (without_task s w) w _ run near' ∙ ap (worked nothing (without_task s w) w) nobody ∙ rw e refl)
 
 -- what one task costs, of the one that is done
-costs_of : (work : AnyWork) (honest ran : Bool) (units : ℕ) (task : Out) (one : Option Out) → one ≡ Some task → (honest ≡ true → ran ≡ true → AreUnitsAt work task.superstep task.part units) → honest ≡ true → ran ≡ true → (other : Out) → one ≡ Some other → AreUnitsAt work other.superstep other.part units
-costs_of work honest ran units task one is cost h r other e =
+costs_of : (work : AnyWork) (honest : ℕ → Bool) (ran : Bool) (units : ℕ) (task : Out) (one : Option Out) → one ≡ Some task → (ran ≡ true → honest task.epoch ≡ true → AreUnitsAt work task.superstep task.part units) → ran ≡ true → (other : Out) → one ≡ Some other → honest other.epoch ≡ true → AreUnitsAt work other.superstep other.part units
+costs_of work honest ran units task one is cost r other e =
     let z : Some task ≡ Some other = sym is ∙ e in
     let same : task ≡ other = cc in
-    subst (λ (o : Out). AreUnitsAt work o.superstep o.part units) same (cost h r)
+    subst (λ (o : Out). honest o.epoch ≡ true → AreUnitsAt work o.superstep o.part units) same (cost r)
 
 -- the worker does the task that it held
-pub work_held : (work : AnyWork) (honest : Bool) (w : ℕ) (s : Sim) (after : Machine) (held : List (Option Out)) (task : Out) (stamp : Stamp) (ran : Bool) (units : ℕ) (reply : Result Answer JobFault) (answer : StepAnswer) → holds s w ≡ Some task → held ≡ set s.held w None → stamp ≡ brought ran units w task → (honest ≡ true → ran ≡ true → AreUnitsAt work task.superstep task.part units) → IsStep work honest (λ heard. accepted heard s.machine stamp) s.machine after reply → answer ≡ said reply → IsSimStep work honest (Work w) s (record { machine = after; held = held }) answer
+pub work_held : (work : AnyWork) (honest : ℕ → Bool) (w : ℕ) (s : Sim) (after : Machine) (held : List (Option Out)) (task : Out) (stamp : Stamp) (ran : Bool) (units : ℕ) (reply : Result Answer JobFault) (answer : StepAnswer) → holds s w ≡ Some task → held ≡ set s.held w None → stamp ≡ brought ran units w task → (ran ≡ true → honest task.epoch ≡ true → AreUnitsAt work task.superstep task.part units) → IsStep work honest (λ heard. accepted heard s.machine stamp) s.machine after reply → answer ≡ said reply → IsSimStep work honest (Work w) s (record { machine = after; held = held }) answer
 work_held work honest w s after held task stamp ran units reply answer some e st cost x a =
     let is = λ (heard : Heard). ap (work_on (told_of heard ran units) (without_task s w) w) some ∙ ap (λ (z : Stamp). takes heard (without_task s w) z) (sym st) in
     let costs = costs_of work honest ran units task (does s (Work w)) (ap (held_or_new s w) some) cost in
-    subst (λ h. IsSimStep work honest (Work w) s (record { machine = after; held = h }) answer) (sym e) (told_sim work honest (Work w) s (without_task s w) stamp ran units after reply answer refl costs is x a)
+    subst (λ h. IsSimStep work honest (Work w) s (record { machine = after; held = h }) answer) (sym e) (told_sim work honest (Work w) s (without_task s w) stamp ran units after reply answer refl refl costs is x a)
 
 -- the worker does a new one
-pub work_new : (work : AnyWork) (honest : Bool) (w p : ℕ) (s : Sim) (handed_out after : Machine) (held : List (Option Out)) (task : Out) (stamp : Stamp) (ran : Bool) (units : ℕ) (reply : Result Answer JobFault) (answer : StepAnswer) → holds s w ≡ None → held ≡ set s.held w None → is_running s.machine.ending ≡ true → nat_lt w (length held) ≡ true → hand s.machine w ≡ Some p → handed_out ≡ handed s.machine w p → task ≡ task_of s.machine p → stamp ≡ brought ran units w task → (honest ≡ true → ran ≡ true → AreUnitsAt work task.superstep task.part units) → IsStep work honest (λ heard. accepted heard handed_out stamp) handed_out after reply → answer ≡ said reply → IsSimStep work honest (Work w) s (record { machine = after; held = held }) answer
+pub work_new : (work : AnyWork) (honest : ℕ → Bool) (w p : ℕ) (s : Sim) (handed_out after : Machine) (held : List (Option Out)) (task : Out) (stamp : Stamp) (ran : Bool) (units : ℕ) (reply : Result Answer JobFault) (answer : StepAnswer) → holds s w ≡ None → held ≡ set s.held w None → is_running s.machine.ending ≡ true → nat_lt w (length held) ≡ true → hand s.machine w ≡ Some p → handed_out ≡ handed s.machine w p → task ≡ task_of s.machine p → stamp ≡ brought ran units w task → (ran ≡ true → honest task.epoch ≡ true → AreUnitsAt work task.superstep task.part units) → IsStep work honest (λ heard. accepted heard handed_out stamp) handed_out after reply → answer ≡ said reply → IsSimStep work honest (Work w) s (record { machine = after; held = held }) answer
 work_new work honest w p s handed_out after held task stamp ran units reply answer none e run near some out' t st cost x a =
     let near' : nat_lt w (length (set s.held w None)) ≡ true = subst (λ h. nat_lt w (length h) ≡ true) e near in
     let mid = record (without_task s w) { machine = handed s.machine w p } in
@@ -169,16 +169,16 @@ work_new work honest w p s handed_out after held task stamp ran units reply answ
     let is = λ (heard : Heard). ap (work_on (told_of heard ran units) (without_task s w) w) none ∙ while_running_is (without_task s w) w _ run near' ∙ ap (worked (told_of heard ran units) (without_task s w) w) some ∙ ap (λ (z : Stamp). takes heard mid z) (sym st') in
     let does_it : does s (Work w) ≡ Some task = ap (held_or_new s w) none ∙ ap (new_task s.machine) some ∙ ap Some (sym t) in
     let costs = costs_of work honest ran units task (does s (Work w)) does_it cost in
-    subst (λ h. IsSimStep work honest (Work w) s (record { machine = after; held = h }) answer) (sym e) (told_sim work honest (Work w) s mid stamp ran units after reply answer refl costs is y a)
+    subst (λ h. IsSimStep work honest (Work w) s (record { machine = after; held = h }) answer) (sym e) (told_sim work honest (Work w) s mid stamp ran units after reply answer refl refl costs is y a)
 
-pub join_told : (work : AnyWork) (honest : Bool) (w : ℕ) (s : Sim) (after : Machine) (held : List (Option Out)) (reply : Result Answer JobFault) (answer : StepAnswer) → held ≡ emptied s.machine s.held w → IsStep work honest (λ heard. accepted heard s.machine (JoinedBy w)) s.machine after reply → answer ≡ said reply → IsSimStep work honest (Join w) s (record { machine = after; held = held }) answer
-join_told work honest w s after held reply answer e x a = subst (λ h. IsSimStep work honest (Join w) s (record { machine = after; held = h }) answer) (sym e) (told_sim work honest (Join w) s (record s { held = emptied s.machine s.held w }) (JoinedBy w) false 0 after reply answer refl (λ h r task is. absurd (cc)) (λ heard. refl) x a)
+pub join_told : (work : AnyWork) (honest : ℕ → Bool) (w : ℕ) (s : Sim) (after : Machine) (held : List (Option Out)) (reply : Result Answer JobFault) (answer : StepAnswer) → held ≡ emptied s.machine s.held w → IsStep work honest (λ heard. accepted heard s.machine (JoinedBy w)) s.machine after reply → answer ≡ said reply → IsSimStep work honest (Join w) s (record { machine = after; held = held }) answer
+join_told work honest w s after held reply answer e x a = subst (λ h. IsSimStep work honest (Join w) s (record { machine = after; held = h }) answer) (sym e) (told_sim work honest (Join w) s (record s { held = emptied s.machine s.held w }) (JoinedBy w) false 0 after reply answer refl refl (λ r task is h. absurd (cc)) (λ heard. refl) x a)
 
-pub lose_told : (work : AnyWork) (honest : Bool) (w : ℕ) (s : Sim) (after : Machine) (reply : Result Answer JobFault) (answer : StepAnswer) → IsStep work honest (λ heard. accepted heard s.machine (LostBy w)) s.machine after reply → answer ≡ said reply → IsSimStep work honest (Lose w) s (record s { machine = after }) answer
-lose_told work honest w s after reply answer x a = told_sim work honest (Lose w) s s (LostBy w) false 0 after reply answer refl (λ h r task is. absurd (cc)) (λ heard. refl) x a
+pub lose_told : (work : AnyWork) (honest : ℕ → Bool) (w : ℕ) (s : Sim) (after : Machine) (reply : Result Answer JobFault) (answer : StepAnswer) → IsStep work honest (λ heard. accepted heard s.machine (LostBy w)) s.machine after reply → answer ≡ said reply → IsSimStep work honest (Lose w) s (record s { machine = after }) answer
+lose_told work honest w s after reply answer x a = told_sim work honest (Lose w) s s (LostBy w) false 0 after reply answer refl refl (λ r task is h. absurd (cc)) (λ heard. refl) x a
 
-pub tick_told : (work : AnyWork) (honest : Bool) (s : Sim) (after : Machine) (reply : Result Answer JobFault) (answer : StepAnswer) → IsStep work honest (λ heard. accepted heard s.machine Ticked) s.machine after reply → answer ≡ said reply → IsSimStep work honest Tick s (record s { machine = after }) answer
-tick_told work honest s after reply answer x a = told_sim work honest Tick s s Ticked false 0 after reply answer refl (λ h r task is. absurd (cc)) (λ heard. refl) x a
+pub tick_told : (work : AnyWork) (honest : ℕ → Bool) (s : Sim) (after : Machine) (reply : Result Answer JobFault) (answer : StepAnswer) → IsStep work honest (λ heard. accepted heard s.machine Ticked) s.machine after reply → answer ≡ said reply → IsSimStep work honest Tick s (record s { machine = after }) answer
+tick_told work honest s after reply answer x a = told_sim work honest Tick s s Ticked false 0 after reply answer refl refl (λ r task is h. absurd (cc)) (λ heard. refl) x a
 
 -- ---- what is counted
 
@@ -235,7 +235,7 @@ some_of a b e = cc
 some_not_none : (a : ℕ) (o : Option ℕ) → o ≡ Some a → o ≡ None → ⊥
 some_not_none a o e f = let z = sym e ∙ f in absurd (cc)
 
-module _ {K : Type 0} (honest : K → Bool) (saved : K → Option ℕ) (may_load : K → List ℕ → Type 0) (faults : K → ℕ) (work : AnyWork) (trusted : Bool) where
+module _ {K : Type 0} (honest : K → Bool) (saved : K → Option ℕ) (may_load : K → List ℕ → Type 0) (faults : K → ℕ) (work : AnyWork) (trusted : ℕ → Bool) where
   abbrev Kept : Machine → Machine → K → K → Type 0
   Kept = IsKeptStep honest saved may_load faults work trusted
 
@@ -313,21 +313,21 @@ module _ {K : Type 0} (honest : K → Bool) (saved : K → Option ℕ) (may_load
 
 -- ---- calm ends
 
-calm_ended : (work : AnyWork) (honest : Bool) (m : Machine) (outcome : Outcome) → m.missed ≡ 0 → m.restarts ≡ 0 → IsEnded work honest m (Ok outcome) → IsCalm outcome
+calm_ended : (work : AnyWork) (honest : ℕ → Bool) (m : Machine) (outcome : Outcome) → m.missed ≡ 0 → m.restarts ≡ 0 → IsEnded work honest m (Ok outcome) → IsCalm outcome
 calm_ended work honest m (Open s) e f h = tt
 calm_ended work honest m (Over report) e f h = (h.missed ∙ e, h.restarts ∙ f)
 
-calm_at : (work : AnyWork) (honest : Bool) (m : Machine) (end : JobStatus) (outcome : Outcome) → m.missed ≡ 0 → m.restarts ≡ 0 → IsOutcomeAt work honest m end (Ok outcome) → IsCalm outcome
+calm_at : (work : AnyWork) (honest : ℕ → Bool) (m : Machine) (end : JobStatus) (outcome : Outcome) → m.missed ≡ 0 → m.restarts ≡ 0 → IsOutcomeAt work honest m end (Ok outcome) → IsCalm outcome
 calm_at work honest m Running (Open s) e f h = tt
 calm_at work honest m Running (Over report) e f h = absurd (cc)
 calm_at work honest m Finished outcome e f h = calm_ended work honest m outcome e f h
 calm_at work honest m Limit outcome e f h = calm_ended work honest m outcome e f h
 calm_at work honest m (Fault fault) outcome e f h = absurd (cc)
 
-calm_is : (work : AnyWork) (honest : Bool) (m : Machine) (outcome : Outcome) → m.missed ≡ 0 → m.restarts ≡ 0 → IsOutcomeAt work honest m m.ending (Ok outcome) → IsCalm outcome
+calm_is : (work : AnyWork) (honest : ℕ → Bool) (m : Machine) (outcome : Outcome) → m.missed ≡ 0 → m.restarts ≡ 0 → IsOutcomeAt work honest m m.ending (Ok outcome) → IsCalm outcome
 calm_is work honest m outcome e f h = calm_at work honest m m.ending outcome e f h
 
-pub calm_over : {K : Type 0} (honest : K → Bool) (saved : K → Option ℕ) (may_load : K → List ℕ → Type 0) (faults : K → ℕ) (work : AnyWork) (trusted : Bool) (steps : List Step) (k k' : K) (result : Result Trace JobFault) → LoadsNothingElse saved may_load → NeverFails faults → IsSimulatedOver honest saved may_load faults work trusted steps k k' result → IfOk result (λ (trace : Trace). IsCalm trace.outcome)
+pub calm_over : {K : Type 0} (honest : K → Bool) (saved : K → Option ℕ) (may_load : K → List ℕ → Type 0) (faults : K → ℕ) (work : AnyWork) (trusted : ℕ → Bool) (steps : List Step) (k k' : K) (result : Result Trace JobFault) → LoadsNothingElse saved may_load → NeverFails faults → IsSimulatedOver honest saved may_load faults work trusted steps k k' result → IfOk result (λ (trace : Trace). IsCalm trace.outcome)
 calm_over honest saved may_load faults work trusted steps k k' (Err fault) one never x = tt
 calm_over honest saved may_load faults work trusted steps k k' (Ok trace) one never x = elim x [
   | inl none ↦ (let e = none.0 in absurd (cc))
@@ -339,20 +339,20 @@ calm_over honest saved may_load faults work trusted steps k k' (Ok trace) one ne
 
 -- ---- where the steps lead
 
-pub outcome_open : (work : AnyWork) (honest : Bool) (m : Machine) (s : ℕ) → Running ≡ m.ending → s ≡ m.superstep → IsOutcomeAt work honest m m.ending (Ok (Open s))
+pub outcome_open : (work : AnyWork) (honest : ℕ → Bool) (m : Machine) (s : ℕ) → Running ≡ m.ending → s ≡ m.superstep → IsOutcomeAt work honest m m.ending (Ok (Open s))
 outcome_open work honest m s e is = subst (λ x. IsOutcomeAt work honest m x (Ok (Open s))) e (ap (λ n. Ok (Open n)) is)
 
-pub outcome_fault : (work : AnyWork) (honest : Bool) (m : Machine) (fault : JobFault) → Fault fault ≡ m.ending → IsOutcomeAt work honest m m.ending (Err fault)
+pub outcome_fault : (work : AnyWork) (honest : ℕ → Bool) (m : Machine) (fault : JobFault) → Fault fault ≡ m.ending → IsOutcomeAt work honest m m.ending (Err fault)
 outcome_fault work honest m fault e = subst (λ x. IsOutcomeAt work honest m x (Err fault)) e refl
 
-outcome_told : (work : AnyWork) (honest : Bool) (m : Machine) (end : JobStatus) (result : Result Outcome JobFault) → has_answer end ≡ true → IsEnded work honest m result → IsOutcomeAt work honest m end result
+outcome_told : (work : AnyWork) (honest : ℕ → Bool) (m : Machine) (end : JobStatus) (result : Result Outcome JobFault) → has_answer end ≡ true → IsEnded work honest m result → IsOutcomeAt work honest m end result
 outcome_told work honest m Running result h is = absurd (cc)
 outcome_told work honest m Finished result h is = is
 outcome_told work honest m Limit result h is = is
 outcome_told work honest m (Fault fault) result h is = absurd (cc)
 
-pub outcome_report : (work : AnyWork) (honest : Bool) (m : Machine) (report : Report) → has_answer m.ending ≡ true → IsReport work honest m report → IsOutcomeAt work honest m m.ending (Ok (Over report))
+pub outcome_report : (work : AnyWork) (honest : ℕ → Bool) (m : Machine) (report : Report) → has_answer m.ending ≡ true → IsReport work honest m report → IsOutcomeAt work honest m m.ending (Ok (Over report))
 outcome_report work honest m report h is = outcome_told work honest m m.ending (Ok (Over report)) h is
 
-pub outcome_unreported : (work : AnyWork) (honest : Bool) (m : Machine) (fault : JobFault) → has_answer m.ending ≡ true → fault ≡ OutOfMemory Reporting → IsOutcomeAt work honest m m.ending (Err fault)
+pub outcome_unreported : (work : AnyWork) (honest : ℕ → Bool) (m : Machine) (fault : JobFault) → has_answer m.ending ≡ true → fault ≡ OutOfMemory Reporting → IsOutcomeAt work honest m m.ending (Err fault)
 outcome_unreported work honest m fault h is = outcome_told work honest m m.ending (Err fault) h is

@@ -39,7 +39,7 @@ slicing_none m h = slicing_none_if m (is_running m.ending) h
 -- what is held of a state of a job that runs is back
 pub held_back : {J : _} (parts s : ℕ) (m m' : Machine) (state : Standing) (job_data : JobData J) → is_running m.ending ≡ true → state.superstep ≡ s → IsHeldOf parts m m' state job_data → StandsBack parts s m' job_data
 held_back parts s m m' state (Parts placement) run same h =
-    (subst (λ (x : Machine). is_running x.ending ≡ true) (sym h.1) run, (state.since, h.2 ∙ ap (λ n. all_home n state.since parts) same))
+    (subst (λ (x : Machine). is_running x.ending ≡ true) (sym h.1) run, (state.since, h.2 ∙ ap (λ n. all_home m.epoch n state.since parts) same ∙ ap (λ (x : Machine). all_home x.epoch s state.since parts) (sym h.1)))
 held_back parts s m m' state (Whole whole) run same h = absurd (running_not_answer m.ending run h.0)
 held_back parts s m m' state Nothing run same h = h
 

@@ -32,7 +32,7 @@ above_is w n h = grind arith
 abbrev pub plain : Heard
 plain = record { quiet = false; merged = true; save = Good; load = Good; sliced = true }
 
-pub plain_step : (work : Work) (honest : Bool) (m after x : Machine) (next : Heard → Machine × Answer) (answer : Answer) (reply : Result Answer JobFault) → next plain ≡ (x, answer) → x ≡ after → after.superstep ≡ m.superstep → reply ≡ reply_by after.ending answer → IsStep work honest next m after reply
+pub plain_step : (work : Work) (honest : ℕ → Bool) (m after x : Machine) (next : Heard → Machine × Answer) (answer : Answer) (reply : Result Answer JobFault) → next plain ≡ (x, answer) → x ≡ after → after.superstep ≡ m.superstep → reply ≡ reply_by after.ending answer → IsStep work honest next m after reply
 plain_step work honest m after x next answer reply e same stays r = record {
   heard = plain;
   quiet = λ h later. absurd (omega (arith, stays, later));
@@ -56,11 +56,11 @@ pub on_event_known : (heard : Heard) (m : Machine) (st : Stamp) (b : Bool) → i
 on_event_known heard m st b e = rw e refl
 
 -- the same step by another name
-pub same_step : (work : Work) (honest : Bool) (m after : Machine) (next next' : Heard → Machine × Answer) (reply : Result Answer JobFault) → ((heard : Heard) → next' heard ≡ next heard) → IsStep work honest next m after reply → IsStep work honest next' m after reply
+pub same_step : (work : Work) (honest : ℕ → Bool) (m after : Machine) (next next' : Heard → Machine × Answer) (reply : Result Answer JobFault) → ((heard : Heard) → next' heard ≡ next heard) → IsStep work honest next m after reply → IsStep work honest next' m after reply
 same_step work honest m after next next' reply e s = record { heard = s.heard; quiet = s.quiet; machine = ap (λ p. p.0) (e s.heard) ∙ s.machine; told = s.told ∙ sym (ap reply_of (e s.heard)) }
 
 -- a step of which the Keep has no part
-pub on_event_steady : (work : Work) (trusted : Bool) (next : Heard → Machine × Answer) (before after : Machine) (h : Bool) (k : Option ℕ) (ml : List ℕ → Type 0) (f : ℕ) (reply : Result Answer JobFault) → IsStep work trusted next before after reply → IsSteady before after → KeepsFor work trusted h k ml before → IsEventStep work trusted next before after h h k k ml ml f f reply
+pub on_event_steady : (work : Work) (trusted : ℕ → Bool) (next : Heard → Machine × Answer) (before after : Machine) (h : Bool) (k : Option ℕ) (ml : List ℕ → Type 0) (f : ℕ) (reply : Result Answer JobFault) → IsStep work trusted next before after reply → IsSteady before after → KeepsFor work trusted h k ml before → IsEventStep work trusted next before after h h k k ml ml f f reply
 on_event_steady work trusted next before after h k ml f reply s same keeps = record {
   step = s;
   keeps = keeps_same work trusted h k ml before after same.saved keeps;
@@ -70,7 +70,7 @@ on_event_steady work trusted next before after h k ml f reply s same keeps = rec
 }
 
 -- a result is charged, and then the event is taken
-pub charged_on_event : (work : Work) (honest : Bool) (m mc after : Machine) (w units : ℕ) (task : Out) (h h' : Bool) (k k' : Option ℕ) (ml ml' : List ℕ → Type 0) (f f' : ℕ) (reply : Result Answer JobFault) → nat_lt w (length m.alive) ≡ true → mc ≡ charged m w units → IsEventStep work honest (λ heard. done_step heard mc w task) mc after h h' k k' ml ml' f f' reply → IsEventStep work honest (λ heard. on_event heard m (DoneBy w task units)) m after h h' k k' ml ml' f f' reply
+pub charged_on_event : (work : Work) (honest : ℕ → Bool) (m mc after : Machine) (w units : ℕ) (task : Out) (h h' : Bool) (k k' : Option ℕ) (ml ml' : List ℕ → Type 0) (f f' : ℕ) (reply : Result Answer JobFault) → nat_lt w (length m.alive) ≡ true → mc ≡ charged m w units → IsEventStep work honest (λ heard. done_step heard mc w task) mc after h h' k k' ml ml' f f' reply → IsEventStep work honest (λ heard. on_event heard m (DoneBy w task units)) m after h h' k k' ml ml' f f' reply
 charged_on_event work honest m mc after w units task h h' k k' ml ml' f f' reply near is x =
     let y : IsEventStep work honest (λ heard. done_step heard (charged m w units) w task) (charged m w units) after h h' k k' ml ml' f f' reply =
     subst (λ z. IsEventStep work honest (λ heard. done_step heard z w task) z after h h' k k' ml ml' f f' reply) is x in
@@ -84,7 +84,7 @@ charged_on_event work honest m mc after w units task h h' k k' ml ml' f f' reply
     }
 
 -- a result that is taken, and with which all parts are done
-pub counted_on_event : (work : Work) (honest : Bool) (m mf after : Machine) (w : ℕ) (task : Out) (h h' : Bool) (k k' : Option ℕ) (ml ml' : List ℕ → Type 0) (f f' : ℕ) (reply : Result Answer JobFault) → counts m w task ≡ true → mf ≡ finished (freed m w) task.part → all_set mf.done ≡ true → IsEventStep work honest (λ heard. shut heard mf) mf after h h' k k' ml ml' f f' reply → IsEventStep work honest (λ heard. done_step heard m w task) m after h h' k k' ml ml' f f' reply
+pub counted_on_event : (work : Work) (honest : ℕ → Bool) (m mf after : Machine) (w : ℕ) (task : Out) (h h' : Bool) (k k' : Option ℕ) (ml ml' : List ℕ → Type 0) (f f' : ℕ) (reply : Result Answer JobFault) → counts m w task ≡ true → mf ≡ finished (freed m w) task.part → all_set mf.done ≡ true → IsEventStep work honest (λ heard. shut heard mf) mf after h h' k k' ml ml' f f' reply → IsEventStep work honest (λ heard. done_step heard m w task) m after h h' k k' ml ml' f f' reply
 counted_on_event work honest m mf after w task h h' k k' ml ml' f f' reply yes' is all x =
     let mt = finished (freed m w) task.part in
     let y : IsEventStep work honest (λ heard. shut heard mt) mt after h h' k k' ml ml' f f' reply =
@@ -140,7 +140,7 @@ rolling_before heard m s le =
     slicing_before_if x (is_running x.ending && not heard.sliced) s (loading_before m.saved heard.load m s le)
 
 -- the job goes on after a loss: m0 has lost its workers, m1 has begun anew, m2 has a state again
-pub loss_step : (work : Work) (honest : Bool) (m m0 m1 m2 : Machine) (next : Heard → Machine × Answer) (told : DeviceResult) (sliced : Bool) (reply : Result Answer JobFault) → next (told_load told sliced) ≡ loss (told_load told sliced) (after_loss m0) → m1 ≡ after_loss m0 → is_running m1.ending ≡ true → m2 ≡ slicing sliced (loading m1.saved told m1) → m1.superstep ≤ m.superstep → reply ≡ reply_of (rolled m2) → IsStep work honest next m m2 reply
+pub loss_step : (work : Work) (honest : ℕ → Bool) (m m0 m1 m2 : Machine) (next : Heard → Machine × Answer) (told : DeviceResult) (sliced : Bool) (reply : Result Answer JobFault) → next (told_load told sliced) ≡ loss (told_load told sliced) (after_loss m0) → m1 ≡ after_loss m0 → is_running m1.ending ≡ true → m2 ≡ slicing sliced (loading m1.saved told m1) → m1.superstep ≤ m.superstep → reply ≡ reply_of (rolled m2) → IsStep work honest next m m2 reply
 loss_step work honest m m0 m1 m2 next told sliced reply e is on loaded before r =
     let heard = told_load told sliced in
     let all : next heard ≡ rolled m2 = e ∙ ap (λ x. loss heard x) (sym is) ∙ loss_on heard m1 on ∙ ap (λ x. rolled x) (sym loaded) in
@@ -148,7 +148,7 @@ loss_step work honest m m0 m1 m2 next told sliced reply e is on loaded before r 
     record { heard = heard; quiet = λ h later. absurd (omega (arith, le, later)); machine = ap (λ p. p.0) all; told = r ∙ sym (ap reply_of all) }
 
 -- nobody is left
-pub loss_end : (work : Work) (honest : Bool) (m m0 m1 : Machine) (next : Heard → Machine × Answer) (reply : Result Answer JobFault) → next plain ≡ loss plain (after_loss m0) → m1 ≡ after_loss m0 → is_running m0.ending ≡ true → is_running m1.ending ≡ false → m0.superstep ≡ m.superstep → reply ≡ Err NoWorkers → IsStep work honest next m m1 reply
+pub loss_end : (work : Work) (honest : ℕ → Bool) (m m0 m1 : Machine) (next : Heard → Machine × Answer) (reply : Result Answer JobFault) → next plain ≡ loss plain (after_loss m0) → m1 ≡ after_loss m0 → is_running m0.ending ≡ true → is_running m1.ending ≡ false → m0.superstep ≡ m.superstep → reply ≡ Err NoWorkers → IsStep work honest next m m1 reply
 loss_end work honest m m0 m1 next reply e is run over same r =
     let all : next plain ≡ (m1, Ended) = e ∙ ap (λ x. loss plain x) (sym is) ∙ loss_over plain m1 over in
     let ends : m1 ≡ ended_by NoWorkers (joined m0) = is ∙ ended_is m0 run (subst (λ x. is_running x.ending ≡ false) is over) in
@@ -163,7 +163,7 @@ pub joins_dead : (m : Machine) (w : ℕ) → may_join m w ≡ true → is_alive 
 joins_dead m w h = dead_if (is_alive m w) _ h
 
 -- a loss after which the job goes on, and what the Keep has then
-pub loss_on_event : (work : Work) (trusted : Bool) (m m0 m1 m2 : Machine) (next : Heard → Machine × Answer) (told : DeviceResult) (sliced : Bool) (h h' : Bool) (k k' : Option ℕ) (ml ml' : List ℕ → Type 0) (f f' : ℕ) (reply : Result Answer JobFault) → next (told_load told sliced) ≡ loss (told_load told sliced) (after_loss m0) → m1 ≡ after_loss m0 → is_running m1.ending ≡ true → m2 ≡ slicing sliced (loading m1.saved told m1) → m0.saved ≡ m.saved → m0.missed ≡ m.missed → m0.restarts ≡ m.restarts → saved_or_first m.saved ≤ m.superstep → IsLoadResult work h h' k k' ml ml' f f' m1.saved told → KeepsFor work trusted h k ml m → reply ≡ reply_of (rolled m2) → IsEventStep work trusted next m m2 h h' k k' ml ml' f f' reply
+pub loss_on_event : (work : Work) (trusted : ℕ → Bool) (m m0 m1 m2 : Machine) (next : Heard → Machine × Answer) (told : DeviceResult) (sliced : Bool) (h h' : Bool) (k k' : Option ℕ) (ml ml' : List ℕ → Type 0) (f f' : ℕ) (reply : Result Answer JobFault) → next (told_load told sliced) ≡ loss (told_load told sliced) (after_loss m0) → m1 ≡ after_loss m0 → is_running m1.ending ≡ true → m2 ≡ slicing sliced (loading m1.saved told m1) → m0.saved ≡ m.saved → m0.missed ≡ m.missed → m0.restarts ≡ m.restarts → saved_or_first m.saved ≤ m.superstep → IsLoadResult work h h' k k' ml ml' f f' m1.saved told → KeepsFor work trusted h k ml m → reply ≡ reply_of (rolled m2) → IsEventStep work trusted next m m2 h h' k k' ml ml' f f' reply
 loss_on_event work trusted m m0 m1 m2 next told sliced h h' k k' ml ml' f f' reply e is on loaded saved missed restarts past load old r =
     let anew : m1 ≡ begun_anew (joined m0) = is ∙ anew_is m0 (subst (λ (x : Machine). is_running x.ending ≡ true) is on) in
     let before : m1.superstep ≤ m.superstep = subst (λ n. n ≤ m.superstep) (sym (ap (λ (x : Machine). x.superstep) anew ∙ ap saved_or_first saved)) past in

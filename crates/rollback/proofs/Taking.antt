@@ -11,12 +11,12 @@ use Rattle.rollback.proofs.Kept.{book_freed}
 use Rattle.rollback.proofs.Keeps.{AreSame}
 use Rattle.rollback.proofs.Sound.{HasNone, stale_none}
 
-book_stale_if : (work : Work) (honest : Bool) (own : Work) (m : Machine) (ids : List ℕ) {J : _} (job_data : JobData J) (w : ℕ) (c : Bool) → w < length m.out → (c ≡ true → HasNone m w) → IsBook work honest own m ids job_data → IsBook work honest own (cond c (freed m w) m) ids job_data
+book_stale_if : (work : Work) (honest : ℕ → Bool) (own : Work) (m : Machine) (ids : List ℕ) {J : _} (job_data : JobData J) (w : ℕ) (c : Bool) → w < length m.out → (c ≡ true → HasNone m w) → IsBook work honest own m ids job_data → IsBook work honest own (cond c (freed m w) m) ids job_data
 book_stale_if work honest own m ids job_data w true lt never b = book_freed work honest own m ids job_data w lt (never refl) b
 book_stale_if work honest own m ids job_data w false lt never b = b
 
 -- a result that is not taken frees its worker at most
-pub book_stale : (work : Work) (honest : Bool) (own : Work) (m : Machine) (ids : List ℕ) {J : _} (job_data : JobData J) (w : ℕ) (task : Out) → IsSound m → w < length m.out → counts m w task ≡ false → IsBook work honest own m ids job_data → IsBook work honest own (stale_done m w task) ids job_data
+pub book_stale : (work : Work) (honest : ℕ → Bool) (own : Work) (m : Machine) (ids : List ℕ) {J : _} (job_data : JobData J) (w : ℕ) (task : Out) → IsSound m → w < length m.out → counts m w task ≡ false → IsBook work honest own m ids job_data → IsBook work honest own (stale_done m w task) ids job_data
 book_stale work honest own m ids job_data w task s lt no' b = book_stale_if work honest own m ids job_data w (is_out m w task) lt (λ out'. stale_none m w task s lt out' no') b
 
 -- what it leaves

@@ -39,11 +39,11 @@ stamp_of event.Tick = Ticked
 abbrev pub IsQuietAt : Work → ℕ → Bool → Type 0
 IsQuietAt work s quiet = (meaning : Meaning work) → is_quiet (state_at meaning.outcomes meaning.graph s) ≡ quiet
 
--- One step of the control model. If it closes a superstep and the job's Keeps are honest, it hears whether the plain
--- run is quiet then.
-pub record IsStep (work : Work) (honest : Bool) (next : Heard → Machine × Answer) (before after : Machine) (reply : Result Answer JobFault) : Type 0 where
+-- One step of the control model. If it closes a superstep and the epoch is trusted, it hears whether the plain run is
+-- quiet then.
+pub record IsStep (work : Work) (honest : ℕ → Bool) (next : Heard → Machine × Answer) (before after : Machine) (reply : Result Answer JobFault) : Type 0 where
   pub heard : Heard
-  pub quiet : honest ≡ true → after.superstep ≡ suc before.superstep → IsQuietAt work (suc before.superstep) heard.quiet
+  pub quiet : honest before.epoch ≡ true → after.superstep ≡ suc before.superstep → IsQuietAt work (suc before.superstep) heard.quiet
   pub machine : (next heard).0 ≡ after
   pub told : reply ≡ reply_of (next heard)
 
@@ -65,14 +65,14 @@ has_finished Finished = true
 has_finished Limit = false
 has_finished (Fault fault) = false
 
--- The control model's numbers. If the job's Keeps are honest, also the plain run's answer, with the units of each
--- superstep from 0 on.
-pub record IsReport (work : Work) (honest : Bool) (m : Machine) (report : Report) : Type 0 where
+-- The control model's numbers. If its epoch is trusted, also the plain run's answer, with the units of each superstep
+-- from 0 on.
+pub record IsReport (work : Work) (honest : ℕ → Bool) (m : Machine) (report : Report) : Type 0 where
   pub finished : is_finished report.ended.how ≡ has_finished m.ending
   pub superstep : report.ended.superstep ≡ m.superstep
   pub epoch : report.epoch ≡ m.epoch
   pub missed : report.missed ≡ m.missed
   pub restarts : report.restarts ≡ m.restarts
   pub spent : report.spent.items ≡ m.spent
-  pub answer : honest ≡ true → IsEndOf work report.ended
-  pub since : honest ≡ true → report.ended.since ≡ 0
+  pub answer : honest m.epoch ≡ true → IsEndOf work report.ended
+  pub since : honest m.epoch ≡ true → report.ended.since ≡ 0

@@ -39,12 +39,12 @@ pub record IsMadeAt (work : Work) (s : ℕ) (bytes : List ℕ) : Type 0 where
 abbrev pub IsOther : Work → ℕ → List ℕ → Type 0
 IsOther work s bytes = (state : Standing) → IsCheckpointOf bytes state → FitsAt work s state → ⊥
 
--- A Keep has what the book counts as saved. If it is trusted, every checkpoint that it may load is that of the saved
--- state.
-pub record KeepsFor (work : Work) (trusted honest : Bool) (kept : Option ℕ) (may_load : List ℕ → Type 0) (m : Machine) : Type 0 where
-  pub trusts : trusted ≡ true → honest ≡ true
+-- A Keep has what the book counts as saved. If it is trusted, so that the epochs after a load are, every checkpoint that
+-- it may load is that of the saved state.
+pub record KeepsFor (work : Work) (trusted : ℕ → Bool) (honest : Bool) (kept : Option ℕ) (may_load : List ℕ → Type 0) (m : Machine) : Type 0 where
+  pub trusts : trusted 1 ≡ true → honest ≡ true
   pub saved : (s : ℕ) → m.saved ≡ Some s → kept ≡ Some s
-  pub bytes : trusted ≡ true → (s : ℕ) → m.saved ≡ Some s → (bytes : List ℕ) → may_load bytes → (state : Standing) → IsCheckpointOf bytes state → IsSavedAt work s bytes
+  pub bytes : trusted 1 ≡ true → (s : ℕ) → m.saved ≡ Some s → (bytes : List ℕ) → may_load bytes → (state : Standing) → IsCheckpointOf bytes state → IsSavedAt work s bytes
 
 -- The Keep has what an earlier run of the job has left. The bytes that it may load and that are a checkpoint are that of the
 -- job's state before this superstep, and the plain run comes there: something was to be called at each superstep up to it, and
@@ -95,7 +95,7 @@ MayLoadAfter work before after may_load may_load' =
 
 -- What an event, or a step with one, leaves of the Keep. It has what the book counts as saved, and it is as a save or a
 -- load left it, or unchanged.
-pub record IsKeptStep {K : Type 0} (honest : K → Bool) (saved : K → Option ℕ) (may_load : K → List ℕ → Type 0) (faults : K → ℕ) (work : Work) (trusted : Bool) (before after : Machine) (keep keep' : K) : Type 0 where
+pub record IsKeptStep {K : Type 0} (honest : K → Bool) (saved : K → Option ℕ) (may_load : K → List ℕ → Type 0) (faults : K → ℕ) (work : Work) (trusted : ℕ → Bool) (before after : Machine) (keep keep' : K) : Type 0 where
   pub keeps : KeepsFor work trusted (honest keep') (saved keep') (may_load keep') after
   pub cause : IsCaused work before after (faults keep) (faults keep') (may_load keep)
   pub left : IsSavedOrLeft before after (saved keep) (saved keep')
@@ -111,7 +111,7 @@ pub record IsLoadResult (work : Work) (honest honest' : Bool) (kept kept' : Opti
 -- What a book that goes on with a Keep's state begins with: the state before that superstep, or, where the device failed or
 -- the Keep may load other bytes, all begins with superstep 0. Want of memory has ended the job. The Keep has what the book
 -- counts as saved.
-pub record IsBegun (work : Work) (trusted honest honest' : Bool) (kept kept' : Option ℕ) (may_load may_load' : List ℕ → Type 0) (faults faults' : ℕ) (s : ℕ) (m : Machine) : Type 0 where
+pub record IsBegun (work : Work) (trusted : ℕ → Bool) (honest honest' : Bool) (kept kept' : Option ℕ) (may_load may_load' : List ℕ → Type 0) (faults faults' : ℕ) (s : ℕ) (m : Machine) : Type 0 where
   pub heard : Heard
   pub machine : m ≡ begun heard work.settings s
   pub told : IsLoadResult work honest honest' kept kept' may_load may_load' faults faults' (Some s) heard.load

@@ -119,41 +119,42 @@ does s (Join w) = None
 
 -- ---- whole runs
 
--- A step. If the Keep is honest, the model hears whether the plain run is quiet, and what the task costs there.
-pub record IsSimStep (work : Work) (honest : Bool) (step : Step) (before after : Sim) (answer : StepAnswer) : Type 0 where
+-- A step. The model hears whether the plain run is quiet, if the epoch is trusted, and what the task costs there, if
+-- the task's is.
+pub record IsSimStep (work : Work) (honest : ℕ → Bool) (step : Step) (before after : Sim) (answer : StepAnswer) : Type 0 where
   pub told : StepInput
-  pub quiet : honest ≡ true → after.machine.superstep ≡ suc before.machine.superstep → IsQuietAt work (suc before.machine.superstep) told.heard.quiet
-  pub costs : honest ≡ true → told.ran ≡ true → (task : Out) → does before step ≡ Some task → AreUnitsAt work task.superstep task.part told.units
+  pub quiet : honest before.machine.epoch ≡ true → after.machine.superstep ≡ suc before.machine.superstep → IsQuietAt work (suc before.machine.superstep) told.heard.quiet
+  pub costs : told.ran ≡ true → (task : Out) → does before step ≡ Some task → honest task.epoch ≡ true → AreUnitsAt work task.superstep task.part told.units
   pub next : sim_step told before step ≡ (after, answer)
 
 -- these steps, one after the other, with these answers
-abbrev pub Ran : Work → Bool → List Step → Sim → List StepAnswer → Sim → Type 0
+abbrev pub Ran : Work → (ℕ → Bool) → List Step → Sim → List StepAnswer → Sim → Type 0
 Ran work honest [] s [] after = s ≡ after
 Ran work honest [] s (a ∷ answers) after = ⊥
 Ran work honest (x ∷ xs) s [] after = ⊥
 Ran work honest (x ∷ xs) s (a ∷ answers) after = (next : Sim) × IsSimStep work honest x s next a × Ran work honest xs next answers after
 
 -- The same, where this relation holds at each step, of the model and the Keep before and after it.
-abbrev pub RanOver : {K : Type 0} → (Machine → Machine → K → K → Type 0) → Work → Bool → List Step → Sim → K → List StepAnswer → Sim → K → Type 0
+abbrev pub RanOver : {K : Type 0} → (Machine → Machine → K → K → Type 0) → Work → (ℕ → Bool) → List Step → Sim → K → List StepAnswer → Sim → K → Type 0
 RanOver over work honest [] s keep [] after keep' = (s ≡ after) × (keep ≡ keep')
 RanOver over work honest [] s keep (a ∷ answers) after keep' = ⊥
 RanOver over work honest (x ∷ xs) s keep [] after keep' = ⊥
 RanOver {K} over work honest (x ∷ xs) s keep (a ∷ answers) after keep' =
     (next : Sim) × (mid : K) × IsSimStep work honest x s next a × over s.machine next.machine keep mid × RanOver over work honest xs next mid answers after keep'
 
-abbrev pub IsEnded : Work → Bool → Machine → Result Outcome JobFault → Type 0
+abbrev pub IsEnded : Work → (ℕ → Bool) → Machine → Result Outcome JobFault → Type 0
 IsEnded work honest m (Ok (outcome.Open s)) = ⊥
 IsEnded work honest m (Ok (outcome.Ended report)) = IsReport work honest m report
 IsEnded work honest m (Err fault) = fault ≡ OutOfMemory Reporting
 
 -- how the job has ended, or the superstep that it is at
-abbrev pub IsOutcomeAt : Work → Bool → Machine → JobStatus → Result Outcome JobFault → Type 0
+abbrev pub IsOutcomeAt : Work → (ℕ → Bool) → Machine → JobStatus → Result Outcome JobFault → Type 0
 IsOutcomeAt work honest m Running r = r ≡ Ok (outcome.Open m.superstep)
 IsOutcomeAt work honest m Finished r = IsEnded work honest m r
 IsOutcomeAt work honest m Limit r = IsEnded work honest m r
 IsOutcomeAt work honest m (Fault fault) r = r ≡ Err fault
 
-abbrev pub IsTrace : Work → Bool → Machine → List StepAnswer → Result Trace JobFault → Type 0
+abbrev pub IsTrace : Work → (ℕ → Bool) → Machine → List StepAnswer → Result Trace JobFault → Type 0
 IsTrace work honest m answers (Ok trace) = (trace.answers.items ≡ answers) × IsOutcomeAt work honest m m.ending (Ok trace.outcome)
 IsTrace work honest m answers (Err fault) = IsOutcomeAt work honest m m.ending (Err fault)
 
@@ -162,7 +163,7 @@ abbrev pub sim_opened : Work → Bool → Sim
 sim_opened work quiet = record { machine = opened work.settings quiet; held = replicate work.settings.workers None }
 
 -- the answers and the outcome of the model over these steps
-pub record IsRun (work : Work) (honest : Bool) (steps : List Step) (result : Result Trace JobFault) : Type 0 where
+pub record IsRun (work : Work) (honest : ℕ → Bool) (steps : List Step) (result : Result Trace JobFault) : Type 0 where
   pub quiet : Bool
   pub first : IsQuietAt work 0 quiet
   pub after : Sim
@@ -171,7 +172,7 @@ pub record IsRun (work : Work) (honest : Bool) (steps : List Step) (result : Res
   pub trace : IsTrace work honest after.machine answers result
 
 -- a run, or there was no memory to begin
-abbrev pub IsSimulated : Work → Bool → List Step → Result Trace JobFault → Type 0
+abbrev pub IsSimulated : Work → (ℕ → Bool) → List Step → Result Trace JobFault → Type 0
 IsSimulated work honest steps result =
     (result ≡ Err (OutOfMemory Open)) ⊎ ((result ≡ Err (OutOfMemory Call)) ⊎ IsRun work honest steps result)
 
@@ -204,7 +205,7 @@ IsCalmAt m = (m.missed ≡ 0) × (m.restarts ≡ 0)
 -- ---- whole runs over a Keep
 
 -- The run, and what each of its steps leaves of the Keep. In the end the Keep has what the model counts as saved.
-pub record IsRunOver {K : Type 0} (honest : K → Bool) (saved : K → Option ℕ) (may_load : K → List ℕ → Type 0) (faults : K → ℕ) (work : Work) (trusted : Bool) (steps : List Step) (keep keep' : K) (result : Result Trace JobFault) : Type 0 where
+pub record IsRunOver {K : Type 0} (honest : K → Bool) (saved : K → Option ℕ) (may_load : K → List ℕ → Type 0) (faults : K → ℕ) (work : Work) (trusted : ℕ → Bool) (steps : List Step) (keep keep' : K) (result : Result Trace JobFault) : Type 0 where
   pub quiet : Bool
   pub first : IsQuietAt work 0 quiet
   pub after : Sim
@@ -215,7 +216,7 @@ pub record IsRunOver {K : Type 0} (honest : K → Bool) (saved : K → Option �
   pub trace : IsTrace work trusted after.machine answers result
 
 -- a run, or there was no memory to begin, and the Keep is unchanged
-abbrev pub IsSimulatedOver : {K : Type 0} → (K → Bool) → (K → Option ℕ) → (K → List ℕ → Type 0) → (K → ℕ) → Work → Bool → List Step → K → K → Result Trace JobFault → Type 0
+abbrev pub IsSimulatedOver : {K : Type 0} → (K → Bool) → (K → Option ℕ) → (K → List ℕ → Type 0) → (K → ℕ) → Work → (ℕ → Bool) → List Step → K → K → Result Trace JobFault → Type 0
 IsSimulatedOver honest saved may_load faults work trusted steps keep keep' result =
     ((result ≡ Err (OutOfMemory Open)) × (keep' ≡ keep))
     ⊎ (((result ≡ Err (OutOfMemory Call)) × (keep' ≡ keep)) ⊎ IsRunOver honest saved may_load faults work trusted steps keep keep' result)

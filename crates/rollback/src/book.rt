@@ -105,8 +105,8 @@ fn resume_book<'a, J: Origin, K: Keep, R: Files + AllocGlobal>(
     requires job { J.work ≡ job.now }
     requires early { superstep < job.now.settings.limit }
     requires saved { K.saved keep.old ≡ Some superstep }
-    requires trusts { J.honest ≡ true → K.honest keep.old ≡ true }
-    requires left { J.honest ≡ true → HasLeft J.work (K.may_load keep.old) superstep }
+    requires trusts { J.honest 0 ≡ true → K.honest keep.old ≡ true }
+    requires left { J.honest 0 ≡ true → HasLeft J.work (K.may_load keep.old) superstep }
     ensures { IfOk result (IsBegun J.work J.honest (K.honest keep.old) (K.honest keep.new)
         (K.saved keep.old) (K.saved keep.new) (K.may_load keep.old) (K.may_load keep.new)
         (K.faults keep.old) (K.faults keep.new) superstep) }
@@ -164,8 +164,8 @@ impl<'a, J: Origin> Book<'a, J> {
         requires job { J.work ≡ job.now }
         requires early { superstep < job.now.settings.limit }
         requires saved { K.saved keep.old ≡ Some superstep }
-        requires trusts { J.honest ≡ true → K.honest keep.old ≡ true }
-        requires left { J.honest ≡ true → HasLeft J.work (K.may_load keep.old) superstep }
+        requires trusts { J.honest 0 ≡ true → K.honest keep.old ≡ true }
+        requires left { J.honest 0 ≡ true → HasLeft J.work (K.may_load keep.old) superstep }
         ensures begun { IfOk result (IsBegun J.work J.honest (K.honest keep.old) (K.honest keep.new)
             (K.saved keep.old) (K.saved keep.new) (K.may_load keep.old) (K.may_load keep.new)
             (K.faults keep.old) (K.faults keep.new) superstep) }

@@ -1,8 +1,8 @@
 //! The data of a job, as its book holds it.
 
-ghost use Rattle.std.specs.Prelude.{◌≡◌, ℕ};
-ghost use Rattle.rollback.specs.inside.Parts.{Placement, moved};
-ghost use Rattle.rollback.specs.inside.Parts.Spot.{Gone, Returned};
+ghost use Rattle.std.specs.Prelude.{◌≡◌, ◌≤◌, ℕ};
+ghost use Rattle.rollback.specs.inside.Parts.{Placement, moved, returned};
+ghost use Rattle.rollback.specs.inside.Parts.Spot.{Gone};
 ghost use Rattle.rollback.specs.inside.JobData.{HasHome, Runs, FitsPart};
 
 use crate::parts::Parts;
@@ -21,7 +21,8 @@ pub enum JobData<J: Origin> {
 
 /// Takes the slice of a part that is here, as a task. It allocates nothing.
 pub fn hand_out<J: Origin>(job_data: &mut JobData<J>, part: u32, epoch: u64) -> Task<J>
-    requires { HasHome job_data.old part }
+    requires home { HasHome job_data.old part }
+    requires later { Runs job_data.old (λ placement. placement.epoch ≤ epoch) }
     ensures epoch { result.epoch ≡ epoch }
     ensures part { result.part ≡ part }
     ensures superstep { Runs job_data.old (λ placement. result.superstep ≡ placement.superstep) }
@@ -38,7 +39,7 @@ pub fn hand_out<J: Origin>(job_data: &mut JobData<J>, part: u32, epoch: u64) -> 
 pub fn bring_back<J: Origin>(job_data: &mut JobData<J>, done: Done<J>)
     requires { FitsPart job_data.old done }
     ensures { Runs job_data.old (λ placement.
-        job_data.new ≡ JobData.Parts (moved placement done.part Returned)) }
+        job_data.new ≡ JobData.Parts (returned placement done.part done.epoch)) }
 {
     match job_data {
         JobData::Parts(parts) => parts.bring_back(done),

@@ -1,9 +1,9 @@
 //! The parts of a running job between two barriers.
 
-ghost use Rattle.std.specs.Prelude.{◌≡◌, ◌<◌, true, suc, replicate, length, IfOk};
+ghost use Rattle.std.specs.Prelude.{◌≡◌, ◌<◌, ◌≤◌, true, suc, replicate, length, IfOk};
 ghost use Rattle.superstep.specs.State.{HasIdsOf};
 ghost use Rattle.rollback.specs.Saving.{IsFullStateAt};
-ghost use Rattle.rollback.specs.inside.Parts.{IsHome, all_home, moved};
+ghost use Rattle.rollback.specs.inside.Parts.{IsHome, all_home, moved, returned};
 ghost use Rattle.rollback.specs.inside.Parts.Spot.{Gone, Returned};
 
 use crate::part_slots::{PartSlot, dones_of, in_slots, slice_of};
@@ -14,9 +14,11 @@ use std::thread::Threads;
 use superstep::{Apart, Done, Job, Origin, State, Task, Totals, barrier, take_apart};
 
 /// The parts of a running job between two barriers. Slices are moved out with tasks, and none is copied. In contracts
-/// the model is the superstep and where each part is.
+/// the model is the epoch, the superstep and where each part is.
 #[derive(Drop)]
 pub struct Parts<J: Origin> {
+    // The last epoch of which something is here.
+    epoch: u64,
     totals: Totals,
     aggregates: [i64; 8],
     part_slots: Vec<PartSlot<J>>,
@@ -29,31 +31,33 @@ impl<J: Origin> Model for Parts<J> {
     ghost Value = { Placement };
 
     ghost view = { λ parts. record {
+      epoch = parts.epoch;
       superstep = parts.totals.superstep;
       since = parts.totals.since;
       spots = spots_of parts.part_slots.items;
     } };
 
     ghost invariant = { λ parts.
-        IsKept J.work J.honest parts.totals parts.aggregates parts.part_slots.items };
+        IsKept J.work J.honest parts.epoch parts.totals parts.aggregates parts.part_slots.items };
 }
 
 impl<J: Origin> Parts<J> {
-    /// Cuts a state into its parts. All of it is moved, not copied. `Err` is out of memory.
-    pub fn of(alloc: Global, job: &Job, state: State) -> Result<Parts<J>, AllocError>
+    /// Cuts a state into its parts in this epoch. All of it is moved, not copied. `Err` is out of memory.
+    pub fn of(alloc: Global, job: &Job, epoch: u64, state: State) -> Result<Parts<J>, AllocError>
         requires job { J.work ≡ job.now }
         requires fits { HasIdsOf job.now state }
-        requires at { J.honest ≡ true → IsFullStateAt J.work state.superstep state }
+        requires at { J.honest epoch ≡ true → IsFullStateAt J.work state.superstep state }
         ensures { IfOk result (λ parts.
-            parts ≡ all_home state.superstep state.since job.now.settings.parts) }
+            parts ≡ all_home epoch state.superstep state.since job.now.settings.parts) }
     {
         let Apart {
             totals,
             aggregates,
             slices,
-        } = take_apart::<J>(alloc, job, state)?;
+        } = take_apart::<J>(alloc, job, epoch, state)?;
         let part_slots = in_slots(alloc, slices)?;
         Ok(Parts {
+            epoch,
             totals,
             aggregates,
             part_slots,
@@ -62,7 +66,8 @@ impl<J: Origin> Parts<J> {
 
     /// Takes the slice of a part that is here, as a task. It allocates nothing.
     pub fn hand_out(&mut self, part: u32, epoch: u64) -> Task<J>
-        requires { IsHome self.old part }
+        requires home { IsHome self.old part }
+        requires later { self.old.epoch ≤ epoch }
         ensures epoch { result.epoch ≡ epoch }
         ensures superstep { result.superstep ≡ self.old.superstep }
         ensures part { result.part ≡ part }
@@ -76,9 +81,11 @@ impl<J: Origin> Parts<J> {
     pub fn bring_back(&mut self, done: Done<J>)
         requires superstep { done.superstep ≡ self.old.superstep }
         requires part { done.part < length self.old.spots }
-        ensures { self.new ≡ moved self.old done.part Returned }
+        requires later { self.old.epoch ≤ done.epoch }
+        ensures { self.new ≡ returned self.old done.part done.epoch }
     {
         let part = done.part() as usize;
+        self.epoch = done.epoch();
         self.part_slots[part] = PartSlot::Back(done);
     }
 
@@ -92,13 +99,14 @@ impl<J: Origin> Parts<J> {
         requires job { J.work ≡ job.now }
         requires all { self.spots ≡ replicate job.now.settings.parts Returned }
         requires early { self.superstep < job.now.settings.limit }
-        ensures next { IfOk result (λ state. J.honest ≡ true
+        ensures next { IfOk result (λ state. J.honest self.epoch ≡ true
             → IsFullStateAt J.work (suc self.superstep) state) }
         ensures superstep { IfOk result (λ state. state.superstep ≡ suc self.superstep) }
         ensures since { IfOk result (λ state. state.since ≡ self.since) }
         ensures ids { IfOk result (HasIdsOf job.now) }
     {
         let Parts {
+            epoch: _,
             totals,
             aggregates: _,
             part_slots,

@@ -23,12 +23,13 @@ use superstep::{Job, Origin, Place, State};
 pub fn hold<J: Origin>(alloc: Global, job: &Job, control: &mut Control, state: State) -> JobData<J>
     requires job { J.work ≡ job.now }
     requires fits { HasIdsOf job.now state }
-    requires at { J.honest ≡ true → IsFullStateAt J.work state.superstep state }
+    requires at { J.honest control.old.epoch ≡ true
+        → IsFullStateAt J.work state.superstep state }
     ensures control { control.new ≡ slicing (has_room result) control.old }
     ensures held { IsHeldOf job.now.settings.parts control.old control.new state result }
 {
     match control.ending() {
-        JobStatus::Running => match Parts::of(alloc, job, state) {
+        JobStatus::Running => match Parts::of(alloc, job, control.epoch(), state) {
             Ok(parts) => JobData::Parts(parts),
             Err(_) => {
                 control.fail(Place::Slice);
@@ -65,13 +66,13 @@ pub fn hold_opened<J: Origin>(
 ) -> Result<JobData<J>, AllocError>
     requires job { J.work ≡ job.now }
     requires fits { HasIdsOf job.now state }
-    requires at { J.honest ≡ true → IsFullStateAt J.work state.superstep state }
+    requires at { J.honest 0 ≡ true → IsFullStateAt J.work state.superstep state }
     ensures { IfOk result (IsFirst job.now.settings.parts quiet state) }
 {
     if quiet {
         return Ok(JobData::Whole(state));
     }
-    let parts = Parts::of(alloc, job, state)?;
+    let parts = Parts::of(alloc, job, 0, state)?;
     Ok(JobData::Parts(parts))
 }
 
@@ -88,8 +89,8 @@ pub fn put_back<J: Origin, K: Keep, R: Files + AllocGlobal>(
     requires ids { AreIdsOf job.now ids.now }
     requires running { is_running control.old.ending ≡ true }
     requires back { control.old.superstep ≡ saved_or_first control.old.saved }
-    requires keep { KeepsFor J.work J.honest (K.honest keep.old) (K.saved keep.old)
-        (K.may_load keep.old) control.old }
+    requires keep { KeepsFor J.work (λ _. J.honest control.old.epoch) (K.honest keep.old)
+        (K.saved keep.old) (K.may_load keep.old) control.old }
     ensures told { (told : DeviceResult)
         × (control.new
         ≡ slicing (has_room result) (loading control.old.saved told control.old))

@@ -2,7 +2,7 @@
 
 ghost use Rattle.std.specs.Prelude.{◌≡◌, ◌<◌, ℕ, length, replicate, slice_index_or, slice_set, Bool, true, None, Result, option_map, IfErr, IfOk};
 ghost use Rattle.superstep.specs.Job.{Meaning};
-ghost use Rattle.superstep.specs.Tasks.{AreUnitsAt};
+ghost use Rattle.superstep.specs.Tasks.{AreUnitsAt, trusts};
 ghost use Rattle.superstep.specs.declared.fault.JobFault.{JobFault};
 ghost use Rattle.rollback.specs.Book.{IsStep, stamp_of, task_out};
 ghost use Rattle.rollback.specs.Events.{accepted};
@@ -85,7 +85,8 @@ fn done_by<J: Origin>(runner: &mut TaskRunner, worker: u32, task: Task<J>) -> Ev
     ensures runner { IsRunnerOf J.work runner.new }
     ensures told { (ran : Bool) × (units : ℕ)
         × (stamp_of result ≡ brought ran units worker (task_out task))
-        × (J.honest ≡ true → ran ≡ true → AreUnitsAt J.work task.superstep task.part units) }
+        × (ran ≡ true → J.honest task.epoch ≡ true
+        → AreUnitsAt J.work task.superstep task.part units) }
 {
     match run_task(runner.alloc, runner.job, task, &mut runner.scratch) {
         Ok(done) => Event::Done(worker, done),
@@ -336,10 +337,10 @@ fn simulate_by<J: Origin, K: Keep, R: Threads + Sync + Files + AllocGlobal>(
     steps: &[Step],
 ) -> Result<Trace, JobFault>
     requires runner { IsRunnerOf J.work runner.old }
-    requires honest { J.honest ≡ K.honest keep.old }
+    requires honest { J.honest ≡ trusts (K.honest keep.old) }
     ensures kept { IsSimulatedOver K.honest K.saved K.may_load K.faults J.work J.honest
         steps.now keep.old keep.new result }
-    ensures trust { J.honest ≡ true → K.honest keep.new ≡ true }
+    ensures trust { J.honest 1 ≡ true → K.honest keep.new ≡ true }
 {
     let mut book = Book::<J>::open(runner.alloc, runner.job)?;
     let Ok(answers) = answers_to(rt, runner, &mut book, keep, steps) else {
@@ -358,10 +359,10 @@ fn simulate_as<J: Origin, K: Keep, R: Threads + Sync + Files + AllocGlobal>(
     steps: &[Step],
 ) -> Result<Trace, JobFault>
     requires job { J.work ≡ job.now }
-    requires honest { J.honest ≡ K.honest keep.old }
+    requires honest { J.honest ≡ trusts (K.honest keep.old) }
     ensures kept { IsSimulatedOver K.honest K.saved K.may_load K.faults J.work J.honest
         steps.now keep.old keep.new result }
-    ensures trust { J.honest ≡ true → K.honest keep.new ≡ true }
+    ensures trust { J.honest 1 ≡ true → K.honest keep.new ≡ true }
 {
     let Ok(scratch) = Scratch::new(alloc, job.verified()) else {
         return Err(JobFault::OutOfMemory(Place::Call));
@@ -400,12 +401,12 @@ pub fn simulate<K: Keep, R: Threads + Sync + Files + AllocGlobal>(
     ensures calls { CallsStayWithin job.now.«module» }
     // So their outcomes are a function, and there is a plain run of the job's graph.
     ensures meaning { Meaning job.now }
-    // The answers and the outcome are those of the control model. If the Keep is honest, a job that has ended has the
-    // plain run's answer.
-    ensures simulated { IsSimulated job.now (K.honest keep.old) steps.now result }
+    // The answers and the outcome are those of the control model. A job that has ended has the plain run's answer, if
+    // the Keep is honest or the job is still in epoch 0, so that nothing was loaded.
+    ensures simulated { IsSimulated job.now (trusts (K.honest keep.old)) steps.now result }
     // Each step leaves the Keep as its save or its load left it, or as it was.
     ensures kept { IsSimulatedOver K.honest K.saved K.may_load K.faults job.now
-        (K.honest keep.old) steps.now keep.old keep.new result }
+        (trusts (K.honest keep.old)) steps.now keep.old keep.new result }
     // If the Keep loads only what was saved and its device never fails, no save is missed and the job never begins
     // again.
     ensures calm { LoadsNothingElse K.saved K.may_load → NeverFails K.faults

@@ -26,7 +26,7 @@ stays m (move ∷ moves) over =
     let now = moved_ending m move over in
     stays (moved m move) moves (ap is_running now ∙ over) ∙ now
 
-pub steps_over : {J : Type 0} (work : Work) (honest : Bool) {m n : Machine} {got got' : List (Message J)} {ls ls' : List (List (Order J))}
+pub steps_over : {J : Type 0} (work : Work) (honest : ℕ → Bool) {m n : Machine} {got got' : List (Message J)} {ls ls' : List (List (Order J))}
     → Steps work honest m n got got' ls ls' → is_running m.ending ≡ false → is_running n.ending ≡ false
 steps_over work honest {m} {n} p over = ap (λ (x : Machine). is_running x.ending) (sym p.leads) ∙ ap is_running (stays m p.moves over) ∙ over
 
@@ -91,7 +91,7 @@ unspent_account work m u = record {
 }
 
 -- what the book added up of a worker is the sum of the units that were received of it
-pub spent_of : {J : Type 0} (work : Work) (honest : Bool) (begin n : Machine) (got got' : List (Message J)) (ls ls' : List (List (Order J)))
+pub spent_of : {J : Type 0} (work : Work) (honest : ℕ → Bool) (begin n : Machine) (got got' : List (Message J)) (ls ls' : List (List (Order J)))
     → Steps work honest begin n got got' ls ls' → IsUnspent work begin → has_answer n.ending ≡ true → got ≡ [] → (w : ℕ) → w < work.settings.workers
     → slice_index_or n.spent w 0 ≡ cut (units_by w (stamps_in got'))
 spent_of work honest begin n got got' ls ls' p u h none w below =

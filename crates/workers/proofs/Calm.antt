@@ -59,7 +59,7 @@ begun_same heard settings s sure =
 
 -- ---- from move to move
 
-module _ {K : Type 0} (honest : K → Bool) (saved : K → Option ℕ) (may_load : K → List ℕ → Type 0) (faults : K → ℕ) (work : Work) (trusted : Bool) where
+module _ {K : Type 0} (honest : K → Bool) (saved : K → Option ℕ) (may_load : K → List ℕ → Type 0) (faults : K → ℕ) (work : Work) (trusted : ℕ → Bool) where
   abbrev Kept : Machine → Machine → K → K → Type 0
   Kept = IsKeptStep honest saved may_load faults work trusted
 

@@ -97,19 +97,19 @@ run_fault (Err Closed) h = tt
 
 -- ---- the answer
 
-pub answer_fault : (work : Work) (honest : Bool) (m : Machine) (fault : JobFault) → Fault fault ≡ m.ending → IsAnswerAt work honest m m.ending (Err fault)
+pub answer_fault : (work : Work) (honest : ℕ → Bool) (m : Machine) (fault : JobFault) → Fault fault ≡ m.ending → IsAnswerAt work honest m m.ending (Err fault)
 answer_fault work honest m fault e = subst (λ x. IsAnswerAt work honest m x (Err fault)) e refl
 
-told : (work : Work) (honest : Bool) (m : Machine) (end : JobStatus) (r : Result Report JobFault) → has_answer end ≡ true → IsTold work honest m r → IsAnswerAt work honest m end r
+told : (work : Work) (honest : ℕ → Bool) (m : Machine) (end : JobStatus) (r : Result Report JobFault) → has_answer end ≡ true → IsTold work honest m r → IsAnswerAt work honest m end r
 told work honest m Running r h is = absurd (cc)
 told work honest m Finished r h is = is
 told work honest m Limit r h is = is
 told work honest m (Fault fault) r h is = absurd (cc)
 
-pub answer_told : (work : Work) (honest : Bool) (m : Machine) (r : Result Report JobFault) → has_answer m.ending ≡ true → IsTold work honest m r → IsAnswerAt work honest m m.ending r
+pub answer_told : (work : Work) (honest : ℕ → Bool) (m : Machine) (r : Result Report JobFault) → has_answer m.ending ≡ true → IsTold work honest m r → IsAnswerAt work honest m m.ending r
 answer_told work honest m r h is = told work honest m m.ending r h is
 
-pub answers_report : (work : Work) (honest : Bool) (m : Machine) (end : JobStatus) (report : Report) → IsAnswerAt work honest m end (Ok report) → (has_answer end ≡ true) × IsReport work honest m report
+pub answers_report : (work : Work) (honest : ℕ → Bool) (m : Machine) (end : JobStatus) (report : Report) → IsAnswerAt work honest m end (Ok report) → (has_answer end ≡ true) × IsReport work honest m report
 answers_report work honest m Running report is = absurd is
 answers_report work honest m Finished report is = (refl, is)
 answers_report work honest m Limit report is = (refl, is)
@@ -122,17 +122,17 @@ own_fault (Settings setting) h = absurd (cc)
 own_fault ThreadRefused h = absurd (cc)
 own_fault Closed h = tt
 
-told_fault : (work : Work) (honest : Bool) (m : Machine) (r : Result Report JobFault) → IsTold work honest m r → IfErr r IsDriveFault
+told_fault : (work : Work) (honest : ℕ → Bool) (m : Machine) (r : Result Report JobFault) → IsTold work honest m r → IfErr r IsDriveFault
 told_fault work honest m (Ok report) is = tt
 told_fault work honest m (Err fault) is = subst IsDriveFault (sym is) tt
 
-fault_at : (work : Work) (honest : Bool) (m : Machine) (end : JobStatus) (r : Result Report JobFault) → is_own end ≡ true → IsAnswerAt work honest m end r → IfErr r IsDriveFault
+fault_at : (work : Work) (honest : ℕ → Bool) (m : Machine) (end : JobStatus) (r : Result Report JobFault) → is_own end ≡ true → IsAnswerAt work honest m end r → IfErr r IsDriveFault
 fault_at work honest m Running r h is = absurd is
 fault_at work honest m Finished r h is = told_fault work honest m r is
 fault_at work honest m Limit r h is = told_fault work honest m r is
 fault_at work honest m (Fault fault) r h is = subst (λ x. IfErr x IsDriveFault) (sym is) (own_fault fault h)
 
-module _ {J : Type 0} (work : Work) (honest : Bool) (m n : Machine) (got got' : List (Message J)) (ls ls' : List (List (Order J))) where
+module _ {J : Type 0} (work : Work) (honest : ℕ → Bool) (m n : Machine) (got got' : List (Message J)) (ls ls' : List (List (Order J))) where
   pub drive_fault : (r : Result Report JobFault) → Steps work honest m n got got' ls ls' → IsUnspent work m → IsAnswerAt work honest n n.ending r → IfErr r IsDriveFault
   drive_fault r p u is = fault_at work honest n n.ending r (steps_own work honest m n got got' ls ls' p u.own) is
 
@@ -162,7 +162,7 @@ module _ {J : Type 0} (work : Work) (honest : Bool) (m n : Machine) (got got' : 
 
 -- ---- where it began
 
-module _ {J : Type 0} (work : Work) (honest : Bool) (m : Machine) (got : List (Message J)) (ls : List (List (Order J))) (r : Result Report JobFault) where
+module _ {J : Type 0} (work : Work) (honest : ℕ → Bool) (m : Machine) (got : List (Message J)) (ls : List (List (Order J))) (r : Result Report JobFault) where
   -- from an opened book on
   pub ran_opened : IsOpened work m → RanFrom work honest m got ls r → EndedOver work honest got ls r
   ran_opened o p = record {
@@ -202,7 +202,7 @@ unspent_begun work m heard superstep is = subst (λ (x : Machine). IsUnspent wor
 -- ---- the Keep
 
 -- a book that was opened counts nothing as saved
-pub keeps_first : (work : Work) (trusted honest : Bool) (kept : _) (may_load : List ℕ → Type 0) (m : Machine) → IsOpened work m → (trusted ≡ true → honest ≡ true) → KeepsFor work trusted honest kept may_load m
+pub keeps_first : (work : Work) (trusted : ℕ → Bool) (honest : Bool) (kept : _) (may_load : List ℕ → Type 0) (m : Machine) → IsOpened work m → (trusted 1 ≡ true → honest ≡ true) → KeepsFor work trusted honest kept may_load m
 keeps_first work trusted honest kept may_load m o sure =
     let none = ap (λ (x : Machine). x.saved) o.2 in
     record {
@@ -211,12 +211,12 @@ keeps_first work trusted honest kept may_load m o sure =
       bytes = λ t s e. let z = sym none ∙ e in absurd (cc);
     }
 
-calm_report : (work : Work) (trusted : Bool) (m : Machine) (report : Report) → (m.missed ≡ 0) × (m.restarts ≡ 0) → IsAnswerAt work trusted m m.ending (Ok report) → IsCalmReport report
+calm_report : (work : Work) (trusted : ℕ → Bool) (m : Machine) (report : Report) → (m.missed ≡ 0) × (m.restarts ≡ 0) → IsAnswerAt work trusted m m.ending (Ok report) → IsCalmReport report
 calm_report work trusted m report calm is =
     let a = answers_report work trusted m m.ending report is in
     (a.1.missed ∙ calm.0, a.1.restarts ∙ calm.1)
 
-module _ {K : Type 0} (honest : K → Bool) (saved : K → Option ℕ) (may_load : K → List ℕ → Type 0) (faults : K → ℕ) (work : Work) (trusted : Bool) where
+module _ {K : Type 0} (honest : K → Bool) (saved : K → Option ℕ) (may_load : K → List ℕ → Type 0) (faults : K → ℕ) (work : Work) (trusted : ℕ → Bool) where
   abbrev Kept : Machine → Machine → K → K → Type 0
   Kept = IsKeptStep honest saved may_load faults work trusted
 

@@ -130,6 +130,6 @@ opened_own s quiet = ending_own quiet (nat_lt 0 s.limit)
 pub begun_own : (heard : Heard) (s : settings.Settings) (superstep : ℕ) → own (begun heard s superstep) ≡ true
 begun_own heard s superstep = rolling_own heard (resumed s superstep) refl
 
-pub steps_own : {J : Type 0} (work : Work) (honest : Bool) (m n : Machine) (got got' : List (Message J)) (ls ls' : List (List (Order J)))
+pub steps_own : {J : Type 0} (work : Work) (honest : ℕ → Bool) (m n : Machine) (got got' : List (Message J)) (ls ls' : List (List (Order J)))
     → Steps work honest m n got got' ls ls' → own m ≡ true → own n ≡ true
 steps_own work honest m n got got' ls ls' p is = ap own (sym p.leads) ∙ after_own m p.moves is

@@ -39,7 +39,7 @@ after-append : (m : Machine) (xs ys : List Move) → after m (xs ++ ys) ≡ afte
 after-append m [] ys = refl
 after-append m (x ∷ xs) ys = after-append (moved m x) xs ys
 
-moves-append : (work : Work) (honest : Bool) (m : Machine) (xs ys : List Move) → AreMoves work honest m xs → AreMoves work honest (after m xs) ys → AreMoves work honest m (xs ++ ys)
+moves-append : (work : Work) (honest : ℕ → Bool) (m : Machine) (xs ys : List Move) → AreMoves work honest m xs → AreMoves work honest (after m xs) ys → AreMoves work honest m (xs ++ ys)
 moves-append work honest m [] ys h k = k
 moves-append work honest m (x ∷ xs) ys h k = (h.0, moves-append work honest (moved m x) xs ys h.1 k)
 
@@ -97,7 +97,7 @@ module _ {J : Type 0} where
 
 -- ---- steps
 
-module _ {J : Type 0} (work : Work) (honest : Bool) where
+module _ {J : Type 0} (work : Work) (honest : ℕ → Bool) where
   pub steps_none : (m : Machine) (got : List (Message J)) (ls : List (List (Order J))) → Steps work honest m m got got ls ls
   steps_none m got ls = record {
     moves = [];
@@ -224,7 +224,7 @@ along_then : {K : Type 0} (over : Machine → Machine → K → K → Type 0) (m
 along_then over m [] ys k k1 k2 p q = subst (λ z. KeptAlong over m z ys k2) (sym p) q
 along_then over m (x ∷ xs) ys k k1 k2 p q = (p.0, p.1, along_then over (moved m x) xs ys p.0 k1 k2 p.2 q)
 
-module _ {K : Type 0} (honest : K → Bool) (saved : K → Option ℕ) (may_load : K → List ℕ → Type 0) (faults : K → ℕ) (work : Work) (trusted : Bool) where
+module _ {K : Type 0} (honest : K → Bool) (saved : K → Option ℕ) (may_load : K → List ℕ → Type 0) (faults : K → ℕ) (work : Work) (trusted : ℕ → Bool) where
   abbrev Kept : Machine → Machine → K → K → Type 0
   Kept = IsKeptStep honest saved may_load faults work trusted
 

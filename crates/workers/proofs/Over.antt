@@ -13,7 +13,7 @@ use Rattle.workers.proofs.Accounts.{steps_over}
 use Rattle.workers.proofs.Handing.{handed_wide}
 use Rattle.workers.proofs.Moving.{steps_none, steps_still}
 
-module _ {J : Type 0} (work : Work) (honest : Bool) where
+module _ {J : Type 0} (work : Work) (honest : ℕ → Bool) where
   -- once a message was taken
   pub over_still : {m n : Machine} {got got' : List (Message J)} {a b : CoordinatorEnds J}
       → Steps work honest m n got got' (handed a) (handed b) → handed b ≡ handed a → IsSameHub a b → IsOver m a → IsOver n b

@@ -1,5 +1,5 @@
--- What a job that was run in threads tells, where its Keep is honest.
-use Rattle.std.proofs.Common.{◌≡◌, ℕ, Bool, true, List, Option, Result, Ok, Err, IfOk}
+-- What a job that was run in threads tells, in epochs that are trusted.
+use Rattle.std.proofs.Common.{◌≡◌, ℕ, Bool, true, List, Option, Result, Ok, Err, IfOk, subst}
 use Rattle.superstep.specs.Ending.{IsEndOf}
 use Rattle.superstep.specs.Job.{Work}
 use Rattle.superstep.specs.declared.fault.JobFault.{JobFault}
@@ -12,25 +12,29 @@ use Rattle.workers.specs.declared.message.Message.{Message}
 use Rattle.channels.specs.declared.order.Order.{Order}
 use Rattle.workers.proofs.Ending.{answers_report}
 
-module _ {J : Type 0} (work : Work) (honest : Bool) (received : List (Message J)) (handed : List (List (Order J))) where
-  pub answer_told : (r : Result Report JobFault) → WhereRun r (EndedOver work honest received handed r) → honest ≡ true
-      → IfOk r (λ report. IsEndOf work report.ended)
-  answer_told (Ok report) ran sure = (answers_report work honest ran.end ran.end.ending report ran.answers).1.answer sure
-  answer_told (Err fault) ran sure = tt
+module _ {J : Type 0} (work : Work) (honest : ℕ → Bool) (received : List (Message J)) (handed : List (List (Order J))) where
+  pub answer_told : (r : Result Report JobFault) → WhereRun r (EndedOver work honest received handed r)
+      → IfOk r (λ report. honest report.epoch ≡ true → IsEndOf work report.ended)
+  answer_told (Ok report) ran = λ sure.
+      let is = (answers_report work honest ran.end ran.end.ending report ran.answers).1 in
+      is.answer (subst (λ n. honest n ≡ true) is.epoch sure)
+  answer_told (Err fault) ran = tt
 
-  pub since_told : (r : Result Report JobFault) → WhereRun r (EndedOver work honest received handed r) → honest ≡ true
-      → IfOk r (λ report. report.ended.since ≡ 0)
-  since_told (Ok report) ran sure = (answers_report work honest ran.end ran.end.ending report ran.answers).1.since sure
-  since_told (Err fault) ran sure = tt
+  pub since_told : (r : Result Report JobFault) → WhereRun r (EndedOver work honest received handed r)
+      → IfOk r (λ report. honest report.epoch ≡ true → report.ended.since ≡ 0)
+  since_told (Ok report) ran = λ sure.
+      let is = (answers_report work honest ran.end ran.end.ending report ran.answers).1 in
+      is.since (subst (λ n. honest n ≡ true) is.epoch sure)
+  since_told (Err fault) ran = tt
 
-  pub answer_told_on : (superstep : ℕ) (r : Result Report JobFault) → WhereRun r (RanOn work honest superstep received handed r) → honest ≡ true
+  pub answer_told_on : (superstep : ℕ) (r : Result Report JobFault) → WhereRun r (RanOn work honest superstep received handed r) → ((epoch : ℕ) → honest epoch ≡ true)
       → IfOk r (λ report. IsEndOf work report.ended)
-  answer_told_on superstep (Ok report) ran sure = (answers_report work honest ran.1.end ran.1.end.ending report ran.1.answers).1.answer sure
+  answer_told_on superstep (Ok report) ran sure = (answers_report work honest ran.1.end ran.1.end.ending report ran.1.answers).1.answer (sure ran.1.end.epoch)
   answer_told_on superstep (Err fault) ran sure = tt
 
-  pub since_told_on : (superstep : ℕ) (r : Result Report JobFault) → WhereRun r (RanOn work honest superstep received handed r) → honest ≡ true
+  pub since_told_on : (superstep : ℕ) (r : Result Report JobFault) → WhereRun r (RanOn work honest superstep received handed r) → ((epoch : ℕ) → honest epoch ≡ true)
       → IfOk r (λ report. report.ended.since ≡ 0)
-  since_told_on superstep (Ok report) ran sure = (answers_report work honest ran.1.end ran.1.end.ending report ran.1.answers).1.since sure
+  since_told_on superstep (Ok report) ran sure = (answers_report work honest ran.1.end ran.1.end.ending report ran.1.answers).1.since (sure ran.1.end.epoch)
   since_told_on superstep (Err fault) ran sure = tt
 
 -- ---- by the answer
@@ -55,7 +59,7 @@ where_begun (Err Closed) P Q f p = tt
 
 -- ---- the list alone, and the Keep
 
-module _ {K : Type 0} (honest : K → Bool) (saved : K → Option ℕ) (may_load : K → List ℕ → Type 0) (faults : K → ℕ) (work : Work) (trusted : Bool) where
+module _ {K : Type 0} (honest : K → Bool) (saved : K → Option ℕ) (may_load : K → List ℕ → Type 0) (faults : K → ℕ) (work : Work) (trusted : ℕ → Bool) where
   module _ {J : Type 0} (received : List (Message J)) (handed : List (List (Order J))) (keep : K) (r : Result Report JobFault) where
     kept_of : EndedOverOwn honest saved may_load faults work trusted received handed keep r → IsKeptRun honest saved may_load faults work trusted keep r
     kept_of x = let e = x.1.ended in (

@@ -27,12 +27,12 @@ abbrev pub IsOpened : Work → Machine → Type 0
 IsOpened work m = (quiet : Bool) × IsQuietAt work 0 quiet × (m ≡ opened work.settings quiet)
 
 -- if the job has an answer, it is reported, unless memory runs out
-abbrev pub IsTold : Work → Bool → Machine → Result Report JobFault → Type 0
+abbrev pub IsTold : Work → (ℕ → Bool) → Machine → Result Report JobFault → Type 0
 IsTold work honest m (Ok report) = IsReport work honest m report
 IsTold work honest m (Err fault) = fault ≡ OutOfMemory place.Report
 
 -- the answer if the model has ended so
-abbrev pub IsAnswerAt : Work → Bool → Machine → JobStatus → Result Report JobFault → Type 0
+abbrev pub IsAnswerAt : Work → (ℕ → Bool) → Machine → JobStatus → Result Report JobFault → Type 0
 IsAnswerAt work honest m Running answer = ⊥
 IsAnswerAt work honest m Finished answer = IsTold work honest m answer
 IsAnswerAt work honest m Limit answer = IsTold work honest m answer
@@ -41,7 +41,7 @@ IsAnswerAt work honest m (Fault fault) answer = answer ≡ Err fault
 -- There is one list of assignments and events, from the control model before superstep 0 on, over which the job ended
 -- so. Its events are what was received, without byes. Its assignments to each worker are what that worker was sent, in
 -- order.
-pub record EndedOver {J : Type 0} (work : Work) (honest : Bool) (received : List (Message J)) (handed : List (List (Order J))) (answer : Result Report JobFault) : Type 0 where
+pub record EndedOver {J : Type 0} (work : Work) (honest : ℕ → Bool) (received : List (Message J)) (handed : List (List (Order J))) (answer : Result Report JobFault) : Type 0 where
   pub quiet : Bool
   pub first : IsQuietAt work 0 quiet
   pub moves : List Move
@@ -53,7 +53,7 @@ pub record EndedOver {J : Type 0} (work : Work) (honest : Bool) (received : List
   pub answers : IsAnswerAt work honest end end.ending answer
 
 -- There is one list of hands and events, from this control machine on, over which the job ended so.
-pub record RanFrom {J : Type 0} (work : Work) (honest : Bool) (first : Machine) (received : List (Message J)) (handed : List (List (Order J))) (answer : Result Report JobFault) : Type 0 where
+pub record RanFrom {J : Type 0} (work : Work) (honest : ℕ → Bool) (first : Machine) (received : List (Message J)) (handed : List (List (Order J))) (answer : Result Report JobFault) : Type 0 where
   pub moves : List Move
   pub are : AreMoves work honest first moves
   pub end : Machine
@@ -64,7 +64,7 @@ pub record RanFrom {J : Type 0} (work : Work) (honest : Bool) (first : Machine) 
 
 -- The same from the control machine on that has loaded the state before this superstep, or, where that can't be had, begins again
 -- with superstep 0, which counts as a restart.
-abbrev pub RanOn : {J : Type 0} → Work → Bool → (superstep : ℕ) → List (Message J) → List (List (Order J)) → Result Report JobFault → Type 0
+abbrev pub RanOn : {J : Type 0} → Work → (ℕ → Bool) → (superstep : ℕ) → List (Message J) → List (List (Order J)) → Result Report JobFault → Type 0
 RanOn work honest superstep received handed answer =
     (heard : Heard) × RanFrom work honest (begun heard work.settings superstep) received handed answer
 
@@ -79,7 +79,7 @@ HasSpent workers received report =
 abbrev pub LoadsMadeAt : Work → (List ℕ → Type 0) → ℕ → Type 0
 LoadsMadeAt work may_load superstep = (bytes : List ℕ) → may_load bytes → IsMadeAt work superstep bytes
 
-module _ {K : Type 0} (honest : K → Bool) (saved : K → Option ℕ) (may_load : K → List ℕ → Type 0) (faults : K → ℕ) (work : Work) (trusted : Bool) where
+module _ {K : Type 0} (honest : K → Bool) (saved : K → Option ℕ) (may_load : K → List ℕ → Type 0) (faults : K → ℕ) (work : Work) (trusted : ℕ → Bool) where
   -- The list of a `RanFrom`, and what each of its assignments and events leaves of the Keep. In the end the Keep has what the
   -- model counts as saved.
   pub record RanFromOver {J : Type 0} (first : Machine) (received : List (Message J)) (handed : List (List (Order J))) (keep keep' : K) (answer : Result Report JobFault) : Type 0 where

@@ -21,19 +21,18 @@ abbrev pub moved : Machine → Move → Machine
 moved m (Hand w task) = handed m w task.part
 moved m (Take heard stamp) = (accepted heard m stamp).0
 
--- An assignment is the one that the model makes. If the job's Keep is honest, the model hears whether the plain run is
--- quiet.
-abbrev pub IsMove : Work → Bool → Machine → Move → Type 0
+-- An assignment is the one that the model makes. If the epoch is trusted, the model hears whether the plain run is quiet.
+abbrev pub IsMove : Work → (ℕ → Bool) → Machine → Move → Type 0
 IsMove work honest m (Hand w task) = (hand m w ≡ Some task.part) × (task ≡ task_of m task.part)
 IsMove work honest m (Take heard stamp) =
-    honest ≡ true → (accepted heard m stamp).0.superstep ≡ suc m.superstep → IsQuietAt work (suc m.superstep) heard.quiet
+    honest m.epoch ≡ true → (accepted heard m stamp).0.superstep ≡ suc m.superstep → IsQuietAt work (suc m.superstep) heard.quiet
 
 -- where they lead
 abbrev pub after : Machine → List Move → Machine
 after m [] = m
 after m (move ∷ moves) = after (moved m move) moves
 
-abbrev pub AreMoves : Work → Bool → Machine → List Move → Type 0
+abbrev pub AreMoves : Work → (ℕ → Bool) → Machine → List Move → Type 0
 AreMoves work honest m [] = Unit {0}
 AreMoves work honest m (move ∷ moves) = IsMove work honest m move × AreMoves work honest (moved m move) moves
 
@@ -73,7 +72,7 @@ outs_in orders = map task_out (tasks_in orders)
 
 -- There is one list of assignments and events that leads from one state of the model to the other. Its events are what
 -- was received in between. Its assignments to each worker are what that worker was sent, in order.
-pub record Steps {J : Type 0} (work : Work) (honest : Bool) (before now : Machine) (received received' : List (Message J)) (handed handed' : List (List (Order J))) : Type 0 where
+pub record Steps {J : Type 0} (work : Work) (honest : ℕ → Bool) (before now : Machine) (received received' : List (Message J)) (handed handed' : List (List (Order J))) : Type 0 where
   pub moves : List Move
   pub are : AreMoves work honest before moves
   pub leads : after before moves ≡ now

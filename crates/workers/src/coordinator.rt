@@ -162,7 +162,7 @@ impl<J: Origin> Coordinator<J> {
         requires unused { IsUnused self.old }
         requires workers { staff self.old ≡ J.work.settings.workers }
         requires book { IsOpened J.work book }
-        requires keep { J.honest ≡ true → K.honest keep.old ≡ true }
+        requires keep { J.honest 1 ≡ true → K.honest keep.old ≡ true }
         // There is one list of assignments and events, of what was sent and received, over which the job ended so.
         ensures ran { WhereEnded result
             (EndedOver J.work J.honest (received self.new) (handed self.new) result) }

@@ -148,7 +148,7 @@ impl Hub {
         _keep: &K,
     ) -> Result<(Coordinator<J>, Vec<WorkerPass<J>>, TickPass<J>), JobFault>
         requires job { J.work ≡ job.now }
-        requires keep { J.honest ≡ true → K.honest _keep.now ≡ true }
+        requires keep { J.honest 1 ≡ true → K.honest _keep.now ≡ true }
         ensures hub { IfOk result (λ hub. IsNewHub job.now.settings.workers hub.0 hub.1 hub.2) }
         ensures rooms { IfOk result (λ hub. HasRooms job.now.settings.workers hub.0) }
         ensures refused { IfErr result (λ fault.

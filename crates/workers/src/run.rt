@@ -189,7 +189,7 @@ pub fn run_job<
 ) -> Result<Report, JobFault>
     requires job { J.work ≡ job.now }
     requires hub { lent.IsNewHub job.now.settings.workers coordinator.old passes ticker }
-    requires keep { J.honest ≡ true → K.honest keep ≡ true }
+    requires keep { J.honest 1 ≡ true → K.honest keep ≡ true }
     // There is one list of assignments and events, of what was sent and received, over which the job ended so.
     ensures ran { WhereRun result
         (EndedOver J.work J.honest (lent.received coordinator.new)
@@ -263,8 +263,8 @@ pub fn resume_job<
     requires hub { lent.IsNewHub job.now.settings.workers coordinator.old passes ticker }
     requires early { superstep < job.now.settings.limit }
     requires saved { K.saved keep ≡ Some superstep }
-    requires keep { J.honest ≡ true → K.honest keep ≡ true }
-    requires left { J.honest ≡ true → HasLeft J.work (K.may_load keep) superstep }
+    requires keep { J.honest 0 ≡ true → K.honest keep ≡ true }
+    requires left { J.honest 0 ≡ true → HasLeft J.work (K.may_load keep) superstep }
     // There is one list of hands and events from that state on, of what was handed out and received, over which the job ended so.
     ensures ran { WhereRun result
         (RanOn J.work J.honest superstep (lent.received coordinator.new)

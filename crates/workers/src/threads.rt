@@ -3,6 +3,7 @@
 ghost use Rattle.std.specs.Prelude.{◌≡◌, ◌<◌, true, IfErr, IfOk, Some};
 ghost use Rattle.rollback.specs.Saving.{HasLeft};
 ghost use Rattle.superstep.specs.Ending.{IsEndOf};
+ghost use Rattle.superstep.specs.Tasks.{trusts};
 ghost use Rattle.checkpoint.specs.Keep.{LoadsNothingElse};
 ghost use Rattle.rollback.specs.Simulation.{NeverFails};
 ghost use Rattle.workers.specs.JobAnswers.{IsCalmReport, IsKeptRun, IsKeptRunOn, IsRunFault, LoadsMadeAt, WhereBegun};
@@ -27,9 +28,11 @@ fn run_as<
     R: Wait + Threads + Sync + Files + AllocGlobal,
 >(rt: &R, alloc: Global, job: &Job, keep: K, gate: &G) -> Result<Report, JobFault>
     requires job { J.work ≡ job.now }
-    requires honest { J.honest ≡ K.honest keep }
-    ensures answer { J.honest ≡ true → IfOk result (λ report. IsEndOf J.work report.ended) }
-    ensures since { J.honest ≡ true → IfOk result (λ report. report.ended.since ≡ 0) }
+    requires honest { J.honest ≡ trusts (K.honest keep) }
+    ensures answer { IfOk result (λ report. J.honest report.epoch ≡ true
+        → IsEndOf J.work report.ended) }
+    ensures since { IfOk result (λ report. J.honest report.epoch ≡ true
+        → report.ended.since ≡ 0) }
     ensures kept { WhereBegun result
         (IsKeptRun K.honest K.saved K.may_load K.faults J.work J.honest keep result) }
     ensures calm { LoadsNothingElse K.saved K.may_load → NeverFails K.faults
@@ -43,8 +46,8 @@ fn run_as<
 }
 
 /// Runs a job in threads over a hub of its own. Its states are saved in this Keep, and its workers are lost as the gate
-/// says. Returns what the job ended with. If the Keep is honest, that is the end of the plain run, with the units of
-/// each superstep from the first on.
+/// says. Returns what the job ended with. If the Keep is honest, or if nothing was loaded, as the job ended in epoch 0, that
+/// is the end of the plain run, with the units of each superstep from the first on.
 ///
 /// Its faults are those of `Hub::open` and `run_job`.
 pub fn run_in_threads<
@@ -52,13 +55,15 @@ pub fn run_in_threads<
     G: Gate + Sync,
     R: Wait + Threads + Sync + Files + AllocGlobal,
 >(rt: &R, alloc: Global, job: &Job, keep: K, gate: &G) -> Result<Report, JobFault>
-    ensures answer { K.honest keep ≡ true
-        → IfOk result (λ report. IsEndOf job.now report.ended) }
-    ensures since { K.honest keep ≡ true → IfOk result (λ report. report.ended.since ≡ 0) }
+    ensures answer { IfOk result (λ report. trusts (K.honest keep) report.epoch ≡ true
+        → IsEndOf job.now report.ended) }
+    ensures since { IfOk result (λ report. trusts (K.honest keep) report.epoch ≡ true
+        → report.ended.since ≡ 0) }
     // The job ended over one list of assignments and events, of which each leaves the Keep as its save or its load left it, or
     // as it was.
     ensures kept { WhereBegun result
-        (IsKeptRun K.honest K.saved K.may_load K.faults job.now (K.honest keep) keep result) }
+        (IsKeptRun K.honest K.saved K.may_load K.faults job.now (trusts (K.honest keep)) keep
+        result) }
     // If the Keep loads only what was saved and its device never fails, no save is missed and the job never begins again.
     ensures calm { LoadsNothingElse K.saved K.may_load → NeverFails K.faults
         → IfOk result IsCalmReport }
@@ -75,12 +80,13 @@ fn resume_as<
     R: Wait + Threads + Sync + Files + AllocGlobal,
 >(rt: &R, alloc: Global, job: &Job, keep: K, gate: &G, superstep: u32) -> Result<Report, JobFault>
     requires job { J.work ≡ job.now }
-    requires honest { J.honest ≡ K.honest keep }
+    requires honest { J.honest ≡ (λ _. K.honest keep) }
     requires early { superstep < job.now.settings.limit }
     requires saved { K.saved keep ≡ Some superstep }
     requires left { K.honest keep ≡ true → HasLeft job.now (K.may_load keep) superstep }
-    ensures answer { J.honest ≡ true → IfOk result (λ report. IsEndOf J.work report.ended) }
-    ensures since { J.honest ≡ true → IfOk result (λ report. report.ended.since ≡ 0) }
+    ensures answer { K.honest keep ≡ true
+        → IfOk result (λ report. IsEndOf J.work report.ended) }
+    ensures since { K.honest keep ≡ true → IfOk result (λ report. report.ended.since ≡ 0) }
     ensures kept { WhereBegun result
         (IsKeptRunOn K.honest K.saved K.may_load K.faults J.work J.honest superstep keep result) }
     ensures calm { LoadsNothingElse K.saved K.may_load → NeverFails K.faults
@@ -121,8 +127,8 @@ pub fn resume_in_threads<
     ensures since { K.honest keep ≡ true → IfOk result (λ report. report.ended.since ≡ 0) }
     // The same from the load at its start on.
     ensures kept { WhereBegun result
-        (IsKeptRunOn K.honest K.saved K.may_load K.faults job.now (K.honest keep) superstep keep
-        result) }
+        (IsKeptRunOn K.honest K.saved K.may_load K.faults job.now (λ _. K.honest keep) superstep
+        keep result) }
     // If the Keep loads only what was saved and its device never fails, and what it may load is a checkpoint of a state that
     // fits there, no save is missed and the job never begins again.
     ensures calm { LoadsNothingElse K.saved K.may_load → NeverFails K.faults

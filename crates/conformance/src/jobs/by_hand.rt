@@ -1,6 +1,6 @@
 //! The first superstep of a job, made step by step, with a copy in place of each part's result.
 
-ghost use Rattle.std.specs.Prelude.{◌≡◌, false, IfOk};
+ghost use Rattle.std.specs.Prelude.{◌≡◌, ℕ, false, IfOk};
 ghost use Rattle.superstep.specs.Tasks.{IsRow, stamps_of};
 ghost use Rattle.superstep.specs.inside.Running.{slice_of};
 
@@ -30,7 +30,7 @@ fn state_of_copies<J: Origin>(
     scratch: &mut Scratch,
 ) -> Result<State, AllocError>
     requires job { J.work ≡ job.now }
-    requires honest { J.honest ≡ false }
+    requires honest { (epoch : ℕ) → J.honest epoch ≡ false }
     requires fits { scratch.old ≡ job.now.«module» }
 {
     // Each setting is in its range, so superstep 0 comes before the limit.
@@ -52,9 +52,9 @@ fn copies<J: Origin>(
     scratch: &mut Scratch,
 ) -> Result<Vec<Done<J>>, AllocError>
     requires job { J.work ≡ job.now }
-    requires honest { J.honest ≡ false }
+    requires honest { (epoch : ℕ) → J.honest epoch ≡ false }
     requires fits { scratch.old ≡ job.now.«module» }
-    requires all { slices.items ≡ stamps_of 0 job.now.settings.parts }
+    requires all { slices.items ≡ stamps_of 0 0 job.now.settings.parts }
     ensures { IfOk result (λ copies. IsRow job.now.settings.parts 0 copies.items) }
 {
     let mut copies = Vec::with_capacity(alloc, slices.len())?;
@@ -74,12 +74,12 @@ fn copy_of<J: Origin>(
     scratch: &mut Scratch,
 ) -> Result<Done<J>, AllocError>
     requires job { J.work ≡ job.now }
-    requires honest { J.honest ≡ false }
+    requires honest { (epoch : ℕ) → J.honest epoch ≡ false }
     requires fits { scratch.old ≡ job.now.«module» }
     ensures kept { scratch.new ≡ scratch.old }
     ensures same { IfOk result (λ copy. slice_of copy ≡ slice) }
 {
-    let task = Task::new(0, slice, aggregates);
+    let task = Task::new(slice.epoch(), slice, aggregates);
     match run_task(alloc, job, task, scratch) {
         Ok(done) => done.copy(alloc),
         Err(_) => Err(AllocError),

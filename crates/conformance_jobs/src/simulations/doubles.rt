@@ -54,7 +54,7 @@ fn doubled_as<J: Origin, K: Keep, R: Files + AllocGlobal + Threads + Sync>(
     steps: &[Step],
 ) -> Result<String>
     requires job { J.work ≡ job.now }
-    requires honest { J.honest ≡ false }
+    requires honest { J.honest 1 ≡ false }
 {
     match Book::<J>::open(alloc, job) {
         Ok(book) => doubled_in(rt, alloc, job, book, keep, steps),

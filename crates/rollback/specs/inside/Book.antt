@@ -46,6 +46,7 @@ IsBacked m spots =
 
 -- the parts of a job that runs
 pub record AreParts (work : Work) (m : Machine) (placement : Placement) : Type 0 where
+  pub epoch : placement.epoch ≤ m.epoch
   pub running : is_running m.ending ≡ true
   pub superstep : placement.superstep ≡ m.superstep
   pub early : m.superstep < work.settings.limit
@@ -55,11 +56,11 @@ pub record AreParts (work : Work) (m : Machine) (placement : Placement) : Type 0
   pub backed : IsBacked m placement.spots
 
 -- the state that a job ended with
-pub record IsWhole (work : Work) (honest : Bool) (m : Machine) (state : Standing) : Type 0 where
+pub record IsWhole (work : Work) (honest : ℕ → Bool) (m : Machine) (state : Standing) : Type 0 where
   pub answer : has_answer m.ending ≡ true
   pub superstep : state.superstep ≡ m.superstep
   pub ids : HasIdsOf work state
-  pub at : honest ≡ true → IsFullStateAt work state.superstep state
+  pub at : honest m.epoch ≡ true → IsFullStateAt work state.superstep state
   pub quiet : is_settled state ≡ has_finished m.ending
 
 abbrev pub is_fault : JobStatus → Bool
@@ -68,18 +69,18 @@ is_fault Finished = false
 is_fault Limit = false
 is_fault (Fault fault) = true
 
-abbrev pub HoldsData : {J : _} → Work → Bool → Machine → JobData J → Type 0
+abbrev pub HoldsData : {J : _} → Work → (ℕ → Bool) → Machine → JobData J → Type 0
 HoldsData work honest m (Parts placement) = AreParts work m placement
 HoldsData work honest m (Whole state) = IsWhole work honest m state
 HoldsData work honest m Nothing = is_fault m.ending ≡ true
 
-pub record IsBook (work : Work) (honest : Bool) (own : Work) (m : Machine) (ids : List ℕ) {J : _} (job_data : JobData J) : Type 0 where
+pub record IsBook (work : Work) (honest : ℕ → Bool) (own : Work) (m : Machine) (ids : List ℕ) {J : _} (job_data : JobData J) : Type 0 where
   pub job : own ≡ work
   pub settings : m.settings ≡ work.settings
   pub knows : AreIdsOf work ids
   pub held : HoldsData work honest m job_data
   pub past : saved_or_first m.saved ≤ m.superstep
-  pub reached : honest ≡ true → IsReached work m
+  pub reached : honest m.epoch ≡ true → IsReached work m
 
 -- it holds the state that a job ended with
 abbrev pub HasWhole : {J : _} → JobData J → Type 0

@@ -8,7 +8,7 @@ use Rattle.rollback.specs.Events.{Heard}
 use Rattle.rollback.specs.Saving.{IsCaused, IsSavedOrLeft, KeepsFor, MayLoadAfter}
 use Rattle.rollback.specs.Book.{IsStep}
 
-pub record IsEventStep (work : Work) (trusted : Bool) (next : Heard → Machine × Answer) (before after : Machine) (honest honest' : Bool) (kept kept' : Option ℕ) (may_load may_load' : List ℕ → Type 0) (faults faults' : ℕ) (reply : Result Answer JobFault) : Type 0 where
+pub record IsEventStep (work : Work) (trusted : ℕ → Bool) (next : Heard → Machine × Answer) (before after : Machine) (honest honest' : Bool) (kept kept' : Option ℕ) (may_load may_load' : List ℕ → Type 0) (faults faults' : ℕ) (reply : Result Answer JobFault) : Type 0 where
   pub step : IsStep work trusted next before after reply
   pub keeps : KeepsFor work trusted honest' kept' may_load' after
   pub cause : IsCaused work before after faults faults' may_load

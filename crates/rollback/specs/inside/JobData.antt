@@ -1,5 +1,5 @@
 -- What a book holds, as it is kept.
-use Rattle.std.specs.Prelude.{◌≡◌, ◌<◌, ℕ, length}
+use Rattle.std.specs.Prelude.{◌≡◌, ◌<◌, ◌≤◌, ℕ, length}
 use Rattle.superstep.specs.Tasks.{DoneStamp}
 use Rattle.rollback.specs.declared.job_data.JobData.{JobData}
 use Rattle.rollback.specs.declared.job_data.JobData.TheVariants.{Nothing, Parts, Whole}
@@ -14,6 +14,6 @@ Runs Nothing is = ⊥
 abbrev pub HasHome : {J : _} → JobData J → ℕ → Type 0
 HasHome job_data part = Runs job_data (λ placement. IsHome placement part)
 
--- it is of a part of this superstep
+-- it is of a part of this superstep, and no older than what is here
 abbrev pub FitsPart : {J : _} → JobData J → DoneStamp → Type 0
-FitsPart job_data done = Runs job_data (λ placement. (done.superstep ≡ placement.superstep) × (done.part < length placement.spots))
+FitsPart job_data done = Runs job_data (λ placement. (done.superstep ≡ placement.superstep) × (done.part < length placement.spots) × (placement.epoch ≤ done.epoch))

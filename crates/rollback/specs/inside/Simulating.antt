@@ -33,7 +33,7 @@ abbrev pub with_none_held : ℕ → Machine → Sim
 with_none_held workers m = record { machine = m; held = replicate workers None }
 
 -- these are the answers to the steps, before which no worker held a task
-pub record AreAnswersTo {K : Type 0} (over : Machine → Machine → K → K → Type 0) (work : Work) (honest : Bool) (steps : List Step) (before after : Machine) (keep keep' : K) (answers : List StepAnswer) : Type 0 where
+pub record AreAnswersTo {K : Type 0} (over : Machine → Machine → K → K → Type 0) (work : Work) (honest : ℕ → Bool) (steps : List Step) (before after : Machine) (keep keep' : K) (answers : List StepAnswer) : Type 0 where
   pub held : List (Option Out)
   pub ran : RanOver over work honest steps (with_none_held work.settings.workers before) keep answers (record { machine = after; held = held }) keep'
 

@@ -38,6 +38,6 @@ pub record IsUnspent (work : Work) (m : Machine) : Type 0 where
   pub width : length m.alive ≡ work.settings.workers
 
 -- steps, and what they leave of the Keep
-pub record StepsOver {J K : Type 0} (over : Machine → Machine → K → K → Type 0) (work : Work) (honest : Bool) (before now : Machine) (received received' : List (Message J)) (handed handed' : List (List (Order J))) (keep keep' : K) : Type 0 where
+pub record StepsOver {J K : Type 0} (over : Machine → Machine → K → K → Type 0) (work : Work) (honest : ℕ → Bool) (before now : Machine) (received received' : List (Message J)) (handed handed' : List (List (Order J))) (keep keep' : K) : Type 0 where
   pub steps : Steps work honest before now received received' handed handed'
   pub kept : KeptAlong over before keep steps.moves keep'

@@ -1,6 +1,6 @@
 use Rattle.std.proofs.Common.{inl, inr}
 use Rattle.sources.proofs.Faults.{IfErr-along, is_fault}
-use Rattle.console.proofs.Folders.{nested}
+use Rattle.console.proofs.Folders.{folder_lines, nested}
 use Rattle.console.proofs.file_commands.run_kept.Goals as goal
 
 pub returns-in_err-keep-in-Some-clause-refused : goal.returns-in_err-keep-in-Some-clause-refused
@@ -10,3 +10,8 @@ returns-in_err-keep-in-Some-clause-refused g c =
 pub returns-in_ok-keep-in-Some-clause-refused : goal.returns-in_ok-keep-in-Some-clause-refused
 returns-in_ok-keep-in-Some-clause-refused g c =
     rw c.in-Some.is (IfErr-along c.run_in_folder.result (λ fault is. inr (inr is)) c.run_in_folder.ensures.refused)
+
+pub returns-in_ok-keep-in-Some-clause-told : goal.returns-in_ok-keep-in-Some-clause-told
+returns-in_ok-keep-in-Some-clause-told g c =
+    rw c.in-Some.is (folder_lines c.args.job.now c.in-Some.folder c.args.asked.resume c.args.asked.job.tells_units c.run_in_folder.result
+    c.run_in_folder.ensures.told (λ never. c.run_in_folder.ensures.unloaded (c.in_ok-keep-in-Some.ensures.fresh never)))

@@ -1,15 +1,31 @@
-use Rattle.std.proofs.Common.{◌≡◌, IfOk, subst}
-use Rattle.superstep.specs.Ending.{IsEndOf, answer_of}
-use Rattle.console.proofs.JobLines.{ended_printed}
+use Rattle.std.proofs.Common.{◌≡◌, true, refl, sym, subst, IfOk}
+use Rattle.superstep.specs.Ending.{IsEndOf}
+use Rattle.superstep.specs.Tasks.{trusts}
+use Rattle.superstep.proofs.Trusting.{trusts_sure}
+use Rattle.console.proofs.JobLines.{answer_printed}
 use Rattle.console.proofs.jobs.run.Goals as goal
 
 pub returns-in_ok-text-in-Ok-clause-answered : goal.returns-in_ok-text-in-Ok-clause-answered
-returns-in_ok-text-in-Ok-clause-answered g c = λ sure meaning.
-    let ended = c.in-Ok.report.ended in
-    let ends = subst (λ r. IfOk r (λ report. IsEndOf c.args.job.now report.ended)) c.in-Ok.is (c.run_in_threads-answer.ensures.answer sure) meaning in
-    let since = subst (λ r. IfOk r (λ report. report.ended.since ≡ 0)) c.in-Ok.is (c.run_in_threads-answer.ensures.since sure) in
+returns-in_ok-text-in-Ok-clause-answered g c = λ sure.
+    let job = c.args.job.now in
+    let report = c.in-Ok.report in
+    let honest = g.K.Keep.honest c.args.keep in
+    let trusted = trusts_sure honest report.epoch sure in
+    let ends = subst (λ r. IfOk r (λ report. trusts honest report.epoch ≡ true → IsEndOf job report.ended)) c.in-Ok.is c.run_in_threads-answer.ensures.answer in
+    let since = subst (λ r. IfOk r (λ report. trusts honest report.epoch ≡ true → report.ended.since ≡ 0)) c.in-Ok.is c.run_in_threads-answer.ensures.since in
+    answer_printed job c.args.tells_units report.ended _ (ends trusted) (since trusted) c.in_ok-text-in-Ok.ensures
+
+pub returns-in_ok-text-in-Ok-clause-unloaded : goal.returns-in_ok-text-in-Ok-clause-unloaded
+returns-in_ok-text-in-Ok-clause-unloaded g c =
+    let job = c.args.job.now in
+    let report = c.in-Ok.report in
+    let honest = g.K.Keep.honest c.args.keep in
+    let ends = subst (λ r. IfOk r (λ report. trusts honest report.epoch ≡ true → IsEndOf job report.ended)) c.in-Ok.is c.run_in_threads-answer.ensures.answer in
+    let since = subst (λ r. IfOk r (λ report. trusts honest report.epoch ≡ true → report.ended.since ≡ 0)) c.in-Ok.is c.run_in_threads-answer.ensures.since in
     record {
-      answer = answer_of ended;
-      ends = ends.answer;
-      printed = ended_printed c.args.job.now meaning c.args.tells_units ended _ since ends c.in_ok-text-in-Ok.ensures;
+      report = report;
+      printed = c.in_ok-text-in-Ok.ensures;
+      answer = λ first.
+          let trusted = subst (λ n. trusts honest n ≡ true) (sym first) refl in
+          answer_printed job c.args.tells_units report.ended _ (ends trusted) (since trusted) c.in_ok-text-in-Ok.ensures;
     }

@@ -1,5 +1,6 @@
-use Rattle.std.proofs.Common.{◌≡◌, ◌<◌, sym, ap, ◌∙◌, subst}
+use Rattle.std.proofs.Common.{◌≡◌, ◌<◌, true, sym, ap, ◌∙◌, subst, arith}
 use Rattle.superstep.specs.Job.{Work}
+use Rattle.rollback.specs.Machine.{Machine}
 use Rattle.rollback.specs.inside.Book.{AreIdsOf}
 use Rattle.rollback.specs.inside.Recovery.{StandsBack, has_room}
 use Rattle.rollback.proofs.Beginning.{is_begun, keeps_resumed}
@@ -19,8 +20,10 @@ resumed-requires-clause-every g c = some_every c.settings.result (rw c.settings.
 pub put_back-job_data-requires-clause-keep : goal.put_back-job_data-requires-clause-keep
 put_back-job_data-requires-clause-keep g c =
     let k = c.args.keep.now in
-    keeps_resumed g.J.Origin.work g.J.Origin.honest (g.K.Keep.honest k) (g.K.Keep.saved k) (g.K.Keep.may_load k) c.settings.result c.args.superstep c.in_ok-control.control
-    c.in_ok-control.ensures c.requires.saved c.requires.trusts c.requires.left
+    let honest = g.J.Origin.honest in
+    let first = λ (sure : honest c.in_ok-control.control.epoch ≡ true). subst (λ (x : Machine). honest x.epoch ≡ true) c.in_ok-control.ensures sure in
+    keeps_resumed g.J.Origin.work (λ epoch. honest c.in_ok-control.control.epoch) (g.K.Keep.honest k) (g.K.Keep.saved k) (g.K.Keep.may_load k) c.settings.result c.args.superstep c.in_ok-control.control
+    c.in_ok-control.ensures c.requires.saved (λ sure. c.requires.trusts (first sure)) (λ sure. c.requires.left (first sure))
 
 pub invariant_of-result : goal.invariant_of-result
 invariant_of-result g c =
@@ -47,9 +50,10 @@ returns g c =
     let before = c.args.keep.now in
     let after = c.put_back-job_data.new.keep in
     let t = c.put_back-job_data.ensures.told in
+    let first = λ (sure : g.J.Origin.honest 1 ≡ true). g.J.Origin.lasts 1 0 (omega arith) sure in
     is_begun work g.J.Origin.honest (g.K.Keep.honest before) (g.K.Keep.honest after) (g.K.Keep.saved before) (g.K.Keep.saved after) (g.K.Keep.may_load before) (g.K.Keep.may_load after) (g.K.Keep.faults before) (g.K.Keep.faults after) c.settings.result c.args.superstep c.in_ok-control.control c.put_back-job_data.new.control t.0 (has_room c.put_back-job_data.result)
     (c.settings.ensures.settings ∙ ap (λ (w : Work). w.settings) own)
     c.in_ok-control.ensures
     t.1
     t.2
-    (keeps_resumed work g.J.Origin.honest (g.K.Keep.honest before) (g.K.Keep.saved before) (g.K.Keep.may_load before) c.settings.result c.args.superstep c.in_ok-control.control c.in_ok-control.ensures c.requires.saved c.requires.trusts c.requires.left)
+    (keeps_resumed work g.J.Origin.honest (g.K.Keep.honest before) (g.K.Keep.saved before) (g.K.Keep.may_load before) c.settings.result c.args.superstep c.in_ok-control.control c.in_ok-control.ensures c.requires.saved (λ sure. c.requires.trusts (first sure)) (λ sure. c.requires.left (first sure)))

@@ -8,8 +8,8 @@ pub returns-in-Ok-clause-told : goal.returns-in-Ok-clause-told
 returns-in-Ok-clause-told g c =
     let done = c.in-Ok.done in
     let e = c.in-Ok.ensures in
-    (true, done.units, ap (λ (o : Out). DoneBy c.args.worker o done.units) (Simulated.done_same done c.args.task e.epoch e.superstep e.part), λ sure ran. e.units sure)
+    (true, done.units, ap (λ (o : Out). DoneBy c.args.worker o done.units) (Simulated.done_same done c.args.task e.epoch e.superstep e.part), λ ran sure. e.units sure)
 
 pub returns-in-Err-clause-told : goal.returns-in-Err-clause-told
 returns-in-Err-clause-told g c =
-    (false, 0, ap (λ p. FailedBy c.args.worker p) c.in-Err.ensures.lost, λ sure ran. absurd (cc))
+    (false, 0, ap (λ p. FailedBy c.args.worker p) c.in-Err.ensures.lost, λ ran sure. absurd (cc))

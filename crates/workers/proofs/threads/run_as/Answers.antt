@@ -2,12 +2,12 @@ use Rattle.workers.proofs.RunAnswers.{answer_told, kept_told, since_told}
 use Rattle.workers.proofs.threads.run_as.Goals as goal
 
 pub returns-clause-answer : goal.returns-clause-answer
-returns-clause-answer g c = λ sure.
-    answer_told g.J.Origin.work g.J.Origin.honest _ _ c.run_job-answer.result c.run_job-answer.ensures.ran sure
+returns-clause-answer g c =
+    answer_told g.J.Origin.work g.J.Origin.honest _ _ c.run_job-answer.result c.run_job-answer.ensures.ran
 
 pub returns-clause-since : goal.returns-clause-since
-returns-clause-since g c = λ sure.
-    since_told g.J.Origin.work g.J.Origin.honest _ _ c.run_job-answer.result c.run_job-answer.ensures.ran sure
+returns-clause-since g c =
+    since_told g.J.Origin.work g.J.Origin.honest _ _ c.run_job-answer.result c.run_job-answer.ensures.ran
 
 pub returns-clause-kept : goal.returns-clause-kept
 returns-clause-kept g c =

@@ -13,6 +13,7 @@ use Rattle.rollback.specs.inside.DeviceResults.{IsSaveResult}
 use Rattle.rollback.specs.inside.Book.{AreParts, HoldsData}
 use Rattle.rollback.specs.inside.JobData.{Runs}
 use Rattle.rollback.specs.inside.Recovery.{IsHeldOf, has_room}
+use Rattle.superstep.proofs.Trusting.{earlier}
 use Rattle.rollback.proofs.Keeps
 use Rattle.rollback.proofs.Kept
 use Rattle.rollback.proofs.book.Book.close.Goals as goal
@@ -59,7 +60,16 @@ returns-in_default g c =
     }
 
 pub hold-requires-clause-at : goal.hold-requires-clause-at
-hold-requires-clause-at g c = λ sure. subst (λ n. IsFullStateAt g.J.Origin.work n c.in-Ok.state) (sym c.in-Ok.ensures.superstep) (c.in-Ok.ensures.next sure)
+hold-requires-clause-at g c = λ sure.
+    let honest = g.J.Origin.honest in
+    let i = c.self.inside in
+    let parts = c.parts_of-parts.result in
+    let told = c.save_if_due.ensures.told.0 in
+    let x : AreParts g.J.Origin.work i.control parts = subst (λ h. HoldsData g.J.Origin.work honest i.control h) (sym c.replace.ensures.value ∙ c.parts_of-parts.ensures) c.self.invariant.held in
+    let same : c.save_if_due.new.control.epoch ≡ i.control.epoch =
+    ap (λ (m : Machine). m.epoch) (c.save_if_due.ensures.told.1 ∙ ap (λ m. saving told m) c.close.ensures) ∙ Kept.epoch_saving (closed c.is_quiet.result i.control) told in
+    let own = earlier honest g.J.Origin.lasts parts.epoch i.control.epoch x.epoch (subst (λ n. honest n ≡ true) same sure) in
+    subst (λ n. IsFullStateAt g.J.Origin.work n c.in-Ok.state) (sym c.in-Ok.ensures.superstep) (c.in-Ok.ensures.next own)
 
 pub invariant_of-self-2 : goal.invariant_of-self-2
 invariant_of-self-2 g c =
@@ -76,15 +86,16 @@ invariant_of-self-2 g c =
     let sliced = has_room c.hold.result in
     let m1 = saving told (closed quiet i.control) in
     let later : state.superstep ≡ suc i.control.superstep = c.in-Ok.ensures.superstep ∙ ap (λ n. suc n) x.superstep in
-    let at = λ (sure : honest ≡ true). subst (λ n. IsFullStateAt work n state) (sym c.in-Ok.ensures.superstep) (c.in-Ok.ensures.next sure) in
+    let at = λ (sure : honest i.control.epoch ≡ true). subst (λ n. IsFullStateAt work n state) (sym c.in-Ok.ensures.superstep) (c.in-Ok.ensures.next (earlier honest g.J.Origin.lasts c.parts_of-parts.result.epoch i.control.epoch x.epoch sure)) in
+    let at1 = λ (sure : honest m1.epoch ≡ true). at (subst (λ n. honest n ≡ true) (Kept.epoch_saving (closed quiet i.control) told) sure) in
     let e1 : c.save_if_due.new.control ≡ m1 = c.save_if_due.ensures.told.1 ∙ ap (λ m. saving told m) c.close.ensures in
     let e2 : c.hold.new.control ≡ slicing sliced m1 = c.hold.ensures.control ∙ ap (λ m. slicing sliced m) e1 in
-    let truth = λ (sure : honest ≡ true). subst (λ q. IsQuietAt work (suc i.control.superstep) q) (sym c.is_quiet.ensures) (Kept.settled_quiet work (suc i.control.superstep) state (subst (λ n. IsFullStateAt work n state) later (at sure))) in
+    let truth = λ (sure : honest i.control.epoch ≡ true). subst (λ q. IsQuietAt work (suc i.control.superstep) q) (sym c.is_quiet.ensures) (Kept.settled_quiet work (suc i.control.superstep) state (subst (λ n. IsFullStateAt work n state) later (at sure))) in
     let f = Kept.fresh_saving work honest (closed quiet i.control) told (Kept.fresh_closed work honest i.job.now i.control i.ids.items i.job_data quiet b run done truth) in
     let held = subst (λ m. IsHeldOf work.settings.parts m1 m state c.hold.result) e2 (subst (λ m. IsHeldOf work.settings.parts m c.hold.new.control state c.hold.result) e1 (subst (λ (own : Work). IsHeldOf own.settings.parts c.save_if_due.new.control c.hold.new.control state c.hold.result) b.job c.hold.ensures.held)) in
     let has = subst (λ (own : Work). HasIdsOf own state) b.job c.in-Ok.ensures.ids in
     let near : state.superstep ≡ m1.superstep = later ∙ sym (add-one i.control.superstep) ∙ sym (Kept.superstep_saving (closed quiet i.control) told) in
-    rw (c.welcome.ensures, e2) (Kept.book_shut work honest i.job.now m1 (slicing sliced m1) i.ids.items c.hold.result quiet state b.job b.knows f (Kept.fresh_slicing work honest m1 sliced f) near has at
+    rw (c.welcome.ensures, e2) (Kept.book_shut work honest i.job.now m1 (slicing sliced m1) i.ids.items c.hold.result quiet state g.J.Origin.lasts b.job b.knows f (Kept.fresh_slicing work honest m1 sliced f) near has at1
     (Kept.finished_saving i.control quiet told) c.is_quiet.ensures held)
 
 pub returns : goal.returns
@@ -103,7 +114,9 @@ returns g c =
     let m2 = slicing sliced m1 in
     let same_step : i.control.superstep ≡ m.superstep = ap (λ (y : Machine). y.superstep) c.self.view_is in
     let later : state.superstep ≡ suc m.superstep = c.in-Ok.ensures.superstep ∙ ap (λ n. suc n) (x.superstep ∙ same_step) in
-    let at = λ (sure : honest ≡ true). subst (λ n. IsFullStateAt work n state) (sym c.in-Ok.ensures.superstep) (c.in-Ok.ensures.next sure) in
+    let before : c.parts_of-parts.result.epoch ≤ m.epoch = subst (λ (y : Machine). c.parts_of-parts.result.epoch ≤ y.epoch) c.self.view_is x.epoch in
+    let at = λ (sure : honest m.epoch ≡ true). subst (λ n. IsFullStateAt work n state) (sym c.in-Ok.ensures.superstep) (c.in-Ok.ensures.next (earlier honest g.J.Origin.lasts c.parts_of-parts.result.epoch m.epoch before sure)) in
+    let loaded = λ (sure : honest 1 ≡ true). at (g.J.Origin.lasts 1 m.epoch (omega arith) sure) in
     let close : c.close.new.self ≡ mc = c.close.ensures ∙ ap (λ y. closed quiet y) c.self.view_is in
     let e1 : c.save_if_due.new.control ≡ m1 = c.save_if_due.ensures.told.1 ∙ ap (λ y. saving told y) close in
     let e2 : c.hold.new.control ≡ m2 = c.hold.ensures.control ∙ ap (λ y. slicing sliced y) e1 in
@@ -116,7 +129,7 @@ returns g c =
     let same = c.save_if_due.ensures.same (rw close none) in
     (subst (λ kp. KeepsFor work honest (g.K.Keep.honest kp) (g.K.Keep.saved kp) (g.K.Keep.may_load kp) mc) (sym same) old, ap (λ kp. g.K.Keep.saved kp) same, λ bytes. subst (λ kp. g.K.Keep.may_load kp bytes → g.K.Keep.may_load c.args.keep.now bytes) (sym same) (λ may. may)) in
     let has = subst (λ (own : Work). HasIdsOf own state) c.self.invariant.job c.in-Ok.ensures.ids in
-    let s = Keeps.saves work honest mc state (g.K.Keep.honest c.args.keep.now) (g.K.Keep.honest c.save_if_due.new.keep) (g.K.Keep.saved c.args.keep.now) (g.K.Keep.saved c.save_if_due.new.keep) (g.K.Keep.may_load c.args.keep.now) (g.K.Keep.may_load c.save_if_due.new.keep) (g.K.Keep.faults c.args.keep.now) (g.K.Keep.faults c.save_if_due.new.keep) told at has near past saved other old in
+    let s = Keeps.saves work honest mc state (g.K.Keep.honest c.args.keep.now) (g.K.Keep.honest c.save_if_due.new.keep) (g.K.Keep.saved c.args.keep.now) (g.K.Keep.saved c.save_if_due.new.keep) (g.K.Keep.may_load c.args.keep.now) (g.K.Keep.may_load c.save_if_due.new.keep) (g.K.Keep.faults c.args.keep.now) (g.K.Keep.faults c.save_if_due.new.keep) told loaded has near past saved other old in
     let z = Keeps.saves_same work honest mc m1 c.welcome.new.self (g.K.Keep.honest c.args.keep.now) (g.K.Keep.honest c.save_if_due.new.keep) (g.K.Keep.saved c.args.keep.now) (g.K.Keep.saved c.save_if_due.new.keep) (g.K.Keep.may_load c.args.keep.now) (g.K.Keep.may_load c.save_if_due.new.keep) (g.K.Keep.faults c.args.keep.now) (g.K.Keep.faults c.save_if_due.new.keep) s
     (subst (λ y. Keeps.AreSame m1 y) (sym is) (Keeps.same_both m1 m2 (welcomed m2) (Keeps.slicing_same m1 sliced) (Keeps.welcomed_same m2))) in
     record {

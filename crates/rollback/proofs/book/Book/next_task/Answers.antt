@@ -1,13 +1,20 @@
 use Rattle.std.proofs.Common.{◌≡◌, refl, sym, subst, rules, ◌∙◌, ap, Some}
 use Rattle.rollback.specs.Machine.{Machine, hand, handed}
-use Rattle.rollback.proofs.Kept.{book_handed_in, has_home, home_superstep}
+use Rattle.rollback.proofs.Kept.{book_handed_in, has_home, home_epoch, home_superstep}
 use Rattle.rollback.proofs.book.Book.next_task.Goals as goal
 
-pub hand_out-task-requires : goal.hand_out-task-requires
-hand_out-task-requires g c =
+pub hand_out-task-requires-clause-home : goal.hand_out-task-requires-clause-home
+hand_out-task-requires-clause-home g c =
     let i = c.self.inside in
     let e : hand i.control c.args.worker ≡ Some c.in_ok-part.part = search rules in
     has_home g.J.Origin.work g.J.Origin.honest i.control i.job_data c.args.worker c.in_ok-part.part c.self.invariant.held e c.in_ok-part.ensures.in_range
+
+pub hand_out-task-requires-clause-later : goal.hand_out-task-requires-clause-later
+hand_out-task-requires-clause-later g c =
+    let i = c.self.inside in
+    let e : hand i.control c.args.worker ≡ Some c.in_ok-part.part = search rules in
+    home_epoch g.J.Origin.work g.J.Origin.honest i.control i.job_data c.in_ok-part.part c.epoch-epoch.result c.self.invariant.held
+    (has_home g.J.Origin.work g.J.Origin.honest i.control i.job_data c.args.worker c.in_ok-part.part c.self.invariant.held e c.in_ok-part.ensures.in_range) c.epoch-epoch.ensures
 
 pub invariant_of-self : goal.invariant_of-self
 invariant_of-self g c =

@@ -1,4 +1,4 @@
-use Rattle.std.proofs.Common.{◌≡◌, ◌<◌, ◌≤◌, length, sym, subst, rules, refl, ◌∙◌, ap, true, false}
+use Rattle.std.proofs.Common.{arith, ◌≡◌, ◌<◌, ◌≤◌, length, sym, subst, rules, refl, ◌∙◌, ap, true, false}
 use Rattle.std.specs.Prelude.{Ok, Err, nat_lt}
 use Rattle.superstep.specs.declared.fault.JobFault.TheVariants.{NoWorkers}
 use Rattle.rollback.specs.declared.event.Answer.TheVariants.{Stale}
@@ -62,7 +62,11 @@ put_back-requires-clause-keep g c =
     let on = sym c.lose.ensures.left ∙ c.if-not-lose.false in
     let is = c.lose.ensures.after in
     let anew = is ∙ Steps.anew_is (lost c.self.inside.control c.args.worker) (subst (λ (x : Machine). is_running x.ending ≡ true) is on) in
-    Keeps.keeps_same g.J.Origin.work g.J.Origin.honest (g.K.Keep.honest c.args.keep.now) (g.K.Keep.saved c.args.keep.now) (g.K.Keep.may_load c.args.keep.now) c.args.self.now c.lose.new.self (ap (λ (x : Machine). x.saved) anew ∙ ap (λ (x : Machine). x.saved) c.self.view_is) c.requires.keep
+    let honest = g.J.Origin.honest in
+    let epoch = ap (λ (x : Machine). x.epoch) anew in
+    Keeps.keeps_less g.J.Origin.work honest (honest c.lose.new.self.epoch) (g.K.Keep.honest c.args.keep.now) (g.K.Keep.saved c.args.keep.now) (g.K.Keep.may_load c.args.keep.now) c.lose.new.self
+    (λ sure. g.J.Origin.lasts c.lose.new.self.epoch 1 (omega (arith, epoch)) sure)
+    (Keeps.keeps_same g.J.Origin.work honest (g.K.Keep.honest c.args.keep.now) (g.K.Keep.saved c.args.keep.now) (g.K.Keep.may_load c.args.keep.now) c.args.self.now c.lose.new.self (ap (λ (x : Machine). x.saved) anew ∙ ap (λ (x : Machine). x.saved) c.self.view_is) c.requires.keep)
 
 pub put_back-requires-clause-ids : goal.put_back-requires-clause-ids
 put_back-requires-clause-ids g c = rw (c.self.invariant.job, c.deref.ensures.value) c.self.invariant.knows
@@ -75,7 +79,7 @@ invariant_of-self-2 g c =
     let is = c.lose.ensures.after in
     let anew = is ∙ Steps.anew_is (lost i.control c.args.worker) (subst (λ (x : Machine). is_running x.ending ≡ true) is on) in
     Kept.book_rolled g.J.Origin.work g.J.Origin.honest i.job.now i.control c.lose.new.self c.put_back.new.control i.ids.items i.job_data c.put_back.result (set i.control.alive c.args.worker false) t.0 (has_room c.put_back.result) i.job.now.settings.parts
-    (length-set i.control.alive c.args.worker false) c.self.invariant (subst (λ (m : Machine). is_running m.ending ≡ true) (sym c.self.view_is) c.requires.running) anew t.1 (rw c.self.invariant.job refl) c.put_back.ensures.held
+    g.J.Origin.lasts (length-set i.control.alive c.args.worker false) c.self.invariant (subst (λ (m : Machine). is_running m.ending ≡ true) (sym c.self.view_is) c.requires.running) anew t.1 (rw c.self.invariant.job refl) c.put_back.ensures.held
 
 pub returns : goal.returns
 returns g c =

@@ -1,4 +1,4 @@
-use Rattle.std.proofs.Common.{◌≡◌, ◌≤◌, sym, subst, refl, ◌∙◌, ap, true, false, ◌&&◌, not}
+use Rattle.std.proofs.Common.{arith, ◌≡◌, ◌≤◌, sym, subst, refl, ◌∙◌, ap, true, false, ◌&&◌, not}
 use Rattle.std.specs.Prelude.{Ok, Err, nat_lt}
 use Rattle.superstep.specs.declared.fault.JobFault.TheVariants.{NoWorkers}
 use Rattle.rollback.specs.declared.event.Answer.TheVariants.{Taken}
@@ -62,7 +62,11 @@ put_back-requires-clause-keep g c =
     let on = sym c.lose_overdue.ensures.left ∙ c.if-not-lose_overdue.false in
     let is = c.lose_overdue.ensures.after ∙ ap (λ x. after_loss (expired x)) c.grow_older.ensures in
     let anew = is ∙ Steps.anew_is (expired (aged c.self.inside.control)) (subst (λ (x : Machine). is_running x.ending ≡ true) is on) in
-    Keeps.keeps_same g.J.Origin.work g.J.Origin.honest (g.K.Keep.honest c.args.keep.now) (g.K.Keep.saved c.args.keep.now) (g.K.Keep.may_load c.args.keep.now) c.args.self.now c.lose_overdue.new.self (ap (λ (x : Machine). x.saved) anew ∙ ap (λ (x : Machine). x.saved) c.self.view_is) c.requires.keep
+    let honest = g.J.Origin.honest in
+    let epoch = ap (λ (x : Machine). x.epoch) anew in
+    Keeps.keeps_less g.J.Origin.work honest (honest c.lose_overdue.new.self.epoch) (g.K.Keep.honest c.args.keep.now) (g.K.Keep.saved c.args.keep.now) (g.K.Keep.may_load c.args.keep.now) c.lose_overdue.new.self
+    (λ sure. g.J.Origin.lasts c.lose_overdue.new.self.epoch 1 (omega (arith, epoch)) sure)
+    (Keeps.keeps_same g.J.Origin.work honest (g.K.Keep.honest c.args.keep.now) (g.K.Keep.saved c.args.keep.now) (g.K.Keep.may_load c.args.keep.now) c.args.self.now c.lose_overdue.new.self (ap (λ (x : Machine). x.saved) anew ∙ ap (λ (x : Machine). x.saved) c.self.view_is) c.requires.keep)
 
 pub put_back-requires-clause-ids : goal.put_back-requires-clause-ids
 put_back-requires-clause-ids g c = rw (c.self.invariant.job, c.deref.ensures.value) c.self.invariant.knows
@@ -75,7 +79,7 @@ invariant_of-self-2 g c =
     let is = c.lose_overdue.ensures.after ∙ ap (λ x. after_loss (expired x)) c.grow_older.ensures in
     let anew = is ∙ Steps.anew_is (expired (aged i.control)) (subst (λ (x : Machine). is_running x.ending ≡ true) is on) in
     Kept.book_rolled g.J.Origin.work g.J.Origin.honest i.job.now (aged i.control) c.lose_overdue.new.self c.put_back.new.control i.ids.items i.job_data c.put_back.result (in_time i.control.settings.lease i.control.out (aged i.control).age i.control.alive) t.0 (has_room c.put_back.result) i.job.now.settings.parts
-    (length-by_place (λ w flag. flag && not (is_overdue i.control.settings.lease i.control.out (aged i.control).age w)) 0 i.control.alive) (Kept.book_rest g.J.Origin.work g.J.Origin.honest i.job.now i.control i.ids.items i.job_data i.control.waiting (aged i.control).age i.control.spent i.control.missed i.control.restarts c.self.invariant) (subst (λ (m : Machine). is_running m.ending ≡ true) (sym c.self.view_is) c.requires.running) anew t.1 (rw c.self.invariant.job refl) c.put_back.ensures.held
+    g.J.Origin.lasts (length-by_place (λ w flag. flag && not (is_overdue i.control.settings.lease i.control.out (aged i.control).age w)) 0 i.control.alive) (Kept.book_rest g.J.Origin.work g.J.Origin.honest i.job.now i.control i.ids.items i.job_data i.control.waiting (aged i.control).age i.control.spent i.control.missed i.control.restarts c.self.invariant) (subst (λ (m : Machine). is_running m.ending ≡ true) (sym c.self.view_is) c.requires.running) anew t.1 (rw c.self.invariant.job refl) c.put_back.ensures.held
 
 pub returns : goal.returns
 returns g c =

@@ -270,7 +270,7 @@ module _ {J : Type 0} where
   joined_at ends told n (r ∷ rs) s j byes all w low high (inr e) =
       joined_at ends told (n + 1) rs s.2 j.1 byes (omega (arith, all)) w (omega (arith, low, e)) high (either_way (n + 1) w)
 
-  pub joined_from : (work : Work) (honest : Bool) (first : Machine) (ends : CoordinatorEnds J) (handed : List (List (Order J))) (receipts : Receipts J) (told : List (List Bool)) (r : Result Report JobFault)
+  pub joined_from : (work : Work) (honest : ℕ → Bool) (first : Machine) (ends : CoordinatorEnds J) (handed : List (List (Order J))) (receipts : Receipts J) (told : List (List Bool)) (r : Result Report JobFault)
       → IsSettledHub ends receipts → AreJoined told 0 receipts.workers.items → staff ends ≡ work.settings.workers → length told ≡ staff ends
       → ToldFrom work honest first (received ends) handed told r → HasByes (staff ends) (received ends) → JoinedFrom work honest first (received ends) handed r
   joined_from work honest first ends handed receipts told r s j many wide t byes = record {

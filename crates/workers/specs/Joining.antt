@@ -82,16 +82,16 @@ joins_counted counted ls (Ticked ∷ stamps) = joins_counted false ls stamps
 -- ---- whole runs
 
 -- There is a list as in `RanFrom`. In it a worker joins again only right after a loss that it reported and that was counted.
-pub record JoinedFrom {J : Type 0} (work : Work) (honest : Bool) (first : Machine) (received : List (Message J)) (handed : List (List (Order J))) (answer : Result Report JobFault) : Type 0 where
+pub record JoinedFrom {J : Type 0} (work : Work) (honest : ℕ → Bool) (first : Machine) (received : List (Message J)) (handed : List (List (Order J))) (answer : Result Report JobFault) : Type 0 where
   pub ran : RanFrom work honest first received handed answer
   pub joins : (w : ℕ) → w < work.settings.workers → joins_counted false (losses w first ran.moves) (events_by w (events ran.moves)) ≡ true
 
 -- from superstep 0 on
-abbrev pub JoinedOver : {J : Type 0} → Work → Bool → List (Message J) → List (List (Order J)) → Result Report JobFault → Type 0
+abbrev pub JoinedOver : {J : Type 0} → Work → (ℕ → Bool) → List (Message J) → List (List (Order J)) → Result Report JobFault → Type 0
 JoinedOver work honest received handed answer =
     (quiet : Bool) × IsQuietAt work 0 quiet × JoinedFrom work honest (opened work.settings quiet) received handed answer
 
 -- from a superstep on whose state was loaded
-abbrev pub JoinedOn : {J : Type 0} → Work → Bool → (superstep : ℕ) → List (Message J) → List (List (Order J)) → Result Report JobFault → Type 0
+abbrev pub JoinedOn : {J : Type 0} → Work → (ℕ → Bool) → (superstep : ℕ) → List (Message J) → List (List (Order J)) → Result Report JobFault → Type 0
 JoinedOn work honest superstep received handed answer =
     (heard : Heard) × JoinedFrom work honest (begun heard work.settings superstep) received handed answer

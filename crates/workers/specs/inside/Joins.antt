@@ -70,17 +70,17 @@ abbrev pub AreUntold : List (List Bool) → Type 0
 AreUntold told = (w : ℕ) → told_to told w ≡ []
 
 -- steps, and the verdict that is due after them
-pub record StepsDue {J K : Type 0} (kept : Machine → Machine → K → K → Type 0) (work : Work) (honest : Bool) (before now : Machine) (received received' : List (Message J)) (handed handed' : List (List (Order J))) (keep keep' : K) (due : Option Due) : Type 0 where
+pub record StepsDue {J K : Type 0} (kept : Machine → Machine → K → K → Type 0) (work : Work) (honest : ℕ → Bool) (before now : Machine) (received received' : List (Message J)) (handed handed' : List (List (Order J))) (keep keep' : K) (due : Option Due) : Type 0 where
   pub over : StepsOver kept work honest before now received received' handed handed' keep keep'
   pub due_is : (w : ℕ) → due_to w due ≡ losses w before over.steps.moves
 
 -- steps, and what each worker that listens was told of its losses in them
-pub record StepsTold {J K : Type 0} (kept : Machine → Machine → K → K → Type 0) (work : Work) (honest : Bool) (before now : Machine) (received received' : List (Message J)) (handed handed' : List (List (Order J))) (keep keep' : K) (told : List (List Bool)) : Type 0 where
+pub record StepsTold {J K : Type 0} (kept : Machine → Machine → K → K → Type 0) (work : Work) (honest : ℕ → Bool) (before now : Machine) (received received' : List (Message J)) (handed handed' : List (List (Order J))) (keep keep' : K) (told : List (List Bool)) : Type 0 where
   pub over : StepsOver kept work honest before now received received' handed handed' keep keep'
   pub told_is : (w : ℕ) → w < length told → told_to told w ≡ losses w before over.steps.moves
 
 -- the list of a `RanFrom`, and what each worker that listens was told of its losses in it
-pub record ToldFrom {J : Type 0} (work : Work) (honest : Bool) (first : Machine) (received : List (Message J)) (handed : List (List (Order J))) (told : List (List Bool)) (answer : Result Report JobFault) : Type 0 where
+pub record ToldFrom {J : Type 0} (work : Work) (honest : ℕ → Bool) (first : Machine) (received : List (Message J)) (handed : List (List (Order J))) (told : List (List Bool)) (answer : Result Report JobFault) : Type 0 where
   pub ran : RanFrom work honest first received handed answer
   pub told_is : (w : ℕ) → w < length told → told_to told w ≡ losses w first ran.moves
 

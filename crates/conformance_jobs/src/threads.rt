@@ -5,6 +5,8 @@
 //! * `watched W:S` or `watched W:S again`: the same, and whether the worker has begun a task since is printed too;
 //! * `holds`: part 0 is held until part 1 has begun;
 //! * `ticks`: time passes;
+//! * `late`: worker 1 is lost by its lease with its first task and then by its gate, and would join again; whether it has begun a task
+//!   since is printed too;
 //! * `driven`: a coordinator is driven that has no thread beside it;
 //! * `led`: the calls of a coordinator and of a worker are made one after another;
 //! * `losses`: the worker that takes a part in a superstep is lost with it, for each part in each superstep; and a device
@@ -21,7 +23,7 @@ use anyhow::Result;
 use checkpoint::{Keep, MemoryKeep};
 use conformance_cases::{fault_told, job_in, named, show_cases};
 use console::{Loss, LossGate};
-use gates::{Plan, PlannedGate, WatchedGate};
+use gates::{LateGate, Plan, PlannedGate, WatchedGate};
 use rollback::Report;
 use std::alloc::{AllocError, Global};
 use std::rt::Files;
@@ -152,6 +154,7 @@ fn ended_at<R: Files + AllocGlobal + Threads + Wait + Sync>(
     match gate {
         "holds" => held(rt, alloc, job, plain),
         "ticks" => ticked(rt, alloc, job, plain),
+        "late" => late(rt, alloc, job, plain),
         "driven" => driven(rt, alloc, job, plain),
         "led" => led(rt, alloc, job),
         "losses" => lost_in_turn(rt, alloc, job, plain),
@@ -242,12 +245,28 @@ fn watched<R: Files + AllocGlobal + Threads + Wait + Sync>(
 ) -> Result<String, AllocError> {
     let gate = WatchedGate::new(gate_of(words));
     let end = end_of(rt, alloc, job, &gate, plain);
-    let came = if gate.has_come_back() {
+    format!(in alloc; "{}, {}", came_word(gate.has_come_back()), end.word())
+}
+
+fn came_word(has_come_back: bool) -> &'static str {
+    if has_come_back {
         "back again"
     } else {
         "gone for good"
-    };
-    format!(in alloc; "{came}, {}", end.word())
+    }
+}
+
+// Shows whether a worker has come back that was lost by its lease and then by its gate.
+fn late<R: Files + AllocGlobal + Threads + Wait + Sync>(
+    rt: &R,
+    alloc: Global,
+    job: &Job,
+    plain: &JobEnd,
+) -> Result<String, AllocError> {
+    let gate = LateGate::new(job.settings().lease as u64);
+    let end = end_of(rt, alloc, job, &gate, plain);
+    let counted = end.counted(alloc)?;
+    format!(in alloc; "{}, {counted}", came_word(gate.has_come_back()))
 }
 
 // Shows whether a job ends alike, with no save missed, or without workers.

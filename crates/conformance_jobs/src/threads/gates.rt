@@ -1,9 +1,10 @@
 //! Gates that do what a case says.
 
 use console::LossGate;
+use std::sync::Wait;
 use std::sync::atomic::{AtomicBool, Ordering};
 use std::thread::yield_now;
-use workers::{Gate, Turn};
+use workers::{Gate, Turn, Worked};
 
 // How often part 0 yields while it is held.
 const YIELDS: u32 = 100_000;
@@ -155,5 +156,97 @@ impl Gate for WatchedGate {
 
     fn tick(&self, n: u64) -> bool {
         self.gate.tick(n)
+    }
+}
+
+/// A gate of two workers and two parts that loses worker 1 with its first task once the task's lease has run out, and would have it
+/// join again. It watches whether the worker comes back, for which worker 0 gives it time.
+#[derive(Drop)]
+pub struct LateGate {
+    /// How many ticks come.
+    lease: u64,
+    /// Whether worker 0 has done its first task.
+    has_worked: AtomicBool,
+    /// Whether worker 0 has begun part 1, which it is assigned once worker 1 is lost.
+    has_moved: AtomicBool,
+    /// Whether worker 1 was lost by the gate.
+    has_gone: AtomicBool,
+    /// Whether it has begun a task since.
+    has_come_back: AtomicBool,
+}
+
+impl LateGate {
+    pub fn new(lease: u64) -> LateGate {
+        LateGate {
+            lease,
+            has_worked: AtomicBool::new(false),
+            has_moved: AtomicBool::new(false),
+            has_gone: AtomicBool::new(false),
+            has_come_back: AtomicBool::new(false),
+        }
+    }
+
+    pub fn has_come_back(&self) -> bool {
+        self.has_come_back.load(Ordering::SeqCst)
+    }
+
+    // Loses worker 1 after its lease has.
+    fn lose(&self) -> Turn {
+        if self.has_gone.load(Ordering::SeqCst) {
+            self.has_come_back.store(true, Ordering::SeqCst);
+            return Turn::Go;
+        }
+        wait_for(&self.has_moved);
+        self.has_gone.store(true, Ordering::SeqCst);
+        Turn::Lose
+    }
+
+    // Gives worker 1 time to join again once it was lost.
+    fn wait(&self) {
+        if !self.has_gone.load(Ordering::SeqCst) {
+            return;
+        }
+        for _ in 0..YIELDS_A_TASK {
+            if self.has_come_back() {
+                return;
+            }
+            yield_now();
+        }
+    }
+}
+
+fn wait_for(flag: &AtomicBool) {
+    for _ in 0..u64::MAX {
+        if flag.load(Ordering::SeqCst) {
+            return;
+        }
+        yield_now();
+    }
+}
+
+impl Gate for LateGate {
+    fn before(&self, worker: u32, _superstep: u32, part: u32) -> Turn {
+        if worker == 1 {
+            return self.lose();
+        }
+        if part == 1 {
+            self.has_moved.store(true, Ordering::SeqCst);
+        }
+        self.wait();
+        Turn::Go
+    }
+
+    fn again(&self, _worker: u32) -> bool {
+        true
+    }
+
+    // Worker 1 holds its task while worker 0 has none. So time passes for that task alone.
+    fn tick(&self, n: u64) -> bool {
+        wait_for(&self.has_worked);
+        n <= self.lease
+    }
+
+    fn worked<R: Wait>(&self, _rt: &R, _worker: u32, _work: Worked) {
+        self.has_worked.store(true, Ordering::SeqCst);
     }
 }

@@ -7,6 +7,7 @@
 
 pub mod alike;
 mod forms;
+pub mod generated;
 
 use crate::modules::valid_of;
 use anyhow::Result;

@@ -89,6 +89,7 @@ fn runs(rt: &(impl Files + Print + AllocGlobal + Threads + Sync)) -> Result<()> 
     host_functions::show(rt)?;
     calls::show(rt)?;
     calls::alike::show(rt)?;
+    calls::generated::show(rt)?;
     graphs::show(rt)?;
     inboxes::show(rt)?;
     inputs::show(rt)

@@ -38,7 +38,8 @@ fn show_lines(
     Ok(())
 }
 
-fn read_input(rt: &(impl Files + AllocGlobal)) -> Result<Input> {
+/// Reads the input, which has all messages and edges.
+pub fn read_input(rt: &(impl Files + AllocGlobal)) -> Result<Input> {
     let lines = fs::read_to_string(rt, "interp/alike-input.txt")?;
     Ok(Input::read(rt.alloc(), lines.as_str())?)
 }
@@ -66,7 +67,8 @@ fn answer(alloc: Global, text: &str, input: &CallInput) -> Result<String, Comman
     alike_answer(alloc, &verified, input)
 }
 
-fn verified_of(alloc: Global, text: &str) -> Result<Verified, CommandFault<'static>> {
+/// Reads the module of a text, and verifies it.
+pub fn verified_of(alloc: Global, text: &str) -> Result<Verified, CommandFault<'static>> {
     let valid = valid_of(alloc, text)?;
     Ok(verify(alloc, valid)?)
 }
@@ -92,8 +94,8 @@ fn alike_count(alloc: Global, verified: &Verified, input: &CallInput) -> Result<
     Ok(alike)
 }
 
-// Returns the input with only the first of its messages and edges.
-fn shortened<'a>(input: &CallInput<'a>, messages: usize, edges: usize) -> CallInput<'a> {
+/// Returns the input with only the first of its messages and edges.
+pub fn shortened<'a>(input: &CallInput<'a>, messages: usize, edges: usize) -> CallInput<'a> {
     CallInput {
         messages: input.messages.get(..messages).unwrap_or(&[]),
         edges: input.edges.get(..edges).unwrap_or(&[]),

@@ -65,7 +65,8 @@ pub fn fast_answer(
     second_answer(alloc, verified, input, &mut scratch)
 }
 
-fn second_answer(
+/// Returns the answer of `interp` to the second of two calls in these buffers.
+pub fn second_answer(
     alloc: Global,
     verified: &Verified,
     input: &CallInput,

@@ -1,0 +1,129 @@
+//! The text of code, written by stack discipline: the types of all operands are known at each place.
+
+use super::random::Random;
+use std::alloc::{AllocError, Global};
+use wasm_ast::{BlockType, ValType};
+
+/// What a sequence of instructions belongs to.
+#[derive(Clone, Copy, PartialEq, Eq)]
+pub enum Kind {
+    Function,
+    Block,
+    Then,
+    Else,
+    /// A loop that takes an item first.
+    ItemFirst,
+    /// A loop that takes an item last. No other branch may name it.
+    ItemLast,
+}
+
+/// A sequence that is not ended.
+#[derive(Clone, Copy)]
+pub struct Layer {
+    pub kind: Kind,
+    /// The number of operands below the sequence's own.
+    pub base: usize,
+    pub result: BlockType,
+}
+
+/// A text of a module, of which a function is open.
+#[derive(Drop)]
+pub struct Writer {
+    pub random: Random,
+    pub text: String,
+    /// The types of the operands, with those below the innermost sequence.
+    pub operands: Vec<ValType>,
+    /// The open sequences, the innermost last. The first is the function's body.
+    pub layers: Vec<Layer>,
+    /// How many functions of the module are written before this one, which may call them.
+    pub callees: u64,
+    pub has_memory: bool,
+}
+
+impl Writer {
+    pub fn new(alloc: Global, seed: u64) -> Writer {
+        Writer {
+            random: Random::new(seed),
+            text: String::new(alloc),
+            operands: Vec::new(alloc),
+            layers: Vec::new(alloc),
+            callees: 0,
+            has_memory: seed % 4 == 0,
+        }
+    }
+
+    /// Writes a word and a blank.
+    pub fn word(&mut self, word: &str) -> Result<(), AllocError> {
+        self.text.push_str(word)?;
+        self.text.push(' ')
+    }
+
+    /// Writes a word, a number and a blank.
+    pub fn numbered(&mut self, word: &str, number: u64) -> Result<(), AllocError> {
+        write!(self.text, "{word} {number} ")
+    }
+
+    /// Writes an instruction whose name begins with a type.
+    pub fn typed(&mut self, val_type: ValType, word: &str) -> Result<(), AllocError> {
+        write!(self.text, "{}.{word} ", type_word(val_type))
+    }
+
+    /// Returns what the innermost sequence belongs to.
+    pub fn innermost(&self) -> Kind {
+        self.layers
+            .last()
+            .map_or(Kind::Function, |layer| layer.kind)
+    }
+
+    /// Counts the operands below those of the innermost sequence.
+    pub fn base(&self) -> usize {
+        self.layers.last().map_or(0, |layer| layer.base)
+    }
+
+    /// Returns the type of the last operand that the innermost sequence may take, if there is one.
+    pub fn top(&self) -> Option<ValType> {
+        self.own().last().copied()
+    }
+
+    /// Returns whether the innermost sequence may take two operands of a type.
+    pub fn has_two(&self, val_type: ValType) -> bool {
+        match self.own() {
+            [.., first, second] => *first == val_type && *second == val_type,
+            _ => false,
+        }
+    }
+
+    fn own(&self) -> &[ValType] {
+        self.operands.get(self.base()..).unwrap_or(&[])
+    }
+
+    /// Takes operands.
+    pub fn pop(&mut self, count: usize) {
+        let rest = self.operands.len().saturating_sub(count);
+        self.operands.truncate(rest);
+    }
+
+    pub fn push(&mut self, val_type: ValType) -> Result<(), AllocError> {
+        self.operands.push(val_type)?;
+        Ok(())
+    }
+
+    /// Begins a sequence over the present operands.
+    pub fn push_layer(&mut self, kind: Kind, result_type: BlockType) -> Result<(), AllocError> {
+        let base = self.operands.len();
+        self.layers.push(Layer {
+            kind,
+            base,
+            result: result_type,
+        })?;
+        Ok(())
+    }
+}
+
+/// Returns the name of a type.
+pub fn type_word(val_type: ValType) -> &'static str {
+    match val_type {
+        ValType::I32 => "i32",
+        ValType::I64 => "i64",
+    }
+}

@@ -1,5 +1,5 @@
 -- What a job that has an answer ended with.
-use Rattle.std.proofs.Common.{◌≡◌, ◌≤◌, ℕ, Bool, true, false, refl, sym, ◌∙◌, subst, arith}
+use Rattle.std.proofs.Common.{◌≡◌, ◌≤◌, ℕ, Bool, true, false, sym, ◌∙◌, subst, arith}
 use Rattle.superstep.specs.Ending.{HasStopped}
 use Rattle.superstep.specs.Job.{Work}
 use Rattle.superstep.specs.State.{Standing}

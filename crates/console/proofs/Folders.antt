@@ -1,12 +1,16 @@
 -- Why a folder is not made ready for the states of a job.
-use Rattle.std.proofs.Common.{inl, inr, ◌≡◌, ◌⊎◌, false, true, List, ℕ, subst, sym}
+use denote.Bor.{Bor}
+use Rattle.std.proofs.Common.{inl, inr, ◌≡◌, ◌⊎◌, Bool, false, true, List, Result, Some, ℕ, refl, subst, sym}
+use Rattle.std.specs.Prelude.{String}
 use Rattle.command_line.specs.declared.request.JobRequest.{JobRequest}
 use Rattle.command_line.specs.declared.request.RunRequest.{RunRequest}
 use Rattle.sources.specs.declared.fault.CommandFault.{CommandFault}
 use Rattle.sources.specs.declared.fault.CommandFault.TheVariants.{Resume}
 use Rattle.sources.specs.Disk.{Disk, Stays}
 use Rattle.sources.proofs.Disks.{unread_before}
-use Rattle.console.specs.Jobs.{IsNoFolder}
+use Rattle.sources.specs.OutputLines.{IfText}
+use Rattle.superstep.specs.Job.{Work}
+use Rattle.console.specs.Jobs.{AreEndLines, AreKeptLines, AreRunLines, IsNoFolder}
 use Rattle.console.specs.FileCommands.{IsFaultOfKeeping, IsNotReady, IsNotResumed, IsUnidentified}
 
 -- a job that is not identified after a read was not identified before
@@ -39,3 +43,10 @@ not_found disk asked folder fault asks (inr is) = inr is
 pub nested : {A B C : Type 0} → A ⊎ B → A ⊎ (B ⊎ C)
 nested (inl a) = inl a
 nested (inr b) = inr (inl b)
+
+-- the lines of a run whose states are kept in a folder
+pub folder_lines : {Z E : Type 0} (job : Work) (folder : Bor (List ℕ)) (resumes tells_units : Bool) (answer : Result (String Z) E)
+    → IfText answer (AreEndLines tells_units) → (resumes ≡ false → IfText answer (AreKeptLines job tells_units))
+    → IfText answer (AreRunLines job (Some folder) resumes tells_units)
+folder_lines job folder true tells_units answer ends kept = ends
+folder_lines job folder false tells_units answer ends kept = kept refl

@@ -1,4 +1,4 @@
-use Rattle.std.proofs.Common.{inl, inr}
+use Rattle.std.proofs.Common.{inr}
 use Rattle.sources.proofs.Faults.{IfErr-along, is_fault}
 use Rattle.console.proofs.Folders.{folder_lines, nested}
 use Rattle.console.proofs.file_commands.run_kept.Goals as goal

@@ -55,16 +55,9 @@ use Rattle.graph.proofs.parts.Part.TheSendSync as part
 use Rattle.superstep.proofs.settings.Settings.TheSendSync as settings
 use Rattle.wasm_ast.proofs.plain.Branch.TheSendSync as branch
 use Rattle.wasm_ast.proofs.plain.Plain.TheSendSync as plain
-use Rattle.wasm_ast.proofs.types.ValType.TheSendSync as val_type
-
-as_row_of : (F : Field) → IsSync F.row → IsSync (as_row (row_field (as_row F)))
-as_row_of F s = as_row_sync (row_field (as_row F)) (as_row_sync F s)
-
-option_sync : IsSync (Option.the_field ValType.the_row).row
-option_sync = let s = val_type.the_sync in search sendable depth 20
-
-number_sync : IsSync u32-field.row
-number_sync = search sendable
+use Rattle.flat_code.specs.contracts.body.FlatBody as FlatBody
+use Rattle.channels.proofs.CrossingFields.{as_row_of, number_sync, option_sync}
+use Rattle.channels.proofs.FlatCrossing.{flat_sync}
 
 module _ (p : Parts knot.frame) (body : IsSync (rows knot.frame p deep.member-Body)) where
   held : IsSync (as_row (row_field (rows knot.frame p deep.member-Body)))
@@ -184,7 +177,7 @@ tables_field = struct_sync (struct_type.shape Tables.the_type) (
 )
 
 judged_field : IsSync (Judged.the_field).row
-judged_field = struct_sync (struct_type.shape Judged.the_type) (valid_sync, (tables_field, tt))
+judged_field = struct_sync (struct_type.shape Judged.the_type) (valid_sync, (tables_field, (Vec-sync FlatBody.the_row flat_sync, tt)))
 
 judged_sync : IsSync Judged.the_row
 judged_sync = recorded_sync (Judged.the_field).row _ _ (Judged.the_type).to_one judged_field

@@ -104,7 +104,7 @@ prove_side_by_side() {
     prove_copy "$room/first" wasm_ast &
     wait $! || true
     {
-        RT_JOBS=1 prove_copy "$room/hosts" host_calls
+        RT_JOBS=1 prove_copy "$room/hosts" host_calls flat_code
         RT_JOBS=1 prove_copy "$room/formats" wat_asm wasm_decode
         wait_for "$room/past_checkpoint"
         RT_JOBS=2 prove_copy "$room/reading" fit explain command_line sources

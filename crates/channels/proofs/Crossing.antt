@@ -58,6 +58,7 @@ use Rattle.wasm_ast.proofs.plain.Plain.TheSendSync as plain
 use Rattle.flat_code.specs.contracts.body.FlatBody as FlatBody
 use Rattle.channels.proofs.CrossingFields.{as_row_of, number_sync, option_sync}
 use Rattle.channels.proofs.FlatCrossing.{flat_sync}
+use Rattle.wasm_ast.proofs.types.ValType.TheSendSync as val_type
 
 module _ (p : Parts knot.frame) (body : IsSync (rows knot.frame p deep.member-Body)) where
   held : IsSync (as_row (row_field (rows knot.frame p deep.member-Body)))

@@ -3,21 +3,20 @@ use Rattle.std.proofs.Common.{◌≡◌, ℕ, ◌+◌, ℤ, Bool, true, false, L
 use Rattle.std.proofs.lemmas.Bool.{false≢true}
 use Rattle.wasm_ast.specs.declared.types.Value.TheVariants.{I64}
 use Rattle.wasm_ast.specs.declared.plain.Branch.TheVariants as branch
-use Rattle.wasm_ast.specs.declared.body.Instr.TheVariants as instr
 use Rattle.wasm_ast.specs.declared.module.Module.{Module}
 use Rattle.wasm_ast.specs.Code.{Code}
 use Rattle.wasm_ast.specs.Code as code
 use Rattle.cost.specs.Weights.{host_units}
+use Rattle.flat_code.specs.declared.body.FlatInstr.TheVariants as flat
 use Rattle.host_calls.specs.Host.{Host, take_edge, take_message}
 use Rattle.host_calls.specs.Effects.{answer}
 use Rattle.host_calls.specs.declared.imports.HostCall.{HostCall}
 use Rattle.host_calls.specs.declared.imports.HostCall.TheVariants as calls
 use Rattle.interp.specs.Effects.{lifted}
-use Rattle.interp.specs.declared.straight.Straight.TheVariants as straight
 use Rattle.interp.specs.inside.Acts.{state}
 use Rattle.interp.specs.inside.Cells.{in_width, topped}
 use Rattle.interp.specs.inside.Meaning.{AreImports}
-use Rattle.interp.specs.inside.Straight.{GoesIn, Passes, Spot, Takes, eqz, spot}
+use Rattle.interp.specs.inside.Straight.{GoesIn, Passes, Spot, Takes, by_host, eqz, plainly, spot}
 use Rattle.interp.proofs.Passing.{goes_host, goes_plain, passes_on, passes_past, past_zero, straight_step}
 
 -- ---- an item
@@ -57,12 +56,12 @@ goes_in m calls imports whole body f l begins call found old new takes most coun
     let second : Spot = spot (I64 1 ∷ values) tested locals globals bytes new (count + units) in
     let third : Spot = spot (I64 0 ∷ values) left locals globals bytes new (count + units + 1) in
     let last : Spot = spot values body locals globals bytes new (count + units + 1 + 1) in
-    let asks = goes_host m whole tested (instr.Call f) begins calls imports f takes.which refl (sym takes.is ∙ found) in
-    let tests = goes_plain m tested left (instr.Plain eqz) refl eqz refl in
-    let past = past_zero m (instr.Branch (branch.BrIf l)) left body 0 (I64 0 ∷ values) values refl refl refl refl most (count + units + 1) locals globals bytes new in
+    let asks = goes_host m whole tested calls imports f takes.which begins (sym takes.is ∙ found) in
+    let tests = goes_plain m tested left eqz refl in
+    let past = past_zero m (flat.BrIf l) new 0 (I64 0 ∷ values) values refl refl refl body most (count + units + 1) locals globals bytes in
     let here : Passes m most first first = λ ls from follows ends. follows in
-    let one : Passes m most first second = passes_on m most first first second here (straight_step m most first (straight.Host takes.which) units tested asks second (takes.acts values locals globals bytes (count + units)) refl) in
-    let two : Passes m most first third = passes_on m most first second third one (straight_step m most second (straight.Plain eqz) 1 left tests third refl refl) in
+    let one : Passes m most first second = passes_on m most first first second here (straight_step m most first (by_host takes.which) units tested asks second (takes.acts values locals globals bytes (count + units)) refl) in
+    let two : Passes m most first third = passes_on m most first second third one (straight_step m most second (plainly eqz) 1 left tests third refl refl) in
     let three : Passes m most first last = passes_past m most first third last two past in
     let n : count + units + 1 + 1 ≡ count + 4 = omega (arith, takes.counts) in
     subst (λ (k : ℕ). Passes m most first (spot values body locals globals bytes new k)) n three

@@ -53,5 +53,6 @@ pub mod Resetting
 pub mod OperandStacks
 pub mod Lent
 pub mod Passing
+pub mod Flats
 pub mod Items
 pub mod Hosting

@@ -1,44 +1,45 @@
 -- Straight code: one instruction more.
 use Rattle.std.proofs.Common.{◌≡◌, ◌≢◌, ℕ, zero, suc, ◌+◌, ◌<◌, ◌≤◌, Bool, true, false, List, [], ◌∷◌, ◌++◌, length, map, nat_eq, Option, Some, None, is_some, slice_get, refl, sym, ap, ◌∙◌, subst, arith}
+use Rattle.std.proofs.lemmas.Bool.{true≢false}
 use Rattle.wasm_ast.specs.declared.types.ValType.TheVariants as val_type
 use Rattle.wasm_ast.specs.declared.types.Value.{Value}
 use Rattle.wasm_ast.specs.declared.types.Value.TheVariants.{I64}
 use Rattle.wasm_ast.specs.declared.module.Module.{Module}
 use Rattle.wasm_ast.specs.declared.plain.Branch.TheVariants as branch
 use Rattle.wasm_ast.specs.declared.plain.Plain.{Plain}
-use Rattle.wasm_ast.specs.declared.body.Instr.{Instr}
-use Rattle.wasm_ast.specs.declared.body.Instr.TheVariants as instr
 use Rattle.wasm_ast.specs.Code.{Code}
 use Rattle.wasm_ast.specs.Code as code
-use Rattle.wasm_ast.specs.View.{code_of, then_code}
+use Rattle.flat_code.specs.declared.body.FlatInstr.{FlatInstr}
+use Rattle.flat_code.specs.declared.body.FlatInstr.TheVariants as flat
+use Rattle.flat_code.specs.Plains.{plain_of}
+use Rattle.flat_code.specs.View.{code_of, then_code, then_control, then_plain}
 use Rattle.cost.specs.Weights.{call_units, host_units, plain_units}
 use Rattle.host_calls.specs.Host.{Host}
 use Rattle.host_calls.specs.declared.imports.HostCall.{HostCall}
 use Rattle.interp.specs.Configuration.{State, Effect, Gives, tick}
 use Rattle.interp.specs.Heights.{beneath}
 use Rattle.interp.specs.Machine.{Machine, Running, ControlEntry, Label, Callee, defined, host, after_effect, arm, branch_unless_zero, functions_of, has_result, next_units}
-use Rattle.interp.specs.declared.straight.Straight.{Straight}
-use Rattle.interp.specs.declared.straight.Straight.TheVariants as straight
 use Rattle.interp.specs.inside.Cells.{cell_advance, cell_call, cell_take_call, in_width, narrowed, of_any_width}
 use Rattle.interp.specs.inside.Given.{HasGiven}
 use Rattle.interp.specs.inside.Going.{is_going}
 use Rattle.interp.specs.inside.Meaning.{AreImports, host_callee}
-use Rattle.interp.specs.inside.Acts.{state}
+use Rattle.interp.specs.inside.Acts.{ActsOnHost, state}
 use Rattle.interp.specs.inside.Place.{Place, running}
-use Rattle.interp.specs.inside.Straight.{GoesPast, GoesStraight, LeadsAmid, Passes, SendsAmid, Spot, amid, is_end, is_straight, skips_zero, spot, straight_asks, straight_effect, straight_gives, zero_asks}
+use Rattle.interp.specs.inside.Flat.{flat_asks}
+use Rattle.interp.specs.inside.Straight.{GoesBeside, GoesStraight, LeadsAmid, Passes, SendsAmid, SendsBeside, Spot, Straight, amid, beside_asks, by_host, host_asks, is_end, is_straight, plainly, skips_zero, spot, straight_asks, straight_effect, straight_gives}
 use Rattle.interp.proofs.Asking.{call_asked, plain_asked, taking_asks}
 use Rattle.interp.proofs.Following.{cell_goes, cell_room, fewer_here, follows_on, gives_on}
 use Rattle.interp.proofs.Sending.{call_gives}
 use Rattle.interp.proofs.Weighing.{call_counts}
 
 straight_asked : (may : Value → Bool) (what : Straight) (vs : List Value) (is : Code) (ls : List ControlEntry) (st : State) → is_going (after_effect (straight_effect may what vs st) is ls st.count) ≡ true → straight_asks what vs st.locals st.globals st.memory ≡ true
-straight_asked may (straight.Plain p) vs is ls st g = plain_asked may p vs is ls st g
-straight_asked may (straight.Host c) vs is ls st g = call_asked may c vs is ls st g
+straight_asked may (plainly p) vs is ls st g = plain_asked may p vs is ls st g
+straight_asked may (by_host c) vs is ls st g = call_asked may c vs is ls st g
 
 -- a call that may take memory gives something where it is done
 straight_given : (what : Straight) (vs : List Value) (is : Code) (ls : List ControlEntry) (st : State) (count : ℕ) → straight_gives what ≡ true → is_going (after_effect (straight_effect of_any_width what vs st) is ls count) ≡ true → HasGiven (after_effect (straight_effect in_width what vs st) is ls count)
-straight_given (straight.Plain p) vs is ls st count g e = absurd cc
-straight_given (straight.Host c) vs is ls st count g e = call_gives c vs is ls st count g e
+straight_given (plainly p) vs is ls st count g e = absurd cc
+straight_given (by_host c) vs is ls st count g e = call_gives c vs is ls st count g e
 
 -- ---- which instructions go straight on
 
@@ -48,18 +49,15 @@ host_there [] others f c e = absurd cc
 host_there (d ∷ ds) others zero c e = let same : c ≡ d = cc in ap (λ (x : HostCall). Some (host (Some x))) (sym same)
 host_there (d ∷ ds) others (suc f) c e = host_there ds others f c e
 
-module _ (m : Module) (whole rest : Code) (first : Instr) (begins : whole ≡ then_code first rest) where
-  pub goes_plain : (p : Plain) → first ≡ instr.Plain p → GoesStraight m whole (straight.Plain p) (plain_units p) rest
-  goes_plain p is =
-      let e : whole ≡ code.plain p rest = begins ∙ ap (λ (i : Instr). then_code i rest) is in
-      record {
-        counts = ap (λ (k : Code). next_units m k) e;
-        steps = λ may vs ls st. ap (λ (k : Code). cell_advance may m (Running vs k ls st)) e;
-      }
+module _ (m : Module) (whole rest : Code) where
+  pub goes_plain : (p : Plain) → whole ≡ code.plain p rest → GoesStraight m whole (plainly p) (plain_units p) rest
+  goes_plain p e = record {
+    counts = ap (λ (k : Code). next_units m k) e;
+    steps = λ may vs ls st. ap (λ (k : Code). cell_advance may m (Running vs k ls st)) e;
+  }
 
-  pub goes_host : (calls : List HostCall) → AreImports calls m → (f : ℕ) (c : HostCall) → first ≡ instr.Call f → Some c ≡ slice_get calls f → GoesStraight m whole (straight.Host c) (host_units (Some c)) rest
-  goes_host calls imports f c is found =
-      let e : whole ≡ code.call f rest = begins ∙ ap (λ (i : Instr). then_code i rest) is in
+  pub goes_host : (calls : List HostCall) → AreImports calls m → (f : ℕ) (c : HostCall) → whole ≡ code.call f rest → Some c ≡ slice_get calls f → GoesStraight m whole (by_host c) (host_units (Some c)) rest
+  goes_host calls imports f c e found =
       let counted : host_units (Some c) ≡ call_units m f = ap host_units found ∙ call_counts m calls imports f in
       let there : slice_get (functions_of m) f ≡ Some (host (Some c)) =
       ap (λ (cs : List Callee). slice_get (cs ++ map defined m.functions) f) imports ∙ host_there calls (map defined m.functions) f c found in
@@ -71,77 +69,100 @@ module _ (m : Module) (whole rest : Code) (first : Instr) (begins : whole ≡ th
             ∙ ap (λ (n : ℕ). after_effect (cell_call may c vs (tick n st)) rest ls (st.count + n)) (sym counted);
       }
 
-  -- ---- where straight code stops
+-- ---- where straight code stops
 
-  pub call_stops : (calls : List HostCall) (f : ℕ) → first ≡ instr.Call f → None ≡ slice_get calls f → is_straight calls whole ≡ false
-  call_stops calls f is none =
-      ap (is_straight calls) (begins ∙ ap (λ (i : Instr). then_code i rest) is) ∙ ap (λ (o : Option HostCall). is_some o) (sym none)
+control_stops : (calls : List HostCall) (i : FlatInstr) (rest : Code) → ((f : ℕ) → i ≢ flat.Call f) → is_straight calls (then_control i rest) ≡ false
+control_stops calls (flat.Br l) rest called = refl
+control_stops calls (flat.BrIf l) rest called = refl
+control_stops calls (flat.Branch b) rest called = refl
+control_stops calls (flat.Call f) rest called = absurd (called f refl)
+control_stops calls (flat.CallIndirect t) rest called = refl
+control_stops calls flat.Unreachable rest called = refl
+control_stops calls (flat.Block t body) rest called = refl
+control_stops calls (flat.Loop t body) rest called = refl
+control_stops calls (flat.If t body other) rest called = refl
+control_stops calls _ rest called = refl
 
-  pub other_stops : (calls : List HostCall) → ((p : Plain) → first ≢ instr.Plain p) → ((f : ℕ) → first ≢ instr.Call f) → is_straight calls whole ≡ false
-  other_stops calls plain called = ap (is_straight calls) begins ∙ other first plain called
-    where
-      other : (i : Instr) → ((p : Plain) → i ≢ instr.Plain p) → ((f : ℕ) → i ≢ instr.Call f) → is_straight calls (then_code i rest) ≡ false
-      other (instr.Plain p) plain called = absurd (plain p refl)
-      other (instr.Branch b) plain called = refl
-      other (instr.Call f) plain called = absurd (called f refl)
-      other (instr.CallIndirect t) plain called = refl
-      other instr.Unreachable plain called = refl
-      other (instr.Block t body) plain called = refl
-      other (instr.Loop t body) plain called = refl
-      other (instr.If t body rest_body) plain called = refl
+known_or_stops : (calls : List HostCall) (i : FlatInstr) (rest : Code) → ((f : ℕ) → i ≢ flat.Call f) → (o : Option Plain) → is_straight calls (then_plain o i rest) ≡ is_some o
+known_or_stops calls i rest called None = control_stops calls i rest called
+known_or_stops calls i rest called (Some p) = refl
 
-  pub plain_goes : (calls : List HostCall) (p : Plain) → first ≡ instr.Plain p → is_straight calls whole ≡ false → ⊥
-  plain_goes calls p is stops =
-      let goes : is_straight calls whole ≡ true = ap (is_straight calls) (begins ∙ ap (λ (i : Instr). then_code i rest) is) in
-      absurd cc
+-- an instruction that is no call is straight if it is plain
+pub straight_if_plain : (calls : List HostCall) (i : FlatInstr) (rest : Code) → ((f : ℕ) → i ≢ flat.Call f) → is_straight calls (then_code i rest) ≡ is_some (plain_of i)
+straight_if_plain calls i rest called = known_or_stops calls i rest called (plain_of i)
 
-  pub no_host_call : (calls : List HostCall) (f : ℕ) → first ≡ instr.Call f → is_straight calls whole ≡ false → slice_get calls f ≡ None
-  no_host_call calls f is stops = none_of (slice_get calls f) (sym (ap (is_straight calls) (begins ∙ ap (λ (i : Instr). then_code i rest) is)) ∙ stops)
-    where
-      none_of : (o : Option HostCall) → is_some o ≡ false → o ≡ None
-      none_of None e = refl
-      none_of (Some c) e = absurd cc
+-- no code goes on from here
+pub plain_goes : (calls : List HostCall) (i : FlatInstr) (rest : Code) → ((f : ℕ) → i ≢ flat.Call f) → is_some (plain_of i) ≡ true → is_straight calls (then_code i rest) ≡ false → ⊥
+plain_goes calls i rest called plain stops = absurd (true≢false (sym plain ∙ sym (straight_if_plain calls i rest called) ∙ stops))
+
+pub no_host_call : (calls : List HostCall) (f : ℕ) (rest : Code) → is_straight calls (code.call f rest) ≡ false → slice_get calls f ≡ None
+no_host_call calls f rest stops = none_of (slice_get calls f) stops
+  where
+    none_of : (o : Option HostCall) → is_some o ≡ false → o ≡ None
+    none_of None e = refl
+    none_of (Some c) e = absurd cc
 
 -- ---- an instruction that only pops a zero
 
-never_end : (i : Instr) (k : Code) → false ≡ is_end (then_code i k)
-never_end (instr.Plain p) k = refl
-never_end (instr.Branch b) k = refl
-never_end (instr.Call f) k = refl
-never_end (instr.CallIndirect t) k = refl
-never_end instr.Unreachable k = refl
-never_end (instr.Block t body) k = refl
-never_end (instr.Loop t body) k = refl
-never_end (instr.If t body other) k = refl
+control_no_end : (i : FlatInstr) (k : Code) → false ≡ is_end (then_control i k)
+control_no_end (flat.Br l) k = refl
+control_no_end (flat.BrIf l) k = refl
+control_no_end (flat.Branch b) k = refl
+control_no_end (flat.Call f) k = refl
+control_no_end (flat.CallIndirect t) k = refl
+control_no_end flat.Unreachable k = refl
+control_no_end (flat.Block t body) k = refl
+control_no_end (flat.Loop t body) k = refl
+control_no_end (flat.If t body other) k = refl
+control_no_end _ k = refl
 
-pub empty_is_end : (is : List Instr) → nat_eq (length is) 0 ≡ is_end (code_of is)
+never_end : (i : FlatInstr) (k : Code) (o : Option Plain) → false ≡ is_end (then_plain o i k)
+never_end i k None = control_no_end i k
+never_end i k (Some p) = refl
+
+pub empty_is_end : (is : List FlatInstr) → nat_eq (length is) 0 ≡ is_end (code_of is)
 empty_is_end [] = refl
-empty_is_end (i ∷ is) = let none : nat_eq (suc (length is)) 0 ≡ false = grind arith in none ∙ never_end i (code_of is)
+empty_is_end (i ∷ is) =
+    let none : nat_eq (suc (length is)) 0 ≡ false = grind arith in none ∙ never_end i (code_of is) (plain_of i)
 
-pub past_zero : (m : Module) (first : Instr) (whole rest : Code) (cell : ℕ) (old us : List Value) → whole ≡ then_code first rest → skips_zero first ≡ true → old ≡ I64 cell ∷ us → narrowed val_type.I32 cell ≡ 0 → GoesPast m old whole us rest
-past_zero m (instr.Branch (branch.BrIf l)) whole rest cell old us e g f z most count locals globals bytes h ls from follows ends =
+pub past_zero : (m : Module) (first : FlatInstr) (h : Host) (cell : ℕ) (old us : List Value) → skips_zero first ≡ true → old ≡ I64 cell ∷ us → narrowed val_type.I32 cell ≡ 0 → GoesBeside m first old h us h 1
+past_zero m (flat.BrIf l) h cell old us g f z rest most count locals globals bytes ls from follows ends =
     let st : State = state locals globals bytes h count in
+    let whole = code.branch (branch.BrIf l) rest in
     let step : cell_advance in_width m (Running old whole ls st) ≡ Running us rest ls (tick 1 st) =
-    ap (λ (k : Code). cell_advance in_width m (Running old k ls st)) e
-    ∙ ap (λ (vs : List Value). cell_advance in_width m (Running vs (code.branch (branch.BrIf l) rest) ls st)) f
+    ap (λ (vs : List Value). cell_advance in_width m (Running vs whole ls st)) f
     ∙ ap (λ (n : ℕ). branch_unless_zero n l us rest ls (tick 1 st)) z in
     follows_on m from (amid (spot old whole locals globals bytes h count) ls) follows most ends (amid (spot us rest locals globals bytes h (count + 1)) ls) step
-past_zero m (instr.If t body code.end) whole rest cell old us e g f z most count locals globals bytes h ls from follows ends =
+past_zero m (flat.If t body code.end) h cell old us g f z rest most count locals globals bytes ls from follows ends =
     let st : State = state locals globals bytes h count in
+    let whole = code.choice t body code.end rest in
     let round : List ControlEntry = Label (has_result t) us rest rest ∷ ls in
     let inner : Place = record { values = []; code = code.end; entries = round; state = tick 1 st } in
     let enters : cell_advance in_width m (Running old whole ls st) ≡ Running [] code.end round (tick 1 st) =
-    ap (λ (k : Code). cell_advance in_width m (Running old k ls st)) e
-    ∙ ap (λ (vs : List Value). cell_advance in_width m (Running vs (code.choice t body code.end rest) ls st)) f
+    ap (λ (vs : List Value). cell_advance in_width m (Running vs whole ls st)) f
     ∙ ap (λ (n : ℕ). Running [] (arm n body code.end) round (tick 1 st)) z in
     let here = amid (spot old whole locals globals bytes h count) ls in
     follows_on m from inner (follows_on m from here follows most ends inner enters) most ends (amid (spot us rest locals globals bytes h (count + 1)) ls) refl
-past_zero m _ whole rest cell old us e g f z most count locals globals bytes h ls from follows ends = absurd cc
+past_zero m _ h cell old us g f z rest most count locals globals bytes ls from follows ends = absurd cc
 
-zero_asked : (m : Module) (k : Code) (vs : List Value) (ls : List ControlEntry) (st : State) → is_going (cell_advance of_any_width m (Running vs k ls st)) ≡ true → zero_asks k vs ≡ true
-zero_asked m (code.branch (branch.BrIf l) is) vs ls st g = taking_asks vs (st.count + 1) (λ n us. branch_unless_zero n l us is ls (tick 1 st)) g
-zero_asked m (code.choice t body other is) vs ls st g = taking_asks vs (st.count + 1) (λ n us. Running [] (arm n body other) (Label (has_result t) us is is ∷ ls) (tick 1 st)) g
-zero_asked m _ vs ls st g = refl
+-- ---- what instructions require
+
+host_asked : (m : Module) (calls : List HostCall) → AreImports calls m → (f : ℕ) (rest : Code) (o : Option HostCall) → o ≡ slice_get calls f → (vs : List Value) (ls : List ControlEntry) (st : State) → is_going (cell_advance of_any_width m (Running vs (code.call f rest) ls st)) ≡ true → host_asks o vs ≡ true
+host_asked m calls imports f rest None found vs ls st g = refl
+host_asked m calls imports f rest (Some c) found vs ls st g =
+    let goes = goes_host m (code.call f rest) rest calls imports f c refl found in
+    call_asked of_any_width c vs rest ls (tick (host_units (Some c)) st) (ap (λ (x : Machine). is_going x) (sym (goes.steps of_any_width vs ls st)) ∙ g)
+
+beside_asked : (m : Module) (calls : List HostCall) → AreImports calls m → (i : FlatInstr) (rest : Code) (vs : List Value) (ls : List ControlEntry) (st : State) → is_going (cell_advance of_any_width m (Running vs (then_code i rest) ls st)) ≡ true → beside_asks calls i vs ≡ true
+beside_asked m calls imports (flat.Call f) rest vs ls st g = host_asked m calls imports f rest (slice_get calls f) refl vs ls st g
+beside_asked m calls imports (flat.BrIf l) rest vs ls st g = taking_asks vs (st.count + 1) (λ n us. branch_unless_zero n l us rest ls (tick 1 st)) g
+beside_asked m calls imports (flat.If t body other) rest vs ls st g = taking_asks vs (st.count + 1) (λ n us. Running [] (arm n body other) (Label (has_result t) us rest rest ∷ ls) (tick 1 st)) g
+beside_asked m calls imports _ rest vs ls st g = refl
+
+flat_asked : (m : Module) (calls : List HostCall) → AreImports calls m → (i : FlatInstr) (rest : Code) (o : Option Plain) → o ≡ plain_of i → (vs : List Value) (ls : List ControlEntry) (st : State) → is_going (cell_advance of_any_width m (Running vs (then_code i rest) ls st)) ≡ true → flat_asks calls o i vs st.locals st.globals st.memory ≡ true
+flat_asked m calls imports i rest None e vs ls st g = beside_asked m calls imports i rest vs ls st g
+flat_asked m calls imports i rest (Some p) e vs ls st g =
+    plain_asked of_any_width p vs rest ls (tick (plain_units p) st) (ap (λ (o : Option Plain). is_going (cell_advance of_any_width m (Running vs (then_plain o i rest) ls st))) e ∙ g)
 
 -- ---- runs of them
 
@@ -163,8 +184,10 @@ module _ (m : Module) (most : ℕ) where
   goes_amid : (free : ℕ) (s : Spot) (l : LeadsAmid m s most free) → is_going (cell_advance of_any_width m (running (amid s l.entries))) ≡ true
   goes_amid free s l = let d = l.leads in cell_goes m d.from (amid s l.entries) d.follows most d.ends
 
-  pub zero_asked_amid : (free : ℕ) (s : Spot) → LeadsAmid m s most free → zero_asks s.code s.values ≡ true
-  zero_asked_amid free s l = zero_asked m s.code s.values l.entries s.state (goes_amid free s l)
+  pub flat_asked_amid : (calls : List HostCall) → AreImports calls m → (i : FlatInstr) (rest : Code) (free : ℕ) (s : Spot) → s.code ≡ then_code i rest → LeadsAmid m s most free → flat_asks calls (plain_of i) i s.values s.state.locals s.state.globals s.state.memory ≡ true
+  flat_asked_amid calls imports i rest free s begins l =
+      flat_asked m calls imports i rest (plain_of i) refl s.values l.entries s.state
+      (ap (λ (k : Code). is_going (cell_advance of_any_width m (Running s.values k l.entries s.state))) (sym begins) ∙ goes_amid free s l)
 
   -- one place further
   pub passes_past : (s t u : Spot) → Passes m most s t → Passes m most t u → Passes m most s u
@@ -197,6 +220,22 @@ module _ (m : Module) (most : ℕ) where
         g.steps in_width s.values ls s.state
         ∙ ap (λ (x : Effect). after_effect x rest ls (s.state.count + units)) gives
         ∙ ap (λ (k : Code). Running t.values k ls t.state) same
+
+-- ---- a call of the host
+
+module _ (m : Module) (calls : List HostCall) (imports : AreImports calls m) (f : ℕ) (c : HostCall) (found : Some c ≡ slice_get calls f) where
+  pub host_goes_beside : (old new : List Value) (h h' : Host) → ActsOnHost (cell_call in_width c) old new h h' → GoesBeside m (flat.Call f) old h new h' (host_units (Some c))
+  host_goes_beside old new h h' acts rest most count locals globals bytes =
+      let units = host_units (Some c) in
+      let s : Spot = spot old (code.call f rest) locals globals bytes h count in
+      let t : Spot = spot new rest locals globals bytes h' (count + units) in
+      let goes = goes_host m (code.call f rest) rest calls imports f c refl found in
+      passes_on m most s s t (λ ls from follows ends. follows) (straight_step m most s (by_host c) units rest goes t (acts locals globals bytes (count + units)) refl)
+
+  pub host_sends_beside : (old : List Value) (h : Host) → straight_gives (by_host c) ≡ true → SendsBeside m (flat.Call f) old h
+  host_sends_beside old h gives rest most count locals globals bytes =
+      let s : Spot = spot old (code.call f rest) locals globals bytes h count in
+      straight_sends m most s (by_host c) (host_units (Some c)) rest (goes_host m (code.call f rest) rest calls imports f c refl found) gives
 
 -- the same in other words
 module _ (m : Module) (most : ℕ) (k j : Code) (vs us ls ms : List Value) (v : vs ≡ us) (l : ls ≡ ms) (gs : List Value) (bs : List ℕ) (h h' : Host) (n : ℕ) where

@@ -5,9 +5,9 @@ use Rattle.std.proofs.lemmas.Bool.{false≢true}
 use Rattle.std.specs.Borrow.{Bor}
 use Rattle.std.specs.Prelude.{reverse}
 use Rattle.wasm_ast.specs.declared.types.Value.{Value}
-use Rattle.wasm_ast.specs.declared.body.Instr.{Instr}
+use Rattle.flat_code.specs.declared.body.FlatInstr.{FlatInstr}
 use Rattle.wasm_ast.specs.Code.{Code}
-use Rattle.wasm_ast.specs.View.{code_of}
+use Rattle.flat_code.specs.View.{code_of}
 use Rattle.interp.specs.Configuration.{State}
 use Rattle.interp.specs.Heights.{beneath, held}
 use Rattle.interp.specs.Machine as machine
@@ -24,15 +24,15 @@ left_of : (f : ℕ) (vs : List Value) → f ≤ length vs → length (drop (leng
 left_of f vs h = omega (arith, length-drop (length vs - f) vs)
 
 -- a label is taken off
-pub record LabelOff (rs' : List ControlEntry) (vs vs' ls : List Value) (f : ℕ) (w : Form) (a : Bor (List Instr)) (rs : List ControlEntry) : Type 0 where
+pub record LabelOff (rs' : List ControlEntry) (vs vs' ls : List Value) (f : ℕ) (w : Form) (a : Bor (List FlatInstr)) (rs : List ControlEntry) : Type 0 where
   pub floor : f ≤ length vs
   pub ordered : Ordered rs' (length vs') (length ls)
   pub entries : entries_of rs vs ls ≡ machine.Label (keeps_of w) (take (length vs - f) vs) (target_of w (code_of a.now)) (code_of a.now) ∷ entries_of rs' vs' ls
 
-pub label_floor : (rs rs' : List ControlEntry) (vs ls : List Value) (f : ℕ) (w : Form) (a : Bor (List Instr)) → rs ≡ control.Label w f a ∷ rs' → Ordered rs (length vs) (length ls) → f ≤ length vs
+pub label_floor : (rs rs' : List ControlEntry) (vs ls : List Value) (f : ℕ) (w : Form) (a : Bor (List FlatInstr)) → rs ≡ control.Label w f a ∷ rs' → Ordered rs (length vs) (length ls) → f ≤ length vs
 label_floor rs rs' vs ls f w a e o = (subst (λ (r : List ControlEntry). Ordered r (length vs) (length ls)) e o).0
 
-pub label_off : (rs rs' : List ControlEntry) (vs vs' ls : List Value) (f : ℕ) (w : Form) (a : Bor (List Instr)) → rs ≡ control.Label w f a ∷ rs' → Ordered rs (length vs) (length ls) → vs' ≡ drop (length vs - f) vs → LabelOff rs' vs vs' ls f w a rs
+pub label_off : (rs rs' : List ControlEntry) (vs vs' ls : List Value) (f : ℕ) (w : Form) (a : Bor (List FlatInstr)) → rs ≡ control.Label w f a ∷ rs' → Ordered rs (length vs) (length ls) → vs' ≡ drop (length vs - f) vs → LabelOff rs' vs vs' ls f w a rs
 label_off rs rs' vs vs' ls f w a e o d =
     let here : (f ≤ length vs) × Ordered rs' f (length ls) = subst (λ (r : List ControlEntry). Ordered r (length vs) (length ls)) e o in
     let n : f ≡ length vs' = sym (ap (λ (l : List Value). length l) d ∙ left_of f vs here.0) in
@@ -43,16 +43,16 @@ label_off rs rs' vs vs' ls f w a e o d =
     }
 
 -- a frame is taken off
-pub record FrameOff (rs' : List ControlEntry) (vs vs' ls ls' : List Value) (f b : ℕ) (keeps : Bool) (a : Bor (List Instr)) (rs : List ControlEntry) : Type 0 where
+pub record FrameOff (rs' : List ControlEntry) (vs vs' ls ls' : List Value) (f b : ℕ) (keeps : Bool) (a : Bor (List FlatInstr)) (rs : List ControlEntry) : Type 0 where
   pub floor : f ≤ length vs
   pub base : b ≤ length ls
   pub ordered : Ordered rs' (length vs') (length ls')
   pub entries : entries_of rs vs ls ≡ machine.Frame keeps (drop b ls) (take (length vs - f) vs) (code_of a.now) ∷ entries_of rs' vs' ls'
 
-pub frame_floors : (rs rs' : List ControlEntry) (vs ls : List Value) (f b : ℕ) (keeps : Bool) (a : Bor (List Instr)) → rs ≡ control.Frame keeps f b a ∷ rs' → Ordered rs (length vs) (length ls) → (f ≤ length vs) × (b ≤ length ls) × Ordered rs' f b
+pub frame_floors : (rs rs' : List ControlEntry) (vs ls : List Value) (f b : ℕ) (keeps : Bool) (a : Bor (List FlatInstr)) → rs ≡ control.Frame keeps f b a ∷ rs' → Ordered rs (length vs) (length ls) → (f ≤ length vs) × (b ≤ length ls) × Ordered rs' f b
 frame_floors rs rs' vs ls f b keeps a e o = subst (λ (r : List ControlEntry). Ordered r (length vs) (length ls)) e o
 
-pub frame_off : (rs rs' : List ControlEntry) (vs vs' ls ls' : List Value) (f b : ℕ) (keeps : Bool) (a : Bor (List Instr)) → rs ≡ control.Frame keeps f b a ∷ rs' → Ordered rs (length vs) (length ls) → vs' ≡ drop (length vs - f) vs → ls' ≡ take b ls → FrameOff rs' vs vs' ls ls' f b keeps a rs
+pub frame_off : (rs rs' : List ControlEntry) (vs vs' ls ls' : List Value) (f b : ℕ) (keeps : Bool) (a : Bor (List FlatInstr)) → rs ≡ control.Frame keeps f b a ∷ rs' → Ordered rs (length vs) (length ls) → vs' ≡ drop (length vs - f) vs → ls' ≡ take b ls → FrameOff rs' vs vs' ls ls' f b keeps a rs
 frame_off rs rs' vs vs' ls ls' f b keeps a e o d g =
     let here = frame_floors rs rs' vs ls f b keeps a e o in
     let n : f ≡ length vs' = sym (ap (λ (l : List Value). length l) d ∙ left_of f vs here.0) in
@@ -71,13 +71,13 @@ above_is vs us = take-length_is (length (vs ++ us) - length us) vs us (omega (ar
 pub under_is : (vs us : List Value) → drop (length (vs ++ us) - length us) (vs ++ us) ≡ us
 under_is vs us = drop-length_is (length (vs ++ us) - length us) vs us (omega (arith, length-append vs us))
 
-pub label_on : (rs : List ControlEntry) (vs us ls : List Value) (f : ℕ) (w : Form) (a : Bor (List Instr)) → f ≡ length us → entries_of (control.Label w f a ∷ rs) (vs ++ us) ls ≡ machine.Label (keeps_of w) vs (target_of w (code_of a.now)) (code_of a.now) ∷ entries_of rs us ls
+pub label_on : (rs : List ControlEntry) (vs us ls : List Value) (f : ℕ) (w : Form) (a : Bor (List FlatInstr)) → f ≡ length us → entries_of (control.Label w f a ∷ rs) (vs ++ us) ls ≡ machine.Label (keeps_of w) vs (target_of w (code_of a.now)) (code_of a.now) ∷ entries_of rs us ls
 label_on rs vs us ls f w a e =
     ap (λ (k : ℕ). machine.Label (keeps_of w) (take (length (vs ++ us) - k) (vs ++ us)) (target_of w (code_of a.now)) (code_of a.now) ∷ entries_of rs (drop (length (vs ++ us) - k) (vs ++ us)) ls) e
     ∙ ap (λ (l : List Value). machine.Label (keeps_of w) l (target_of w (code_of a.now)) (code_of a.now) ∷ entries_of rs (drop (length (vs ++ us) - length us) (vs ++ us)) ls) (above_is vs us)
     ∙ ap (λ (l : List Value). machine.Label (keeps_of w) vs (target_of w (code_of a.now)) (code_of a.now) ∷ entries_of rs l ls) (under_is vs us)
 
-pub frame_on : (rs : List ControlEntry) (vs us ls ms : List Value) (f b : ℕ) (keeps : Bool) (a : Bor (List Instr)) → f ≡ length us → b ≡ length ms → entries_of (control.Frame keeps f b a ∷ rs) (vs ++ us) (ms ++ ls) ≡ machine.Frame keeps ls vs (code_of a.now) ∷ entries_of rs us ms
+pub frame_on : (rs : List ControlEntry) (vs us ls ms : List Value) (f b : ℕ) (keeps : Bool) (a : Bor (List FlatInstr)) → f ≡ length us → b ≡ length ms → entries_of (control.Frame keeps f b a ∷ rs) (vs ++ us) (ms ++ ls) ≡ machine.Frame keeps ls vs (code_of a.now) ∷ entries_of rs us ms
 frame_on rs vs us ls ms f b keeps a e g =
     ap (λ (k : ℕ). machine.Frame keeps (drop b (ms ++ ls)) (take (length (vs ++ us) - k) (vs ++ us)) (code_of a.now) ∷ entries_of rs (drop (length (vs ++ us) - k) (vs ++ us)) (take b (ms ++ ls))) e
     ∙ ap (λ (l : List Value). machine.Frame keeps (drop b (ms ++ ls)) l (code_of a.now) ∷ entries_of rs (drop (length (vs ++ us) - length us) (vs ++ us)) (take b (ms ++ ls))) (above_is vs us)

@@ -1,4 +1,4 @@
--- What calls and the next instruction count.
+-- What calls count.
 use Rattle.std.proofs.Common.{◌≡◌, ℕ, zero, suc, List, [], ◌∷◌, Some, map, slice_get, cond, refl, sym, ap, ◌∙◌}
 use Rattle.std.specs.Prelude.{filter}
 use Rattle.std.specs.Option.{option_and_then}
@@ -6,15 +6,11 @@ use Rattle.wasm_ast.specs.declared.module.ImportDescription.{ImportDescription}
 use Rattle.wasm_ast.specs.declared.module.ImportDescription.TheVariants as import
 use Rattle.wasm_ast.specs.declared.module.Import.{Import}
 use Rattle.wasm_ast.specs.declared.module.Module.{Module}
-use Rattle.wasm_ast.specs.declared.body.Instr.{Instr}
-use Rattle.wasm_ast.specs.declared.body.Instr.TheVariants as instr
-use Rattle.wasm_ast.specs.Code.{Code}
-use Rattle.wasm_ast.specs.View.{then_code}
 use Rattle.wasm_ast.specs.Limits.{is_function, is_function_description}
 use Rattle.host_calls.specs.declared.imports.HostCall.{HostCall}
 use Rattle.host_calls.specs.Imports.{call_of}
-use Rattle.cost.specs.Weights.{host_units, call_units, units_of}
-use Rattle.interp.specs.Machine.{Callee, host, function_import, next_units}
+use Rattle.cost.specs.Weights.{host_units, call_units}
+use Rattle.interp.specs.Machine.{Callee, host, function_import}
 use Rattle.interp.specs.Machine as machine
 use Rattle.interp.specs.inside.Meaning.{host_callee, AreImports}
 
@@ -42,14 +38,3 @@ same_call (i ∷ is) (c ∷ cs) e (suc f) = let h : map named is ≡ map host_ca
 pub call_counts : (m : Module) (calls : List HostCall) → AreImports calls m → (f : ℕ) → host_units (slice_get calls f) ≡ call_units m f
 unfolding call_units
 call_counts m calls a f = ap host_units (sym (same_call (filter is_function m.imports) calls (sym (all_named m.imports) ∙ a) f))
-
--- the next instruction comes before the others
-pub next_counts : (m : Module) (i : Instr) (rest : Code) → next_units m (then_code i rest) ≡ units_of m i
-next_counts m (instr.Plain p) rest = refl
-next_counts m (instr.Branch b) rest = refl
-next_counts m (instr.Call f) rest = refl
-next_counts m (instr.CallIndirect t) rest = refl
-next_counts m instr.Unreachable rest = refl
-next_counts m (instr.Block t body) rest = refl
-next_counts m (instr.Loop t body) rest = refl
-next_counts m (instr.If t body other) rest = refl

@@ -14,6 +14,7 @@ pub mod Given
 pub mod Going
 pub mod Walk
 pub mod Straight
+pub mod Flat
 -- how a call begins and ends
 pub mod Begun
 -- the machine over cells, and values that fit their type

@@ -2,7 +2,8 @@
 
 ghost use Rattle.std.specs.Prelude.{◌≡◌, ◌∷◌, ◌<◌, [], reverse, vec_capacity, vec_len, MatchOption};
 
-use wasm_ast::{BlockType, Body, Instr};
+use flat_code::{FlatBody, FlatInstr};
+use wasm_ast::BlockType;
 
 /// What a branch to a label does: it ends a block, and may keep the topmost operand, or it begins a loop again.
 #[derive(Clone, Copy)]
@@ -12,7 +13,7 @@ pub enum Form<'a> {
     },
     Loop {
         block_type: BlockType,
-        body: &'a Body,
+        body: &'a FlatBody,
     },
 }
 
@@ -23,13 +24,13 @@ pub enum ControlEntry<'a> {
     Label {
         form: Form<'a>,
         floor: usize,
-        after: &'a [Instr],
+        after: &'a [FlatInstr],
     },
     Frame {
         keeps: bool,
         floor: usize,
         base: usize,
-        after: &'a [Instr],
+        after: &'a [FlatInstr],
     },
 }
 

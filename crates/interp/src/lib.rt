@@ -5,6 +5,7 @@ mod buffers;
 mod call_globals;
 mod cell;
 mod control_entry;
+mod flat;
 mod globals;
 mod host;
 mod laws;

@@ -1,31 +1,41 @@
 //! The functions of a module by number.
 
-ghost use Rattle.std.specs.Prelude.{◌≡◌, Some, option_map, slice_get};
+ghost use Rattle.std.specs.Prelude.{◌≡◌, Some, option_map, slice_get, IfSome};
 ghost use Rattle.wasm_ast.specs.Limits.{IsWithinLimits};
+ghost use Rattle.flat_code.specs.Bodies.{bodies_of};
 ghost use Rattle.cost.specs.Weights.{call_units};
 ghost use Rattle.validate.specs.Modules.{IsTyped};
 ghost use Rattle.bounded_profile.specs.Profile.{IsBounded};
 ghost use Rattle.interp.specs.inside.Begun.{IsDefinedAt};
 ghost use Rattle.interp.specs.Machine.{defined, functions_of};
-ghost use Rattle.interp.specs.inside.Meaning.{AreImports, callee_of};
+ghost use Rattle.interp.specs.inside.Meaning.{AreImports, HasOwnBody, callee_of};
 
 use bounded_profile::Verified;
 use cost::host_units;
+use flat_code::FlatBody;
 use host_calls::HostCall;
 use wasm_ast::{Function, Module};
 
-/// A module, and the host calls that its imports name, in order.
+/// A module, the host calls that its imports name, and the bodies of its own functions in flat form, each in order.
 #[derive(Clone, Copy)]
 pub struct Program<'a> {
     pub module: &'a Module,
     pub calls: &'a [HostCall],
+    pub bodies: &'a [FlatBody],
+}
+
+/// A function that the module defines, and its body in flat form.
+#[derive(Clone, Copy)]
+pub struct Definition<'a> {
+    pub function: &'a Function,
+    pub body: &'a FlatBody,
 }
 
 /// What the number of a function names.
 #[derive(Clone, Copy)]
 pub enum Callee<'a> {
     Host(HostCall),
-    Defined(&'a Function),
+    Defined(Definition<'a>),
 }
 
 impl<'a> Program<'a> {
@@ -36,22 +46,26 @@ impl<'a> Program<'a> {
         ensures within { IsWithinLimits verified.now }
         ensures bounded { IsBounded verified.now }
         ensures calls { AreImports result.calls.now result.«module».now }
+        ensures bodies { result.bodies.now ≡ bodies_of result.«module».now }
     {
         Program {
             module: verified.module(),
             calls: verified.host_calls(),
+            bodies: verified.flat_bodies(),
         }
     }
 
     /// Returns the function with this number, which the module defines.
-    pub fn defined(self, number: u32) -> &'a Function
+    pub fn defined(self, number: u32) -> Definition<'a>
         requires calls { AreImports self.calls.now self.«module».now }
+        requires bodies { self.bodies.now ≡ bodies_of self.«module».now }
         requires defined { IsDefinedAt self.«module».now number }
-        ensures { slice_get (functions_of self.entry.«module».now) number
-            ≡ Some (defined result.now) }
+        ensures flat { result.body.now ≡ result.function.now.body }
+        ensures there { slice_get (functions_of self.entry.«module».now) number
+            ≡ Some (defined result.function.now) }
     {
         match self.callee(number) {
-            Some(Callee::Defined(function)) => function,
+            Some(Callee::Defined(definition)) => definition,
             Some(Callee::Host(_)) => unreachable!(),
             None => unreachable!(),
         }
@@ -60,17 +74,22 @@ impl<'a> Program<'a> {
     /// Returns the function with this number, imports first (Core 1.0, 2.5.1).
     #[inline]
     pub fn callee(self, number: u32) -> Option<Callee<'a>>
-        requires { AreImports self.calls.now self.«module».now }
-        ensures { option_map callee_of result
+        requires calls { AreImports self.calls.now self.«module».now }
+        requires bodies { self.bodies.now ≡ bodies_of self.«module».now }
+        ensures flat { IfSome result HasOwnBody }
+        ensures there { option_map callee_of result
             ≡ slice_get (functions_of self.entry.«module».now) number }
     {
         let number = number as usize;
         match self.calls.get(number) {
             Some(call) => Some(Callee::Host(*call)),
             None => {
-                let functions = self.module.functions.as_slice();
-                match functions.get(number - self.calls.len()) {
-                    Some(function) => Some(Callee::Defined(function)),
+                let place = number - self.calls.len();
+                match self.module.functions.as_slice().get(place) {
+                    Some(function) => Some(Callee::Defined(Definition {
+                        function,
+                        body: &self.bodies[place],
+                    })),
                     None => None,
                 }
             }

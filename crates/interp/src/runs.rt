@@ -2,6 +2,7 @@
 
 ghost use Rattle.std.specs.Prelude.{◌≡◌, ◌↔◌, ◌+◌, ◌*◌, ◌≤◌, IfOk, IsOk, IsTrue, OnErr};
 ghost use Rattle.wasm_ast.specs.Limits.{IsWithinLimits};
+ghost use Rattle.flat_code.specs.Bodies.{bodies_of};
 ghost use Rattle.interp.specs.inside.Begun.{BeginsWith, EndsInRoom, HasStartRoom, Sends};
 ghost use Rattle.interp.specs.Bounded.{HasIds, IsWithinBound, NeverFails, items_of};
 ghost use Rattle.interp.specs.Call.{IsOutcome};
@@ -9,14 +10,13 @@ ghost use Rattle.interp.specs.Room.{IsSilent};
 ghost use Rattle.interp.specs.inside.Meaning.{AreImports};
 ghost use Rattle.interp.specs.inside.Walk.{max_count};
 
-use crate::program::Program;
+use crate::program::{Definition, Program};
 use crate::scratch::Scratch;
 use crate::start::image::Image;
 use crate::walk::Walk;
 use bounded_profile::Verified;
 use host_calls::{CallInput, CallOutcome, CallState};
 use std::alloc::{AllocError, Global};
-use wasm_ast::Function;
 
 /// The greatest id of a vertex.
 const MAX_ID: u64 = 9_223_372_036_854_775_807;
@@ -41,9 +41,9 @@ pub fn run(
     ensures reserved { IsSilent verified.now input.now → IsOk result }
 {
     let program = scratch.program_for(verified);
-    let function = program.defined(verified.compute());
+    let definition = program.defined(verified.compute());
     units_fit(verified.size(), input);
-    scratch.call(alloc, program, function, input)
+    scratch.call(alloc, program, definition, input)
 }
 
 /// Decides whether the id and the targets of the edges are in range, which is a precondition of `run`.
@@ -66,7 +66,7 @@ fn units_fit(size: u32, input: &CallInput)
 pub(crate) fn call_in<'a>(
     image: &Image<'a>,
     program: Program<'a>,
-    function: &'a Function,
+    definition: Definition<'a>,
     input: &CallInput,
     sends: Vec<(i64, i64)>,
     contributions: Vec<(u32, i64)>,
@@ -74,16 +74,18 @@ pub(crate) fn call_in<'a>(
 ) -> Result<CallOutcome, AllocError>
     requires own { image.now ≡ program.«module».now }
     requires calls { AreImports program.calls.now program.«module».now }
-    requires begins { BeginsWith program.«module».now function.now }
+    requires bodies { program.bodies.now ≡ bodies_of program.«module».now }
+    requires flat { definition.body.now ≡ definition.function.now.body }
+    requires begins { BeginsWith program.«module».now definition.function.now }
     requires within { IsWithinLimits program.«module».now }
-    requires room { HasStartRoom program.«module».now function.now walk.old.room }
+    requires room { HasStartRoom program.«module».now definition.function.now walk.old.room }
     requires ends { EndsInRoom program.«module».now input.now max_count walk.old.room }
     ensures room { walk.new.room ≡ walk.old.room }
     ensures sends { OnErr result (Sends program.entry.«module».now input.now) }
     ensures outcome { IfOk result (IsOutcome program.entry.«module».now input.now) }
 {
-    image.reset(function, walk);
-    let code = function.body.as_slice();
+    image.reset(definition.function, walk);
+    let code = definition.body.as_slice();
     let mut host = CallState::with_lists(input, sends, contributions);
     let count = walk.finish(program, code, &mut host)?;
     Ok(host.into_outcome(count))

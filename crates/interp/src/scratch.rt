@@ -4,6 +4,7 @@ ghost use Rattle.std.specs.Prelude.{◌≡◌, ◌+◌, ◌*◌, ◌^◌, ◌≤
 ghost use Rattle.wasm_ast.specs.Limits.{IsWithinLimits, max_locals};
 ghost use Rattle.validate.specs.Modules.{IsTyped};
 ghost use Rattle.bounded_profile.specs.Profile.{IsBounded};
+ghost use Rattle.flat_code.specs.Bodies.{bodies_of};
 ghost use Rattle.interp.specs.Call.{IsOutcome};
 ghost use Rattle.interp.specs.Room.{most_entries, most_locals};
 ghost use Rattle.interp.specs.inside.Begun.{BeginsWith, EndsEachWithin, HasRoom, Sends, room_in};
@@ -11,7 +12,7 @@ ghost use Rattle.interp.specs.inside.Meaning.{AreImports};
 ghost use Rattle.interp.specs.inside.Walk.{max_count};
 
 use crate::buffers::Buffers;
-use crate::program::Program;
+use crate::program::{Definition, Program};
 use crate::runs::call_in;
 use crate::start::begin;
 use crate::start::image::Image;
@@ -21,7 +22,7 @@ use host_calls::{CallInput, CallOutcome};
 use std::alloc::{AllocError, Global};
 use std::marker::Model;
 use std::mem::replace;
-use wasm_ast::{Function, MAX_LOCALS, MAX_NESTING};
+use wasm_ast::{MAX_LOCALS, MAX_NESTING};
 
 /// The state that the calls of one module share: what each call begins with, and buffers that one call leaves to the
 /// next. Its model is the module.
@@ -104,6 +105,7 @@ impl<'a> Scratch<'a> {
         ensures within { IsWithinLimits verified.now }
         ensures bounded { IsBounded verified.now }
         ensures calls { AreImports result.calls.now result.«module».now }
+        ensures bodies { result.bodies.now ≡ bodies_of result.«module».now }
     {
         Program::of(self.verified)
     }
@@ -113,7 +115,7 @@ impl<'a> Scratch<'a> {
         &mut self,
         alloc: Global,
         program: Program<'a>,
-        function: &'a Function,
+        definition: Definition<'a>,
         input: &CallInput,
     ) -> Result<CallOutcome, AllocError>
         requires same { program.«module».now ≡ self.old }
@@ -121,8 +123,10 @@ impl<'a> Scratch<'a> {
         requires bounded { IsBounded self.old }
         requires within { IsWithinLimits self.old }
         requires calls { AreImports program.calls.now program.«module».now }
-        requires begins { BeginsWith program.«module».now function.now }
-        requires few { length function.now.locals ≤ max_locals }
+        requires bodies { program.bodies.now ≡ bodies_of program.«module».now }
+        requires flat { definition.body.now ≡ definition.function.now.body }
+        requires begins { BeginsWith program.«module».now definition.function.now }
+        requires few { length definition.function.now.locals ≤ max_locals }
         requires ends { EndsEachWithin program.«module».now input.now max_count }
         ensures kept { self.new ≡ self.old }
         ensures sends { OnErr result (Sends program.entry.«module».now input.now) }
@@ -134,7 +138,7 @@ impl<'a> Scratch<'a> {
         call_in(
             &lists.image,
             program,
-            function,
+            definition,
             input,
             sends,
             contributions,

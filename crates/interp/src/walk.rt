@@ -2,8 +2,9 @@
 
 ghost use Rattle.std.specs.Prelude.{◌≡◌, ◌+◌, ◌^◌, ◌<◌, ◌≤◌, false, true, IfOk, OnErr};
 ghost use Rattle.wasm_ast.specs.Limits.{IsWithinLimits};
-ghost use Rattle.wasm_ast.specs.View.{code_of, then_code};
-ghost use Rattle.cost.specs.Weights.{units_of};
+ghost use Rattle.flat_code.specs.Bodies.{bodies_of};
+ghost use Rattle.flat_code.specs.View.{code_of, then_code};
+ghost use Rattle.interp.specs.Machine.{next_units};
 ghost use Rattle.interp.specs.inside.Cells.{cell_advance, in_width, of_any_width};
 ghost use Rattle.interp.specs.inside.Going.{goes_on, is_going};
 ghost use Rattle.interp.specs.inside.Meaning.{AreImports};
@@ -23,17 +24,17 @@ use crate::operands::Operands;
 use crate::program::Program;
 use crate::straight::{Stop, go_straight};
 use cost::branch_units;
+use flat_code::{FlatBody, FlatInstr};
 use host_calls::CallState;
 use std::alloc::AllocError;
 use std::marker::Model;
-use wasm_ast::{Body, Instr};
 
 /// Where the run goes on, or that it is done, with the units so far.
 #[derive(Clone, Copy)]
 pub enum Turn<'a> {
-    Next { code: &'a [Instr], count: u128 },
+    Next { code: &'a [FlatInstr], count: u128 },
     /// A loop begins again, with this body, and was not counted yet.
-    Again { body: &'a Body, count: u128 },
+    Again { body: &'a FlatBody, count: u128 },
     Finished { count: u128 },
 }
 
@@ -67,10 +68,11 @@ impl<'a> Walk<'a> {
     pub fn finish(
         &mut self,
         program: Program<'a>,
-        code: &'a [Instr],
+        code: &'a [FlatInstr],
         host: &mut CallState,
     ) -> Result<u128, AllocError>
         requires calls { AreImports program.calls.now program.«module».now }
+        requires bodies { program.bodies.now ≡ bodies_of program.«module».now }
         requires within { IsWithinLimits program.«module».now }
         requires ends { LeadsWithin program.«module».now self.old.room
             (at (hosted self.old host.old) (code_of code.now) 0) max_count }
@@ -110,7 +112,7 @@ impl<'a> Walk<'a> {
     fn go_on(
         &mut self,
         program: Program<'a>,
-        code: &'a [Instr],
+        code: &'a [FlatInstr],
         count: u128,
         host: &mut CallState,
     ) -> Result<Stop<'a>, AllocError>
@@ -144,8 +146,9 @@ impl<'a> Walk<'a> {
 
     /// Takes one step; the contract requires that there is one.
     #[inline]
-    fn turn(&mut self, program: Program<'a>, code: &'a [Instr], count: u128) -> Turn<'a>
+    fn turn(&mut self, program: Program<'a>, code: &'a [FlatInstr], count: u128) -> Turn<'a>
         requires calls { AreImports program.calls.now program.«module».now }
+        requires bodies { program.bodies.now ≡ bodies_of program.«module».now }
         requires within { IsWithinLimits program.«module».now }
         requires fits { HasCountRoom program.«module».now (at self.old (code_of code.now) count) }
         requires room { HasFrameRoom self.old }
@@ -167,48 +170,54 @@ impl<'a> Walk<'a> {
     fn take(
         &mut self,
         program: Program<'a>,
-        first: &'a Instr,
-        rest: &'a [Instr],
+        first: &'a FlatInstr,
+        rest: &'a [FlatInstr],
         count: u128,
     ) -> Turn<'a>
         requires calls { AreImports program.calls.now program.«module».now }
+        requires bodies { program.bodies.now ≡ bodies_of program.«module».now }
         requires within { IsWithinLimits program.«module».now }
-        requires fits { count + units_of program.«module».now first.now < 2 ^ 128 }
+        requires fits { count
+            + next_units program.«module».now (then_code first.now (code_of rest.now)) < 2 ^ 128 }
         requires room { HasFrameRoom self.old }
         requires stops { is_straight program.calls.now
             (then_code first.now (code_of rest.now)) ≡ false }
         requires goes { goes_on
             (taken of_any_width program.«module».now (then_code first.now (code_of rest.now)))
-            (code_of rest.now) (count + units_of program.«module».now first.now)
+            (code_of rest.now) (count
+            + next_units program.«module».now (then_code first.now (code_of rest.now)))
             self.old ≡ true }
         ensures turned { Turns result
             (taken in_width program.entry.«module».now (then_code first.now (code_of rest.now)))
-            (code_of rest.now) (count + units_of program.entry.«module».now first.now)
+            (code_of rest.now) (count
+            + next_units program.entry.«module».now (then_code first.now (code_of rest.now)))
             self.old self.new }
         ensures room { self.new.room ≡ self.old.room }
     {
         match first {
-            Instr::Plain(_) => unreachable!(),
-            Instr::Branch(branch) => {
+            FlatInstr::Br(label) => self.jump(*label, count + 1),
+            FlatInstr::BrIf(label) => self.branch_if(*label, rest, count + 1),
+            FlatInstr::Branch(branch) => {
                 self.branch(branch, rest, count + u128::from(branch_units(branch)))
             }
-            Instr::Call(number) => {
+            FlatInstr::Call(number) => {
                 let count = count + u128::from(program.call_units(*number));
                 self.call(program, *number, rest, count)
             }
-            Instr::CallIndirect(_) => unreachable!(),
-            Instr::Unreachable => unreachable!(),
-            Instr::Block(block_type, body) => {
+            FlatInstr::CallIndirect(_) => unreachable!(),
+            FlatInstr::Unreachable => unreachable!(),
+            FlatInstr::Block(block_type, body) => {
                 let keeps = block_type.is_some();
                 self.open(Form::Block { keeps }, body, rest, count + 1)
             }
-            Instr::Loop(block_type, body) => {
+            FlatInstr::Loop(block_type, body) => {
                 let block_type = *block_type;
                 self.open(Form::Loop { block_type, body }, body, rest, count + 1)
             }
-            Instr::If(block_type, then_body, else_body) => {
+            FlatInstr::If(block_type, then_body, else_body) => {
                 self.choose(block_type.is_some(), then_body, else_body, rest, count + 1)
             }
+            _ => unreachable!(),
         }
     }
 }

@@ -4,7 +4,7 @@ use Rattle.wasm_ast.specs.declared.types.Value.{Value}
 use Rattle.wasm_ast.specs.declared.module.Module.{Module}
 use Rattle.wasm_ast.specs.Code.{Code}
 use Rattle.wasm_ast.specs.Code as code
-use Rattle.wasm_ast.specs.View.{code_of}
+use Rattle.flat_code.specs.View.{code_of}
 use Rattle.host_calls.specs.declared.imports.HostCall.{HostCall}
 use Rattle.interp.specs.Machine as machine
 use Rattle.interp.specs.inside.Kept.{count_kept}
@@ -23,7 +23,12 @@ use Rattle.interp.specs.declared.walk.Walk.TheInside.{Inside}
 
 abbrev pub callee_of : Callee → machine.Callee
 callee_of (callee.Host call) = machine.host (Some call)
-callee_of (callee.Defined f) = machine.defined f.now
+callee_of (callee.Defined d) = machine.defined d.function.now
+
+-- the body in flat form is that of the function
+abbrev pub HasOwnBody : Callee → Type 0
+HasOwnBody (callee.Host call) = Unit {0}
+HasOwnBody (callee.Defined d) = d.body.now ≡ d.function.now.body
 
 abbrev pub host_callee : HostCall → machine.Callee
 host_callee call = machine.host (Some call)

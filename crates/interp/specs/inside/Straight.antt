@@ -1,5 +1,5 @@
 -- Straight instructions: the control entries stay, whatever they are.
-use Rattle.std.specs.Prelude.{◌≡◌, ℕ, ◌+◌, ◌<◌, List, ◌∷◌, Bool, false, true, Option, Some, slice_get}
+use Rattle.std.specs.Prelude.{◌≡◌, ℕ, ◌+◌, ◌<◌, ◌≤◌, List, ◌∷◌, Bool, false, true, Option, Some, None, slice_get}
 use Rattle.std.specs.Option.{is_some}
 use Rattle.wasm_ast.specs.declared.types.Value.{Value}
 use Rattle.wasm_ast.specs.declared.types.Value.TheVariants.{I64}
@@ -9,20 +9,20 @@ use Rattle.wasm_ast.specs.declared.plain.Branch.TheVariants as branch
 use Rattle.wasm_ast.specs.declared.plain.Plain.{Plain}
 use Rattle.wasm_ast.specs.declared.plain.Plain.TheVariants as plain
 use Rattle.wasm_ast.specs.declared.module.Module.{Module}
-use Rattle.wasm_ast.specs.declared.body.Instr.{Instr}
-use Rattle.wasm_ast.specs.declared.body.Instr.TheVariants as instr
 use Rattle.wasm_ast.specs.Code.{Code}
 use Rattle.wasm_ast.specs.Code as code
+use Rattle.flat_code.specs.declared.body.FlatInstr.{FlatInstr}
+use Rattle.flat_code.specs.declared.body.FlatInstr.TheVariants as flat
+use Rattle.flat_code.specs.View.{then_code}
 use Rattle.cost.specs.Weights.{host_units, plain_units}
 use Rattle.host_calls.specs.Host.{Host}
 use Rattle.host_calls.specs.declared.imports.HostCall.{HostCall}
 use Rattle.interp.specs.Configuration.{State, Effect, tick}
 use Rattle.interp.specs.Heights.{beneath, operands}
 use Rattle.interp.specs.Machine.{Running, ControlEntry, after_effect, next_units, run}
-use Rattle.interp.specs.declared.straight.Straight.{Straight}
-use Rattle.interp.specs.declared.straight.Straight.TheVariants as straight
+use Rattle.interp.specs.declared.plain.Acted.{Acted}
 use Rattle.interp.specs.inside.Acts.{ActsOnHost, state}
-use Rattle.interp.specs.inside.Cells.{cell_advance, cell_call, cell_effect, in_width}
+use Rattle.interp.specs.inside.Cells.{cell_advance, cell_call, cell_effect, in_width, narrowed}
 use Rattle.interp.specs.inside.Given.{gives}
 use Rattle.interp.specs.inside.Going.{call_asks, has_tops, plain_asks}
 use Rattle.interp.specs.inside.Place.{Place}
@@ -63,23 +63,28 @@ is_straight calls (code.plain p is) = true
 is_straight calls (code.call f is) = is_some (slice_get calls f)
 is_straight calls _ = false
 
--- the effect of a straight instruction, what it requires, and whether it sends or contributes
+-- a straight instruction: one that neither branches nor calls, or a call of the host
+pub data Straight : Type 0 where
+  plainly : Plain → Straight
+  by_host : HostCall → Straight
+
+-- its effect, what it requires, and whether it sends or contributes
 abbrev pub straight_effect : (Value → Bool) → Straight → List Value → State → Effect
-straight_effect may (straight.Plain p) vs st = cell_effect may p vs st
-straight_effect may (straight.Host c) vs st = cell_call may c vs st
+straight_effect may (plainly p) vs st = cell_effect may p vs st
+straight_effect may (by_host c) vs st = cell_call may c vs st
 
 abbrev pub straight_asks : Straight → (values locals globals : List Value) → (bytes : List ℕ) → Bool
-straight_asks (straight.Plain p) vs locals globals bytes = plain_asks p vs locals globals bytes
-straight_asks (straight.Host c) vs locals globals bytes = call_asks c vs
+straight_asks (plainly p) vs locals globals bytes = plain_asks p vs locals globals bytes
+straight_asks (by_host c) vs locals globals bytes = call_asks c vs
 
 abbrev pub straight_gives : Straight → Bool
-straight_gives (straight.Plain p) = false
-straight_gives (straight.Host c) = gives c
+straight_gives (plainly p) = false
+straight_gives (by_host c) = gives c
 
 -- the units of a straight instruction
 abbrev pub straight_units : Straight → ℕ
-straight_units (straight.Plain p) = plain_units p
-straight_units (straight.Host c) = host_units (Some c)
+straight_units (plainly p) = plain_units p
+straight_units (by_host c) = host_units (Some c)
 
 -- the code begins with this instruction, which counts this many units
 pub record GoesStraight (m : Module) (whole : Code) (what : Straight) (units : ℕ) (rest : Code) : Type 0 where
@@ -91,32 +96,52 @@ abbrev pub is_end : Code → Bool
 is_end code.end = true
 is_end _ = false
 
-abbrev pub skips_zero : Instr → Bool
-skips_zero (instr.Branch (branch.BrIf l)) = true
-skips_zero (instr.If t body other) = is_end other
+abbrev pub skips_zero : FlatInstr → Bool
+skips_zero (flat.BrIf l) = true
+skips_zero (flat.If t body other) = is_end other
 skips_zero _ = false
 
--- what it requires, where the code begins with one
-abbrev pub zero_asks : Code → List Value → Bool
-zero_asks (code.branch (branch.BrIf l) is) vs = has_tops 1 vs
-zero_asks (code.choice t body other is) vs = has_tops 1 vs
-zero_asks _ vs = true
+-- what an instruction requires that calls the host, or only pops a zero
+abbrev pub host_asks : Option HostCall → List Value → Bool
+host_asks None vs = true
+host_asks (Some c) vs = call_asks c vs
 
--- each run over values that passes the one code with these operands passes the other with those, 1 unit later
-abbrev pub GoesPast : Module → (old : List Value) (whole : Code) → (new : List Value) (rest : Code) → Type 0
-GoesPast m old whole new rest =
-    (most count : ℕ) (locals globals : List Value) (bytes : List ℕ) (host : Host)
-    → Passes m most (spot old whole locals globals bytes host count) (spot new rest locals globals bytes host (count + 1))
+abbrev pub beside_asks : List HostCall → FlatInstr → List Value → Bool
+beside_asks calls (flat.Call f) vs = host_asks (slice_get calls f) vs
+beside_asks calls (flat.BrIf l) vs = has_tops 1 vs
+beside_asks calls (flat.If t body other) vs = has_tops 1 vs
+beside_asks calls _ vs = true
+
+-- each run over values that passes the instruction with these operands and this host passes the code after it with
+-- those, this many units later
+abbrev pub GoesBeside : Module → FlatInstr → (old : List Value) → (host : Host) → (new : List Value) → (host_after : Host) → (units : ℕ) → Type 0
+GoesBeside m first old host new host_after units =
+    (rest : Code) (most count : ℕ) (locals globals : List Value) (bytes : List ℕ)
+    → Passes m most (spot old (then_code first rest) locals globals bytes host count) (spot new rest locals globals bytes host_after (count + units))
+
+-- each such run sends something, or contributes to an aggregator
+abbrev pub SendsBeside : Module → FlatInstr → (old : List Value) → Host → Type 0
+SendsBeside m first old host =
+    (rest : Code) (most count : ℕ) (locals globals : List Value) (bytes : List ℕ)
+    → SendsAmid m most (spot old (then_code first rest) locals globals bytes host count)
+
+-- a zero was the topmost operand
+pub record PopsZero (old new : List Value) (acted : Acted) (room : ℕ) : Type 0 where
+  pub cell : ℕ
+  pub popped : old ≡ I64 cell ∷ new
+  pub zero : narrowed val_type.I32 cell ≡ 0
+  pub units : acted.units ≡ 1
+  pub within : acted.top ≤ room
 
 -- the opening of a loop after the call that takes an item: `i32.eqz` and `br_if`
 abbrev pub eqz : Plain
 eqz = plain.Numeric (numeric.Eqz val_type.I32)
 
-abbrev pub IsEqz : Instr → Type 0
-IsEqz i = i ≡ instr.Plain eqz
+abbrev pub IsEqz : FlatInstr → Type 0
+IsEqz i = i ≡ flat.I32Eqz
 
-abbrev pub IsBranchIf : Instr → Type 0
-IsBranchIf i = (l : ℕ) × (i ≡ instr.Branch (branch.BrIf l))
+abbrev pub IsBranchIf : FlatInstr → Type 0
+IsBranchIf i = (l : ℕ) × (i ≡ flat.BrIf l)
 
 abbrev pub IsTest : (whole body : Code) → Type 0
 IsTest whole body = (l : ℕ) × (whole ≡ code.plain eqz (code.branch (branch.BrIf l) body))

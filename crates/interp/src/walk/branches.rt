@@ -3,7 +3,7 @@
 ghost use Rattle.std.specs.Prelude.{◌≡◌, reverse, true, vec_capacity};
 ghost use Rattle.wasm_ast.specs.declared.plain.Branch.TheVariants as branches;
 ghost use Rattle.wasm_ast.specs.Code.{end};
-ghost use Rattle.wasm_ast.specs.View.{code_of};
+ghost use Rattle.flat_code.specs.View.{code_of};
 ghost use Rattle.interp.specs.Machine.{label_of};
 ghost use Rattle.interp.specs.inside.Cells.{cell_branch};
 ghost use Rattle.interp.specs.inside.Going.{goes_on, has_labels};
@@ -17,12 +17,13 @@ use crate::control_entry::{ControlEntry, pop_entry};
 use crate::locals::Locals;
 use crate::operands::Operands;
 use crate::walk::{Turn, Walk};
-use wasm_ast::{Branch, Instr};
+use flat_code::FlatInstr;
+use wasm_ast::Branch;
 
 impl<'a> Walk<'a> {
     /// Takes a branch.
     #[inline]
-    pub fn branch(&mut self, branch: &Branch, code: &'a [Instr], count: u128) -> Turn<'a>
+    pub fn branch(&mut self, branch: &Branch, code: &'a [FlatInstr], count: u128) -> Turn<'a>
         requires spare { HasOperandRoom self.old }
         requires goes { goes_on (cell_branch branch.now) (code_of code.now) count
             self.old ≡ true }
@@ -38,8 +39,8 @@ impl<'a> Walk<'a> {
         }
     }
 
-    #[inline]
-    fn branch_if(&mut self, label: u32, code: &'a [Instr], count: u128) -> Turn<'a>
+    #[inline(always)]
+    pub fn branch_if(&mut self, label: u32, code: &'a [FlatInstr], count: u128) -> Turn<'a>
         requires spare { HasOperandRoom self.old }
         requires goes { goes_on (cell_branch (branches.BrIf label)) (code_of code.now) count
             self.old ≡ true }
@@ -68,7 +69,7 @@ impl<'a> Walk<'a> {
 
     /// Jumps to a label.
     #[inline(always)]
-    fn jump(&mut self, label: u32, count: u128) -> Turn<'a>
+    pub fn jump(&mut self, label: u32, count: u128) -> Turn<'a>
         requires spare { HasOperandRoom self.old }
         requires goes { goes_on (cell_branch (branches.Br label)) end count self.old ≡ true }
         ensures turned { Turns result (cell_branch (branches.Br label)) end count

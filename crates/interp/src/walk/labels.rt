@@ -2,7 +2,7 @@
 
 ghost use Rattle.std.specs.Prelude.{◌≡◌, option_map, true};
 ghost use Rattle.wasm_ast.specs.declared.types.Value.TheVariants.{I64};
-ghost use Rattle.wasm_ast.specs.View.{code_of};
+ghost use Rattle.flat_code.specs.View.{code_of};
 ghost use Rattle.interp.specs.Machine.{arrive, leave};
 ghost use Rattle.interp.specs.inside.Going.{goes_on, is_going};
 ghost use Rattle.interp.specs.inside.Meaning.{keeps_of, target_of};
@@ -12,7 +12,7 @@ ghost use Rattle.interp.specs.inside.Walk.{Turned, Turns, chosen, opened};
 use crate::cell::as_i32;
 use crate::control_entry::{ControlEntry, Form, pop_entry, push_entry};
 use crate::walk::{Turn, Walk};
-use wasm_ast::{Body, Instr};
+use flat_code::{FlatBody, FlatInstr};
 
 impl<'a> Walk<'a> {
     /// Goes on at the innermost label or frame, with an operand. The label of a loop stays: there the walk has already
@@ -105,8 +105,8 @@ impl<'a> Walk<'a> {
     pub fn open(
         &mut self,
         form: Form<'a>,
-        body: &'a Body,
-        code: &'a [Instr],
+        body: &'a FlatBody,
+        code: &'a [FlatInstr],
         count: u128,
     ) -> Turn<'a>
         requires { HasEntryRoom self.old }
@@ -134,9 +134,9 @@ impl<'a> Walk<'a> {
     pub fn choose(
         &mut self,
         keeps: bool,
-        then_body: &'a Body,
-        else_body: &'a Body,
-        code: &'a [Instr],
+        then_body: &'a FlatBody,
+        else_body: &'a FlatBody,
+        code: &'a [FlatInstr],
         count: u128,
     ) -> Turn<'a>
         requires room { HasEntryRoom self.old }

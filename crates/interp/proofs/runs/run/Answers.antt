@@ -12,8 +12,8 @@ use Rattle.interp.proofs.Running.{begins_at, begins_with, bound_told, defined_at
 use Rattle.interp.proofs.Sending.{silent_ok}
 use Rattle.interp.proofs.runs.run.Goals as goal
 
-pub defined-function-requires-clause-defined : goal.defined-function-requires-clause-defined
-defined-function-requires-clause-defined c =
+pub defined-definition-requires-clause-defined : goal.defined-definition-requires-clause-defined
+defined-definition-requires-clause-defined c =
     let told = c.program_for-program.ensures in
     let b = begins_at c.args.verified.now told.typed told.bounded c.compute.result c.compute.ensures c.args.input.now in
     subst (λ (m : Module). IsDefinedAt m c.compute.result) (sym told.same) (defined_at c.args.verified.now c.compute.result b)
@@ -31,12 +31,12 @@ pub call-requires-clause-begins : goal.call-requires-clause-begins
 call-requires-clause-begins c =
     let told = c.program_for-program.ensures in
     let b = begins_at c.args.verified.now told.typed told.bounded c.compute.result c.compute.ensures c.args.input.now in
-    begins_with c.program_for-program.result.module.now c.compute.result c.defined-function.result.now (subst (λ (m : Module). BeginsAt m c.compute.result) (sym told.same) b) c.defined-function.ensures
+    begins_with c.program_for-program.result.module.now c.compute.result c.defined-definition.result.function.now (subst (λ (m : Module). BeginsAt m c.compute.result) (sym told.same) b) c.defined-definition.ensures.there
 
 pub call-requires-clause-few : goal.call-requires-clause-few
 call-requires-clause-few c =
     let told = c.program_for-program.ensures in
-    few_of_its_own c.program_for-program.result.module.now (subst IsWithinLimits (sym told.same) told.within) c.compute.result c.defined-function.result.now c.defined-function.ensures
+    few_of_its_own c.program_for-program.result.module.now (subst IsWithinLimits (sym told.same) told.within) c.compute.result c.defined-definition.result.function.now c.defined-definition.ensures.there
 
 pub call-requires-clause-ends : goal.call-requires-clause-ends
 call-requires-clause-ends c =

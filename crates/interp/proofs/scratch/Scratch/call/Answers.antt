@@ -18,7 +18,7 @@ pub call_in-requires-clause-room : goal.call_in-requires-clause-room
 call_in-requires-clause-room c =
     let own = subst (λ (m : Module). HasRoom m c.self.inside.lists.value.walk.room) c.self.view_is c.self.invariant.1 in
     let has = subst (λ (l : Lists). HasRoom c.args.self.now l.walk.room) (sym c.deref_mut-lists.ensures.value) own in
-    start_room c.args.self.now c.args.program.module.now (sym c.requires.same) c.args.function.now c.deref_mut-lists.result.now.walk.room has c.requires.few
+    start_room c.args.self.now c.args.program.module.now (sym c.requires.same) c.args.definition.function.now c.deref_mut-lists.result.now.walk.room has c.requires.few
 
 pub call_in-requires-clause-ends : goal.call_in-requires-clause-ends
 call_in-requires-clause-ends c =

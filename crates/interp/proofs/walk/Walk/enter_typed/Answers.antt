@@ -1,7 +1,7 @@
 use Rattle.std.proofs.Common.{◌≤◌, Some, length, reverse, take, refl, ap, sym, ◌∙◌, subst, arith, length-append, rules}
 use Rattle.std.proofs.lemmas.List.{length-map, length-reverse, length-take}
 use Rattle.wasm_ast.specs.declared.types.Value.TheVariants.{I64}
-use Rattle.wasm_ast.specs.View.{code_of}
+use Rattle.flat_code.specs.View.{code_of}
 use Rattle.interp.specs.Machine.{enter}
 use Rattle.interp.specs.inside.Cells.{celled}
 use Rattle.interp.specs.inside.Going.{goes_on}
@@ -14,7 +14,7 @@ use Rattle.interp.proofs.walk.Walk.enter_typed.Goals as goal
 pub topmost-requires : goal.topmost-requires
 topmost-requires c =
     let s = standing_of c.self.inside in
-    let asked = enter_asks (celled c.args.function.now) c.args.func_type.now s.values (code_of c.args.code.now) s.entries (state_of s c.args.count) (ap (goes_on (enter (celled c.args.function.now) (Some c.args.func_type.now)) (code_of c.args.code.now) c.args.count) c.self.view_is ∙ c.requires.goes) in
+    let asked = enter_asks (celled c.args.definition.function.now) c.args.func_type.now s.values (code_of c.args.code.now) s.entries (state_of s c.args.count) (ap (goes_on (enter (celled c.args.definition.function.now) (Some c.args.func_type.now)) (code_of c.args.code.now) c.args.count) c.self.view_is ∙ c.requires.goes) in
     subst (λ n. n ≤ length s.values) (search rules) asked
 
 pub open-requires : goal.open-requires

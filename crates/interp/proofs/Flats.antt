@@ -1,0 +1,115 @@
+-- One flat instruction of straight code.
+use Rattle.std.proofs.Common.{◌≡◌, ℕ, ◌+◌, ◌≤◌, true, List, length, map, Option, Some, None, Result, Ok, Err, refl, sym, ap, subst}
+use Rattle.std.specs.Prelude.{IfOk, IfSome, OnErr}
+use Rattle.wasm_ast.specs.declared.types.Value.{Value}
+use Rattle.wasm_ast.specs.declared.types.Value.TheVariants.{I64}
+use Rattle.wasm_ast.specs.declared.module.Module.{Module}
+use Rattle.wasm_ast.specs.declared.numeric.Numeric.{Numeric}
+use Rattle.wasm_ast.specs.declared.plain.Plain.{Plain}
+use Rattle.wasm_ast.specs.declared.plain.Plain.TheVariants as plain
+use Rattle.wasm_ast.specs.Code.{Code}
+use Rattle.wasm_ast.specs.Code as code
+use Rattle.flat_code.specs.declared.body.FlatInstr.{FlatInstr}
+use Rattle.flat_code.specs.declared.body.FlatInstr.TheVariants as flat
+use Rattle.flat_code.specs.Plains.{plain_of}
+use Rattle.flat_code.specs.View.{then_code, then_plain}
+use Rattle.cost.specs.Weights.{plain_units}
+use Rattle.host_calls.specs.Host.{Host}
+use Rattle.host_calls.specs.declared.imports.HostCall.{HostCall}
+use Rattle.interp.specs.declared.plain.Acted.{Acted}
+use Rattle.interp.specs.inside.Flat.{BesideDid, Fails, FlatDid, PlainDid, Stops}
+use Rattle.interp.specs.inside.Kept.{count_kept}
+use Rattle.interp.specs.inside.OperandStack.{operand_stack}
+use Rattle.interp.specs.inside.Renewed.{Renewed}
+use Rattle.interp.specs.inside.Straight.{GoesBeside, Passes, PopsZero, SendsBeside, Spot, plainly, skips_zero, spot}
+use Rattle.interp.proofs.Passing.{goes_plain, passes_on, passes_past, past_zero, straight_step}
+
+-- a place over the lists of the walk
+abbrev pub here_of : (cells : List ℕ) (top : ℕ) → Code → (locals : List ℕ) → Renewed → (bytes : List ℕ) → Host → (count : ℕ) → Spot
+here_of cells top k locals globals bytes h count =
+    spot (operand_stack cells top) k (map I64 locals) globals.here bytes h count
+
+module _ (m : Module) (most : ℕ) (start : Spot) (top : ℕ) (cells cells' locals locals' : List ℕ) (globals globals' : Renewed) (bytes bytes' : List ℕ) (h h' : Host) (count : ℕ) where
+  passes_known : (o : Option Plain) (first : FlatInstr) (rest : Code) (by : Acted) → o ≡ plain_of first → FlatDid m o first by top cells cells' locals locals' globals globals' bytes bytes' h h' → Passes m most start (here_of cells top (then_code first rest) locals globals bytes h count) → Passes m most start (here_of cells' by.top rest locals' globals' bytes' h' (count + by.units))
+  passes_known (Some p) first rest by known did on =
+      let s = here_of cells top (code.plain p rest) locals globals bytes h count in
+      let t = here_of cells' by.top rest locals' globals' bytes' h (count + plain_units p) in
+      let goes = goes_plain m (code.plain p rest) rest p refl in
+      let there = subst (λ (o : Option Plain). Passes m most start (here_of cells top (then_plain o first rest) locals globals bytes h count)) (sym known) on in
+      let one = passes_on m most start s t there (straight_step m most s (plainly p) (plain_units p) rest goes t (did.0.acts h (count + plain_units p)) refl) in
+      subst (λ (x : Host). Passes m most start (here_of cells' by.top rest locals' globals' bytes' x (count + by.units))) (sym did.1)
+      (subst (λ (n : ℕ). Passes m most start (here_of cells' by.top rest locals' globals' bytes' h (count + n))) (sym did.0.units) one)
+  passes_known None first rest by known did on =
+      let past = did.goes rest most count (map I64 locals) globals.here bytes in
+      let one = passes_past m most start (here_of cells top (then_code first rest) locals globals bytes h count) (here_of cells' by.top rest locals globals bytes h' (count + by.units)) on past in
+      let a2 = subst (λ (x : List ℕ). Passes m most start (here_of cells' by.top rest x globals bytes h' (count + by.units))) (sym did.same_locals) one in
+      let a3 = subst (λ (x : Renewed). Passes m most start (here_of cells' by.top rest locals' x bytes h' (count + by.units))) (sym did.same_globals) a2 in
+      subst (λ (x : List ℕ). Passes m most start (here_of cells' by.top rest locals' globals' x h' (count + by.units))) (sym did.same_bytes) a3
+
+  -- past a straight instruction
+  pub passes_flat : (first : FlatInstr) (rest whole : Code) (by : Acted) (units : ℕ) → units ≡ by.units → whole ≡ then_code first rest → FlatDid m (plain_of first) first by top cells cells' locals locals' globals globals' bytes bytes' h h' → Passes m most start (here_of cells top whole locals globals bytes h count) → Passes m most start (here_of cells' by.top rest locals' globals' bytes' h' (count + units))
+  passes_flat first rest whole by units counted begins did on =
+      subst (λ (n : ℕ). Passes m most start (here_of cells' by.top rest locals' globals' bytes' h' (count + n))) (sym counted)
+      (passes_known (plain_of first) first rest by refl did (subst (λ (k : Code). Passes m most start (here_of cells top k locals globals bytes h count)) begins on))
+
+  pub flat_keeps : (o : Option Plain) (first : FlatInstr) (by : Acted) → FlatDid m o first by top cells cells' locals locals' globals globals' bytes bytes' h h' → (by.top ≤ length cells') × (globals'.initial ≡ globals.initial) × (count_kept bytes' ≡ count_kept bytes)
+  flat_keeps (Some p) first by did = (did.0.within, did.0.kept_globals, did.0.kept_bytes)
+  flat_keeps None first by did =
+      (did.within, ap (λ (g : Renewed). g.initial) did.same_globals, ap (λ (b : List ℕ). count_kept b) did.same_bytes)
+
+  -- where straight code stops
+  pub passes_stopped : (calls : List HostCall) (first : FlatInstr) (whole : Code) → Stops calls first cells cells' locals locals' globals globals' bytes bytes' h h' → Passes m most start (here_of cells top whole locals globals bytes h count) → Passes m most start (here_of cells' top whole locals' globals' bytes' h' count)
+  passes_stopped calls first whole is on =
+      let a1 = subst (λ (x : List ℕ). Passes m most start (here_of x top whole locals globals bytes h count)) (sym is.same_cells) on in
+      let a2 = subst (λ (x : List ℕ). Passes m most start (here_of cells' top whole x globals bytes h count)) (sym is.same_locals) a1 in
+      let a3 = subst (λ (x : Renewed). Passes m most start (here_of cells' top whole locals' x bytes h count)) (sym is.same_globals) a2 in
+      let a4 = subst (λ (x : List ℕ). Passes m most start (here_of cells' top whole locals' globals' x h count)) (sym is.same_bytes) a3 in
+      subst (λ (x : Host). Passes m most start (here_of cells' top whole locals' globals' bytes' x count)) (sym is.same_host) a4
+
+-- ---- an instruction that acts on the operands alone
+
+pub op_did : (m : Module) (first : FlatInstr) (op : Numeric) → plain_of first ≡ Some (plain.Numeric op) → (by : Acted) (top : ℕ) (cells cells' locals : List ℕ) (globals : Renewed) (bytes : List ℕ) (h : Host) → PlainDid (plain.Numeric op) by top cells cells' locals locals globals globals bytes bytes → FlatDid m (plain_of first) first by top cells cells' locals locals globals globals bytes bytes h h
+op_did m first op is by top cells cells' locals globals bytes h did =
+    subst (λ (o : Option Plain). FlatDid m o first by top cells cells' locals locals globals globals bytes bytes h h) (sym is) (did, refl)
+
+-- ---- an instruction that only pops a zero
+
+pub zero_beside : (m : Module) (first : FlatInstr) (h : Host) (cells : List ℕ) (top room : ℕ) (o : Option Acted) → skips_zero first ≡ true → IfSome o (λ a. PopsZero (operand_stack cells top) (operand_stack cells a.top) a room) → IfSome o (λ a. GoesBeside m first (operand_stack cells top) h (operand_stack cells a.top) h a.units)
+zero_beside m first h cells top room None skips pops = tt
+zero_beside m first h cells top room (Some a) skips pops =
+    subst (λ (n : ℕ). GoesBeside m first (operand_stack cells top) h (operand_stack cells a.top) h n) (sym pops.units) (past_zero m first h pops.cell (operand_stack cells top) (operand_stack cells a.top) skips pops.popped pops.zero)
+
+pub zero_did : (m : Module) (first : FlatInstr) (o : Option Acted) (top : ℕ) (cells locals : List ℕ) (globals : Renewed) (bytes : List ℕ) (h : Host) → skips_zero first ≡ true → plain_of first ≡ None → IfSome o (λ a. PopsZero (operand_stack cells top) (operand_stack cells a.top) a (length cells)) → IfSome o (λ by. FlatDid m (plain_of first) first by top cells cells locals locals globals globals bytes bytes h h)
+zero_did m first None top cells locals globals bytes h skips none pops = tt
+zero_did m first (Some by) top cells locals globals bytes h skips none pops =
+    let did : BesideDid m first by top cells cells locals locals globals globals bytes bytes h h = record {
+      goes = zero_beside m first h cells top (length cells) (Some by) skips pops;
+      within = pops.within;
+      same_locals = refl;
+      same_globals = refl;
+      same_bytes = refl;
+    } in
+    subst (λ (o : Option Plain). FlatDid m o first by top cells cells locals locals globals globals bytes bytes h h) (sym none) did
+
+-- ---- a call of the host
+
+pub call_did : {E : Type 0} (m : Module) (n : ℕ) (first : FlatInstr) → first ≡ flat.Call n → (r : Result (Option Acted) E) (top : ℕ) (cells cells' locals : List ℕ) (globals : Renewed) (bytes : List ℕ) (h h' : Host) → IfOk r (λ o. IfSome o (λ by. GoesBeside m (flat.Call n) (operand_stack cells top) h (operand_stack cells' by.top) h' by.units)) → IfOk r (λ o. IfSome o (λ by. by.top ≤ length cells')) → IfOk r (λ o. IfSome o (λ by. FlatDid m (plain_of first) first by top cells cells' locals locals globals globals bytes bytes h h'))
+call_did m n first is (Ok None) top cells cells' locals globals bytes h h' goes within = tt
+call_did m n first is (Err e) top cells cells' locals globals bytes h h' goes within = tt
+call_did m n first is (Ok (Some by)) top cells cells' locals globals bytes h h' goes within =
+    let did : BesideDid m (flat.Call n) by top cells cells' locals locals globals globals bytes bytes h h' = record {
+      goes = goes;
+      within = within;
+      same_locals = refl;
+      same_globals = refl;
+      same_bytes = refl;
+    } in
+    subst (λ (i : FlatInstr). FlatDid m (plain_of i) i by top cells cells' locals locals globals globals bytes bytes h h') (sym is) did
+
+pub call_fails : {T E : Type 0} (m : Module) (n : ℕ) (first : FlatInstr) → first ≡ flat.Call n → (r : Result T E) (values : List Value) (h : Host) (globals : Renewed) (bytes : List ℕ) → OnErr r (SendsBeside m (flat.Call n) values h) → OnErr r (Fails m first values h globals globals bytes bytes)
+call_fails m n first is (Ok x) values h globals bytes sends = tt
+call_fails m n first is (Err e) values h globals bytes sends = record {
+  sends = subst (λ (i : FlatInstr). SendsBeside m i values h) (sym is) sends;
+  same_globals = refl;
+  same_bytes = refl;
+}

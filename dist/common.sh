@@ -97,6 +97,7 @@ prove_side_by_side() {
     local room=$1 crate small formats
     {
         RT_JOBS=1 prove_copy "$room/small" graph inbox graph_import run_report job_file
+        RT_JOBS=1 prove_copy "$room/binary" wasm_decode
         wait_for "$room/past_checkpoint"
         RT_JOBS=1 prove_copy "$room/channels" channels
     } &
@@ -105,9 +106,11 @@ prove_side_by_side() {
     wait $! || true
     {
         RT_JOBS=1 prove_copy "$room/hosts" host_calls flat_code
-        RT_JOBS=1 prove_copy "$room/formats" wat_asm wasm_decode
+        RT_JOBS=1 prove_copy "$room/text" wat_asm fit
+        wait_for "$room/past_superstep"
+        RT_JOBS=1 prove_copy "$room/words" command_line
         wait_for "$room/past_checkpoint"
-        RT_JOBS=2 prove_copy "$room/reading" fit explain command_line sources
+        RT_JOBS=2 prove_copy "$room/reading" explain sources
     } &
     formats=$!
     {
@@ -115,7 +118,7 @@ prove_side_by_side() {
             prove_copy "$room/$crate" "$crate" || break
             touch "$room/past_$crate"
         done
-        touch "$room/past_checkpoint"
+        touch "$room/past_superstep" "$room/past_checkpoint"
     } &
     wait $! "$small" "$formats" || true
     prove_copy "$room/session" session &

@@ -1,5 +1,6 @@
 pub mod Collecting
 pub mod Counting
+pub mod InPieces
 pub mod Placing
 pub mod Printing
 pub mod Ranges

@@ -1,5 +1,6 @@
--- What is collected of lines, and where edges are placed, as the functions do it.
+-- What is collected of lines and of pieces of a text, and where edges are placed, as the functions do it.
 pub mod Collected
+pub mod Pieces
 pub mod Placed
 -- Lists by rising keys, and lists cut into parts: facts for the proofs of this crate and of those above it.
 pub mod Rising

@@ -1,6 +1,6 @@
 //! The vertices and edges that the lines of a text declare.
 
-ghost use Rattle.std.specs.Prelude.{◌≢◌, IfOk, IfErr, OnOk};
+ghost use Rattle.std.specs.Prelude.{◌≡◌, ◌≢◌, ◌++◌, [], IfOk, IfErr, OnOk};
 ghost use Rattle.graph.specs.declared.fault.GraphFault.TheVariants.{OutOfMemory};
 ghost use Rattle.graph.specs.inside.Collected.{AddsEdge, AddsLine, AddsVertex, CanBeSaid, IsFullOfEdges, IsFullOfVertices, RefusesLine, Says};
 ghost use Rattle.graph.specs.Entry.{entry_of};
@@ -9,7 +9,7 @@ ghost use Rattle.graph.specs.Said.{lines_of};
 use crate::fault::GraphFault;
 use crate::line::{Line, line_of};
 use crate::vertex::{Edge, MAX_EDGES, MAX_VERTICES, Vertex};
-use std::alloc::Global;
+use std::alloc::{AllocError, Global};
 
 /// The vertices and edges of a text, each in the order of their lines. No vertex has its edges yet.
 #[derive(Drop)]
@@ -36,6 +36,31 @@ pub fn collect(alloc: Global, text: &str) -> Result<Collected, GraphFault>
 }
 
 impl Collected {
+    /// Makes an empty one, with room for this number of vertices and of edges.
+    pub fn with_capacity(
+        alloc: Global,
+        vertices: usize,
+        edges: usize,
+    ) -> Result<Collected, AllocError>
+        ensures vertices { IfOk result (λ empty. empty.vertices.items ≡ []) }
+        ensures edges { IfOk result (λ empty. empty.edges.items ≡ []) }
+    {
+        let vertices = Vec::with_capacity(alloc, vertices)?;
+        let edges = Vec::with_capacity(alloc, edges)?;
+        Ok(Collected { vertices, edges })
+    }
+
+    /// Moves the vertices and edges of others to the end.
+    pub fn append(&mut self, others: &mut Collected) -> Result<(), AllocError>
+        ensures vertices { OnOk result
+            (self.new.vertices.items ≡ self.old.vertices.items ++ others.old.vertices.items) }
+        ensures edges { OnOk result
+            (self.new.edges.items ≡ self.old.edges.items ++ others.old.edges.items) }
+    {
+        self.vertices.append(&mut others.vertices)?;
+        self.edges.append(&mut others.edges)
+    }
+
     // Adds the vertex or the edge of a line, which has this number.
     fn add(&mut self, alloc: Global, number: usize, line: Line) -> Result<(), GraphFault>
         ensures says { OnOk result (AddsLine line self.old self.new) }

@@ -2,7 +2,7 @@
 
 ghost use Rattle.std.specs.Prelude.{◌≡◌, ◌≢◌, List, IfOk, IfErr, MatchResult};
 ghost use Rattle.graph.specs.declared.fault.GraphFault.TheVariants.{OutOfMemory};
-ghost use Rattle.graph.specs.inside.Collected.{Says};
+ghost use Rattle.graph.specs.inside.Collected.{CanBeSaid, Says};
 ghost use Rattle.graph.specs.Entry.{Entry, FitsLimits, IsProper, entries_of, entry_of};
 ghost use Rattle.graph.specs.Graph.{IsGraphText, IsWithinLimits, MeansNoGraph};
 ghost use Rattle.graph.specs.Said.{lines_of};
@@ -11,11 +11,13 @@ use crate::collect::{Collected, collect};
 use crate::fault::GraphFault;
 use crate::fault_lines::{first_duplicate, first_fault};
 use crate::partition::sort_by_id;
+use crate::pieces::collect_in_threads;
 use crate::place::place_edges;
 use crate::rising::are_rising;
 use crate::vertex::Vertex;
 use std::alloc::{AllocError, Global};
 use std::marker::Model;
+use std::thread::Threads;
 
 /// A directed graph with a value at each vertex and each edge.
 ///
@@ -54,12 +56,24 @@ impl Graph {
         ensures only { (graph : List Entry) → IsGraphText text.now graph → IsWithinLimits text.now
             → MatchResult result (λ read. read ≡ graph) (λ fault. fault ≡ OutOfMemory) }
     {
-        let collected = match collect(alloc, text) {
-            Ok(collected) => collected,
-            Err(fault) => return Err(first_fault(alloc, text, fault)),
-        };
-        let vertices = joined(alloc, text, collected)?;
-        Ok(Graph { vertices })
+        graph_of(alloc, text, collect(alloc, text))
+    }
+
+    /// Reads a graph file as `read` does, and a file of 100,000 bytes or more in threads, one for each processor, at most 16.
+    ///
+    /// The graph or the error is that of `read`, whatever the number of processors.
+    pub fn read_in_threads(
+        rt: &(impl Threads + Sync),
+        alloc: Global,
+        text: &str,
+    ) -> Result<Graph, GraphFault>
+        ensures found { IfOk result (λ graph. IsGraphText text.now graph
+            × IsWithinLimits text.now) }
+        // A text that means a graph within the limits is read, unless memory runs out.
+        ensures only { (graph : List Entry) → IsGraphText text.now graph → IsWithinLimits text.now
+            → MatchResult result (λ read. read ≡ graph) (λ fault. fault ≡ OutOfMemory) }
+    {
+        graph_of(alloc, text, collect_in_threads(rt, alloc, text))
     }
 
     /// Returns the vertices, by rising id.
@@ -96,6 +110,28 @@ impl Graph {
         let vertices = copied(alloc, &self.vertices)?;
         Ok(Graph { vertices })
     }
+}
+
+// Makes the graph of what was collected of a text.
+fn graph_of(
+    alloc: Global,
+    text: &str,
+    collected: Result<Collected, GraphFault>,
+) -> Result<Graph, GraphFault>
+    requires says { IfOk collected (λ collected. Says (lines_of text.now) collected) }
+    requires only { IfErr collected (λ told. told ≢ OutOfMemory
+        → ¬ CanBeSaid (lines_of text.now)) }
+    ensures found { IfOk result (λ graph. IsGraphText text.now graph
+        × IsWithinLimits text.now) }
+    ensures only { (graph : List Entry) → IsGraphText text.now graph → IsWithinLimits text.now
+        → MatchResult result (λ read. read ≡ graph) (λ fault. fault ≡ OutOfMemory) }
+{
+    let collected = match collected {
+        Ok(collected) => collected,
+        Err(fault) => return Err(first_fault(alloc, text, fault)),
+    };
+    let vertices = joined(alloc, text, collected)?;
+    Ok(Graph { vertices })
 }
 
 // Joins the vertices and the edges of a text.

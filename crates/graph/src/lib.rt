@@ -10,6 +10,7 @@ mod laws;
 mod line;
 mod partition;
 mod parts;
+mod pieces;
 mod place;
 mod print;
 mod rising;

@@ -1,6 +1,6 @@
 -- The operands' two parts.
 use Rattle.std.proofs.Common.{◌≡◌, ℕ, ◌+◌, ◌-◌, ◌≤◌, List, [], ◌∷◌, ◌++◌, length, take, drop, reverse, sym, ap, ◌∙◌, subst, arith, length-drop}
-use Rattle.std.proofs.lemmas.List.{reverse-append, length-reverse, length-take-le, drop-append-le, take-append-le, take-append-drop, drop_all, reverse-reverse}
+use Rattle.std.proofs.lemmas.List.{reverse-append, length-reverse, length-take, length-take-le, drop-append-le, take-append-le, take-append-drop, drop_all, reverse-reverse}
 use Rattle.std.proofs.Math.Seq.{take-length}
 use Rattle.wasm_ast.specs.declared.types.Value.{Value}
 use Rattle.interp.specs.inside.Split.{Below, Split, all_of}
@@ -103,6 +103,18 @@ module _ (r : ℕ) where
       let below : reverse (take n ys) ≡ reverse (take n xs) =
       ap (λ (l : List Value). reverse (take n l)) cut' ∙ ap (λ (l : List Value). reverse l) (take-take n (n + j) xs (omega arith)) in
       subst P e (ap (λ (l : List Value). p l (reverse (take n ys))) here ∙ ap (λ (l : List Value). p (drop k (reverse (drop n xs))) l) below)
+
+  -- those on top are dropped
+  pub emptied : (n : ℕ) (xs ys : List Value) (s : Split) → parts r n xs ≡ s → ys ≡ take n xs → let t : Split = record { here = []; below = s.below } in parts r n ys ≡ t
+  emptied n xs ys s e cut =
+      let P : Split → Type 0 = λ s. let t : Split = record { here = []; below = s.below } in parts r n ys ≡ t in
+      let p : (h b : List Value) → Split = λ (h b : List Value). record { here = h; below = record { values = b; room = r } } in
+      let none : drop n (take n xs) ≡ [] = drop_all n (take n xs) (omega (arith, length-take n xs)) in
+      let here : reverse (drop n ys) ≡ [] =
+      ap (λ (l : List Value). reverse (drop n l)) cut ∙ ap (λ (l : List Value). reverse l) none in
+      let below : reverse (take n ys) ≡ reverse (take n xs) =
+      ap (λ (l : List Value). reverse (take n l)) cut ∙ ap (λ (l : List Value). reverse l) (take-take n n xs (omega arith)) in
+      subst P e (ap (λ (l : List Value). p l (reverse (take n ys))) here ∙ ap (λ (l : List Value). p [] l) below)
 
   -- how many there are in both
   pub all_is : (n : ℕ) (xs : List Value) → n ≤ length xs → all_of (parts r n xs) ≡ length xs

@@ -1,6 +1,7 @@
 //! The control entries round the running sequence.
 
 ghost use Rattle.std.specs.Prelude.{◌≡◌, ◌∷◌, ◌<◌, [], reverse, vec_capacity, vec_len, MatchOption};
+ghost use Rattle.interp.specs.inside.Meaning.{loop_of};
 
 use flat_code::{FlatBody, FlatInstr};
 use wasm_ast::BlockType;
@@ -52,4 +53,20 @@ pub fn pop_entry<'a>(entries: &mut Vec<ControlEntry<'a>>) -> Option<ControlEntry
     ensures room { vec_capacity entries.new ≡ vec_capacity entries.old }
 {
     entries.pop()
+}
+
+/// Borrows the body of the loop that a branch to the innermost entry begins again. `None` is the label of a block, a
+/// frame, or no entry.
+#[inline(always)]
+pub fn innermost_loop<'a>(entries: &[ControlEntry<'a>]) -> Option<&'a FlatBody>
+    ensures { result ≡ loop_of (reverse entries.now) }
+{
+    match entries.last() {
+        Some(ControlEntry::Label { form, .. }) => match form {
+            Form::Loop { body, .. } => Some(*body),
+            Form::Block { .. } => None,
+        },
+        Some(ControlEntry::Frame { .. }) => None,
+        None => None,
+    }
 }

@@ -135,6 +135,15 @@ impl Operands {
         self.top -= count;
     }
 
+    /// Removes the operands of the innermost entry.
+    #[inline]
+    pub fn empty(&mut self)
+        ensures { self.new ≡ record { here = []; below = self.old.below } }
+    {
+        let floor = self.floor;
+        self.top = floor;
+    }
+
     /// Counts the operands below the innermost entry.
     #[inline]
     pub fn floor(&self) -> usize

@@ -1,5 +1,6 @@
 -- The meaning of the walk's lists.
 use Rattle.std.specs.Prelude.{◌≡◌, ℕ, ◌-◌, ◌≤◌, List, [], ◌∷◌, map, length, take, drop, reverse, vec_capacity, Vec, Bool, false, Option, Some, None}
+use Rattle.std.specs.Borrow.{Bor}
 use Rattle.wasm_ast.specs.declared.types.Value.{Value}
 use Rattle.wasm_ast.specs.declared.module.Module.{Module}
 use Rattle.wasm_ast.specs.Code.{Code}
@@ -74,6 +75,13 @@ abbrev pub floor_of : List ControlEntry → Option ℕ
 floor_of [] = None
 floor_of (control.Label what floor after ∷ rs) = Some floor
 floor_of (control.Frame keeps floor base after ∷ rs) = None
+
+-- the body of the loop whose label is the innermost entry
+abbrev pub loop_of : List ControlEntry → Option (Bor Code)
+loop_of [] = None
+loop_of (control.Label (form.Block keeps) floor after ∷ rs) = None
+loop_of (control.Label (form.Loop block_type body) floor after ∷ rs) = Some body
+loop_of (control.Frame keeps floor base after ∷ rs) = None
 
 -- the room in the lists of a walk
 abbrev pub room_of : {A : Type 0} → Vec ControlEntry A → (operands locals : Split) → (globals : Renewed) → (bytes : List ℕ) → Room

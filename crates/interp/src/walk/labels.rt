@@ -10,7 +10,7 @@ ghost use Rattle.interp.specs.inside.Place.{HasEntryRoom, HasOperandRoom, state_
 ghost use Rattle.interp.specs.inside.Walk.{Turned, Turns, chosen, opened};
 
 use crate::cell::as_i32;
-use crate::control_entry::{ControlEntry, Form, pop_entry, push_entry};
+use crate::control_entry::{ControlEntry, Form, innermost_loop, pop_entry, push_entry};
 use crate::walk::{Turn, Walk};
 use flat_code::{FlatBody, FlatInstr};
 
@@ -26,6 +26,10 @@ impl<'a> Walk<'a> {
             (state_of self.old count)) self.new }
         ensures room { self.new.room ≡ self.old.room }
     {
+        if let Some(body) = innermost_loop(self.entries.as_slice()) {
+            self.operands.empty();
+            return Turn::Again { body, count };
+        }
         match pop_entry(&mut self.entries) {
             None => Turn::Finished { count },
             Some(
@@ -41,21 +45,10 @@ impl<'a> Walk<'a> {
             }
             Some(
                 ControlEntry::Label {
-                    form: Form::Loop { block_type, body },
-                    floor,
-                    after,
+                    form: Form::Loop { .. },
+                    ..
                 },
-            ) => {
-                self.operands.fall(floor);
-                let label = ControlEntry::Label {
-                    form: Form::Loop { block_type, body },
-                    floor,
-                    after,
-                };
-                push_entry(&mut self.entries, label);
-                self.operands.open();
-                Turn::Again { body, count }
-            }
+            ) => unreachable!(),
             Some(
                 ControlEntry::Frame {
                     keeps,

@@ -1,11 +1,11 @@
 -- What a book that goes on begins with.
-use Rattle.std.proofs.Common.{◌≡◌, ℕ, suc, List, Bool, true, Option, Some, refl, sym, ap, ◌∙◌, subst}
+use Rattle.std.proofs.Common.{◌≡◌, ℕ, List, Bool, true, Option, Some, refl, sym, ap, ◌∙◌, subst}
 use Rattle.superstep.specs.declared.settings.Settings.{Settings}
 use Rattle.superstep.specs.Job.{Work}
 use Rattle.rollback.specs.declared.job_status.DeviceResult.{DeviceResult}
 use Rattle.rollback.specs.declared.job_status.DeviceResult.TheVariants.{Good}
 use Rattle.rollback.specs.Machine.{Machine, resumed}
-use Rattle.rollback.specs.Events.{Heard, begun, loading, slicing}
+use Rattle.rollback.specs.Events.{Heard, loading, slicing}
 use Rattle.rollback.specs.Saving.{HasLeft, IsBegun, IsLoadResult, IsSavedAt, KeepsFor}
 use Rattle.rollback.proofs.Keeps.{AreSame, loads, loads_same, slicing_same}
 

@@ -185,7 +185,7 @@ tick_told work honest s after reply answer x a = told_sim work honest Tick s s T
 pub counts_both : (a b c : Machine) → HasSameCounts a b → HasSameCounts b c → HasSameCounts a c
 counts_both a b c x y = record { missed = y.missed ∙ x.missed; restarts = y.restarts ∙ x.restarts }
 
-never_more : (f f' : ℕ) → f ≡ 0 → f' ≡ 0 → HasFailed f f' → ⊥
+pub never_more : (f f' : ℕ) → f ≡ 0 → f' ≡ 0 → HasFailed f f' → ⊥
 never_more f f' e e' (inl x) = omega (arith, e, e', x)
 never_more f f' e e' (inr x) = omega (arith, e', x)
 
@@ -196,7 +196,7 @@ never_other work may_load m (Some s) k e h =
     let x = k s e h.0 h.1 in
     h.2 x.state x.spelled x.fits
 
-counts_kept : (work : AnyWork) (may_load : List ℕ → Type 0) (m m' : Machine) (f f' : ℕ) → f ≡ 0 → f' ≡ 0 → LoadsMade work may_load m → IsCaused work m m' f f' may_load → HasSameCounts m m'
+pub counts_kept : (work : AnyWork) (may_load : List ℕ → Type 0) (m m' : Machine) (f f' : ℕ) → f ≡ 0 → f' ≡ 0 → LoadsMade work may_load m → IsCaused work m m' f f' may_load → HasSameCounts m m'
 counts_kept work may_load m m' f f' e e' k c = record {
   missed = elim c.missed [ inl x ↦ x | inr x ↦ absurd (never_more f f' e e' x) ];
   restarts = elim c.restarts [
@@ -229,7 +229,7 @@ opened_is work m held quiet e f = rw (e, f) refl
 
 -- ---- what steps leave of the Keep
 
-some_of : (a b : ℕ) → Some a ≡ Some b → a ≡ b
+pub some_of : (a b : ℕ) → Some a ≡ Some b → a ≡ b
 some_of a b e = cc
 
 some_not_none : (a : ℕ) (o : Option ℕ) → o ≡ Some a → o ≡ None → ⊥
@@ -254,7 +254,7 @@ module _ {K : Type 0} (honest : K → Bool) (saved : K → Option ℕ) (may_load
       let y : Kept (handed m w p) m' k k' = subst (λ z. Kept z m' k k') e x in
       record { keeps = y.keeps; cause = record { missed = y.cause.missed; restarts = y.cause.restarts }; left = y.left; loads = y.loads }
 
-  loads_made : (m m' : Machine) (k k' : K) → LoadsNothingElse saved may_load → LoadsMade work (may_load k) m → Kept m m' k k' → LoadsMade work (may_load k') m'
+  pub loads_made : (m m' : Machine) (k k' : K) → LoadsNothingElse saved may_load → LoadsMade work (may_load k) m → Kept m m' k k' → LoadsMade work (may_load k') m'
   loads_made m m' k k' one made x = λ s e bytes may. elim x.loads [
     | inl y ↦ elim y.1 [
       | inl z ↦ made s (sym z ∙ e) bytes (y.0 bytes may)

@@ -1,8 +1,8 @@
-use Rattle.std.proofs.Common.{◌≡◌, ◌<◌, true, sym, ap, ◌∙◌, subst, arith}
+use Rattle.std.proofs.Common.{◌≡◌, true, sym, ap, ◌∙◌, subst, arith}
 use Rattle.superstep.specs.Job.{Work}
 use Rattle.rollback.specs.Machine.{Machine}
 use Rattle.rollback.specs.inside.Book.{AreIdsOf}
-use Rattle.rollback.specs.inside.Recovery.{StandsBack, has_room}
+use Rattle.rollback.specs.inside.Recovery.{has_room}
 use Rattle.rollback.proofs.Beginning.{is_begun, keeps_resumed}
 use Rattle.rollback.proofs.Kept.{book_begun}
 use Rattle.rollback.proofs.Opening.{few_parts, few_workers, some_every}

@@ -8,7 +8,7 @@ use Rattle.rollback.specs.Events.Stamp.{Ticked}
 use Rattle.rollback.specs.inside.Recovery.{has_room}
 use Rattle.rollback.proofs.Kept
 use Rattle.rollback.proofs.Steps
-use Rattle.rollback.proofs.Steps.{above_is, below_is, charged_on_event, on_event_steady, joins_dead, plain, plain_step, reply_running}
+use Rattle.rollback.proofs.Steps.{on_event_steady, plain_step, reply_running}
 use Rattle.rollback.proofs.ByPlace.{length-by_place}
 use Rattle.rollback.proofs.Keeps
 use Rattle.rollback.proofs.book.Book.on_tick.Goals as goal

@@ -1,7 +1,7 @@
 -- Inboxes given to the vertices of a part, one after another: the vertices so far, and those that are due.
 use Rattle.std.proofs.Common.{◌≡◌, ℕ, ℤ, zero, suc, ◌+◌, ◌<◌, ◌≤◌, List, [], ◌∷◌, ◌++◌, Option, None, Some, IsSome, drop, get_or, inl, inr, length, refl, rules, set, take, ap, sym, ◌∙◌, arith}
 use Rattle.std.proofs.lemmas.Bool.Decides.{eqb_tells}
-use Rattle.std.proofs.lemmas.List.{get_or-set_other, get_or-set_same, get_or_default, length-set, length-take-le, same_lists, set-get_or, take_all, take_more_set}
+use Rattle.std.proofs.lemmas.List.{get_or-set_other, get_or-set_same, get_or_default, length-set, length-take-le, same_lists, set-get_or, take_more_set}
 use Rattle.std.specs.Option.{option_to_list}
 use Rattle.std.specs.Prelude.{◌↔◌}
 use Rattle.superstep.specs.declared.state.VertexState.{VertexState}

@@ -3,8 +3,10 @@ pub mod Delivering
 pub mod DueFound
 pub mod DueRows
 pub mod DueRuns
+pub mod Edges
 pub mod Filling
 pub mod Firsts
+pub mod FoundRows
 pub mod Gathering
 pub mod Graphs
 pub mod Handing
@@ -19,6 +21,7 @@ pub mod PlainSteps
 pub mod Rejoining
 pub mod Runs
 pub mod Sending
+pub mod SentLetters
 pub mod AggregatorFolds
 pub mod Spreading
 pub mod Trusting

@@ -3,7 +3,7 @@ use Rattle.std.specs.Prelude.{◌≡◌, ℕ, List, length}
 use Rattle.wasm_ast.specs.declared.module.Module.{Module}
 use Rattle.interp.specs.Call.{Outcome}
 use Rattle.interp.specs.Outcomes.{AreOutcomes, Given}
-use Rattle.graph.specs.Entry.{Entry, FitsLimits, IsProper, parts_of}
+use Rattle.graph.specs.Entry.{Entry, FitsLimits, IsProper, edge_count, parts_of}
 use Rattle.superstep.specs.declared.settings.Settings.{Settings}
 
 -- the model of a job: its module, its graph's parts, each as the list of its vertices, and its settings
@@ -32,3 +32,7 @@ HasGraph work = (graph : List Entry) × IsGraphOf work graph
 -- this is the number of the graph's vertices
 abbrev pub IsCount : Work → ℕ → Type 0
 IsCount work count = (graph : List Entry) → IsGraphOf work graph → count ≡ length graph
+
+-- this is the number of the graph's edges
+abbrev pub IsEdgeCount : Work → ℕ → Type 0
+IsEdgeCount work count = (graph : List Entry) → IsGraphOf work graph → count ≡ edge_count graph

@@ -61,6 +61,10 @@ row_after outcomes row outcome = record {
 abbrev pub units_left : List Outcome → ℕ
 units_left outcomes = sum_by (λ (outcome : Outcome). outcome.units) outcomes
 
+-- the number of messages of these outcomes
+abbrev pub sends_left : List Outcome → ℕ
+sends_left outcomes = sum_by (λ (outcome : Outcome). length outcome.sends) outcomes
+
 abbrev pub contributions_of : List Outcome → List (ℕ × ℤ)
 contributions_of outcomes = flat_map (λ (outcome : Outcome). outcome.contributions) outcomes
 

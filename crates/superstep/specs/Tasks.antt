@@ -8,7 +8,7 @@ use Rattle.inbox.specs.declared.letters.Letter.{Letter}
 use Rattle.superstep.specs.declared.state.VertexState.{VertexState}
 use Rattle.superstep.specs.Folds.{aggregated, capped}
 use Rattle.superstep.specs.Snapshot.{Row, Snapshot}
-use Rattle.superstep.specs.Superstep.{contributions_of, left_by, units_left}
+use Rattle.superstep.specs.Superstep.{contributions_of, left_by, sends_left, units_left}
 use Rattle.superstep.specs.PlainRun.{state_at}
 use Rattle.superstep.specs.Job.{Meaning, Work}
 use Rattle.superstep.specs.State.{bare, state_id}
@@ -110,6 +110,13 @@ AreUnitsAt work s part units =
     (meaning : Meaning work)
     → units ≡ capped (units_left (map (left_by meaning.outcomes s (state_at meaning.outcomes meaning.graph s))
     (part_rows work.settings.parts (state_at meaning.outcomes meaning.graph s) part)))
+
+-- this is the number of messages that this part's vertices send in this superstep
+abbrev pub IsSentAt : Work → ℕ → ℕ → ℕ → Type 0
+IsSentAt work s part sent =
+    (meaning : Meaning work)
+    → sent ≡ sends_left (map (left_by meaning.outcomes s (state_at meaning.outcomes meaning.graph s))
+    (part_rows work.settings.parts (state_at meaning.outcomes meaning.graph s) part))
 
 -- what always holds for a result
 pub record IsDone (work : Work) (honest : ℕ → Bool) (stamp : DoneStamp) (vertices : List VertexState) (letters : List Letter) (aggregators : List ℤ) : Type 0 where

@@ -1,13 +1,13 @@
 //! Jobs: a module's calls over a graph.
 
-ghost use Rattle.std.specs.Prelude.{◌≡◌, ◌<◌, None, length, map, vec_items, IfOk, IfErr};
+ghost use Rattle.std.specs.Prelude.{◌≡◌, ◌<◌, ◌-◌, ◌^◌, None, length, map, min, sum_by, vec_items, IfOk, IfErr};
 ghost use Rattle.graph.specs.Entry.{ids, parts_of, vertex_id};
 ghost use Rattle.graph.specs.Parts.{part_entries};
-ghost use Rattle.superstep.specs.Job.{HasGraph, IsCount, IsGraphOf, Meaning};
+ghost use Rattle.superstep.specs.Job.{HasGraph, IsCount, IsEdgeCount, IsGraphOf, Meaning};
 ghost use Rattle.superstep.specs.Settings.{Refuses, first_bad};
 ghost use Rattle.superstep.specs.declared.fault.JobFault.TheVariants.{OutOfMemory};
 ghost use Rattle.superstep.specs.declared.fault.Place.TheVariants.{Open};
-ghost use Rattle.superstep.specs.inside.Opening.{IsOpen};
+ghost use Rattle.superstep.specs.inside.Opening.{IsOpen, edges_at};
 
 use crate::fault::{JobFault, Place};
 use crate::settings::Settings;
@@ -36,8 +36,10 @@ struct Kept {
     settings: Settings,
 }
 
-// How many edges these vertices have.
-fn edges_in(vertices: &[Vertex]) -> u64 {
+// Counts the edges of these vertices. The count stops at the greatest number.
+fn edges_in(vertices: &[Vertex]) -> u64
+    ensures { result ≡ min (sum_by edges_at vertices.now) (2 ^ 64 - 1) }
+{
     let mut count = 0u64;
     for vertex in vertices {
         count = count.saturating_add(vertex.edges.len() as u64);
@@ -143,10 +145,12 @@ impl Job {
         self.kept.count
     }
 
-    /// How many edges the graph has. It looks at each vertex, and nothing is claimed of it.
-    pub fn edge_count(&self) -> u64 {
+    /// Counts the graph's edges. It looks at each vertex.
+    pub fn edge_count(&self) -> u64
+        ensures { IsEdgeCount self.now result }
+    {
         let mut count = 0u64;
-        for part in &self.kept.parts {
+        for part in self.parts() {
             count = count.saturating_add(edges_in(&part.vertices));
         }
         count

@@ -1,12 +1,14 @@
 //! Slices: the parts of a state, which move to workers.
 
 ghost use Rattle.std.specs.Prelude.{◌≡◌, ◌≤◌, true, length, IfOk};
+ghost use Rattle.superstep.specs.Found.{IsFoundAt};
 ghost use Rattle.superstep.specs.Job.{Work};
 ghost use Rattle.superstep.specs.State.{HasIdsOf, IsStateAt};
 ghost use Rattle.superstep.specs.Tasks.{stamps_of};
 ghost use Rattle.superstep.specs.Totals.{AreTotals, AreTotalsOf, IsTotalsOf};
 ghost use Rattle.superstep.specs.inside.Rows.{AreSlices};
 
+use crate::found::Found;
 use crate::job::Job;
 use crate::part_states::PartStates;
 use crate::state::State;
@@ -90,6 +92,14 @@ impl<J: Origin> Slice<J> {
         ensures { result ≡ self.now.superstep }
     {
         self.superstep
+    }
+
+    // Counts the vertices that are called, and their messages.
+    pub(crate) fn found(&self) -> Found
+        ensures { J.honest self.now.epoch ≡ true
+            → IsFoundAt J.work self.now.superstep self.now.part result }
+    {
+        self.vertices.found()
     }
 }
 

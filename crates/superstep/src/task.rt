@@ -2,8 +2,9 @@
 
 ghost use Rattle.std.specs.Prelude.{◌≡◌, All, true, map, IfOk, IfErr, OnOk};
 ghost use Rattle.graph.specs.Entry.{entries_of, entry_of, ids};
+ghost use Rattle.superstep.specs.Found.{IsFoundAt};
 ghost use Rattle.superstep.specs.State.{state_id};
-ghost use Rattle.superstep.specs.Tasks.{AreAggregatesAt, AreUnitsAt};
+ghost use Rattle.superstep.specs.Tasks.{AreAggregatesAt, AreUnitsAt, IsSentAt};
 ghost use Rattle.superstep.specs.declared.fault.Place.TheVariants.{Call};
 ghost use Rattle.superstep.specs.inside.DueRows.{due_rows};
 ghost use Rattle.superstep.specs.inside.PartOutput.{CallsPart, CallsVertex, HasProperIds};
@@ -85,9 +86,12 @@ impl<J: Origin> Task<J> {
         self.slice.part()
     }
 
-    /// What it finds in its part. It looks at each vertex that is called. Nothing is claimed of it: contracts do not see the vertices.
-    pub fn found(&self) -> Found {
-        self.slice.vertices.found()
+    /// Counts what it finds in its part. It looks at each vertex that is called.
+    pub fn found(&self) -> Found
+        ensures { J.honest self.now.epoch ≡ true
+            → IsFoundAt J.work self.now.superstep self.now.part result }
+    {
+        self.slice.found()
     }
 }
 
@@ -155,8 +159,11 @@ impl<J: Origin> Done<J> {
         self.units
     }
 
-    /// How many messages the part's vertices sent. Nothing is claimed of it: contracts do not see them.
-    pub fn sent(&self) -> usize {
+    /// Returns the number of messages that the part's vertices sent.
+    pub fn sent(&self) -> usize
+        ensures { J.honest self.now.epoch ≡ true
+            → IsSentAt J.work self.now.superstep self.now.part result }
+    {
         self.letters.len()
     }
 

@@ -2,6 +2,7 @@
 use Rattle.std.specs.Prelude.{◌≡◌, ℕ, List, length, map, None}
 use Rattle.wasm_ast.specs.declared.module.Module.{Module}
 use Rattle.graph.specs.Entry.{Entry, ids}
+use Rattle.graph.specs.declared.vertex.Vertex.{Vertex}
 use Rattle.superstep.specs.declared.settings.Settings.{Settings}
 use Rattle.superstep.specs.Job.{IsGraphOf}
 use Rattle.superstep.specs.Settings.{first_bad}
@@ -13,3 +14,7 @@ pub record IsOpen (m : Module) (parts : List (List Entry)) (numbers : List (List
   pub is_graph : IsGraphOf (record { «module» = m; parts = parts; settings = settings }) graph
   pub counted : count ≡ length graph
   pub numbered : numbers ≡ map ids parts
+
+-- the number of edges from a vertex
+abbrev pub edges_at : Vertex → ℕ
+edges_at vertex = length vertex.edges.items

@@ -1,11 +1,10 @@
-use Rattle.std.proofs.Common.{◌≡◌, ◌++◌, ◌<◌, ◌≤◌, List, take, length, set, vec_items, append-nil, ap, sym, ◌∙◌, arith}
+use Rattle.std.proofs.Common.{◌++◌, ◌<◌, ◌≤◌, List, take, length, vec_items, append-nil, ap, sym, ◌∙◌, arith}
 use Rattle.std.proofs.lemmas.List.{take_all}
 use Rattle.superstep.specs.declared.state.VertexState.{VertexState}
-use Rattle.superstep.specs.State.{is_due}
 use Rattle.superstep.specs.inside.Barrier.{filled}
 use Rattle.superstep.specs.inside.DueRows.{due_rows}
 use Rattle.superstep.proofs.DueRows.{row_if}
-use Rattle.superstep.proofs.Filling.{IsFilledTo, due_rows_filled, filled_all, filled_more, filled_none}
+use Rattle.superstep.proofs.Filling.{due_rows_filled, filled_all, filled_more, filled_none}
 use Rattle.superstep.proofs.part_states.PartStates.filled.Goals.{then-is_due+in_ok-push, else-is_due}
 use Rattle.superstep.proofs.part_states.PartStates.filled.Goals as goal
 

@@ -220,7 +220,7 @@ fn run_files<'a, F: Files, V: View + Sync>(
     ensures refused { IfErr result (IsUnrun (F.disk files.old) asked.entry) }
 {
     let loss = loss_of(asked)?;
-    let job = job_of(alloc, asked.job, files)?;
+    let job = job_of(rt, alloc, asked.job, files)?;
     let view = shown_in(view, asked.progress);
     warn_of_run(&job, asked, loss, view.is_some(), files);
     let mut loss = LossGate::new(loss, asked.again);
@@ -341,7 +341,7 @@ fn replay_files<'a, F: Files>(
     ensures kept { Stays (F.disk files.old) (F.disk files.new) }
     ensures refused { IfErr result (IsUnreplayed (F.disk files.old) asked.entry steps.now) }
 {
-    let job = job_of(alloc, asked, files)?;
+    let job = job_of(rt, alloc, asked, files)?;
     let steps = read_steps(alloc, steps, files)?;
     replay(rt, alloc, &job, steps.as_slice(), asked.tells_units)
 }
@@ -364,6 +364,7 @@ fn read_steps<'a, F: Files>(
 
 // The job of the module in one file over the graph in another.
 fn job_of<'a, F: Files>(
+    rt: &(impl Threads + Sync),
     alloc: Global,
     asked: JobRequest<'a>,
     files: &mut F,
@@ -373,7 +374,7 @@ fn job_of<'a, F: Files>(
     ensures kept { Stays (F.disk files.old) (F.disk files.new) }
 {
     let verified = load_within(alloc, asked.module, files)?;
-    let graph = read_graph(alloc, asked.graph, files)?;
+    let graph = read_graph(rt, alloc, asked.graph, files)?;
     open(alloc, verified, graph, asked.settings)
 }
 

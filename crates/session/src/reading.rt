@@ -12,6 +12,7 @@ use bounded_profile::Verified;
 use graph::Graph;
 use sources::{Files, load_file, read_graph};
 use std::alloc::Global;
+use std::thread::Threads;
 
 /// Loads the module in a file, or returns the reply that refuses it. If the path ends in `.wat`, the file is text; any
 /// other file is binary.
@@ -28,12 +29,17 @@ pub fn module_at<F: Files>(alloc: Global, path: &str, files: &mut F) -> Result<V
 }
 
 /// Reads the graph in a file, or returns the reply that refuses it.
-pub fn graph_at<F: Files>(alloc: Global, path: &str, files: &mut F) -> Result<Graph, Reply>
+pub fn graph_at<F: Files>(
+    rt: &(impl Threads + Sync),
+    alloc: Global,
+    path: &str,
+    files: &mut F,
+) -> Result<Graph, Reply>
     ensures found { MatchResult result (IsReadAt (F.disk files.old) path.now)
         (λ reply. IsToldOf (IsNoGraphAt (F.disk files.old) path.now) (reply_text reply)) }
     ensures kept { Stays (F.disk files.old) (F.disk files.new) }
 {
-    match read_graph(alloc, path, files) {
+    match read_graph(rt, alloc, path, files) {
         Ok(graph) => Ok(graph),
         Err(fault) => Err(refusal(alloc, &fault)),
     }

@@ -19,6 +19,7 @@ use line_text::{WriteFailure, write_all};
 use sources::Files;
 use std::alloc::{AllocError, Global};
 use std::io::{ErrorKind, Read, Write};
+use std::thread::Threads;
 use thiserror::Error;
 
 // The most bytes of one read.
@@ -60,6 +61,7 @@ impl From<WriteFailure> for ServeFault {
 /// line feed are no line. At most 18,446,744,073,709,551,615 reads are made; then it fails with `Read`. After a fault
 /// nothing more is read or written.
 pub fn serve<R: Read, W: Write, F: Files, N: Runner>(
+    rt: &(impl Threads + Sync),
     alloc: Global,
     reader: &mut R,
     writer: &mut W,
@@ -74,6 +76,7 @@ pub fn serve<R: Read, W: Write, F: Files, N: Runner>(
     let mut session = Session::new(alloc);
     let mut line = Vec::with_capacity(alloc, KEPT)?;
     serve_lines(
+        rt,
         alloc,
         reader,
         &mut line,
@@ -86,6 +89,7 @@ pub fn serve<R: Read, W: Write, F: Files, N: Runner>(
 
 // Serves a session from the beginning of a line.
 fn serve_lines<R: Read, W: Write, F: Files, N: Runner>(
+    rt: &(impl Threads + Sync),
     alloc: Global,
     reader: &mut R,
     line: &mut Vec<u8>,
@@ -110,7 +114,7 @@ fn serve_lines<R: Read, W: Write, F: Files, N: Runner>(
             return Ok(());
         }
         let bytes = &chunk[..count];
-        if answer_bytes(alloc, bytes, line, session, writer, files, runner)? {
+        if answer_bytes(rt, alloc, bytes, line, session, writer, files, runner)? {
             return Ok(());
         }
     }
@@ -133,6 +137,7 @@ fn read_some<R: Read>(reader: &mut R, chunk: &mut [u8]) -> Result<Option<usize>,
 // Answers the lines that end in these bytes, up to `quit`, and keeps the bytes after the last line feed. Returns whether a
 // line was `quit`.
 fn answer_bytes<W: Write, F: Files, N: Runner>(
+    rt: &(impl Threads + Sync),
     alloc: Global,
     bytes: &[u8],
     line: &mut Vec<u8>,
@@ -153,7 +158,7 @@ fn answer_bytes<W: Write, F: Files, N: Runner>(
     while let Some((front, others)) = cut_line(rest) {
         keep(line, front)?;
         rest = others;
-        if answer_line(alloc, line.as_slice(), session, writer, files, runner)? {
+        if answer_line(rt, alloc, line.as_slice(), session, writer, files, runner)? {
             return Ok(true);
         }
         line.clear();
@@ -164,6 +169,7 @@ fn answer_bytes<W: Write, F: Files, N: Runner>(
 
 // Answers a line, and returns whether it was `quit`.
 fn answer_line<W: Write, F: Files, N: Runner>(
+    rt: &(impl Threads + Sync),
     alloc: Global,
     line: &[u8],
     session: &mut Session,
@@ -178,7 +184,7 @@ fn answer_line<W: Write, F: Files, N: Runner>(
     ensures files { Stays (F.disk files.old) (F.disk files.new) }
 {
     let command = command_of(line);
-    let reply = answer(alloc, command, session, files, runner);
+    let reply = answer(rt, alloc, command, session, files, runner);
     tell(reply.as_bytes(), writer)?;
     Ok(is_quit(command))
 }

@@ -27,6 +27,7 @@ use rollback::Report;
 use sources::{CommandFault, Files};
 use std::alloc::{AllocError, Global};
 use std::collections::BTreeMap;
+use std::thread::Threads;
 use superstep::{Job, JobFault, Settings};
 
 /// The modules, graphs and jobs of a session, by name.
@@ -52,6 +53,7 @@ impl Session {
 
 /// Executes a command and returns the reply.
 pub fn answer<F: Files, N: Runner>(
+    rt: &(impl Threads + Sync),
     alloc: Global,
     command: Command<'_>,
     session: &mut Session,
@@ -65,7 +67,7 @@ pub fn answer<F: Files, N: Runner>(
 {
     match command {
         Command::AddModule { name, path } => add_module(alloc, name, path, session, files),
-        Command::AddGraph { name, path } => add_graph(alloc, name, path, session, files),
+        Command::AddGraph { name, path } => add_graph(rt, alloc, name, path, session, files),
         Command::AddJob {
             name,
             module,
@@ -137,6 +139,7 @@ fn named<V: Drop>(
 }
 
 fn add_graph<F: Files>(
+    rt: &(impl Threads + Sync),
     alloc: Global,
     name: &str,
     path: &str,
@@ -150,7 +153,7 @@ fn add_graph<F: Files>(
     if is_held(name, &session.graphs) {
         return Reply::NameTaken;
     }
-    match graph_at(alloc, path, files) {
+    match graph_at(rt, alloc, path, files) {
         Ok(graph) => name_graph(alloc, name, graph, &mut session.graphs),
         Err(reply) => reply,
     }

@@ -35,7 +35,7 @@ pub fn serve_in_threads<R: Read, W: Write, F: Files, G: Gate + Sync>(
     let run = |job: &Job| -> Result<Report, JobFault>
         ensures { IsThreadedEnd job.now result }
     { run_with_threads(rt, alloc, job, gate) };
-    serve(alloc, reader, writer, files, &JobRunner::new(run))
+    serve(rt, alloc, reader, writer, files, &JobRunner::new(run))
 }
 
 fn run_with_threads<G: Gate + Sync, R: Wait + Threads + Sync + std::rt::Files + AllocGlobal>(
@@ -67,7 +67,7 @@ pub fn serve_on_one_machine<R: Read, W: Write, F: Files>(
     let run = |job: &Job| -> Result<Report, JobFault>
         ensures { IsPlainEnd job.now result }
     { run_plainly(rt, alloc, job) };
-    serve(alloc, reader, writer, files, &PlainRunner::new(run))
+    serve(rt, alloc, reader, writer, files, &PlainRunner::new(run))
 }
 
 fn run_plainly<R: Threads + Sync>(rt: &R, alloc: Global, job: &Job) -> Result<Report, JobFault>

@@ -13,6 +13,7 @@ use crate::modules::{load, module_of};
 use bounded_profile::Verified;
 use graph::Graph;
 use std::alloc::Global;
+use std::thread::Threads;
 use wasm_ast::Module;
 
 /// Reads the module in a file.
@@ -43,8 +44,9 @@ pub fn load_file<'a, F: Files>(
     load(alloc, &source)
 }
 
-/// Reads the graph in a file.
+/// Reads the graph in a file, a long one in threads.
 pub fn read_graph<'a, F: Files>(
+    rt: &(impl Threads + Sync),
     alloc: Global,
     path: &'a str,
     files: &mut F,
@@ -54,6 +56,6 @@ pub fn read_graph<'a, F: Files>(
     ensures kept { Stays (F.disk files.old) (F.disk files.new) }
 {
     let text = read_text(alloc, path, files)?;
-    let graph = Graph::read(alloc, text.as_str())?;
+    let graph = Graph::read_in_threads(rt, alloc, text.as_str())?;
     Ok(graph)
 }

@@ -1,48 +1,25 @@
 -- Over a Keep that loads only what was saved, and whose device never fails, a job is calm.
-use Rattle.std.proofs.Common.{◌≡◌, ℕ, List, [], ◌∷◌, Bool, Option, Some, None, refl, sym, ◌∙◌, subst, arith, inl, inr}
-use Rattle.checkpoint.specs.Keep.{HasFailed, LoadsNothingElse}
+use Rattle.std.proofs.Common.{◌≡◌, ℕ, List, [], ◌∷◌, Bool, Option, Some, refl, sym, ◌∙◌, subst, inl, inr}
+use Rattle.checkpoint.specs.Keep.{LoadsNothingElse}
 use Rattle.superstep.specs.Job.{Work}
 use Rattle.superstep.specs.declared.settings.Settings.{Settings}
 use Rattle.rollback.specs.declared.job_status.DeviceResult.{DeviceResult}
 use Rattle.rollback.specs.declared.job_status.DeviceResult.TheVariants.{Failed, Good, NoMemory}
 use Rattle.rollback.specs.Events.{Heard, after_load, begun}
 use Rattle.rollback.specs.Machine.{Machine, opened, resumed}
-use Rattle.rollback.specs.Saving.{IsCaused, IsKeptStep, IsLoadResult, IsMadeAt, MayLoadOther}
+use Rattle.rollback.specs.Saving.{IsKeptStep, IsLoadResult, IsMadeAt, MayLoadOther}
 use Rattle.rollback.specs.Simulation.{IsCalmAt, NeverFails}
 use Rattle.rollback.specs.inside.Simulating.{HasSameCounts, LoadsMade}
 use Rattle.rollback.proofs.Keeps.{slicing_same}
-use Rattle.rollback.proofs.Simulated.{counts_both, counts_same}
+use Rattle.rollback.proofs.Simulated.{counts_both, counts_kept, counts_same, loads_made, never_more, some_of}
 use Rattle.workers.specs.JobAnswers.{LoadsMadeAt}
 use Rattle.workers.specs.Steps.{KeptAlong, Move, after, moved}
 
-never_more : (f f' : ℕ) → f ≡ 0 → f' ≡ 0 → HasFailed f f' → ⊥
-never_more f f' e e' (inl x) = omega (arith, e, e', x)
-never_more f f' e e' (inr x) = omega (arith, e', x)
+-- ---- a load at the start
 
 -- what it loads is no other
 never_other : (work : Work) (may_load : List ℕ → Type 0) (s : ℕ) → LoadsMadeAt work may_load s → MayLoadOther work (Some s) may_load → ⊥
 never_other work may_load s made h = let x = made h.0 h.1 in h.2 x.state x.spelled x.fits
-
-never_other_of : (work : Work) (may_load : List ℕ → Type 0) (m : Machine) (saved : Option ℕ) → LoadsMade work may_load m → m.saved ≡ saved → MayLoadOther work saved may_load → ⊥
-never_other_of work may_load m None made e h = h
-never_other_of work may_load m (Some s) made e h = never_other work may_load s (made s e) h
-
-counts_kept : (work : Work) (may_load : List ℕ → Type 0) (m m' : Machine) (f f' : ℕ) → f ≡ 0 → f' ≡ 0 → LoadsMade work may_load m → IsCaused work m m' f f' may_load → HasSameCounts m m'
-counts_kept work may_load m m' f f' e e' made c = record {
-  missed = elim c.missed [ inl x ↦ x | inr x ↦ absurd (never_more f f' e e' x) ];
-  restarts = elim c.restarts [
-    | inl x ↦ x
-    | inr x ↦ elim x [ inl y ↦ absurd (never_more f f' e e' y) | inr y ↦ absurd (never_other_of work may_load m m.saved made refl y) ]
-  ];
-}
-
-some_of : (a b : ℕ) → Some a ≡ Some b → a ≡ b
-some_of a b e = cc
-
-some_not_none : (a : ℕ) (o : Option ℕ) → o ≡ Some a → o ≡ None → ⊥
-some_not_none a o e f = let z = sym e ∙ f in absurd (cc)
-
--- ---- a load at the start
 
 loaded_same : (told : DeviceResult) (settings : Settings) (s : ℕ) → (told ≡ Failed → ⊥)
     → ((after_load told (resumed settings s)).missed ≡ 0) × ((after_load told (resumed settings s)).restarts ≡ 0) × ((after_load told (resumed settings s)).saved ≡ Some s)
@@ -63,25 +40,13 @@ module _ {K : Type 0} (honest : K → Bool) (saved : K → Option ℕ) (may_load
   abbrev Kept : Machine → Machine → K → K → Type 0
   Kept = IsKeptStep honest saved may_load faults work trusted
 
-  loads_made : (m m' : Machine) (k k' : K) → LoadsNothingElse saved may_load → LoadsMade work (may_load k) m → Kept m m' k k' → LoadsMade work (may_load k') m'
-  loads_made m m' k k' one made x = λ s e bytes may. elim x.loads [
-    | inl y ↦ elim y.1 [
-      | inl z ↦ made s (sym z ∙ e) bytes (y.0 bytes may)
-      | inr z ↦ absurd (some_not_none s m'.saved e z)
-    ]
-    | inr y ↦ (let same : m'.superstep ≡ s = some_of m'.superstep s (sym y.1 ∙ e) in
-        let own = y.2 in
-        let is : own.bytes ≡ bytes = one k' s (x.keeps.saved s e) own.bytes bytes own.may may in
-        subst (λ n. IsMadeAt work n bytes) same (subst (λ b. IsMadeAt work m'.superstep b) is own.made))
-  ]
-
   calm_along : (m : Machine) (k : K) (moves : List Move) (k' : K) → LoadsNothingElse saved may_load → NeverFails faults → LoadsMade work (may_load k) m → KeptAlong Kept m k moves k' → HasSameCounts m (after m moves)
   calm_along m k [] k' one never made r = counts_same m m refl
   calm_along m k (x ∷ xs) k' one never made r =
       let n = moved m x in
       counts_both m n (after n xs)
       (counts_kept work (may_load k) m n (faults k) (faults r.0) (never k) (never r.0) made r.1.cause)
-      (calm_along n r.0 xs k' one never (loads_made m n k r.0 one made r.1) r.2)
+      (calm_along n r.0 xs k' one never (loads_made honest saved may_load faults work trusted m n k r.0 one made r.1) r.2)
 
   -- from superstep 0 on
   pub calm_opened : (quiet : Bool) (moves : List Move) (k k' : K) (end : Machine) → after (opened work.settings quiet) moves ≡ end → KeptAlong Kept (opened work.settings quiet) k moves k' → LoadsNothingElse saved may_load → NeverFails faults → IsCalmAt end

@@ -1,6 +1,6 @@
 -- What workers hear of their losses, and that they join only after those that were counted.
 use Rattle.std.proofs.lemmas.Bool.Decides.{eqb_tells}
-use Rattle.std.proofs.Common.{◌≡◌, ◌≢◌, ◌∙◌, ℕ, ◌+◌, ◌<◌, ◌≤◌, Bool, true, false, cond, List, [], ◌∷◌, ◌++◌, map, length, set, slice_get, Option, Some, None, Result, Ok, Err, OnOk, eq-eqb, ne_eqb, append_assoc, ap, refl, sym, subst, arith, ◌⊎◌, ⊎_elim, inl, inr}
+use Rattle.std.proofs.Common.{◌≡◌, ◌≢◌, ◌∙◌, ℕ, ◌+◌, ◌<◌, ◌≤◌, Bool, true, false, cond, List, [], ◌∷◌, ◌++◌, map, length, set, slice_get, Some, None, Result, Ok, Err, OnOk, eq-eqb, ne_eqb, append_assoc, ap, refl, sym, subst, arith, ◌⊎◌, ⊎_elim, inl, inr}
 use Rattle.std.specs.Prelude.{◌&&◌, ◌==◌}
 use Rattle.std.specs.declared.thread.PromisedHandle.{PromisedHandle}
 use mathlib.Core.List.{IsPrefix, append-nil, map-append}
@@ -18,7 +18,7 @@ use Rattle.channels.specs.Protocol.{has_bye, of}
 use Rattle.channels.specs.declared.order.Order.{Order}
 use Rattle.channels.proofs.Handing.{at_set_else, at_set_here, get_end, get_more}
 use Rattle.workers.specs.Hub.{HasByes, received, staff}
-use Rattle.workers.specs.Joining.{JoinedFrom, events_by, first_of, joins_counted, losses, rest_of, stamp_sender}
+use Rattle.workers.specs.Joining.{JoinedFrom, events_by, first_of, joins_counted, rest_of, stamp_sender}
 use Rattle.workers.specs.Messages.{event_sender, is_joined, is_lost, sender_number, sender_of}
 use Rattle.workers.specs.Passes.{handed_in_by}
 use Rattle.workers.specs.Steps.{events, stamps_in}

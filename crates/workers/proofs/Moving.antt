@@ -22,7 +22,6 @@ use Rattle.workers.specs.JobAnswers.{IsLeftBy}
 use Rattle.workers.specs.Steps.{AreMoves, IsMove, KeptAlong, Move, Steps, after, event_of, events, hand_of, hands, moved, outs_in, stamps_in}
 use Rattle.workers.specs.Steps.Move.{Hand, Take}
 use Rattle.workers.specs.Joining.{loss_in, losses}
-use Rattle.workers.specs.Verdicts.{told_to}
 use Rattle.workers.specs.inside.EventLoop.{StepsOver}
 use Rattle.workers.specs.inside.Joins.{AreUntold, IsToldNext, StepsDue, StepsTold, due_by, due_to, lost_in}
 use Rattle.workers.specs.declared.event_loop.Due.{Due}

@@ -1,7 +1,5 @@
 use Rattle.std.proofs.Common.{refl}
-use Rattle.workers.specs.Passes.{handed_in, handed_in_by, worker_of}
-use Rattle.workers.specs.declared.message.Message.TheVariants.{Bye}
-use Rattle.workers.specs.declared.message.Sender.TheVariants.{Worker}
+use Rattle.workers.specs.Passes.{handed_in, handed_in_by}
 use Rattle.workers.proofs.Joins.{counted_bye}
 use Rattle.workers.proofs.Passing.{joins_all, joins_more, joins_then}
 use Rattle.workers.proofs.worker_loop.work_all.Goals as goal

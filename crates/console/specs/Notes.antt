@@ -11,7 +11,7 @@ use Rattle.superstep.specs.declared.fault.JobFault.{JobFault}
 use Rattle.superstep.specs.declared.settings.Settings.{Settings}
 use Rattle.superstep.specs.Ending.{is_finished}
 use Rattle.superstep.specs.Faults.{fault_word}
-use Rattle.superstep.specs.Job.{IsCount, Work}
+use Rattle.superstep.specs.Job.{IsCount, IsEdgeCount, Work}
 use Rattle.rollback.specs.declared.report.Report.{Report}
 use Rattle.sources.specs.OutputLines.{end_word}
 use Rattle.console.specs.declared.noting.RunNotes.{RunNotes}
@@ -52,6 +52,7 @@ pub record IsOfJob (job : Work) (noted : RunReport) : Type 0 where
   pub settings : noted.settings ≡ settings_in job.settings
   pub size : IsSizeOfCompute job.«module» noted.size
   pub vertices : IsCount job noted.vertices
+  pub edges : IsEdgeCount job noted.edges
 
 -- these numbers are those of the answer
 pub record IsEndedOf (report : Report) (ended : Ended) : Type 0 where

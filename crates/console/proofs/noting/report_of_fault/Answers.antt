@@ -9,6 +9,7 @@ returns-clause-of_job c = record {
   settings = c.settings_of.ensures ∙ ap settings_in c.settings.ensures.settings;
   size = rw c.from.ensures (subst (λ (m : Module). IsSizeOfCompute m c.size.result) c.verified.ensures c.size.ensures);
   vertices = rw c.from-2.ensures c.count.ensures;
+  edges = c.edge_count.ensures;
 }
 
 pub returns-clause-of_fault : goal.returns-clause-of_fault

@@ -1,5 +1,5 @@
 -- More files than one, written one after another.
-use Rattle.std.proofs.Common.{inl, inr, ◌≡◌, ℕ, List, [], ◌∷◌, ◌++◌, take, append-nil, append_assoc, ap, refl, subst, sym}
+use Rattle.std.proofs.Common.{inl, inr, ℕ, List, [], ◌∷◌, ◌++◌, take, append-nil, append_assoc, refl, subst, sym}
 use Rattle.command_line.specs.declared.request.ImportRequest.{ImportRequest}
 use Rattle.sources.specs.declared.fault.CommandFault.{CommandFault}
 use Rattle.sources.specs.declared.fault.CommandFault.TheVariants as command

@@ -1,6 +1,6 @@
 //! The report and the chart of a run, in files.
 
-ghost use Rattle.std.specs.Prelude.{◌≡◌, ◌⊎◌, OnErr, OnOk, false, true};
+ghost use Rattle.std.specs.Prelude.{◌≡◌, OnErr, OnOk, false, true};
 ghost use Rattle.console.specs.Sheets.{HasWrittenSheets, IsStatusOf, MayWriteSheets, TriesNoted, TriesSheets, WritesNoted, WritesSheets, asks_sheets, names_in};
 ghost use Rattle.console.specs.inside.SheetFiles.{TriesChart, TriesReport, WritesChart, WritesReport};
 

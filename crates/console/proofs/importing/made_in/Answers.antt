@@ -2,7 +2,6 @@ use Rattle.std.proofs.Common.{inl, inr, subst}
 use Rattle.std.specs.String.{string_bytes}
 use Rattle.graph_import.specs.Import.{IsImport, format_in}
 use Rattle.sources.proofs.Faults.{is_fault}
-use Rattle.console.specs.Importing.{plan_in}
 use Rattle.console.proofs.importing.made_in.Goals as goal
 
 pub returns-in_err-text-clause-found : goal.returns-in_err-text-clause-found

@@ -1,4 +1,4 @@
-use Rattle.std.proofs.Common.{◌∷◌, [], subst, sym}
+use Rattle.std.proofs.Common.{◌∷◌, [], subst}
 use Rattle.std.specs.Prelude.{string_bytes}
 use Rattle.sources.specs.Disk.{Tries, Writes}
 use Rattle.sources.proofs.Faults.{is_fault}

@@ -7,6 +7,7 @@ pub mod Disks
 pub mod Printing
 pub mod JobLines
 pub mod Folders
+mod Noted
 pub mod Replays
 pub mod Writes
 pub mod SheetFiles

@@ -1,5 +1,6 @@
 -- What a command tells, from what its parts answered.
-use Rattle.std.proofs.Common.{inl, inr, ◌≡◌, ◌⊎◌, ◌++◌, ◌∷◌, [], ℕ, List, Option, Result, refl, subst, take}
+use Rattle.std.proofs.Common.{inl, inr, ◌≡◌, ◌⊎◌, ◌++◌, ◌∷◌, [], ℕ, IfOk, List, Option, Result, Ok, Err, refl, subst, sym, take}
+use Rattle.std.specs.Io.KnownBytes.{Appends}
 use Rattle.sources.specs.declared.fault.CommandFault.{CommandFault}
 use Rattle.sources.specs.declared.fault.CommandFault.TheVariants as command
 use Rattle.command_line.specs.declared.request.Request.{Request}
@@ -53,6 +54,12 @@ pub retold : {E : Type 0} (old new : Option (List ℕ)) (answer : Result ℕ E) 
     → told ≡ text → HasPrinted old new status told answer → HasPrinted old new other text answer
 retold old new answer status other told text same spelled is =
     subst (λ n. HasPrinted old new n text answer) same (subst (λ t. HasPrinted old new status t answer) spelled is)
+
+-- what holds of the text that is printed with this status
+pub printed_with : {E : Type 0} (old new : Option (List ℕ)) (answer : Result ℕ E) (status : ℕ) (told : List ℕ) (P : ℕ → List ℕ → Type 0)
+    → HasPrinted old new status told answer → P status told → IfOk answer (λ s. (text : List ℕ) × Appends old new text × P s text)
+printed_with old new (Ok s) status told P is holds = (told, is.1, subst (λ n. P n told) (sym is.0) holds)
+printed_with old new (Err e) status told P is holds = tt
 
 -- ---- what was tried stays so where nothing more is written
 

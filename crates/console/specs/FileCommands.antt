@@ -1,5 +1,5 @@
 -- What a command over files prints and writes.
-use Rattle.std.specs.Prelude.{◌≡◌, ℕ, ◌<◌, ◌≤◌, ◌⊎◌, Bool, true, false, List, ◌++◌, Option, Result, Ok, MatchResult, codes, length}
+use Rattle.std.specs.Prelude.{◌≡◌, ℕ, ◌<◌, ◌≤◌, ◌⊎◌, Bool, true, false, List, ◌++◌, Option, Result, Ok, Err, MatchResult, codes, length}
 use Rattle.std.specs.Fmt.{decimal}
 use Rattle.std.specs.Io.KnownBytes.{Appends}
 use Rattle.wasm_ast.specs.declared.module.Module.{Module}
@@ -14,8 +14,10 @@ use Rattle.bounded_profile.specs.Profile.{HasCompute}
 use Rattle.fit.specs.Fit.{IsFitOf}
 use Rattle.graph.specs.Entry.{Entry}
 use Rattle.line_text.specs.Output.{HasBegun}
+use Rattle.superstep.specs.declared.fault.JobFault.{JobFault}
 use Rattle.superstep.specs.Job.{Work}
 use Rattle.superstep.specs.State.{Standing}
+use Rattle.rollback.specs.declared.report.Report.{Report}
 use Rattle.rollback.specs.declared.simulation.Step.{Step}
 use Rattle.checkpoint.specs.Checkpoint.{IsCheckpointOf, checkpoint_bytes}
 use Rattle.checkpoint.specs.Reading.{Fails, state_of}
@@ -38,6 +40,8 @@ use Rattle.sources.specs.Jobs.{IsJobOf, RefusesSettings}
 use Rattle.console.specs.Importing.{IsNotImported, PrintsImport, TriesImport}
 use Rattle.console.specs.Jobs.{AreRunLines, IsFaultOfKept}
 use Rattle.console.specs.Loss.{NamesLoss, RefusesLoss}
+use Rattle.console.specs.Notes.{HasNoted, NotesEnd}
+use Rattle.console.specs.declared.noting.RunNotes.{RunNotes}
 use Rattle.console.specs.Replays.{AreReplayLines, IsFaultOfReplay}
 use Rattle.console.specs.Sizes.{IsAdmitted, IsNotAdmitted}
 use Rattle.console.specs.Steps.{RefusesSteps, steps_of}
@@ -336,3 +340,41 @@ MayPrint before after asked status told =
 -- this was printed and this status is returned; or the writer failed, and a beginning of it was printed
 abbrev pub HasPrinted : {E : Type 0} → (old new : Option (List ℕ)) → (status : ℕ) → (told : List ℕ) → Result ℕ E → Type 0
 HasPrinted old new status told answer = MatchResult answer (λ s. (s ≡ status) × Appends old new told) (λ _. HasBegun old new told)
+
+-- ---- what is noted of a run
+
+-- nothing is noted but what the job of the run ended with
+abbrev pub NotesOnlyRun : Disk → RunRequest → (before after : RunNotes) → Type 0
+NotesOnlyRun disk asked before after =
+    (after ≡ before)
+    ⊎ ((job : Work) × IsJobAt disk asked.job job × ((answer : Result Report JobFault) × HasNoted job answer after))
+
+-- the same of a command, of which nothing is noted if it is no run
+abbrev pub NotesOnlyAsked : Disk → Request → (before after : RunNotes) → Type 0
+NotesOnlyAsked disk (request.Run asked) before after = NotesOnlyRun disk asked before after
+NotesOnlyAsked disk asked before after = after ≡ before
+
+-- these are the lines of what the job of a run ended with, and that is noted
+abbrev pub NotesRun : Disk → RunRequest → RunNotes → (lines : List ℕ) → Type 0
+NotesRun disk asked notes lines = (job : Work) × IsJobAt disk asked.job job × NotesEnd job asked.job.tells_units notes lines
+
+-- if the job of a run ended with a fault, that is noted
+abbrev pub NotesFailedRun : Disk → RunRequest → RunNotes → CommandFault → Type 0
+NotesFailedRun disk asked notes (command.Job fault) = (job : Work) × IsJobAt disk asked.job job × HasNoted job (Err fault) notes
+NotesFailedRun disk asked notes _ = Unit {0}
+
+-- the same of a command, which has to be a run
+abbrev pub NotesAnswer : Disk → Request → RunNotes → (lines : List ℕ) → Type 0
+NotesAnswer disk (request.Run asked) notes lines = NotesRun disk asked notes lines
+NotesAnswer disk asked notes lines = ⊥
+
+abbrev pub NotesRefusal : Disk → Request → RunNotes → CommandFault → Type 0
+NotesRefusal disk (request.Run asked) notes fault = NotesFailedRun disk asked notes fault
+NotesRefusal disk asked notes fault = ⊥
+
+-- What was noted of a run that printed this. With status 0 these are the lines of what its job ended with, with status 3 it is the
+-- line of the fault that the job ended with, and that is noted.
+pub record NotesPrinted (disk : Disk) (asked : Request) (notes : RunNotes) (status : ℕ) (told : List ℕ) : Type 0 where
+  pub ended : status ≡ 0 → NotesAnswer disk asked notes told
+  pub failed : status ≡ 3
+      → (fault : JobFault) × (told ≡ line (fault_text (command.Job fault))) × NotesRefusal disk asked notes (command.Job fault)

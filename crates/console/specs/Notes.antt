@@ -1,5 +1,5 @@
 -- What is noted of a run for its report.
-use Rattle.std.specs.Prelude.{◌≡◌, ◌⊎◌, ℕ, map, vec_len, codes, Some, None, IsSomeAnd, Result, Ok, Err, true}
+use Rattle.std.specs.Prelude.{◌≡◌, ◌⊎◌, ℕ, Bool, List, map, vec_len, codes, Some, None, IsSomeAnd, Result, Ok, Err, true}
 use Rattle.bounded_profile.specs.Facts.{IsSizeOfCompute}
 use Rattle.run_report.specs.Tally.{capped, counts_of_end, counts_until}
 use Rattle.run_report.specs.declared.report.Outcome.{Outcome}
@@ -13,7 +13,9 @@ use Rattle.superstep.specs.Ending.{is_finished}
 use Rattle.superstep.specs.Faults.{fault_word}
 use Rattle.superstep.specs.Job.{IsCount, IsEdgeCount, Work}
 use Rattle.rollback.specs.declared.report.Report.{Report}
-use Rattle.sources.specs.OutputLines.{end_word}
+use Rattle.sources.specs.OutputLines.{end_word, ended_lines}
+use Rattle.sources.specs.declared.fault.CommandFault.{CommandFault}
+use Rattle.sources.specs.declared.fault.CommandFault.TheVariants as command
 use Rattle.console.specs.declared.noting.RunNotes.{RunNotes}
 
 -- the outcome of a job with this answer; its counts stop at the greatest number of 64 bits
@@ -89,3 +91,17 @@ pub record IsReportOf (job : Work) (answer : Result Report JobFault) (noted : Ru
 -- there is what is reported of a job with this answer, or there was no memory for it
 abbrev pub HasNoted : Work → Result Report JobFault → RunNotes → Type 0
 HasNoted job answer notes = (notes.is_short ≡ true) ⊎ IsSomeAnd notes.report (IsReportOf job answer)
+
+-- nothing is noted but what the job ended with
+abbrev pub NotesOnly : Work → (before after : RunNotes) → Type 0
+NotesOnly job before after = (after ≡ before) ⊎ ((answer : Result Report JobFault) × HasNoted job answer after)
+
+-- these are the lines of what the job ended with, and that is noted
+abbrev pub NotesEnd : Work → (tells_units : Bool) → RunNotes → (lines : List ℕ) → Type 0
+NotesEnd job tells_units notes lines =
+    (report : Report) × (lines ≡ ended_lines tells_units report.ended) × HasNoted job (Ok report) notes
+
+-- if the job ended with a fault, that is noted
+abbrev pub NotesFault : Work → RunNotes → CommandFault → Type 0
+NotesFault job notes (command.Job fault) = HasNoted job (Err fault) notes
+NotesFault job notes _ = Unit {0}

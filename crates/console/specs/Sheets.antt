@@ -11,9 +11,13 @@ use Rattle.sources.specs.Disk.{Disk, Stays}
 use Rattle.console.specs.Importing.{TriesAll, WritesAll}
 use Rattle.console.specs.declared.noting.RunNotes.{RunNotes}
 
+-- whether a run is to be reported or charted
+abbrev pub asks_of_run : RunRequest → Bool
+asks_of_run asked = is_some asked.report || is_some asked.plot
+
 -- whether the command asks for a report or a chart
 abbrev pub asks_sheets : Request → Bool
-asks_sheets (request.Run asked) = is_some asked.report || is_some asked.plot
+asks_sheets (request.Run asked) = asks_of_run asked
 asks_sheets asked = false
 
 -- The status for the process: the command's, or, where that is an answer's and a report or a chart was asked for, 4.

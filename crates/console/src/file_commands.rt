@@ -1,6 +1,7 @@
 //! The commands over files: each prints an answer or, on one line, a refusal.
 
-ghost use Rattle.std.specs.Prelude.{◌≡◌, ◌⊎◌, List, ℕ, false, IfOk, IfErr, MatchResult, OnErr, string_bytes};
+ghost use Rattle.std.specs.Prelude.{◌≡◌, ◌⊎◌, List, ℕ, false, is_some, true, IfOk, IfErr, IsSome, MatchResult, OnErr, string_bytes};
+ghost use Rattle.std.specs.Io.KnownBytes.{Appends};
 ghost use Rattle.wasm_ast.specs.Limits.{IsWithinLimits};
 ghost use Rattle.wasm_decode.specs.Canonical.{canonical};
 ghost use Rattle.checkpoint.specs.Checkpoint.{checkpoint_bytes};
@@ -11,7 +12,9 @@ ghost use Rattle.sources.specs.OutputLines.{IfText};
 ghost use Rattle.console.specs.Loss.{NamesLoss, RefusesLoss};
 ghost use Rattle.sources.specs.Source.{RefusesModule};
 ghost use Rattle.sources.specs.Reading.{IsRefusedAt, IsUnwritable};
-ghost use Rattle.console.specs.FileCommands.{Answered, AreStepsAt, HasPrinted, IsBoundsLine, IsCause, IsFaultOfKeeping, IsJobAt, IsKeptAt, IsNoCheckpointAt, IsNoStepsAt, IsNotUpgraded, IsUnassembled, IsUncalled, IsUnfitted, IsUnopened, IsUnreplayed, IsUnrun, IsUnspelled, MayPrint, MayTry, PrintsBounds, PrintsLayout, PrintsLength, PrintsOutcome, PrintsReplay, PrintsRun, PrintsSpelling, PrintsUpgraded, PrintsWritten, RefusesFit, StaysBeforeWriting, PrintsFitted, PrintsFittedOf, TriesFitted, TriesFittedOf, TriesSpelling, TriesUpgraded, bounds_line, length_line, writes_file};
+ghost use Rattle.console.specs.FileCommands.{Answered, AreStepsAt, HasPrinted, IsBoundsLine, IsCause, IsFaultOfKeeping, IsJobAt, IsKeptAt, IsNoCheckpointAt, IsNoStepsAt, IsNotUpgraded, IsUnassembled, IsUncalled, IsUnfitted, IsUnopened, IsUnreplayed, IsUnrun, IsUnspelled, MayPrint, MayTry, NotesAnswer, NotesFailedRun, NotesOnlyAsked, NotesOnlyRun, NotesPrinted, NotesRefusal, NotesRun, PrintsBounds, PrintsLayout, PrintsLength, PrintsOutcome, PrintsReplay, PrintsRun, PrintsSpelling, PrintsUpgraded, PrintsWritten, RefusesFit, StaysBeforeWriting, PrintsFitted, PrintsFittedOf, TriesFitted, TriesFittedOf, TriesSpelling, TriesUpgraded, bounds_line, length_line, writes_file};
+ghost use Rattle.console.specs.Notes.{NotesEnd, NotesFault, NotesOnly};
+ghost use Rattle.console.specs.Sheets.{asks_of_run, asks_sheets};
 ghost use Rattle.console.specs.Sizes.{IsNotAdmitted};
 ghost use Rattle.console.specs.inside.Answering.{HasPrintedFault};
 
@@ -90,6 +93,12 @@ pub fn command<F: Files, O: Output, V: View + Sync>(
         × MayPrint (F.disk files.old) (F.disk files.new) request.entry status told
         × HasPrinted (O.contents out.old) (O.contents out.new) status told result }
     ensures failed { OnErr result (O.has_failed out.new) }
+    // Where a report or a chart is asked for, what the job of a run ended with is noted, and that is what is printed.
+    ensures noted { asks_sheets request.entry ≡ true → IfOk result (λ status. (told : List ℕ)
+        × Appends (O.contents out.old) (O.contents out.new) told
+        × NotesPrinted (F.disk files.old) request.entry notes.new status told) }
+    // Nothing else is noted.
+    ensures only { NotesOnlyAsked (F.disk files.old) request.entry notes.old notes.new }
     // No command but `asm`, `fit`, `upgrade` and `graph` writes one of `files`.
     ensures kept { writes_file request.entry ≡ false → Stays (F.disk files.old) (F.disk files.new) }
 {
@@ -172,6 +181,11 @@ fn execute_request<'a, F: Files, V: View + Sync>(
 ) -> Result<String, CommandFault<'a>>
     ensures answered { IfText result
         (Answered (F.disk files.old) (F.disk files.new) request.entry) }
+    ensures noted { asks_sheets request.entry ≡ true
+        → IfText result (NotesAnswer (F.disk files.old) request.entry notes.new) }
+    ensures fault_noted { asks_sheets request.entry ≡ true
+        → IfErr result (NotesRefusal (F.disk files.old) request.entry notes.new) }
+    ensures only { NotesOnlyAsked (F.disk files.old) request.entry notes.old notes.new }
     ensures kept { writes_file request.entry ≡ false → Stays (F.disk files.old) (F.disk files.new) }
     ensures refused { IfErr result (IsCause (F.disk files.old) request.entry) }
     ensures before { IfErr result (StaysBeforeWriting (F.disk files.old) (F.disk files.new)) }
@@ -216,6 +230,11 @@ fn run_files<'a, F: Files, V: View + Sync>(
     notes: &mut RunNotes,
 ) -> Result<String, CommandFault<'a>>
     ensures answered { IfText result (PrintsRun (F.disk files.old) asked.entry) }
+    ensures noted { asks_of_run asked.entry ≡ true
+        → IfText result (NotesRun (F.disk files.old) asked.entry notes.new) }
+    ensures fault_noted { asks_of_run asked.entry ≡ true
+        → IfErr result (NotesFailedRun (F.disk files.old) asked.entry notes.new) }
+    ensures only { NotesOnlyRun (F.disk files.old) asked.entry notes.old notes.new }
     ensures kept { Stays (F.disk files.old) (F.disk files.new) }
     ensures refused { IfErr result (IsUnrun (F.disk files.old) asked.entry) }
 {
@@ -254,7 +273,9 @@ fn loss_of<'a>(asked: RunRequest<'a>) -> Result<Option<Loss>, CommandFault<'a>>
 }
 
 // What counts what a job does, where it is to be reported.
-fn watch_of(alloc: Global, job: &Job, asked: RunRequest<'_>) -> Option<Watch> {
+fn watch_of(alloc: Global, job: &Job, asked: RunRequest<'_>) -> Option<Watch>
+    ensures { is_some result ≡ asks_of_run asked.entry }
+{
     if asked.report.is_none() && asked.plot.is_none() {
         return None;
     }
@@ -273,6 +294,11 @@ fn run_kept<'a, F: Files, V: View + Sync>(
 ) -> Result<String, CommandFault<'a>>
     ensures told { IfText result
         (AreRunLines job.now asked.entry.keep asked.entry.resume asked.entry.job.tells_units) }
+    ensures noted { IsSome gate.now.loss.watch
+        → IfText result (NotesEnd job.now asked.entry.job.tells_units notes.new) }
+    ensures fault_noted { IsSome gate.now.loss.watch
+        → IfErr result (NotesFault job.now notes.new) }
+    ensures only { NotesOnly job.now notes.old notes.new }
     ensures kept { Stays (F.disk files.old) (F.disk files.new) }
     ensures refused { IfErr result (IsFaultOfKeeping (F.disk files.old) asked.entry) }
 {
@@ -309,6 +335,11 @@ fn run_in_folder<'a, F: Files, V: View + Sync>(
     ensures told { IfText result (AreEndLines tells_units) }
     ensures unloaded { superstep_on keep ≡ None
         → IfText result (AreKeptLines job.now tells_units) }
+    ensures noted { IsSome gate.now.loss.watch
+        → IfText result (NotesEnd job.now tells_units notes.new) }
+    ensures fault_noted { IsSome gate.now.loss.watch
+        → IfErr result (NotesFault job.now notes.new) }
+    ensures only { NotesOnly job.now notes.old notes.new }
     ensures kept { Stays (F.disk files.old) (F.disk files.new) }
     ensures refused { IfErr result IsFaultOfRun }
 {

@@ -1,12 +1,13 @@
 //! A job, from a module and a graph to printed lines.
 
-ghost use Rattle.std.specs.Prelude.{◌≡◌, ◌<◌, true, IfOk, IfErr, MatchResult, OnOk, Some, string_bytes};
+ghost use Rattle.std.specs.Prelude.{◌≡◌, ◌<◌, true, IfOk, IfErr, IsSome, MatchResult, OnOk, Some, string_bytes};
 ghost use Rattle.rollback.specs.Saving.{HasLeft};
 ghost use Rattle.superstep.specs.Ending.{answer_of};
 ghost use Rattle.sources.specs.Disk.{Stays};
 ghost use Rattle.sources.specs.OutputLines.{Gains, IfText, end_line, ended_lines, numbered_line, numbered_lines};
 ghost use Rattle.sources.specs.Jobs.{IsJobOf, RefusesSettings};
 ghost use Rattle.console.specs.Jobs.{AreEndLines, AreJobLines, AreKeptLines, IsFaultOfRun};
+ghost use Rattle.console.specs.Notes.{NotesEnd, NotesFault, NotesOnly};
 ghost use Rattle.console.specs.inside.Answering.{opening_fault};
 
 use crate::noting::RunNotes;
@@ -68,6 +69,12 @@ pub fn resume<'a, K: Keep + Drop, V: View + Sync, F: Files>(
     ensures told { IfText result (AreEndLines tells_units) }
     // Where the Keep is honest the job answers as if it had begun with superstep 0.
     ensures answered { K.honest keep ≡ true → IfText result (AreJobLines job.now tells_units) }
+    // Where the gate watches the job, what it ended with is noted.
+    ensures noted { IsSome gate.now.loss.watch
+        → IfText result (NotesEnd job.now tells_units notes.new) }
+    ensures fault_noted { IsSome gate.now.loss.watch
+        → IfErr result (NotesFault job.now notes.new) }
+    ensures only { NotesOnly job.now notes.old notes.new }
     ensures kept { Stays (F.disk files.old) (F.disk files.new) }
     ensures refused { IfErr result IsFaultOfRun }
 {
@@ -108,6 +115,12 @@ pub fn run<'a, K: Keep + Drop, V: View + Sync, F: Files>(
     ensures answered { K.honest keep ≡ true → IfText result (AreJobLines job.now tells_units) }
     // So they are where the Keep loaded nothing, whatever it is.
     ensures unloaded { IfText result (AreKeptLines job.now tells_units) }
+    // Where the gate watches the job, what it ended with is noted.
+    ensures noted { IsSome gate.now.loss.watch
+        → IfText result (NotesEnd job.now tells_units notes.new) }
+    ensures fault_noted { IsSome gate.now.loss.watch
+        → IfErr result (NotesFault job.now notes.new) }
+    ensures only { NotesOnly job.now notes.old notes.new }
     ensures kept { Stays (F.disk files.old) (F.disk files.new) }
     ensures refused { IfErr result IsFaultOfRun }
 {

@@ -2,7 +2,7 @@
 
 ghost use Rattle.std.specs.Prelude.{◌≡◌, false, map, IfOk, IsSome, None};
 ghost use Rattle.run_report.specs.Tally.{capped};
-ghost use Rattle.console.specs.Notes.{HasNoted, IsOfEnd, IsOfFault, IsOfJob, IsOutcomeOf, IsOutcomeOfFault, IsReportOf, settings_in};
+ghost use Rattle.console.specs.Notes.{HasNoted, IsOfEnd, IsOfFault, IsOfJob, IsOutcomeOf, IsOutcomeOfFault, IsReportOf, NotesOnly, settings_in};
 
 use crate::watching::Watch;
 use rollback::Report;
@@ -44,6 +44,7 @@ impl RunNotes {
     )
         ensures unwatched { watch.entry ≡ None → self.new ≡ self.old }
         ensures noted { IsSome watch.entry → HasNoted job.now answer.now self.new }
+        ensures only { NotesOnly job.now self.old self.new }
     {
         let Some(watch) = watch else {
             return;

@@ -1,5 +1,7 @@
 //! What a run shows while it goes on, beside its answer.
 
+ghost use Rattle.std.specs.Prelude.{◌≡◌, is_some};
+
 use crate::loss::LossGate;
 use crate::watching::Watch;
 use std::sync::Wait;
@@ -40,13 +42,15 @@ impl View for NoView {
 /// The gate of a run that shows how far it has come, where there is a view.
 #[derive(Drop)]
 pub struct RunGate<'a, V> {
-    loss: LossGate,
+    pub loss: LossGate,
     view: Option<&'a V>,
 }
 
 impl<'a, V: View> RunGate<'a, V> {
     /// A gate that loses workers as the other does.
-    pub fn new(loss: LossGate, view: Option<&'a V>) -> RunGate<'a, V> {
+    pub fn new(loss: LossGate, view: Option<&'a V>) -> RunGate<'a, V>
+        ensures { result.loss ≡ loss }
+    {
         RunGate { loss, view }
     }
 
@@ -60,7 +64,9 @@ impl<'a, V: View> RunGate<'a, V> {
 
 impl<V> RunGate<'_, V> {
     /// What is counted of the job, where it is watched.
-    pub fn watch(&self) -> Option<&Watch> {
+    pub fn watch(&self) -> Option<&Watch>
+        ensures { is_some result ≡ is_some self.now.loss.watch }
+    {
         self.loss.watch.as_ref()
     }
 }

@@ -23,3 +23,12 @@ returns-in-Import-clause-tried g c = rw c.in-Import.is c.import_file.ensures.tri
 
 pub returns-in-Import-clause-refused : goal.returns-in-Import-clause-refused
 returns-in-Import-clause-refused g c = rw c.in-Import.is c.import_file.ensures.refused
+
+pub returns-in-Run-clause-noted : goal.returns-in-Run-clause-noted
+returns-in-Run-clause-noted g c = rw c.in-Run.is c.run_files.ensures.noted
+
+pub returns-in-Run-clause-fault_noted : goal.returns-in-Run-clause-fault_noted
+returns-in-Run-clause-fault_noted g c = rw c.in-Run.is c.run_files.ensures.fault_noted
+
+pub returns-in-Run-clause-only : goal.returns-in-Run-clause-only
+returns-in-Run-clause-only g c = rw c.in-Run.is c.run_files.ensures.only

@@ -1,6 +1,8 @@
-use Rattle.std.proofs.Common.{inl, inr}
+use Rattle.std.proofs.Common.{◌∙◌, ap, inl, inr, is_some}
 use Rattle.sources.proofs.Disks.{stays_again}
 use Rattle.sources.proofs.Faults.{IfErr-along, IfOk-along, is_fault}
+use Rattle.console.specs.declared.loss.LossGate.{LossGate}
+use Rattle.console.proofs.Noted.{end_noted, fault_noted, only_noted, unopened_noted}
 use Rattle.console.proofs.Folders.{keeping_before}
 use Rattle.console.proofs.file_commands.run_files.Goals as goal
 
@@ -37,3 +39,28 @@ returns-clause-refused g c =
       inr (c.in_ok-job.job, c.in_ok-job.ensures.found, keeping_before before after c.args.asked stays fault is),
     ))
     c.run_kept.ensures.refused
+
+pub returns-clause-noted : goal.returns-clause-noted
+returns-clause-noted g c = λ asks.
+    let watched = ap (λ (gate : LossGate). is_some gate.watch) c.new-gate.ensures ∙ c.watch_of.ensures ∙ asks in
+    end_noted (g.F.Files.disk c.args.files.now) c.args.asked c.in_ok-job.job c.run_kept.new.notes c.run_kept.result c.in_ok-job.ensures.found
+    (c.run_kept.ensures.noted watched)
+
+pub returns-clause-fault_noted : goal.returns-clause-fault_noted
+returns-clause-fault_noted g c = λ asks.
+    let watched = ap (λ (gate : LossGate). is_some gate.watch) c.new-gate.ensures ∙ c.watch_of.ensures ∙ asks in
+    fault_noted (g.F.Files.disk c.args.files.now) c.args.asked c.in_ok-job.job c.run_kept.new.notes c.run_kept.result c.in_ok-job.ensures.found
+    (c.run_kept.ensures.fault_noted watched)
+
+pub returns-in_err-loss-clause-fault_noted : goal.returns-in_err-loss-clause-fault_noted
+returns-in_err-loss-clause-fault_noted g c = λ asks. rw (is_fault _ _ c.from_residual.ensures.1, c.in_err-loss.ensures.refused.0) tt
+
+pub returns-in_err-job-clause-fault_noted : goal.returns-in_err-job-clause-fault_noted
+returns-in_err-job-clause-fault_noted g c = λ asks.
+    rw (is_fault _ _ c.from_residual-in_err-job.ensures.1)
+    (unopened_noted (g.F.Files.disk c.args.files.now) c.args.asked c.args.notes.now _ c.in_err-job.ensures.found)
+
+pub returns-clause-only : goal.returns-clause-only
+returns-clause-only g c =
+    only_noted (g.F.Files.disk c.args.files.now) c.args.asked c.in_ok-job.job c.args.notes.now c.run_kept.new.notes c.in_ok-job.ensures.found
+    c.run_kept.ensures.only

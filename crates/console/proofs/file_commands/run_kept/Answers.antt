@@ -1,6 +1,7 @@
 use Rattle.std.proofs.Common.{inr}
 use Rattle.sources.proofs.Faults.{IfErr-along, is_fault}
 use Rattle.console.proofs.Folders.{folder_lines, nested}
+use Rattle.console.proofs.Noted.{unkept_noted}
 use Rattle.console.proofs.file_commands.run_kept.Goals as goal
 
 pub returns-in_err-keep-in-Some-clause-refused : goal.returns-in_err-keep-in-Some-clause-refused
@@ -15,3 +16,8 @@ pub returns-in_ok-keep-in-Some-clause-told : goal.returns-in_ok-keep-in-Some-cla
 returns-in_ok-keep-in-Some-clause-told g c =
     rw c.in-Some.is (folder_lines c.args.job.now c.in-Some.folder c.args.asked.resume c.args.asked.job.tells_units c.run_in_folder.result
     c.run_in_folder.ensures.told (λ never. c.run_in_folder.ensures.unloaded (c.in_ok-keep-in-Some.ensures.fresh never)))
+
+pub returns-in_err-keep-in-Some-clause-fault_noted : goal.returns-in_err-keep-in-Some-clause-fault_noted
+returns-in_err-keep-in-Some-clause-fault_noted g c = λ watched.
+    rw (is_fault _ _ c.from_residual.ensures.1)
+    (unkept_noted (g.F.Files.disk c.args.files.now) c.args.asked c.in-Some.folder.now c.args.job.now c.args.notes.now _ c.in_err-keep-in-Some.ensures.refused)

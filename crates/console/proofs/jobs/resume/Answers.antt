@@ -1,5 +1,6 @@
-use Rattle.std.proofs.Common.{◌≡◌, IfOk, subst}
+use Rattle.std.proofs.Common.{◌≡◌, ◌∙◌, IfOk, subst}
 use Rattle.superstep.specs.Ending.{IsEndOf, answer_of}
+use Rattle.console.specs.Notes.{HasNoted}
 use Rattle.console.proofs.JobLines.{ended_printed}
 use Rattle.console.proofs.jobs.resume.Goals as goal
 
@@ -13,3 +14,13 @@ returns-in_ok-text-in-Ok-clause-answered g c = λ sure meaning.
       ends = ends.answer;
       printed = ended_printed c.args.job.now meaning c.args.tells_units ended _ since ends c.in_ok-text-in-Ok.ensures;
     }
+
+pub returns-in_ok-text-in-Ok-clause-noted : goal.returns-in_ok-text-in-Ok-clause-noted
+returns-in_ok-text-in-Ok-clause-noted g c = λ watched.
+    let job = c.args.job.now in
+    let noted = subst (λ r. HasNoted job r c.note.new.self) c.in-Ok.is (c.note.ensures.noted (c.watch.ensures ∙ watched)) in
+    (c.in-Ok.report, c.in_ok-text-in-Ok.ensures, noted)
+
+pub returns-in-Err-clause-fault_noted : goal.returns-in-Err-clause-fault_noted
+returns-in-Err-clause-fault_noted g c = λ watched.
+    subst (λ r. HasNoted c.args.job.now r c.note.new.self) c.in-Err.is (c.note.ensures.noted (c.watch.ensures ∙ watched))

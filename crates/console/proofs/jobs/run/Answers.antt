@@ -1,7 +1,8 @@
-use Rattle.std.proofs.Common.{◌≡◌, true, refl, sym, subst, IfOk}
+use Rattle.std.proofs.Common.{◌≡◌, ◌∙◌, true, refl, sym, subst, IfOk}
 use Rattle.superstep.specs.Ending.{IsEndOf}
 use Rattle.superstep.specs.Tasks.{trusts}
 use Rattle.superstep.proofs.Trusting.{trusts_sure}
+use Rattle.console.specs.Notes.{HasNoted}
 use Rattle.console.proofs.JobLines.{answer_printed}
 use Rattle.console.proofs.jobs.run.Goals as goal
 
@@ -29,3 +30,13 @@ returns-in_ok-text-in-Ok-clause-unloaded g c =
           let trusted = subst (λ n. trusts honest n ≡ true) (sym first) refl in
           answer_printed job c.args.tells_units report.ended _ (ends trusted) (since trusted) c.in_ok-text-in-Ok.ensures;
     }
+
+pub returns-in_ok-text-in-Ok-clause-noted : goal.returns-in_ok-text-in-Ok-clause-noted
+returns-in_ok-text-in-Ok-clause-noted g c = λ watched.
+    let job = c.args.job.now in
+    let noted = subst (λ r. HasNoted job r c.note.new.self) c.in-Ok.is (c.note.ensures.noted (c.watch.ensures ∙ watched)) in
+    (c.in-Ok.report, c.in_ok-text-in-Ok.ensures, noted)
+
+pub returns-in-Err-clause-fault_noted : goal.returns-in-Err-clause-fault_noted
+returns-in-Err-clause-fault_noted g c = λ watched.
+    subst (λ r. HasNoted c.args.job.now r c.note.new.self) c.in-Err.is (c.note.ensures.noted (c.watch.ensures ∙ watched))

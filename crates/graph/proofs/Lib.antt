@@ -5,5 +5,6 @@ pub mod Placing
 pub mod Printing
 pub mod Ranges
 pub mod Splitting
+pub mod Spreading
 pub mod Texts
 pub mod Vertices

@@ -1,20 +1,23 @@
 -- The graph of what lines say.
-use Rattle.std.proofs.Common.{◌≡◌, ℕ, List, [], ◌∷◌, ◌++◌, map, true, refl, ap, sym, subst, ◌∙◌}
+use Rattle.std.proofs.Common.{◌≡◌, ℕ, List, [], ◌∷◌, ◌++◌, length, take, drop, map, true, refl, ap, sym, subst, ◌∙◌, arith}
 use Rattle.std.specs.Prelude.{ℤ}
 use Rattle.std.specs.List.{All, AllByRecursion}
 use Rattle.std.specs.List.Sorted.{IsNonDecreasing, IsPermutation, IsStrictlyIncreasing}
+use Rattle.std.proofs.lemmas.List.{append-nil, drop_all, length-map, take_all}
 use Rattle.std.proofs.lemmas.List.Elements.{All-from_recursion, recursion_from_All}
 use Rattle.std.proofs.lemmas.List.Sorted.{All-permutation, IsPermutation-map, IsPermutation-sym, IsPermutation-trans}
+use Rattle.std.proofs.lemmas.Map.Keys.{non_decreasing_from_sorted, sorted_from_strictly_increasing}
 use Rattle.graph.specs.declared.collect.Collected.{Collected}
 use Rattle.graph.specs.declared.line.Line.{Line}
 use Rattle.graph.specs.declared.vertex.Edge.{Edge}
 use Rattle.graph.specs.declared.vertex.Vertex.{Vertex}
-use Rattle.graph.specs.inside.Collected.{Says, bare}
+use Rattle.graph.specs.inside.Collected.{CanBeSaid, Says, bare}
 use Rattle.graph.specs.Entry.{Entry, edges_from, entries_of, entry_of, head_of, heads, ids, vertex_id}
 use Rattle.graph.specs.Graph.{IsSaid}
 use Rattle.graph.specs.Line.{is_good}
-use Rattle.graph.specs.inside.Placed.{AreEndsAmong, with_edges}
-use Rattle.graph.specs.Said.{all_declared, all_edges}
+use Rattle.graph.specs.inside.Placed.{HasEnds, HaveEnds, PlacesEdges, with_edges}
+use Rattle.graph.specs.inside.Read.{AreRead, AreSorted, ReadsNoGraph}
+use Rattle.graph.specs.Said.{all_declared, all_edges, lines_of}
 use Rattle.graph.specs.inside.Rising.{rising_same, sorted_same}
 use Rattle.graph.proofs.Vertices.{ids_entries}
 
@@ -73,12 +76,14 @@ same_ids lines sorted graph h said =
     (IsPermutation-trans _ _ _ (IsPermutation-sym _ _ (sorted_heads lines sorted h)) said.vertices) in
     sym (ids-heads sorted) ∙ ap (λ hs. map id_of_head hs) same ∙ ids-heads graph
 
-pub declared_twice : (lines : List Line) (sorted graph : List Entry) → IsSorted lines sorted → (IsStrictlyIncreasing (ids sorted) → ⊥) → IsSaid lines graph → ⊥
+declared_twice : (lines : List Line) (sorted graph : List Entry) → IsSorted lines sorted → (IsStrictlyIncreasing (ids sorted) → ⊥) → IsSaid lines graph → ⊥
 declared_twice lines sorted graph h twice said = twice (rw (same_ids lines sorted graph h said) said.rising)
 
-pub unknown_end : (lines : List Line) (sorted graph : List Entry) → IsSorted lines sorted → (AreEndsAmong (ids sorted) (all_edges lines) → ⊥) → IsSaid lines graph → ⊥
+unknown_end : (lines : List Line) (sorted graph : List Entry) → IsSorted lines sorted → (All (HasEnds (ids sorted)) (all_edges lines) → ⊥) → IsSaid lines graph → ⊥
 unknown_end lines sorted graph h unknown said =
-    unknown (rw (same_ids lines sorted graph h said) (record { from = said.from_declared; target = said.target_declared }))
+    let ends : All (HasEnds (ids graph)) (all_edges lines) =
+    λ k d below. record { from = said.from_declared k d below; target = said.target_declared k d below } in
+    unknown (rw (same_ids lines sorted graph h said) ends)
 
 bare_edges : (declared : List (ℕ × ℤ)) → AllByRecursion (λ (entry : Entry). entry.edges ≡ []) (map bare declared)
 bare_edges [] = tt
@@ -89,8 +94,8 @@ edges-with_edges : (edges : List Edge) (graph : List Entry) → AllByRecursion (
 edges-with_edges edges [] h = tt
 edges-with_edges edges (entry ∷ graph) h = (ap (λ es. es ++ edges_from edges entry.id) h.0, edges-with_edges edges graph h.1)
 
-pub is_said : (lines : List Line) (sorted graph : List Entry) → All (λ line. is_good line ≡ true) lines → IsSorted lines sorted
-    → IsStrictlyIncreasing (ids sorted) → AreEndsAmong (ids sorted) (all_edges lines) → graph ≡ map (with_edges (all_edges lines)) sorted → IsSaid lines graph
+is_said : (lines : List Line) (sorted graph : List Entry) → All (λ line. is_good line ≡ true) lines → IsSorted lines sorted
+    → IsStrictlyIncreasing (ids sorted) → All (HasEnds (ids sorted)) (all_edges lines) → graph ≡ map (with_edges (all_edges lines)) sorted → IsSaid lines graph
 is_said lines sorted graph good h rising ends placed =
     let none : All (λ (entry : Entry). entry.edges ≡ []) sorted =
     All-permutation (λ entry. entry.edges ≡ []) (map bare (all_declared lines)) sorted h.permutation (All-from_recursion _ _ (bare_edges (all_declared lines))) in
@@ -100,9 +105,11 @@ is_said lines sorted graph good h rising ends placed =
       rising = rw same rising;
       vertices = rw (placed, heads-with_edges (all_edges lines) sorted) (sorted_heads lines sorted h);
       edges = rw placed (All-from_recursion _ _ (edges-with_edges (all_edges lines) sorted (recursion_from_All _ sorted none)));
-      from_declared = rw same ends.from;
-      target_declared = rw same ends.target;
+      from_declared = rw same (λ k d below. (ends k d below).from);
+      target_declared = rw same (λ k d below. (ends k d below).target);
     }
+
+-- ---- from what was collected of a text to what is read
 
 pub sorted_from : (lines : List Line) (collected : Collected) (sorted : List Vertex) → Says lines collected
     → IsPermutation collected.vertices.items sorted → IsNonDecreasing (map vertex_id sorted) → IsSorted lines (entries_of sorted)
@@ -110,3 +117,49 @@ sorted_from lines collected sorted says same ordered = record {
   permutation = rw says.vertices at (IsPermutation-map entry_of _ _ same);
   ordered = rw (ids_entries sorted) ordered;
 }
+
+pub are_sorted : (lines : List Line) (collected sorted : Collected) → Says lines collected → IsPermutation collected.vertices.items sorted.vertices.items
+    → IsStrictlyIncreasing (ids (entries_of sorted.vertices.items)) → sorted.edges.items ≡ collected.edges.items → AreSorted lines sorted
+are_sorted lines collected sorted says same rising edges = record {
+  can = says.can;
+  vertices = rw says.vertices at (IsPermutation-map entry_of _ _ same);
+  rising = rising;
+  edges = edges ∙ says.edges;
+}
+
+sorted_too : (lines : List Line) (sorted : Collected) → AreSorted lines sorted → IsSorted lines (entries_of sorted.vertices.items)
+sorted_too lines sorted are = record {
+  permutation = are.vertices;
+  ordered = non_decreasing_from_sorted _ (sorted_from_strictly_increasing _ are.rising);
+}
+
+-- what cannot be said is no graph's text
+pub says_none : (text : List ℕ) → (CanBeSaid (lines_of text) → ⊥) → ReadsNoGraph text
+says_none text cannot = λ graph said within. cannot (record { good = said.good; within = within })
+
+pub twice_none : (text : List ℕ) (sorted : List Entry) → IsSorted (lines_of text) sorted → (IsStrictlyIncreasing (ids sorted) → ⊥) → ReadsNoGraph text
+twice_none text sorted h twice = λ graph said within. declared_twice (lines_of text) sorted graph h twice said
+
+pub unknown_none : (text : List ℕ) (sorted : Collected) → AreSorted (lines_of text) sorted → (HaveEnds sorted.vertices.items sorted.edges.items → ⊥) → ReadsNoGraph text
+unknown_none text sorted are unknown = λ graph said within.
+    unknown_end (lines_of text) (entries_of sorted.vertices.items) graph (sorted_too (lines_of text) sorted are) (rw are.edges at unknown) said
+
+-- what a list of vertices holds whose places were written
+kept_whole : (count : ℕ) (old new : List Vertex) → count ≡ length old → length new ≡ length old → take count (new ++ drop (length new) old) ≡ new
+kept_whole count old new all same =
+    ap (λ vs. take count (new ++ vs)) (drop_all (length new) old (omega arith)) ∙ ap (take count) (append-nil new) ∙ take_all count new (omega arith)
+
+same_length : (edges : List Edge) (old new : List Vertex) → PlacesEdges edges old new → length new ≡ length old
+same_length edges old new places =
+    omega (arith, length-map new entry_of, ap length places, length-map (entries_of old) (with_edges edges), length-map old entry_of)
+
+pub reads_graph : (text : List ℕ) (sorted : Collected) (placed : List Vertex) → AreSorted (lines_of text) sorted → HaveEnds sorted.vertices.items sorted.edges.items
+    → PlacesEdges sorted.edges.items sorted.vertices.items placed
+    → AreRead text (entries_of (take sorted.vertices.len (placed ++ drop (length placed) sorted.vertices.items)))
+reads_graph text sorted placed are ends places =
+    let whole = kept_whole sorted.vertices.len sorted.vertices.items placed (omega (arith, sorted.vertices.ok.0)) (same_length sorted.edges.items sorted.vertices.items placed places) in
+    rw whole (record {
+      means = is_said (lines_of text) (entries_of sorted.vertices.items) (entries_of placed) are.can.good (sorted_too (lines_of text) sorted are) are.rising
+          (rw are.edges at ends) (rw are.edges at places);
+      within = are.can.within;
+    })

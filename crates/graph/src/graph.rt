@@ -4,7 +4,8 @@ ghost use Rattle.std.specs.Prelude.{◌≡◌, ◌≢◌, List, IfOk, IfErr, Mat
 ghost use Rattle.graph.specs.declared.fault.GraphFault.TheVariants.{OutOfMemory};
 ghost use Rattle.graph.specs.inside.Collected.{CanBeSaid, Says};
 ghost use Rattle.graph.specs.Entry.{Entry, FitsLimits, IsProper, entries_of, entry_of};
-ghost use Rattle.graph.specs.Graph.{IsGraphText, IsWithinLimits, MeansNoGraph};
+ghost use Rattle.graph.specs.Graph.{IsGraphText, IsWithinLimits};
+ghost use Rattle.graph.specs.inside.Read.{AreRead, AreSorted, ReadsNoGraph};
 ghost use Rattle.graph.specs.Said.{lines_of};
 
 use crate::collect::{Collected, collect};
@@ -14,6 +15,7 @@ use crate::partition::sort_by_id;
 use crate::pieces::collect_in_threads;
 use crate::place::place_edges;
 use crate::rising::are_rising;
+use crate::spread::place_in_threads;
 use crate::vertex::Vertex;
 use std::alloc::{AllocError, Global};
 use std::marker::Model;
@@ -56,7 +58,8 @@ impl Graph {
         ensures only { (graph : List Entry) → IsGraphText text.now graph → IsWithinLimits text.now
             → MatchResult result (λ read. read ≡ graph) (λ fault. fault ≡ OutOfMemory) }
     {
-        graph_of(alloc, text, collect(alloc, text))
+        let vertices = joined(alloc, text, collect(alloc, text))?;
+        Ok(Graph { vertices })
     }
 
     /// Reads a graph file as `read` does, and a file of 100,000 bytes or more in threads, one for each processor, at most 16.
@@ -73,7 +76,9 @@ impl Graph {
         ensures only { (graph : List Entry) → IsGraphText text.now graph → IsWithinLimits text.now
             → MatchResult result (λ read. read ≡ graph) (λ fault. fault ≡ OutOfMemory) }
     {
-        graph_of(alloc, text, collect_in_threads(rt, alloc, text))
+        let collected = collect_in_threads(rt, alloc, text);
+        let vertices = joined_in_threads(rt, alloc, text, collected)?;
+        Ok(Graph { vertices })
     }
 
     /// Returns the vertices, by rising id.
@@ -112,42 +117,63 @@ impl Graph {
     }
 }
 
-// Makes the graph of what was collected of a text.
-fn graph_of(
+// Joins the vertices and the edges that were collected of a text.
+fn joined(
     alloc: Global,
     text: &str,
     collected: Result<Collected, GraphFault>,
-) -> Result<Graph, GraphFault>
+) -> Result<Vec<Vertex>, GraphFault>
     requires says { IfOk collected (λ collected. Says (lines_of text.now) collected) }
     requires only { IfErr collected (λ told. told ≢ OutOfMemory
         → ¬ CanBeSaid (lines_of text.now)) }
-    ensures found { IfOk result (λ graph. IsGraphText text.now graph
-        × IsWithinLimits text.now) }
-    ensures only { (graph : List Entry) → IsGraphText text.now graph → IsWithinLimits text.now
-        → MatchResult result (λ read. read ≡ graph) (λ fault. fault ≡ OutOfMemory) }
+    ensures found { IfOk result (λ vertices. AreRead text.now (entries_of vertices.items)) }
+    ensures only { IfErr result (λ told. told ≢ OutOfMemory → ReadsNoGraph text.now) }
 {
-    let collected = match collected {
+    let mut sorted = sort_collected(alloc, text, collected)?;
+    place_edges(alloc, text, &sorted.edges, &mut sorted.vertices)?;
+    Ok(sorted.vertices)
+}
+
+// Joins the vertices and the edges that were collected of a text, in threads where they are many.
+fn joined_in_threads(
+    rt: &(impl Threads + Sync),
+    alloc: Global,
+    text: &str,
+    collected: Result<Collected, GraphFault>,
+) -> Result<Vec<Vertex>, GraphFault>
+    requires says { IfOk collected (λ collected. Says (lines_of text.now) collected) }
+    requires only { IfErr collected (λ told. told ≢ OutOfMemory
+        → ¬ CanBeSaid (lines_of text.now)) }
+    ensures found { IfOk result (λ vertices. AreRead text.now (entries_of vertices.items)) }
+    ensures only { IfErr result (λ told. told ≢ OutOfMemory → ReadsNoGraph text.now) }
+{
+    let mut sorted = sort_collected(alloc, text, collected)?;
+    place_in_threads(rt, alloc, text, &sorted.edges, &mut sorted.vertices)?;
+    Ok(sorted.vertices)
+}
+
+// Sorts the vertices that were collected of a text by id, and checks that none is declared twice.
+fn sort_collected(
+    alloc: Global,
+    text: &str,
+    collected: Result<Collected, GraphFault>,
+) -> Result<Collected, GraphFault>
+    requires says { IfOk collected (λ collected. Says (lines_of text.now) collected) }
+    requires only { IfErr collected (λ told. told ≢ OutOfMemory
+        → ¬ CanBeSaid (lines_of text.now)) }
+    ensures found { IfOk result (AreSorted (lines_of text.now)) }
+    ensures only { IfErr result (λ told. told ≢ OutOfMemory → ReadsNoGraph text.now) }
+{
+    let mut sorted = match collected {
         Ok(collected) => collected,
         Err(fault) => return Err(first_fault(alloc, text, fault)),
     };
-    let vertices = joined(alloc, text, collected)?;
-    Ok(Graph { vertices })
-}
-
-// Joins the vertices and the edges of a text.
-fn joined(alloc: Global, text: &str, collected: Collected) -> Result<Vec<Vertex>, GraphFault>
-    requires { Says (lines_of text.now) collected }
-    ensures found { IfOk result (λ vertices. IsGraphText text.now (entries_of vertices.items)) }
-    ensures only { IfErr result (λ told. told ≢ OutOfMemory → MeansNoGraph text.now) }
-{
-    let mut vertices = collected.vertices;
-    sort_by_id(&mut vertices);
-    if !are_rising(&vertices) {
+    sort_by_id(&mut sorted.vertices);
+    if !are_rising(&sorted.vertices) {
         let line = first_duplicate(alloc, text, usize::MAX)?;
         return Err(GraphFault::DuplicateVertex(line.unwrap_or(0)));
     }
-    place_edges(alloc, text, &collected.edges, &mut vertices)?;
-    Ok(vertices)
+    Ok(sorted)
 }
 
 fn copied(alloc: Global, vertices: &[Vertex]) -> Result<Vec<Vertex>, AllocError>

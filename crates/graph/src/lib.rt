@@ -14,6 +14,7 @@ mod pieces;
 mod place;
 mod print;
 mod rising;
+mod spread;
 mod vertex;
 
 pub use fault::{GraphFault, PrintFault};

@@ -1,11 +1,11 @@
 //! Edges given to their source vertices.
 
-ghost use Rattle.std.specs.Prelude.{◌≡◌, ◌≢◌, ◌<◌, MatchOption, length, map, IfErr, IfOk, OnOk};
-ghost use Rattle.std.specs.List.{Contains};
+ghost use Rattle.std.specs.Prelude.{◌≡◌, ◌≢◌, ◌<◌, ◌≤◌, ◌-◌, ◌↔◌, IsTrue, MatchOption, length, slice_index, IfErr, IfOk, OnOk};
+ghost use Rattle.std.specs.List.{All, Contains};
 ghost use Rattle.std.specs.List.Sorted.{IsStrictlyIncreasing};
 ghost use Rattle.graph.specs.declared.fault.GraphFault.TheVariants.{OutOfMemory};
-ghost use Rattle.graph.specs.Entry.{entries_of, ids, vertex_id};
-ghost use Rattle.graph.specs.inside.Placed.{HaveEnds, LeavesAt, PlacesEdge, PlacesEdges, StandsAt};
+ghost use Rattle.graph.specs.Entry.{entries_of, ids};
+ghost use Rattle.graph.specs.inside.Placed.{HasEnds, HaveEnds, IsFirstUnknown, IsInSpan, LeavesAt, PlacesEdge, PlacesEdges, StandsAt};
 
 use crate::fault::GraphFault;
 use crate::fault_lines::line_of_edge;
@@ -20,38 +20,72 @@ pub fn place_edges(
     alloc: Global,
     text: &str,
     edges: &[Edge],
-    vertices: &mut Vec<Vertex>,
+    vertices: &mut [Vertex],
 ) -> Result<(), GraphFault>
-    requires { IsStrictlyIncreasing (ids (entries_of vertices.old.items)) }
-    ensures placed { OnOk result (PlacesEdges edges.now vertices.old.items vertices.new.items) }
-    ensures ends { OnOk result (HaveEnds vertices.old.items edges.now) }
+    requires { IsStrictlyIncreasing (ids (entries_of vertices.old)) }
+    ensures placed { OnOk result (PlacesEdges edges.now vertices.old vertices.new) }
+    ensures ends { OnOk result (HaveEnds vertices.old edges.now) }
     ensures only { IfErr result (λ told. told ≢ OutOfMemory
-        → ¬ HaveEnds vertices.old.items edges.now) }
+        → ¬ HaveEnds vertices.old edges.now) }
+{
+    if let Some(place) = unknown_edge(alloc, edges, vertices)? {
+        return Err(GraphFault::UnknownEnd(line_of_edge(text, place)));
+    }
+    place_own(alloc, edges, vertices)?;
+    Ok(())
+}
+
+// Finds the first edge whose source or target is no vertex.
+fn unknown_edge(
+    alloc: Global,
+    edges: &[Edge],
+    vertices: &[Vertex],
+) -> Result<Option<usize>, AllocError>
+    requires { IsStrictlyIncreasing (ids (entries_of vertices.now)) }
+    ensures { IfOk result (λ found. MatchOption found (HaveEnds vertices.now edges.now)
+        (IsFirstUnknown (ids (entries_of vertices.now)) edges.now)) }
+{
+    let ids = ids_of(alloc, vertices)?;
+    Ok(first_unknown(&ids, edges))
+}
+
+/// Finds the first edge whose source or target is not among these ids, which rise.
+pub fn first_unknown(ids: &[u64], edges: &[Edge]) -> Option<usize>
+    requires { IsStrictlyIncreasing ids.now }
+    ensures { MatchOption result (All (HasEnds ids.now) edges.now)
+        (IsFirstUnknown ids.now edges.now) }
+{
+    let mut last = 0;
+    for index in 0..edges.len() {
+        let Some(source) = source_of(ids, last, edges[index]) else {
+            return Some(index);
+        };
+        last = source;
+    }
+    None
+}
+
+/// Appends to each of these vertices the edges that leave it, in their order. The edges of other vertices are left out.
+pub fn place_own(alloc: Global, edges: &[Edge], vertices: &mut [Vertex]) -> Result<(), AllocError>
+    requires { IsStrictlyIncreasing (ids (entries_of vertices.old)) }
+    ensures { OnOk result (PlacesEdges edges.now vertices.old vertices.new) }
 {
     let ids = ids_of(alloc, vertices)?;
     make_room(alloc, &ids, edges, vertices)?;
-    place_all(text, &ids, edges, vertices)
+    place_among(&ids, edges, vertices)
 }
 
-// Places the edges, given the vertices' ids.
-fn place_all(
-    text: &str,
-    known: &[u64],
-    edges: &[Edge],
-    vertices: &mut Vec<Vertex>,
-) -> Result<(), GraphFault>
+// Places the edges that leave these vertices, given the vertices' ids.
+fn place_among(known: &[u64], edges: &[Edge], vertices: &mut [Vertex]) -> Result<(), AllocError>
     requires rising { IsStrictlyIncreasing known.now }
-    requires same { known.now ≡ ids (entries_of vertices.old.items) }
-    ensures placed { OnOk result (PlacesEdges edges.now vertices.old.items vertices.new.items) }
-    ensures ends { OnOk result (HaveEnds vertices.old.items edges.now) }
-    ensures only { IfErr result (λ told. told ≢ OutOfMemory
-        → ¬ HaveEnds vertices.old.items edges.now) }
+    requires same { known.now ≡ ids (entries_of vertices.old) }
+    ensures { OnOk result (PlacesEdges edges.now vertices.old vertices.new) }
 {
     let mut last = 0;
     for index in 0..edges.len() {
         let edge = edges[index];
-        let Some(source) = source_of(known, last, edge) else {
-            return Err(GraphFault::UnknownEnd(line_of_edge(text, index)));
+        let Some(source) = place_near(known, last, edge.from) else {
+            continue;
         };
         push_edge(vertices, source, edge)?;
         last = source;
@@ -64,11 +98,10 @@ fn make_room(
     alloc: Global,
     ids: &[u64],
     edges: &[Edge],
-    vertices: &mut Vec<Vertex>,
-) -> Result<(), GraphFault>
+    vertices: &mut [Vertex],
+) -> Result<(), AllocError>
     requires { IsStrictlyIncreasing ids.now }
-    ensures same { OnOk result (entries_of vertices.new.items ≡ entries_of vertices.old.items) }
-    ensures only { IfErr result (λ told. told ≡ OutOfMemory) }
+    ensures { OnOk result (entries_of vertices.new ≡ entries_of vertices.old) }
 {
     let counts = counts_of(alloc, ids, edges)?;
     for (index, count) in counts.iter().enumerate() {
@@ -78,8 +111,8 @@ fn make_room(
 }
 
 // Makes room for more edges at the vertex in this place, if there is one.
-fn give_room(vertices: &mut Vec<Vertex>, place: usize, edges: usize) -> Result<(), AllocError>
-    ensures { entries_of vertices.new.items ≡ entries_of vertices.old.items }
+fn give_room(vertices: &mut [Vertex], place: usize, edges: usize) -> Result<(), AllocError>
+    ensures { entries_of vertices.new ≡ entries_of vertices.old }
 {
     if place >= vertices.len() {
         return Ok(());
@@ -105,9 +138,9 @@ fn counts_of(alloc: Global, ids: &[u64], edges: &[Edge]) -> Result<Vec<usize>, A
     Ok(counts)
 }
 
-// Lists the ids of vertices, in their order.
-fn ids_of(alloc: Global, vertices: &[Vertex]) -> Result<Vec<u64>, AllocError>
-    ensures { IfOk result (λ found. found.items ≡ map vertex_id vertices.now) }
+/// Lists the ids of vertices, in their order.
+pub fn ids_of(alloc: Global, vertices: &[Vertex]) -> Result<Vec<u64>, AllocError>
+    ensures { IfOk result (λ found. found.items ≡ ids (entries_of vertices.now)) }
 {
     vertices.iter().map(|vertex| vertex.id).collect(alloc)
 }
@@ -140,11 +173,21 @@ fn place_of(ids: &[u64], id: u64) -> Option<usize>
     requires { IsStrictlyIncreasing ids.now }
     ensures { MatchOption result (¬ Contains ids.now id) (StandsAt ids.now id) }
 {
+    if !is_in_span(ids, id) {
+        return None;
+    }
     let place = place_without_gaps(ids, id);
     if place < ids.len() && ids[place] == id {
         return Some(place);
     }
     ids.binary_search(&id).ok()
+}
+
+// Checks that an id is from the first of these ids to the last.
+fn is_in_span(ids: &[u64], id: u64) -> bool
+    ensures { IsTrue result ↔ IsInSpan ids.now id }
+{
+    !ids.is_empty() && ids[0] <= id && id <= ids[ids.len() - 1]
 }
 
 // Returns the place that an id has where no id is missing before it.
@@ -155,10 +198,9 @@ fn place_without_gaps(ids: &[u64], id: u64) -> usize {
     }
 }
 
-fn push_edge(vertices: &mut Vec<Vertex>, source: usize, edge: Edge) -> Result<(), GraphFault>
-    requires { source < length vertices.old.items }
-    ensures pushed { OnOk result (PlacesEdge source vertices.old.items vertices.new.items edge) }
-    ensures only { IfErr result (λ told. told ≡ OutOfMemory) }
+fn push_edge(vertices: &mut [Vertex], source: usize, edge: Edge) -> Result<(), AllocError>
+    requires { source < length vertices.old }
+    ensures { OnOk result (PlacesEdge source vertices.old vertices.new edge) }
 {
     let vertex = &mut vertices[source];
     vertex.edges.push((edge.target, edge.value))?;

@@ -16,7 +16,7 @@ use Rattle.sources.specs.declared.fault.CommandFault.TheVariants as command
 -- ---- answers
 
 -- The lines are those of the outcome of a call of the module, on the input that the text means.
-pub record Answers (m : Module) (text lines : List ℕ) : Type 0 where
+pub record AreCallLines (m : Module) (text lines : List ℕ) : Type 0 where
   pub input : CallInput
   pub means : Means text input
   pub outcome : CallOutcome
@@ -28,7 +28,7 @@ pub record Answers (m : Module) (text lines : List ℕ) : Type 0 where
 pub record IsCallAnswer (is_text : Bool) (content text lines : List ℕ) : Type 0 where
   pub m : Module
   pub loads : Loads is_text content m
-  pub answers : Answers m text lines
+  pub answers : AreCallLines m text lines
 
 -- ---- refusals
 

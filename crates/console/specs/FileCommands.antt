@@ -35,7 +35,7 @@ use Rattle.sources.specs.Modules.{IsModuleAt, MeansBy}
 use Rattle.sources.specs.Refusal.{fault_text, status_of}
 use Rattle.sources.specs.Source.{RefusesModule}
 use Rattle.sources.specs.Reading.{IsNoGraphAt, IsReadAt, IsRefusedAt, IsUnread, IsUnwritable}
-use Rattle.console.specs.ComputeCall.{Answers, RefusesText}
+use Rattle.console.specs.ComputeCall.{AreCallLines, RefusesText}
 use Rattle.sources.specs.Jobs.{IsJobOf, RefusesSettings}
 use Rattle.console.specs.Importing.{IsNotImported, PrintsImport, TriesImport}
 use Rattle.console.specs.Jobs.{AreRunLines, IsFaultOfKept}
@@ -51,7 +51,7 @@ use Rattle.console.specs.Steps.{RefusesSteps, steps_of}
 -- the files hold a module and a text, and the lines of the call are told
 abbrev pub PrintsOutcome : Disk → ModuleRequest → (input_path told : List ℕ) → Type 0
 PrintsOutcome disk asked input_path told =
-    (m : Module) × IsAdmitted disk asked m × HoldsAt disk input_path (λ text. Answers m text told)
+    (m : Module) × IsAdmitted disk asked m × HoldsAt disk input_path (λ text. AreCallLines m text told)
 
 -- it is the job of the module and the graph in two files
 pub record IsJobAt (disk : Disk) (asked : JobRequest) (job : Work) : Type 0 where

@@ -7,7 +7,7 @@ ghost use Rattle.interp.specs.Call.{IsOutcome};
 ghost use Rattle.sources.specs.OutputLines.{IfText};
 ghost use Rattle.sources.specs.Modules.{IsSpelledBy, IsVerified};
 ghost use Rattle.sources.specs.Source.{IsWant, content, is_text};
-ghost use Rattle.console.specs.ComputeCall.{Answers, IsCallAnswer, IsWantOfCall, RefusesAnswer, RefusesText};
+ghost use Rattle.console.specs.ComputeCall.{AreCallLines, IsCallAnswer, IsWantOfCall, RefusesAnswer, RefusesText};
 ghost use Rattle.console.specs.inside.Answering.{AnswersInput};
 
 use bounded_profile::Verified;
@@ -27,7 +27,7 @@ pub fn call<'a>(alloc: Global, module: &Source, input: &str) -> Result<String, C
     // If the one module that is spelled so has an answer, the call returns it, unless memory runs out.
     ensures answered { (m : AnyModule) (lines : List ℕ)
         → IsSpelledBy (is_text «module».now) (content «module».now) m
-        → IsVerified m → Answers m input.now lines → IfErr result IsWant }
+        → IsVerified m → AreCallLines m input.now lines → IfErr result IsWant }
     ensures refused { IfErr result
         (RefusesAnswer (is_text «module».now) (content «module».now) input.now) }
 {
@@ -41,8 +41,8 @@ pub(crate) fn answer<'a>(
     verified: &Verified,
     input: &str,
 ) -> Result<String, CommandFault<'a>>
-    ensures answer { IfText result (Answers verified.now input.now) }
-    ensures answered { (lines : List ℕ) → Answers verified.now input.now lines
+    ensures answer { IfText result (AreCallLines verified.now input.now) }
+    ensures answered { (lines : List ℕ) → AreCallLines verified.now input.now lines
         → IfErr result IsWant }
     ensures refused { IfErr result (RefusesText verified.now input.now) }
 {

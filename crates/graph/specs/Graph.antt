@@ -30,9 +30,5 @@ pub record AreWithinLimits (lines : List Line) : Type 0 where
 abbrev pub IsGraphText : List ℕ → List Entry → Type 0
 IsGraphText text graph = IsSaid (lines_of text) graph
 
--- the text means no graph
-abbrev pub MeansNoGraph : List ℕ → Type 0
-MeansNoGraph text = (graph : List Entry) → ¬ IsGraphText text graph
-
 abbrev pub IsWithinLimits : List ℕ → Type 0
 IsWithinLimits text = AreWithinLimits (lines_of text)

@@ -24,7 +24,7 @@ use Rattle.session.specs.Held.{IsSound}
 use Rattle.session.specs.Maps.{Maps}
 use Rattle.session.specs.Runs.{Runs}
 use Rattle.session.specs.Replies.{graph_line, job_line, memory_line, not_waiting_line, refusal_line, status_line, taken_line, unknown_line, values_text}
-use Rattle.session.specs.Transcript.{Answers}
+use Rattle.session.specs.Transcript.{IsReplyTo}
 use Rattle.session.specs.inside.Answered.{GivesName, IsSet, IsSoundAt, NamesJob, ReportsHeldValues, is_waiting, never}
 use Rattle.session.specs.inside.Seen.{IsModuleLine, IsReplyOf, IsToldOf, IsToldOrNoMemory, run_end_line, state_of, reply_text}
 
@@ -57,12 +57,12 @@ told_of Cause fault told because (inr memory) = inr memory
 -- ---- modules and graphs
 
 pub module_taken : (disk : Disk) (maps : Maps) (name path reply : List ℕ) → is_some (maps.modules name) ≡ true → reply ≡ taken_line
-    → Answers disk never maps (add_module name path) reply maps
+    → IsReplyTo disk never maps (add_module name path) reply maps
 module_taken disk maps name path reply taken told = inr (refl, inl (inl (record { taken = taken; told = told })))
 
 pub module_named : (disk : Disk) (maps : Maps) (name path reply : List ℕ) (m : Module) (modules : List ℕ → Option Module) → is_some (maps.modules name) ≡ false
     → IsLoadedAt disk path m → GivesName (IsModuleLine name m) name m maps.modules modules reply
-    → Answers disk never maps (add_module name path) reply (record maps { modules = modules })
+    → IsReplyTo disk never maps (add_module name path) reply (record maps { modules = modules })
 module_named disk maps name path reply m modules free loaded (inl (is, line)) = inl (record {
   free = none_of (maps.modules name) free;
   m = m;
@@ -76,17 +76,17 @@ module_named disk maps name path reply m modules free loaded (inr (same, memory)
     inr (ap (λ (found : List ℕ → Option Module). record maps { modules = found }) same, inr memory)
 
 pub module_refused : (disk : Disk) (maps : Maps) (name path reply : List ℕ) → is_some (maps.modules name) ≡ false
-    → IsToldOf (IsRefusedAt disk path RefusesLoad) reply → Answers disk never maps (add_module name path) reply maps
+    → IsToldOf (IsRefusedAt disk path RefusesLoad) reply → IsReplyTo disk never maps (add_module name path) reply maps
 module_refused disk maps name path reply free (inl tells) = inr (refl, inl (inr (none_of (maps.modules name) free, tells)))
 module_refused disk maps name path reply free (inr memory) = inr (refl, inr memory)
 
 pub graph_taken : (disk : Disk) (maps : Maps) (name path reply : List ℕ) → is_some (maps.graphs name) ≡ true → reply ≡ taken_line
-    → Answers disk never maps (add_graph name path) reply maps
+    → IsReplyTo disk never maps (add_graph name path) reply maps
 graph_taken disk maps name path reply taken told = inr (refl, inl (inl (record { taken = taken; told = told })))
 
 pub graph_named : (disk : Disk) (maps : Maps) (name path reply : List ℕ) (graph : List Entry) (graphs : List ℕ → Option (List Entry)) → is_some (maps.graphs name) ≡ false
     → IsReadAt disk path graph → GivesName (λ told. told ≡ graph_line name (length graph) (edge_count graph)) name graph maps.graphs graphs reply
-    → Answers disk never maps (add_graph name path) reply (record maps { graphs = graphs })
+    → IsReplyTo disk never maps (add_graph name path) reply (record maps { graphs = graphs })
 graph_named disk maps name path reply graph graphs free read (inl (is, told)) = inl (record {
   free = none_of (maps.graphs name) free;
   graph = graph;
@@ -98,27 +98,27 @@ graph_named disk maps name path reply graph graphs free read (inr (same, memory)
     inr (ap (λ (found : List ℕ → Option (List Entry)). record maps { graphs = found }) same, inr memory)
 
 pub graph_refused : (disk : Disk) (maps : Maps) (name path reply : List ℕ) → is_some (maps.graphs name) ≡ false
-    → IsToldOf (IsNoGraphAt disk path) reply → Answers disk never maps (add_graph name path) reply maps
+    → IsToldOf (IsNoGraphAt disk path) reply → IsReplyTo disk never maps (add_graph name path) reply maps
 graph_refused disk maps name path reply free (inl tells) = inr (refl, inl (inr (none_of (maps.graphs name) free, tells)))
 graph_refused disk maps name path reply free (inr memory) = inr (refl, inr memory)
 
 -- ---- jobs
 
 module _ (maps : Maps) (name module_name graph_name : List ℕ) (settings : Settings) (reply : List ℕ) where
-  pub job_taken : is_some (maps.jobs name) ≡ true → reply ≡ taken_line → Answers any_disk never maps (add_job name module_name graph_name settings) reply maps
+  pub job_taken : is_some (maps.jobs name) ≡ true → reply ≡ taken_line → IsReplyTo any_disk never maps (add_job name module_name graph_name settings) reply maps
   job_taken taken told = inr (refl, inl (inl (record { taken = taken; told = told })))
 
   pub job_without_module : is_some (maps.jobs name) ≡ false → maps.modules module_name ≡ None → reply ≡ unknown_line
-      → Answers any_disk never maps (add_job name module_name graph_name settings) reply maps
+      → IsReplyTo any_disk never maps (add_job name module_name graph_name settings) reply maps
   job_without_module free none told = inr (refl, inl (inr (inl (none_of (maps.jobs name) free, record { none = none; told = told }))))
 
   pub job_without_graph : is_some (maps.jobs name) ≡ false → maps.graphs graph_name ≡ None → reply ≡ unknown_line
-      → Answers any_disk never maps (add_job name module_name graph_name settings) reply maps
+      → IsReplyTo any_disk never maps (add_job name module_name graph_name settings) reply maps
   job_without_graph free none told = inr (refl, inl (inr (inr (inl (none_of (maps.jobs name) free, record { none = none; told = told })))))
 
   pub job_refused : (m : Module) (graph : List Entry) → is_some (maps.jobs name) ≡ false → maps.modules module_name ≡ Some m
       → maps.graphs graph_name ≡ Some graph → IsToldOf (RefusesSettings settings) reply
-      → Answers any_disk never maps (add_job name module_name graph_name settings) reply maps
+      → IsReplyTo any_disk never maps (add_job name module_name graph_name settings) reply maps
   job_refused m graph free has_module has_graph (inl tells) =
       inr (
         refl,
@@ -133,7 +133,7 @@ module _ (maps : Maps) (name module_name graph_name : List ℕ) (settings : Sett
 
   pub job_named : (m : Module) (graph : List Entry) (work : Work) (jobs : List ℕ → Option HeldJob) → is_some (maps.jobs name) ≡ false
       → maps.modules module_name ≡ Some m → maps.graphs graph_name ≡ Some graph → IsJobOf m graph settings work → NamesJob name work maps.jobs jobs reply
-      → Answers any_disk never maps (add_job name module_name graph_name settings) reply (record maps { jobs = jobs })
+      → IsReplyTo any_disk never maps (add_job name module_name graph_name settings) reply (record maps { jobs = jobs })
   job_named m graph work jobs free has_module has_graph is_job (held, waiting, inl (is, told)) = inl (record {
     free = none_of (maps.jobs name) free;
     m = m;
@@ -166,19 +166,19 @@ sound_end work (Ok report) ends = λ other e. let same : report ≡ other = cc i
 sound_end work (Err fault) ends = λ other e. cc
 
 module _ (runs : Runs) (maps : Maps) (name reply : List ℕ) where
-  pub run_unknown : maps.jobs name ≡ None → reply ≡ unknown_line → Answers any_disk runs maps (run name) reply maps
+  pub run_unknown : maps.jobs name ≡ None → reply ≡ unknown_line → IsReplyTo any_disk runs maps (run name) reply maps
   run_unknown none told = inr (refl, inl (inl (record { none = none; told = told })))
 
   pub run_again : (held : HeldJob) → maps.jobs name ≡ Some held → is_waiting held.state ≡ false → reply ≡ not_waiting_line
-      → Answers any_disk runs maps (run name) reply maps
+      → IsReplyTo any_disk runs maps (run name) reply maps
   run_again held is_held ran told = inr (refl, inl (inr (record { held = held; is_held = is_held; ran = ran_then held.state ran; told = told })))
 
-  pub run_untold : reply ≡ memory_line → Answers any_disk runs maps (run name) reply maps
+  pub run_untold : reply ≡ memory_line → IsReplyTo any_disk runs maps (run name) reply maps
   run_untold memory = inr (refl, inr memory)
 
   pub job_ran : (held : HeldJob) (end : Result Report JobFault) (jobs : List ℕ → Option HeldJob) → maps.jobs name ≡ Some held → is_waiting held.state ≡ true
       → runs.may_end held.job end → IfOk end (λ report. IsEndOf held.job report.ended) → reply ≡ run_end_line name end → IsSet maps.jobs jobs name (state_of end)
-      → Answers any_disk runs maps (run name) reply (record maps { jobs = jobs })
+      → IsReplyTo any_disk runs maps (run name) reply (record maps { jobs = jobs })
   job_ran held (Ok report) jobs is_held waits may_end ends told set = let so = set held is_held in inl (inl (record {
     held = held;
     is_held = is_held;
@@ -209,20 +209,20 @@ module _ (runs : Runs) (maps : Maps) (name reply : List ℕ) where
 
 module _ (maps : Maps) (name reply : List ℕ) where
   pub status_told : (held : HeldJob) → maps.jobs name ≡ Some held → IsToldOrNoMemory (status_line name held.state) reply
-      → Answers any_disk never maps (status name) reply maps
+      → IsReplyTo any_disk never maps (status name) reply maps
   status_told held is_held (inl told) = (refl, inl (record { held = held; is_held = is_held; told = told }))
   status_told held is_held (inr memory) = (refl, inr (inr memory))
 
-  pub status_unknown : maps.jobs name ≡ None → reply ≡ unknown_line → Answers any_disk never maps (status name) reply maps
+  pub status_unknown : maps.jobs name ≡ None → reply ≡ unknown_line → IsReplyTo any_disk never maps (status name) reply maps
   status_unknown none told = (refl, inr (inl (record { none = none; told = told })))
 
-  pub values_told : (held : HeldJob) → maps.jobs name ≡ Some held → ReportsHeldValues held reply → Answers any_disk never maps (values name) reply maps
+  pub values_told : (held : HeldJob) → maps.jobs name ≡ Some held → ReportsHeldValues held reply → IsReplyTo any_disk never maps (values name) reply maps
   values_told held is_held (inl tells) =
       (refl, inl (record { held = held; is_held = is_held; report = tells.report; ended = tells.ended; ends = tells.ends; told = tells.told }))
   values_told held is_held (inr (inl none)) = (refl, inr (inr (inl (record { held = held; is_held = is_held; none = none.none; told = none.told }))))
   values_told held is_held (inr (inr memory)) = (refl, inr (inr (inr memory)))
 
-  pub values_unknown : maps.jobs name ≡ None → reply ≡ unknown_line → Answers any_disk never maps (values name) reply maps
+  pub values_unknown : maps.jobs name ≡ None → reply ≡ unknown_line → IsReplyTo any_disk never maps (values name) reply maps
   values_unknown none told = (refl, inr (inl (record { none = none; told = told })))
 
 -- ---- names and texts

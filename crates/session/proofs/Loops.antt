@@ -15,7 +15,7 @@ use Rattle.session.specs.Commands.{Asked, asked_in, asked_of, is_quit}
 use Rattle.session.specs.Maps.{Maps}
 use Rattle.session.specs.Runs.{Runs}
 use Rattle.session.specs.Serving.{Serves}
-use Rattle.session.specs.Transcript.{Answers, Tells}
+use Rattle.session.specs.Transcript.{IsReplyTo, Tells}
 use Rattle.session.specs.inside.Cutting.{BeginsWithLine, HasNoLine}
 use Rattle.session.specs.inside.Underway.{AnswersLine, BreaksAt, GetsSome, GoesOn, HasBroken, HasTold, IsUnderway, Quits, asked_from}
 use Rattle.session.proofs.Cuts.{asked_from-kept, asked_of-kept, lines_from-append, rest_from-append, rest_from-kept}
@@ -75,7 +75,7 @@ module _ (disk late : Disk) (runs : Runs) (maps now : Maps) (kept bytes line res
           left = at.left ∙ cut.rest line;
           underway = underway_next disk runs maps at.done old middle new now (asked_of (line ++ front)) answers.reply after at.underway
               (answers_before disk late runs now answers.reply after at.stays (asked_of (line ++ front))
-              (subst (λ asked. Answers late runs now asked answers.reply after) same answers.answers))
+              (subst (λ asked. IsReplyTo late runs now asked answers.reply after) same answers.answers))
               (sym (answers.written.1 ∙ ap is_quit same)) answers.written.0;
           stays = stays_again disk late last at.stays stays;
         }
@@ -88,7 +88,7 @@ module _ (disk late : Disk) (runs : Runs) (maps now : Maps) (kept bytes line res
           told = subst (λ asked. HasTold disk runs maps asked old new) (sym (asked_next front others cut))
               (told_quit disk runs maps at.done old middle new now (asked_of (line ++ front)) answers.reply after (asked_from [] others) at.underway
               (answers_before disk late runs now answers.reply after at.stays (asked_of (line ++ front))
-              (subst (λ asked. Answers late runs now asked answers.reply after) same answers.answers))
+              (subst (λ asked. IsReplyTo late runs now asked answers.reply after) same answers.answers))
               quits answers.written.0);
           quits = ap (list_any is_quit) (asked_next front others cut) ∙ any_middle at.done (asked_of (line ++ front)) (asked_from [] others) quits;
         }
@@ -101,7 +101,7 @@ module _ (disk late : Disk) (runs : Runs) (maps now : Maps) (kept bytes line res
         let broken : HasBroken disk runs maps asked old new =
         broken_next disk runs maps at.done old middle new now (asked_of (line ++ front)) answers.reply after at.underway
         (answers_before disk late runs now answers.reply after at.stays (asked_of (line ++ front))
-        (subst (λ asked. Answers late runs now asked answers.reply after) same answers.answers))
+        (subst (λ asked. IsReplyTo late runs now asked answers.reply after) same answers.answers))
         answers.written.1 in (
           length asked,
           subst (λ told. BreaksAt disk runs maps (take (length asked) (asked_from kept bytes)) old new told) (sym answers.written.0)

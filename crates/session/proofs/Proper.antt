@@ -12,7 +12,7 @@ use Rattle.session.specs.declared.held_job.HeldJob.{HeldJob}
 use Rattle.session.specs.Commands.{Asked, add_module, add_graph, add_job, run, status, values, drop, quit, unknown}
 use Rattle.session.specs.Maps.{Maps, nothing, put, with_job, with_module}
 use Rattle.session.specs.Runs.{Runs}
-use Rattle.session.specs.Transcript.{Answers, Reaches, without}
+use Rattle.session.specs.Transcript.{IsReplyTo, Reaches, without}
 
 pub record IsProper (maps : Maps) : Type 0 where
   pub modules : (name : List ℕ) (m : Module) → maps.modules name ≡ Some m → IsVerified m
@@ -58,7 +58,7 @@ dropped kind.Graph name maps proper = record { modules = proper.modules; jobs = 
 dropped kind.Job name maps proper = job_put maps name None proper (none_keeps IsVerifiedJob)
 
 answers_proper : (disk : Disk) (runs : Runs) (maps : Maps) (reply : List ℕ) (after : Maps) → IsProper maps → (asked : Asked)
-    → Answers disk runs maps asked reply after → IsProper after
+    → IsReplyTo disk runs maps asked reply after → IsProper after
 answers_proper disk runs maps reply after proper (add_module name path) (inl adds) =
     subst IsProper (sym adds.added) (module_put maps name (Some adds.m) proper (some_keeps IsVerified adds.m adds.loaded.2.verified))
 answers_proper disk runs maps reply after proper (add_module name path) (inr refused) = subst IsProper (sym refused.0) proper

@@ -14,7 +14,7 @@ use Rattle.sources.proofs.Disks.{holds_before, no_graph_before, unread_before}
 use Rattle.session.specs.Commands.{Asked, add_module, add_graph, add_job, run, status, values, drop, quit, unknown, is_quit}
 use Rattle.session.specs.Maps.{Maps}
 use Rattle.session.specs.Runs.{Runs}
-use Rattle.session.specs.Transcript.{Answers, Begins, Reaches, Tells}
+use Rattle.session.specs.Transcript.{IsReplyTo, Begins, Reaches, Tells}
 use Rattle.session.specs.inside.Underway.{HasBroken, HasTold, IsUnderway}
 
 -- ---- what is answered after reads could be answered before
@@ -26,7 +26,7 @@ refused_before before after path stays fault (inr held) =
     inr (holds_before before after path (λ content. RefusesLoad (is_text_path path) content fault) stays held)
 
 pub answers_before : (before after : Disk) (runs : Runs) (maps : Maps) (reply : List ℕ) (now : Maps) → Stays before after
-    → (asked : Asked) → Answers after runs maps asked reply now → Answers before runs maps asked reply now
+    → (asked : Asked) → IsReplyTo after runs maps asked reply now → IsReplyTo before runs maps asked reply now
 answers_before before after runs maps reply now stays (add_module name path) (inl adds) = inl (record {
   free = adds.free;
   m = adds.m;
@@ -63,13 +63,13 @@ answers_before before after runs maps reply now stays unknown answers = answers
 
 module _ (disk : Disk) (runs : Runs) where
   -- a command that is answered, and what is told behind it
-  begins_with : (maps : Maps) (asked : Asked) (reply rest : List ℕ) (after : Maps) (Goes : Maps → List ℕ → Type 0) → Answers disk runs maps asked reply after
+  begins_with : (maps : Maps) (asked : Asked) (reply rest : List ℕ) (after : Maps) (Goes : Maps → List ℕ → Type 0) → IsReplyTo disk runs maps asked reply after
       → Goes after rest → Begins disk runs maps asked (reply ++ rest) Goes
   begins_with maps asked reply rest after Goes answers goes =
       record { reply = reply; after = after; answers = answers; rest = rest; begins = refl; goes = goes }
 
   reaches_next : (done : List Asked) (maps : Maps) (told : List ℕ) (now : Maps) (asked : Asked) (reply : List ℕ) (after : Maps) → Reaches disk runs maps done told now
-      → Answers disk runs now asked reply after → is_quit asked ≡ false → Reaches disk runs maps (done ++ asked ∷ []) (told ++ reply) after
+      → IsReplyTo disk runs now asked reply after → is_quit asked ≡ false → Reaches disk runs maps (done ++ asked ∷ []) (told ++ reply) after
   reaches_next [] maps told now asked reply after (none, same) answers goes =
       subst (λ start. Begins disk runs start asked (told ++ reply) (λ later rest. (is_quit asked ≡ false) × Reaches disk runs later [] rest after)) same
       (record {
@@ -111,7 +111,7 @@ module _ (disk : Disk) (runs : Runs) where
       (subst (λ xs. Tells disk runs maps (done ++ []) xs) (append-nil told) (tells_then done maps told now [] [] reaches refl))
 
   -- behind `quit` nothing is told
-  tells_quit : (now : Maps) (asked : Asked) (reply : List ℕ) (after : Maps) (more : List Asked) → Answers disk runs now asked reply after → is_quit asked ≡ true
+  tells_quit : (now : Maps) (asked : Asked) (reply : List ℕ) (after : Maps) (more : List Asked) → IsReplyTo disk runs now asked reply after → is_quit asked ≡ true
       → Tells disk runs now (asked ∷ more) reply
   tells_quit now asked reply after more answers quits = record {
     reply = reply;
@@ -123,7 +123,7 @@ module _ (disk : Disk) (runs : Runs) where
   }
 
   -- a command alone, whether it is `quit` or not
-  tells_one : (now : Maps) (asked : Asked) (reply : List ℕ) (after : Maps) → Answers disk runs now asked reply after → Tells disk runs now (asked ∷ []) reply
+  tells_one : (now : Maps) (asked : Asked) (reply : List ℕ) (after : Maps) → IsReplyTo disk runs now asked reply after → Tells disk runs now (asked ∷ []) reply
   tells_one now asked reply after answers = record {
     reply = reply;
     after = after;
@@ -139,7 +139,7 @@ pub underway_none : (disk : Disk) (runs : Runs) (maps : Maps) (known : Option (L
 underway_none disk runs maps known = record { told = []; reaches = (refl, refl); appends = appends_nothing known }
 
 pub underway_next : (disk : Disk) (runs : Runs) (maps : Maps) (done : List Asked) (old middle new : Option (List ℕ)) (now : Maps) (asked : Asked) (reply : List ℕ) (after : Maps)
-    → IsUnderway disk runs maps done old middle now → Answers disk runs now asked reply after → is_quit asked ≡ false → Appends middle new reply
+    → IsUnderway disk runs maps done old middle now → IsReplyTo disk runs now asked reply after → is_quit asked ≡ false → Appends middle new reply
     → IsUnderway disk runs maps (done ++ asked ∷ []) old new after
 underway_next disk runs maps done old middle new now asked reply after underway answers goes appends = record {
   told = underway.told ++ reply;
@@ -155,7 +155,7 @@ told_all disk runs maps done old new now underway =
 
 -- up to `quit`
 pub told_quit : (disk : Disk) (runs : Runs) (maps : Maps) (done : List Asked) (old middle new : Option (List ℕ)) (now : Maps) (asked : Asked) (reply : List ℕ) (after : Maps)
-    (more : List Asked) → IsUnderway disk runs maps done old middle now → Answers disk runs now asked reply after → is_quit asked ≡ true → Appends middle new reply
+    (more : List Asked) → IsUnderway disk runs maps done old middle now → IsReplyTo disk runs now asked reply after → is_quit asked ≡ true → Appends middle new reply
     → HasTold disk runs maps (done ++ asked ∷ more) old new
 told_quit disk runs maps done old middle new now asked reply after more underway answers quits appends = record {
   told = underway.told ++ reply;
@@ -165,7 +165,7 @@ told_quit disk runs maps done old middle new now asked reply after more underway
 
 -- of the last of which a beginning was written
 pub broken_next : (disk : Disk) (runs : Runs) (maps : Maps) (done : List Asked) (old middle new : Option (List ℕ)) (now : Maps) (asked : Asked) (reply : List ℕ) (after : Maps)
-    → IsUnderway disk runs maps done old middle now → Answers disk runs now asked reply after → HasBegun middle new reply
+    → IsUnderway disk runs maps done old middle now → IsReplyTo disk runs now asked reply after → HasBegun middle new reply
     → HasBroken disk runs maps (done ++ asked ∷ []) old new
 broken_next disk runs maps done old middle new now asked reply after underway answers begun = record {
   told = underway.told ++ reply;

@@ -175,33 +175,33 @@ abbrev pub OrRefused : (Done Refused : Type 0) → Maps → (reply : List ℕ) �
 OrRefused Done Refused maps reply after = Done ⊎ ((after ≡ maps) × (Refused ⊎ (reply ≡ memory_line)))
 
 -- the reply to a command, and what is held afterwards
-abbrev pub Answers : Disk → Runs → Maps → Asked → (reply : List ℕ) → (after : Maps) → Type 0
-Answers disk runs maps (add_module name path) reply after =
+abbrev pub IsReplyTo : Disk → Runs → Maps → Asked → (reply : List ℕ) → (after : Maps) → Type 0
+IsReplyTo disk runs maps (add_module name path) reply after =
     OrRefused (AddsModule disk maps name path reply after) (NoModule disk maps name path reply) maps reply after
-Answers disk runs maps (add_graph name path) reply after =
+IsReplyTo disk runs maps (add_graph name path) reply after =
     OrRefused (AddsGraph disk maps name path reply after) (NoGraph disk maps name path reply) maps reply after
-Answers disk runs maps (add_job name module_name graph_name settings) reply after =
+IsReplyTo disk runs maps (add_job name module_name graph_name settings) reply after =
     OrRefused (AddsJob maps name module_name graph_name settings reply after)
     (NoJob maps name module_name graph_name settings reply) maps reply after
-Answers disk runs maps (run name) reply after =
+IsReplyTo disk runs maps (run name) reply after =
     OrRefused (EndsJob runs maps name reply after ⊎ FailsJob runs maps name reply after)
     (IsUnknown (maps.jobs name) reply ⊎ HasRun maps name reply) maps reply after
-Answers disk runs maps (status name) reply after =
+IsReplyTo disk runs maps (status name) reply after =
     (after ≡ maps) × (ReportsStatus maps name reply ⊎ IsUnknown (maps.jobs name) reply ⊎ (reply ≡ memory_line))
-Answers disk runs maps (values name) reply after =
+IsReplyTo disk runs maps (values name) reply after =
     (after ≡ maps)
     × (ReportsValues maps name reply ⊎ IsUnknown (maps.jobs name) reply ⊎ HasNoAnswer maps name reply ⊎ (reply ≡ memory_line))
-Answers disk runs maps (drop kind name) reply after =
+IsReplyTo disk runs maps (drop kind name) reply after =
     Drops maps kind name reply after ⊎ ((after ≡ maps) × NotDropped maps kind name reply)
-Answers disk runs maps quit reply after = (after ≡ maps) × (reply ≡ bye_line)
-Answers disk runs maps unknown reply after = (after ≡ maps) × (reply ≡ usage_line)
+IsReplyTo disk runs maps quit reply after = (after ≡ maps) × (reply ≡ bye_line)
+IsReplyTo disk runs maps unknown reply after = (after ≡ maps) × (reply ≡ usage_line)
 
 -- A command is answered, and the replies after that have this property, which depends on what is held then.
 pub record Begins (disk : Disk) (runs : Runs) (maps : Maps) (asked : Asked) (told : List ℕ)
     (Goes : Maps → List ℕ → Type 0) : Type 0 where
   pub reply : List ℕ
   pub after : Maps
-  pub answers : Answers disk runs maps asked reply after
+  pub answers : IsReplyTo disk runs maps asked reply after
   pub rest : List ℕ
   pub begins : told ≡ reply ++ rest
   pub goes : Goes after rest

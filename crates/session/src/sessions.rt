@@ -8,7 +8,7 @@ ghost use Rattle.sources.specs.Jobs.{IsJobOf, RefusesSettings};
 ghost use Rattle.session.specs.Commands.{add_graph, add_job, add_module, drop, run, status, values};
 ghost use Rattle.session.specs.Maps.{nothing};
 ghost use Rattle.session.specs.Replies.{graph_line};
-ghost use Rattle.session.specs.Transcript.{Answers, holds, without};
+ghost use Rattle.session.specs.Transcript.{IsReplyTo, holds, without};
 ghost use Rattle.session.specs.inside.Answered.{GivesName, IsSet, IsSoundAt, NamesJob, ReportsHeldValues, is_waiting, never};
 ghost use Rattle.session.specs.inside.Seen.{IsModuleLine, IsToldOf, asked, state_of, maps_of, reply_text};
 
@@ -61,7 +61,7 @@ pub fn answer<F: Files, N: Runner>(
     runner: &N,
 ) -> Reply
     requires { N.can_run runner.now }
-    ensures answered { Answers (F.disk files.old) (N.runs runner.now) (maps_of session.old)
+    ensures answered { IsReplyTo (F.disk files.old) (N.runs runner.now) (maps_of session.old)
         (asked command.entry) (reply_text result) (maps_of session.new) }
     ensures files { Stays (F.disk files.old) (F.disk files.new) }
 {
@@ -92,7 +92,7 @@ fn add_module<F: Files>(
     session: &mut Session,
     files: &mut F,
 ) -> Reply
-    ensures answered { Answers (F.disk files.old) never (maps_of session.old)
+    ensures answered { IsReplyTo (F.disk files.old) never (maps_of session.old)
         (add_module name.now path.now) (reply_text result) (maps_of session.new) }
     ensures kept { Stays (F.disk files.old) (F.disk files.new) }
 {
@@ -146,7 +146,7 @@ fn add_graph<F: Files>(
     session: &mut Session,
     files: &mut F,
 ) -> Reply
-    ensures answered { Answers (F.disk files.old) never (maps_of session.old)
+    ensures answered { IsReplyTo (F.disk files.old) never (maps_of session.old)
         (add_graph name.now path.now) (reply_text result) (maps_of session.new) }
     ensures kept { Stays (F.disk files.old) (F.disk files.new) }
 {
@@ -185,7 +185,7 @@ fn add_job(
     settings: Settings,
     session: &mut Session,
 ) -> Reply
-    ensures { Answers unknown never (maps_of session.old)
+    ensures { IsReplyTo unknown never (maps_of session.old)
         (add_job name.now «module».now graph.now settings) (reply_text result)
         (maps_of session.new) }
 {
@@ -259,7 +259,7 @@ fn name_job(alloc: Global, name: &str, job: Job, jobs: &mut BTreeMap<String, Hel
 // Runs a job that waits. It keeps how the run ended, if that can be reported.
 fn run_job<N: Runner>(alloc: Global, name: &str, session: &mut Session, runner: &N) -> Reply
     requires { N.can_run runner.now }
-    ensures { Answers unknown (N.runs runner.now) (maps_of session.old) (run name.now)
+    ensures { IsReplyTo unknown (N.runs runner.now) (maps_of session.old) (run name.now)
         (reply_text result) (maps_of session.new) }
 {
     let Some(held) = session.jobs.get(name) else {
@@ -304,7 +304,7 @@ fn set_state(name: &str, state: RunState, jobs: &mut BTreeMap<String, HeldJob>)
 }
 
 fn report_status(alloc: Global, name: &str, session: &Session) -> Reply
-    ensures { Answers unknown never (maps_of session.now) (status name.now) (reply_text result)
+    ensures { IsReplyTo unknown never (maps_of session.now) (status name.now) (reply_text result)
         (maps_of session.now) }
 {
     match session.jobs.get(name) {
@@ -314,7 +314,7 @@ fn report_status(alloc: Global, name: &str, session: &Session) -> Reply
 }
 
 fn report_values(alloc: Global, name: &str, session: &Session) -> Reply
-    ensures { Answers unknown never (maps_of session.now) (values name.now) (reply_text result)
+    ensures { IsReplyTo unknown never (maps_of session.now) (values name.now) (reply_text result)
         (maps_of session.now) }
 {
     match session.jobs.get(name) {
@@ -335,7 +335,7 @@ fn values_of(alloc: Global, held: &HeldJob) -> Reply
 // ---- what is removed
 
 fn drop_named(kind: Kind, name: &str, session: &mut Session) -> Reply
-    ensures { Answers unknown never (maps_of session.old) (drop kind name.now)
+    ensures { IsReplyTo unknown never (maps_of session.old) (drop kind name.now)
         (reply_text result) (maps_of session.new) }
 {
     if forget(kind, name, session) {

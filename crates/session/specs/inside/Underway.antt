@@ -11,7 +11,7 @@ use Rattle.session.specs.Lines.{lines_from, rest_from}
 use Rattle.session.specs.Commands.{Asked, asked_of, is_quit}
 use Rattle.session.specs.Maps.{Maps}
 use Rattle.session.specs.Runs.{Runs}
-use Rattle.session.specs.Transcript.{Answers, Reaches, Tells}
+use Rattle.session.specs.Transcript.{IsReplyTo, Reaches, Tells}
 
 -- what was read: nothing, if the read was interrupted
 abbrev pub GetsSome : (unread left : Option (List ℕ)) → (chunk : List ℕ) → Option ℕ → Type 0
@@ -25,7 +25,7 @@ GetsSome unread left chunk (Some count) =
 pub record AnswersLine (disk : Disk) (runs : Runs) (maps : Maps) (asked : Asked) (old new : Option (List ℕ)) (now : Maps)
     (result : Result Bool ServeFault) : Type 0 where
   pub reply : List ℕ
-  pub answers : Answers disk runs maps asked reply now
+  pub answers : IsReplyTo disk runs maps asked reply now
   pub written : MatchResult result (λ quits. Appends old new reply × (quits ≡ is_quit asked))
       (λ told. (told ≡ fault.Write) × HasBegun old new reply)
 

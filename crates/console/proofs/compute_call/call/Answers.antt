@@ -1,6 +1,6 @@
 use Rattle.std.proofs.Common.{◌≡◌, inl, inr, subst, sym}
 use Rattle.wasm_ast.specs.declared.module.Module.{Module}
-use Rattle.console.specs.ComputeCall.{Answers}
+use Rattle.console.specs.ComputeCall.{AreCallLines}
 use Rattle.sources.proofs.Faults.{IfErr-along, IfOk-along, is_fault}
 use Rattle.console.proofs.compute_call.call.Goals as goal
 
@@ -20,7 +20,7 @@ returns-clause-answer c =
 pub returns-clause-answered : goal.returns-clause-answered
 returns-clause-answered c = λ m lines spelled verified answers.
     let same : c.in_ok-verified.verified ≡ m = c.in_ok-verified.ensures.only m spelled verified in
-    c.answer.ensures.answered lines (subst (λ (x : Module). Answers x c.args.input.now lines) (sym same) answers)
+    c.answer.ensures.answered lines (subst (λ (x : Module). AreCallLines x c.args.input.now lines) (sym same) answers)
 
 pub returns-clause-refused : goal.returns-clause-refused
 returns-clause-refused c =

@@ -1,6 +1,6 @@
 use Rattle.std.proofs.Common.{inl, inr, true, subst}
 use Rattle.std.specs.String.{string_bytes}
-use Rattle.console.specs.ComputeCall.{Answers, RefusesText}
+use Rattle.console.specs.ComputeCall.{AreCallLines, RefusesText}
 use Rattle.sources.proofs.Disks.{unread_before}
 use Rattle.sources.proofs.Faults.{IfErr-along, IfOk-along, is_fault}
 use Rattle.console.proofs.file_commands.call_files.Goals as goal
@@ -26,7 +26,7 @@ returns-clause-answered g c =
     (λ told answers. (
       verified,
       c.in_ok-verified.ensures.found,
-      (string_bytes c.in_ok-text.text, there, subst (λ text. Answers verified text (string_bytes told)) c.as_str.ensures.value answers),
+      (string_bytes c.in_ok-text.text, there, subst (λ text. AreCallLines verified text (string_bytes told)) c.as_str.ensures.value answers),
     ))
     c.answer.ensures.answer
 

@@ -19,7 +19,7 @@ each_weaker P Q gives [] all = tt
 each_weaker P Q gives (x ∷ xs) all = (gives x all.0, each_weaker P Q gives xs all.1)
 
 -- a list that rises before another that rises, each of the first before each of the second
-sorted-append : {X : Type 0} (R : X → X → Ordering) (xs ys : List X) → IsStrictlySortedBy R xs → IsStrictlySortedBy R ys → AllByRecursion (λ x. AllByRecursion (λ y. R x y ≡ Less) ys) xs → IsStrictlySortedBy R (xs ++ ys)
+pub sorted-append : {X : Type 0} (R : X → X → Ordering) (xs ys : List X) → IsStrictlySortedBy R xs → IsStrictlySortedBy R ys → AllByRecursion (λ x. AllByRecursion (λ y. R x y ≡ Less) ys) xs → IsStrictlySortedBy R (xs ++ ys)
 unfolding IsStrictlySortedBy
 sorted-append R [] ys up up' across = up'
 sorted-append R (x ∷ xs) ys up up' across = (each_append (λ y. R x y ≡ Less) xs ys up.0 across.0, sorted-append R xs ys up.1 up' across.1)

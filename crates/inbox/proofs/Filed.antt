@@ -11,10 +11,12 @@ use Rattle.std.specs.Prelude.{nat_eq}
 use Rattle.std.specs.declared.vec.Vec.{Vec}
 use Rattle.inbox.specs.declared.blocks.Block.{Block}
 use Rattle.inbox.specs.declared.blocks.Slip.{Slip}
+use Rattle.inbox.specs.declared.filing.PartBlocks.{PartBlocks}
 use Rattle.inbox.specs.declared.grid.Grid.{Grid}
 use Rattle.inbox.specs.declared.letters.Letter.{Letter}
-use Rattle.inbox.specs.Merging.{all_of, goes_to, inbox_of, inboxes_of}
+use Rattle.inbox.specs.Merging.{IsBySource, all_of, goes_to, inbox_of, inboxes_of}
 use Rattle.inbox.specs.inside.Blocks.{AreFiled, AreInPlace, IsInPlace, IsMade, ids_of, letter_of, none_in, slips_of}
+use Rattle.inbox.specs.inside.Filing.{AreInBlocks}
 use Rattle.inbox.specs.inside.Grids.{block_for, block_of, stands_in}
 use Rattle.inbox.proofs.Concatenation.{each_weaker}
 use Rattle.inbox.proofs.Delivery.{grows, stays}
@@ -139,6 +141,22 @@ pub all_filled : (grid : Grid) (letters : List Letter) (old new : List Block) (m
 all_filled grid letters old new made same places filed zip =
     let ids : flat_map ids_of new ≡ flat_map ids_of old = flat_from_map new ∙ ap (flat_map (λ (ids : List ℕ). ids)) same ∙ sym (flat_from_map old) in
     each_made letters new made (right_at grid letters new (subst (AreInPlace grid) (sym same) places) filed) zip ∙ ap (inboxes_of letters) ids
+
+-- the letters are filed in blocks that were made for these ids
+pub in_blocks : (letters : List Letter) (ids : Vec ℕ Global) (old : List Block) (part : PartBlocks) → flat_map ids_of old ≡ ids.items → AreInPlace part.grid (map ids_of old) → map ids_of part.blocks.items ≡ map ids_of old
+    → (sent : List Letter) × IsBySource letters sent × AreFiled part.grid sent (map slips_of part.blocks.items) → AreInBlocks letters ids part
+in_blocks letters ids old part whole places same found = record {
+  whole = flat_from_map part.blocks.items ∙ ap (flat_map (λ (ids : List ℕ). ids)) same ∙ sym (flat_from_map old) ∙ whole;
+  places = subst (AreInPlace part.grid) (sym same) places;
+  sent = found.0;
+  by = found.1;
+  filed = found.2;
+}
+
+-- what is made of a part's blocks
+pub part_made : (letters : List Letter) (ids : Vec ℕ Global) (part : PartBlocks) (made : List (Vec (List ℤ) Global)) → AllZip IsMade part.blocks.items made → (are : AreInBlocks letters ids part) → all_of made ≡ inboxes_of are.sent ids.items
+part_made letters ids part made zip are =
+    all_filled part.grid are.sent part.blocks.items part.blocks.items made refl are.places are.filed zip ∙ ap (inboxes_of are.sent) are.whole
 
 -- one more block in its place
 pub places_more : (grid : Grid) (blocks : List Block) (index : ℕ) (d : Block) → index < length blocks → ((k : ℕ) → k < index → IsInPlace grid k (get_or (map ids_of blocks) k [])) → IsInPlace grid index (ids_of (get_or blocks index d)) → (k : ℕ) → k < index + 1 → IsInPlace grid k (get_or (map ids_of blocks) k [])

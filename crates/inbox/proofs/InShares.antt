@@ -9,11 +9,13 @@ use Rattle.std.specs.Prelude.{nat_eq}
 use Rattle.std.specs.declared.vec.Vec.{Vec}
 use Rattle.inbox.specs.declared.letters.Letter.{Letter}
 use Rattle.inbox.specs.declared.all_parts.Delivered.{Delivered}
+use Rattle.inbox.specs.declared.all_parts.Filed.{Filed}
+use Rattle.inbox.specs.declared.filing.PartBlocks.{PartBlocks}
 use Rattle.inbox.specs.declared.shares.TargetSet.{TargetSet}
 use Rattle.inbox.specs.declared.shares.Share.{Share}
 use Rattle.inbox.specs.Merging.{are_one, all_of, IsBySource, inboxes_of, dropped_of}
-use Rattle.inbox.specs.inside.Blocks.{IsOrderOf}
-use Rattle.inbox.specs.inside.Shares.{has, goes_into, parts_of, AreDelivered, IsDelivered, IsInboxIn, IsPutIn, inboxes_in}
+use Rattle.inbox.specs.inside.Filing.{AreAllFiled, AreInBlocks, AreSomeOf, AreWithin, IsFiled, IsMadeFrom, IsMadeOf}
+use Rattle.inbox.specs.inside.Shares.{has, goes_into, parts_of, AreDelivered, ArePutIn, IsDelivered, IsInboxIn, IsPutIn, inboxes_in}
 use Rattle.inbox.specs.inside.Targets.{IsByTarget, target_cmp}
 use Rattle.inbox.proofs.Counting.{all_of_more, delivered_or_dropped, delivered_to_all, dropped_of_none}
 use Rattle.inbox.proofs.InOrder.{in_order}
@@ -62,19 +64,35 @@ put_is_delivered letters sorted target_set ids delivered by all put = record {
   count = put.count;
 }
 
--- an id finds the same among the letters of a set of targets that has it, in order, and among all
-same_in_blocks : (letters some ordered : List Letter) (target_set : TargetSet) (ids : List ℕ) → IsOrderOf letters target_set some → IsBySource letters ordered → AllByRecursion (λ id. has target_set id ≡ true) ids → inboxes_of some ids ≡ inboxes_of ordered ids
-same_in_blocks letters some ordered target_set [] order by all = refl
-same_in_blocks letters some ordered target_set (id ∷ ids) order by all =
-    let first = ap (map (λ (letter : Letter). letter.value)) (same_in_order letters some ordered target_set id all.0 order by) in
-    let others = same_in_blocks letters some ordered target_set ids order by all.1 in
+-- the same of each part of a share
+pub parts_put : (letters : List Letter) (target_set : TargetSet) (sorted : List Letter) → IsByTarget (filter (goes_into target_set) letters) sorted → (parts : List (Vec ℕ Global)) (all : List Delivered) → AreWithin target_set parts → AllZip (ArePutIn sorted) parts all → AllZip (IsDelivered letters) parts all
+parts_put letters target_set sorted by [] [] within put = tt
+parts_put letters target_set sorted by [] (delivered ∷ all) within put = absurd put
+parts_put letters target_set sorted by (ids ∷ parts) [] within put = absurd put
+parts_put letters target_set sorted by (ids ∷ parts) (delivered ∷ all) within put =
+    (put_is_delivered letters sorted target_set ids delivered by within.0 put.0, parts_put letters target_set sorted by parts all within.1 put.1)
+
+-- an id finds the same among the letters of a set of targets that has it, by source, and among all
+same_in_blocks : (letters some sent ordered : List Letter) (target_set : TargetSet) (ids : List ℕ) → AreSomeOf letters target_set some → IsBySource some sent → IsBySource letters ordered → AllByRecursion (λ id. has target_set id ≡ true) ids → inboxes_of sent ids ≡ inboxes_of ordered ids
+same_in_blocks letters some sent ordered target_set [] are by by' all = refl
+same_in_blocks letters some sent ordered target_set (id ∷ ids) are by by' all =
+    let first = ap (map (λ (letter : Letter). letter.value)) (same_in_order letters some sent ordered target_set id all.0 are by by') in
+    let others = same_in_blocks letters some sent ordered target_set ids are by by' all.1 in
     λ i. first i ∷ others i
 
-pub filed_is_delivered : (letters some : List Letter) (target_set : TargetSet) (ids : Vec ℕ Global) (delivered : Delivered) → IsOrderOf letters target_set some → AllByRecursion (λ id. has target_set id ≡ true) ids.items → delivered.inboxes.items ≡ inboxes_of some ids.items → delivered.count ≡ sum_by length delivered.inboxes.items → IsDelivered letters ids delivered
-filed_is_delivered letters some target_set ids delivered order all is count = record {
-  inboxes = λ ordered by. is ∙ same_in_blocks letters some ordered target_set ids.items order by all;
-  count = count;
-}
+-- what is made of blocks is what goes to their ids of all letters
+pub parts_made : (letters some : List Letter) (target_set : TargetSet) → AreSomeOf letters target_set some → (ids : List (Vec ℕ Global)) (parts : List PartBlocks) (all : List Delivered) → AreWithin target_set ids → AllZip (AreInBlocks some) ids parts → AllZip IsMadeFrom parts all → AllZip (IsDelivered letters) ids all
+parts_made letters some target_set are [] [] [] within filed made = tt
+parts_made letters some target_set are [] [] (delivered ∷ all) within filed made = absurd made
+parts_made letters some target_set are [] (part ∷ parts) all within filed made = absurd filed
+parts_made letters some target_set are (own ∷ ids) [] all within filed made = absurd filed
+parts_made letters some target_set are (own ∷ ids) (part ∷ parts) [] within filed made = absurd made
+parts_made letters some target_set are (own ∷ ids) (part ∷ parts) (delivered ∷ all) within filed made =
+    let first : IsDelivered letters own delivered = record {
+      inboxes = λ ordered by. made.0.inboxes some own filed.0 ∙ same_in_blocks letters some filed.0.sent ordered target_set own.items are filed.0.by by within.0;
+      count = made.0.count;
+    } in
+    (first, parts_made letters some target_set are ids parts all within.1 filed.1 made.1)
 
 pub all_made : (letters ordered : List Letter) → IsBySource letters ordered → (ids : List (Vec ℕ Global)) (all : List Delivered) → AllZip (IsDelivered letters) ids all → map vec_items (inboxes_in all) ≡ map (λ part. inboxes_of ordered part.items) ids
 all_made letters ordered by [] [] zip = refl
@@ -92,9 +110,18 @@ all_shares letters (share ∷ shares) [] zip = absurd zip
 all_shares letters (share ∷ shares) (delivered ∷ all) zip =
     AllZip-append (IsDelivered letters) share.parts.now (flat_map parts_of shares) delivered.items (all_of all) zip.0 (all_shares letters shares all zip.1)
 
--- what goes to the parts of each share goes to all parts, one share after another
-pub shared_out : (letters : List Letter) (ids : List (Vec ℕ Global)) (shares : List Share) (by_share : List (Vec Delivered Global)) (all : List Delivered) → flat_map parts_of shares ≡ ids → AllZip (AreDelivered letters) shares by_share → all ≡ all_of by_share → AllZip (IsDelivered letters) ids all
-shared_out letters ids shares by_share all are zip same = rw (← are, same) (all_shares letters shares by_share zip)
+shares_made : (letters : List Letter) (shares : List Share) (filed : List Filed) (all : List (Vec Delivered Global)) → AllZip (IsFiled letters) shares filed → AllZip IsMadeOf filed all → AllZip (AreDelivered letters) shares all
+shares_made letters [] [] [] own made = tt
+shares_made letters [] [] (delivered ∷ all) own made = absurd made
+shares_made letters [] (first ∷ filed) all own made = absurd own
+shares_made letters (share ∷ shares) [] all own made = absurd own
+shares_made letters (share ∷ shares) (first ∷ filed) [] own made = absurd made
+shares_made letters (share ∷ shares) (first ∷ filed) (delivered ∷ all) own made =
+    (made.0.made letters share own.0, shares_made letters shares filed all own.1 made.1)
+
+-- what is made of all that is filed goes to all parts, one share after another
+pub shared_out : (letters : List Letter) (ids : List (Vec ℕ Global)) (filed : List Filed) (by_share : List (Vec Delivered Global)) (all : List Delivered) → AllZip IsMadeOf filed by_share → all ≡ all_of by_share → AreAllFiled letters ids filed → AllZip (IsDelivered letters) ids all
+shared_out letters ids filed by_share all made same are = rw (← are.whole, same) (all_shares letters are.shares by_share (shares_made letters are.shares filed by_share are.each made))
 
 pub counted : {X Z : Type 0} (lists : List (Vec X Z)) → sum_by vec_len lists ≡ length (all_of lists)
 counted [] = refl

@@ -6,12 +6,12 @@ use Rattle.std.proofs.lemmas.List.Elements.{All-contains, All-contains_itself, A
 use Rattle.std.proofs.lemmas.List.Kept.{IsStrictlySortedBy-filter}
 use Rattle.std.proofs.lemmas.List.Sorted.{Contains-permutation, IsPermutation-sym}
 use Rattle.std.specs.List.{AllByRecursion}
-use Rattle.std.specs.List.Sorted.{IsStrictlySortedBy}
+use Rattle.std.specs.List.Sorted.{IsPermutation, IsStrictlySortedBy}
 use Rattle.std.specs.declared.cmp.Ordering.TheVariants.{Less}
 use Rattle.inbox.specs.declared.letters.Letter.{Letter}
 use Rattle.inbox.specs.declared.shares.TargetSet.{TargetSet}
 use Rattle.inbox.specs.Merging.{IsBySource, goes_to, source_cmp}
-use Rattle.inbox.specs.inside.Blocks.{IsOrderOf}
+use Rattle.inbox.specs.inside.Filing.{AreSomeOf}
 use Rattle.inbox.specs.inside.Shares.{has, goes_into}
 use Rattle.inbox.specs.inside.Targets.{IsByTarget, target_cmp}
 use Rattle.inbox.proofs.OneOrder.{contained, head_inside, same_sorted}
@@ -69,28 +69,28 @@ same_letters letters sorted ordered target_set id inside by by' =
     into_filter mine sorted z (Contains-permutation _ _ z by.same here) goes in
     same_sorted source_total (filter mine sorted) (filter mine ordered) rising (IsStrictlySortedBy-filter source_cmp mine ordered by'.rising) to from
 
--- letters that are in order
-pub order_itself : (letters : List Letter) (target_set : TargetSet) → IsStrictlySortedBy source_cmp letters → IsOrderOf letters target_set letters
-order_itself letters target_set up = record { rising = up; among = λ z h. h; all = λ z h goes. h }
+-- all letters
+pub some_all : (letters : List Letter) (target_set : TargetSet) → AreSomeOf letters target_set letters
+some_all letters target_set = record { among = λ z h. h; all = λ z h goes. h }
 
--- those of a set of targets, put in order
-pub order_sorted : (letters sorted : List Letter) (target_set : TargetSet) → IsBySource (filter (goes_into target_set) letters) sorted → IsOrderOf letters target_set sorted
-order_sorted letters sorted target_set by =
+-- those of a set of targets, in any order
+pub some_within : (letters some : List Letter) (target_set : TargetSet) → IsPermutation (filter (goes_into target_set) letters) some → AreSomeOf letters target_set some
+some_within letters some target_set same =
     let within = goes_into target_set in
     record {
-      rising = by.rising;
-      among = λ z h. from_filter within letters z (Contains-permutation _ _ z (IsPermutation-sym _ _ by.same) h);
-      all = λ z h goes. Contains-permutation _ _ z by.same (into_filter within letters z h goes);
+      among = λ z h. from_filter within letters z (Contains-permutation _ _ z (IsPermutation-sym _ _ same) h);
+      all = λ z h goes. Contains-permutation _ _ z same (into_filter within letters z h goes);
     }
 
--- the letters to an id, among those of a set of targets that has it and among all, each in order
-pub same_in_order : (letters some ordered : List Letter) (target_set : TargetSet) (id : ℕ) → has target_set id ≡ true → IsOrderOf letters target_set some → IsBySource letters ordered → filter (λ letter. goes_to letter id) some ≡ filter (λ letter. goes_to letter id) ordered
-same_in_order letters some ordered target_set id inside order by =
+-- the letters to an id, among those of a set of targets that has it and among all, each by source
+pub same_in_order : (letters some sent ordered : List Letter) (target_set : TargetSet) (id : ℕ) → has target_set id ≡ true → AreSomeOf letters target_set some → IsBySource some sent → IsBySource letters ordered → filter (λ letter. goes_to letter id) sent ≡ filter (λ letter. goes_to letter id) ordered
+same_in_order letters some sent ordered target_set id inside are by by' =
     let mine = λ (letter : Letter). goes_to letter id in
-    let to = λ (z : Letter) (h : Contains (filter mine some) z).
-    into_filter mine ordered z (Contains-permutation _ _ z by.same (order.among z (from_filter mine some z h))) (passes mine some z h) in
+    let to = λ (z : Letter) (h : Contains (filter mine sent) z).
+    let here = Contains-permutation _ _ z (IsPermutation-sym _ _ by.same) (from_filter mine sent z h) in
+    into_filter mine ordered z (Contains-permutation _ _ z by'.same (are.among z here)) (passes mine sent z h) in
     let from = λ (z : Letter) (h : Contains (filter mine ordered) z).
     let goes = passes mine ordered z h in
-    let here = order.all z (Contains-permutation _ _ z (IsPermutation-sym _ _ by.same) (from_filter mine ordered z h)) (goes_inside target_set id z inside goes) in
-    into_filter mine some z here goes in
-    same_sorted source_total (filter mine some) (filter mine ordered) (IsStrictlySortedBy-filter source_cmp mine some order.rising) (IsStrictlySortedBy-filter source_cmp mine ordered by.rising) to from
+    let here = are.all z (Contains-permutation _ _ z (IsPermutation-sym _ _ by'.same) (from_filter mine ordered z h)) (goes_inside target_set id z inside goes) in
+    into_filter mine sent z (Contains-permutation _ _ z by.same here) goes in
+    same_sorted source_total (filter mine sent) (filter mine ordered) (IsStrictlySortedBy-filter source_cmp mine sent by.rising) (IsStrictlySortedBy-filter source_cmp mine ordered by'.rising) to from

@@ -12,3 +12,4 @@ pub mod OneOrder
 pub mod Order
 pub mod SideBySide
 pub mod Spread
+pub mod Streaming

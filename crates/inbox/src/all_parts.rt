@@ -1,14 +1,14 @@
-ghost use Rattle.std.specs.Prelude.{◌≡◌, ◌≤◌, ◌<◌, ◌^◌, int_lt, pos, true, false, List, map, filter, length, nat_eq, sum_by, vec_items, vec_len, IfOk, IsTrue};
-ghost use Rattle.std.specs.List.{AllByRecursion, AllZip, IsDistinct};
+ghost use Rattle.std.specs.Prelude.{◌≡◌, ◌+◌, ◌≤◌, ◌<◌, ◌^◌, ℕ, int_lt, pos, true, false, List, map, filter, length, nat_eq, sum_by, vec_items, vec_len, IfOk, IfSome};
+ghost use Rattle.std.specs.Global.{Vec as AnyVec};
+ghost use Rattle.std.specs.List.{AllZip, IsDistinct};
 ghost use Rattle.std.specs.List.Sorted.{IsStrictlySortedBy, IsPartitionPoint};
 ghost use Rattle.inbox.specs.declared.letters.Letter.{Letter as AnyLetter};
-ghost use Rattle.std.specs.declared.cmp.Ordering.TheVariants.{Less};
-ghost use Rattle.inbox.specs.Merging.{are_one, goes_to, all_of, IsBySource, inboxes_of, dropped_of, source_cmp};
-ghost use Rattle.inbox.specs.inside.Blocks.{IsOrderOf};
+ghost use Rattle.inbox.specs.Merging.{are_one, goes_to, all_of, IsBySource, inboxes_of, dropped_of};
+ghost use Rattle.inbox.specs.inside.Filing.{AreAllFiled, AreInBlocks, AreSomeOf, IsFiled, IsMadeFrom, IsMadeOf};
 ghost use Rattle.inbox.specs.inside.Targets.{IsByTarget, target_cmp};
-ghost use Rattle.inbox.specs.inside.Shares.{goes_into, has, AreDelivered, IsDelivered, IsInboxIn, IsPutIn, inboxes_in};
+ghost use Rattle.inbox.specs.inside.Shares.{goes_into, ArePutIn, IsDelivered, IsInboxIn, IsPutIn, inboxes_in};
 
-use crate::blocks::by_blocks;
+use crate::filing::{PartBlocks, filed_parts, made_part};
 use crate::grid::Grid;
 use crate::inboxes::Inbox;
 use crate::letters::Letter;
@@ -28,18 +28,18 @@ use std::thread::Threads;
 /// 10,000 letters and ids together are one share, which the calling thread merges. Else each share has a thread, which works
 /// in three steps:
 ///
-/// 1. It reads all letters, copies those that may go to an id of its parts, and sorts them by source. If all letters are in
-///    one list that is sorted already, it copies none.
-/// 2. It files them by blocks of 4,096 ids.
-/// 3. It makes the inboxes of each block. An inbox of more than four messages has no room beyond them. Many ids of one part
-///    are shared among threads again.
+/// 1. It reads all letters by source. Up to 16 lists, each sorted by source already, are read side by side if it has one part,
+///    and one such list if it has more. Otherwise it copies the letters that may go to an id of its parts, and sorts them.
+/// 2. It files them by blocks of 4,096 ids. It files 16 bytes of each letter.
+/// 3. When all threads are done with that, it makes the inboxes of each block. An inbox of more than four messages has no room
+///    beyond them. Many ids of one part are shared among threads again.
 ///
 /// Where the ids of a part do not rise by one gap, the letters of its share are sorted by target, and each id's letters are
 /// looked up.
 ///
-/// In a job, each part has the ids of its own remainder. Then a share's thread copies the letters to its own targets, which it
-/// finds by their remainders. Otherwise it copies all letters. Each share takes O(n log n) time for n letters in all. It fails
-/// only where memory runs out.
+/// In a job, each part has the ids of its own remainder. Then a share's thread that copies letters copies those to its own
+/// targets, which it finds by their remainders. Otherwise it copies all letters. Each share takes O(n log n) time for n letters
+/// in all. It fails only where memory runs out.
 pub fn merge_parts(
     rt: &(impl Threads + Sync),
     alloc: Global,
@@ -56,13 +56,32 @@ pub fn merge_parts(
     ensures dropped { IfOk result (λ merged.
         merged.1 ≡ dropped_of (all_of lists.now) (all_of ids.now)) }
 {
-    let shares = shares(alloc, ids, most_shares(rt, lists, ids))?;
-    let room = room_for(lists, shares.len());
-    let by_share = delivered_to_all(rt, alloc, lists, &shares, room)?;
-    let delivered = together(alloc, by_share)?;
-    let dropped = letter_count(lists) - delivered_count(&delivered);
-    let parts = inboxes_in(alloc, delivered)?;
-    Ok((parts, dropped))
+    let filed = filed_in_all(rt, alloc, lists, ids)?;
+    let delivered = made_of_all(rt, alloc, filed)?;
+    with_dropped(alloc, delivered, letter_count(lists))
+}
+
+/// Makes the inboxes of all parts in threads, and counts the letters that go to no id. It returns what [`merge_parts`] returns,
+/// in less memory: it frees the letters after the second step, before there are inboxes.
+pub fn merge_own_parts(
+    rt: &(impl Threads + Sync),
+    alloc: Global,
+    lists: Vec<Vec<Letter>>,
+    ids: &[Vec<u64>],
+) -> Result<(Vec<Vec<Inbox>>, u128), AllocError>
+    requires apart { IsDistinct nat_eq (all_of ids.now) }
+    requires distinct { IsDistinct are_one (all_of lists.items) }
+    ensures inboxes { IfOk result (λ merged. (ordered : List AnyLetter)
+        → IsBySource (all_of lists.items) ordered
+        → map vec_items merged.0.items ≡ map (λ part. inboxes_of ordered part.items) ids.now) }
+    ensures dropped { IfOk result (λ merged.
+        merged.1 ≡ dropped_of (all_of lists.items) (all_of ids.now)) }
+{
+    let filed = filed_in_all(rt, alloc, &lists, ids)?;
+    let count = letter_count(&lists);
+    drop(lists);
+    let delivered = made_of_all(rt, alloc, filed)?;
+    with_dropped(alloc, delivered, count)
 }
 
 // The inboxes of a part's ids, and the number of messages in them.
@@ -107,96 +126,174 @@ fn room_for(lists: &[Vec<Letter>], shares: usize) -> usize {
     share.saturating_add(share / 16).min(letters)
 }
 
-// Makes the inboxes of each share.
-fn delivered_to_all(
+// What one share has filed, of which its inboxes are made.
+#[derive(Drop)]
+enum Filed<'a> {
+    // The ids of each part by blocks.
+    InBlocks(Vec<PartBlocks<'a>>),
+    ByTarget(Sorted<'a>),
+}
+
+// Letters to the ids of these parts, sorted by target.
+#[derive(Drop)]
+struct Sorted<'a> {
+    parts: &'a [Vec<u64>],
+    letters: Vec<Letter>,
+}
+
+// Files the letters of all lists: the first two steps.
+fn filed_in_all<'a>(
     rt: &(impl Threads + Sync),
     alloc: Global,
     lists: &[Vec<Letter>],
-    shares: &[Share],
-    room: usize,
-) -> Result<Vec<Vec<Delivered>>, AllocError>
+    ids: &'a [Vec<u64>],
+) -> Result<Vec<Filed<'a>>, AllocError>
     requires { IsDistinct are_one (all_of lists.now) }
-    ensures { IfOk result (λ all. AllZip (AreDelivered (all_of lists.now)) shares.now all.items) }
+    ensures { IfOk result (λ filed. AreAllFiled (all_of lists.now) ids.now filed.items) }
+{
+    let shares = shares(alloc, ids, most_shares(rt, lists, ids))?;
+    let room = room_for(lists, shares.len());
+    filed_in_shares(rt, alloc, lists, &shares, room)
+}
+
+// Files the letters to each share.
+fn filed_in_shares<'a>(
+    rt: &(impl Threads + Sync),
+    alloc: Global,
+    lists: &[Vec<Letter>],
+    shares: &[Share<'a>],
+    room: usize,
+) -> Result<Vec<Filed<'a>>, AllocError>
+    requires { IsDistinct are_one (all_of lists.now) }
+    ensures { IfOk result (λ filed. AllZip (IsFiled (all_of lists.now)) shares.now filed.items) }
 {
     // Each share is worth a thread.
     shares
         .par_iter()
         .with_min_len(1)
         .map(
-            |share: &Share| -> Result<Vec<Delivered>, AllocError>
+            |share: &Share| -> Result<Filed, AllocError>
                 requires { IsDistinct are_one (all_of lists.now) }
-                ensures { IfOk result (AreDelivered (all_of lists.entry.now) share.now) }
-            { delivered_to_share(rt, alloc, lists, share, room) },
+                ensures { IfOk result (IsFiled (all_of lists.entry.now) share.now) }
+            { filed_in_share(alloc, lists, share, room) },
+        )
+        .collect::<Result<Vec<Filed<'a>>, AllocError>>(rt, alloc)?
+}
+
+// Files the letters to one share's parts. Room for `room` letters is made at the start.
+fn filed_in_share<'a>(
+    alloc: Global,
+    lists: &[Vec<Letter>],
+    share: &Share<'a>,
+    room: usize,
+) -> Result<Filed<'a>, AllocError>
+    requires { IsDistinct are_one (all_of lists.now) }
+    ensures { IfOk result (IsFiled (all_of lists.now) share.now) }
+{
+    let targets = share.targets();
+    let parts = share.parts;
+    if let Some(filed) = filed_in_blocks(alloc, lists, targets, room, parts)? {
+        return Ok(Filed::InBlocks(filed));
+    }
+    let letters = by_target(alloc, lists, targets, room)?;
+    Ok(Filed::ByTarget(Sorted { parts, letters }))
+}
+
+// Files the letters to these parts, whose ids are among the targets, by blocks. Returns `None` where the ids of a part do not
+// rise by one gap.
+fn filed_in_blocks<'a>(
+    alloc: Global,
+    lists: &[Vec<Letter>],
+    targets: TargetSet,
+    room: usize,
+    parts: &'a [Vec<u64>],
+) -> Result<Option<Vec<PartBlocks<'a>>>, AllocError>
+    requires { IsDistinct are_one (all_of lists.now) }
+    ensures { IfOk result (λ found. IfSome found (λ filed. (some : List AnyLetter)
+        × AreSomeOf (all_of lists.now) targets some
+        × AllZip (AreInBlocks some) parts.now filed.items)) }
+{
+    if !are_even(parts) {
+        return Ok(None);
+    }
+    if are_streams(lists, parts)
+        && let Some(filed) = filed_parts(alloc, lists, room, parts)?
+    {
+        return Ok(Some(filed));
+    }
+    let ordered = by_source(alloc, lists, targets, room)?;
+    filed_parts(alloc, &ordered, room, parts)
+}
+
+// The greatest number of lists that are read side by side.
+const MOST_STREAMS: usize = 16;
+
+// Checks that reading all letters for each part costs less than copying and sorting those that go to the parts.
+fn are_streams(lists: &[Vec<Letter>], parts: &[Vec<u64>]) -> bool {
+    lists.len() == 1 || (parts.len() == 1 && lists.len() <= MOST_STREAMS)
+}
+
+// Makes the inboxes of all parts from what each share has filed.
+fn made_of_all(
+    rt: &(impl Threads + Sync),
+    alloc: Global,
+    filed: Vec<Filed>,
+) -> Result<Vec<Delivered>, AllocError>
+    ensures { IfOk result (λ all. (letters : List AnyLetter) (ids : List (AnyVec ℕ))
+        → AreAllFiled letters ids filed.entry.items
+        → AllZip (IsDelivered letters) ids all.items) }
+{
+    let by_share = made_of_shares(rt, alloc, &filed)?;
+    together(alloc, by_share)
+}
+
+// Makes the inboxes of each share.
+fn made_of_shares(
+    rt: &(impl Threads + Sync),
+    alloc: Global,
+    filed: &[Filed],
+) -> Result<Vec<Vec<Delivered>>, AllocError>
+    ensures { IfOk result (λ all. AllZip IsMadeOf filed.now all.items) }
+{
+    filed
+        .par_iter()
+        .with_min_len(1)
+        .map(
+            |share: &Filed| -> Result<Vec<Delivered>, AllocError>
+                ensures { IfOk result (IsMadeOf share.now) }
+            { made_of_share(rt, alloc, share) },
         )
         .collect::<Result<Vec<Vec<Delivered>>, AllocError>>(rt, alloc)?
 }
 
-// Makes the inboxes of one share's parts. Room for `room` letters is made at the start.
-fn delivered_to_share(
+// Makes the inboxes of one share's parts.
+fn made_of_share(
     rt: &(impl Threads + Sync),
     alloc: Global,
-    lists: &[Vec<Letter>],
-    share: &Share,
-    room: usize,
+    filed: &Filed,
 ) -> Result<Vec<Delivered>, AllocError>
-    requires { IsDistinct are_one (all_of lists.now) }
-    ensures { IfOk result (AreDelivered (all_of lists.now) share.now) }
+    ensures { IfOk result (IsMadeOf filed.now) }
 {
-    let targets = share.targets();
-    if !are_even(share.parts) {
-        return delivered_by_target(rt, alloc, lists, targets, room, share.parts);
+    match filed {
+        Filed::InBlocks(parts) => made_parts(rt, alloc, parts),
+        Filed::ByTarget(sorted) => put_to_parts(rt, alloc, &sorted.letters, sorted.parts),
     }
-    if are_by_source(lists) {
-        return delivered_to_parts(rt, alloc, lists, lists, targets, room, share.parts);
-    }
-    let ordered = by_source(alloc, lists, targets, room)?;
-    delivered_to_parts(rt, alloc, lists, &ordered, targets, room, share.parts)
 }
 
-// Makes the inboxes of these parts, whose ids are among the targets. `lists` has the letters in any order, and `ordered` has
-// them by source.
-fn delivered_to_parts(
+// Makes the inboxes of each part from its blocks.
+fn made_parts(
     rt: &(impl Threads + Sync),
     alloc: Global,
-    lists: &[Vec<Letter>],
-    ordered: &[Vec<Letter>],
-    targets: TargetSet,
-    room: usize,
-    parts: &[Vec<u64>],
+    parts: &[PartBlocks],
 ) -> Result<Vec<Delivered>, AllocError>
-    requires distinct { IsDistinct are_one (all_of lists.now) }
-    requires order { IsOrderOf (all_of lists.now) targets (all_of ordered.now) }
-    requires targets { AllByRecursion
-        (λ ids. AllByRecursion (λ id. has targets id ≡ true) ids.items) parts.now }
-    ensures { IfOk result (λ all. AllZip (IsDelivered (all_of lists.now)) parts.now all.items) }
+    ensures { IfOk result (λ all. AllZip IsMadeFrom parts.now all.items) }
 {
     let mut all = Vec::with_capacity(alloc, parts.len())?;
-    for ids in parts {
-        let delivered = delivered_to(rt, alloc, lists, ordered, targets, room, ids)?;
-        all.push(delivered)?;
+    for part in parts {
+        let inboxes = made_part(rt, alloc, part)?;
+        all.push(counted(inboxes))?;
     }
     Ok(all)
-}
-
-// Makes the inboxes of a part, whose ids are among the targets.
-fn delivered_to(
-    rt: &(impl Threads + Sync),
-    alloc: Global,
-    lists: &[Vec<Letter>],
-    ordered: &[Vec<Letter>],
-    targets: TargetSet,
-    room: usize,
-    ids: &Vec<u64>,
-) -> Result<Delivered, AllocError>
-    requires distinct { IsDistinct are_one (all_of lists.now) }
-    requires order { IsOrderOf (all_of lists.now) targets (all_of ordered.now) }
-    requires targets { AllByRecursion (λ id. has targets id ≡ true) ids.now.items }
-    ensures { IfOk result (IsDelivered (all_of lists.now) ids.now) }
-{
-    match by_blocks(rt, alloc, ordered, ids, room)? {
-        Some(inboxes) => Ok(counted(inboxes)),
-        None => one_by_target(rt, alloc, lists, targets, room, ids),
-    }
 }
 
 fn counted(inboxes: Vec<Inbox>) -> Delivered
@@ -212,45 +309,21 @@ fn are_even(parts: &[Vec<u64>]) -> bool {
     parts.iter().all(|ids| Grid::of(ids).is_even(ids))
 }
 
-// Makes the inboxes of these parts, whose ids are among the targets. The letters are sorted by target, and each id's letters
-// are looked up.
-fn delivered_by_target(
+// Makes the inboxes of each part from letters sorted by target, by looking up the letters of each id.
+fn put_to_parts(
     rt: &(impl Threads + Sync),
     alloc: Global,
-    lists: &[Vec<Letter>],
-    targets: TargetSet,
-    room: usize,
+    letters: &[Letter],
     parts: &[Vec<u64>],
 ) -> Result<Vec<Delivered>, AllocError>
-    requires distinct { IsDistinct are_one (all_of lists.now) }
-    requires targets { AllByRecursion
-        (λ ids. AllByRecursion (λ id. has targets id ≡ true) ids.items) parts.now }
-    ensures { IfOk result (λ all. AllZip (IsDelivered (all_of lists.now)) parts.now all.items) }
+    ensures { IfOk result (λ all. AllZip (ArePutIn letters.now) parts.now all.items) }
 {
-    let letters = by_target(alloc, lists, targets, room)?;
     let mut all = Vec::with_capacity(alloc, parts.len())?;
     for ids in parts {
-        let delivered = put_to(rt, alloc, &letters, ids)?;
+        let delivered = put_to(rt, alloc, letters, ids)?;
         all.push(delivered)?;
     }
     Ok(all)
-}
-
-// Makes the inboxes of one part in the same way.
-fn one_by_target(
-    rt: &(impl Threads + Sync),
-    alloc: Global,
-    lists: &[Vec<Letter>],
-    targets: TargetSet,
-    room: usize,
-    ids: &Vec<u64>,
-) -> Result<Delivered, AllocError>
-    requires distinct { IsDistinct are_one (all_of lists.now) }
-    requires targets { AllByRecursion (λ id. has targets id ≡ true) ids.now.items }
-    ensures { IfOk result (IsDelivered (all_of lists.now) ids.now) }
-{
-    let letters = by_target(alloc, lists, targets, room)?;
-    put_to(rt, alloc, &letters, ids)
 }
 
 // Makes the inboxes of a part from letters sorted by target.
@@ -267,31 +340,6 @@ fn put_to(
     Ok(Delivered { inboxes, count })
 }
 
-// Checks that the letters are in one list, sorted by source.
-fn are_by_source(lists: &[Vec<Letter>]) -> bool
-    ensures { IsTrue result → IsStrictlySortedBy source_cmp (all_of lists.now) }
-{
-    lists.len() == 1 && is_by_source(&lists[0])
-}
-
-fn is_by_source(letters: &[Letter]) -> bool
-    ensures { IsTrue result → IsStrictlySortedBy source_cmp letters.now }
-{
-    for index in 1..letters.len() {
-        if !comes_before(&letters[index - 1], &letters[index]) {
-            return false;
-        }
-    }
-    true
-}
-
-// Checks that the first letter's source is the lesser one, or sent the first letter earlier.
-fn comes_before(first: &Letter, second: &Letter) -> bool
-    ensures { IsTrue result → source_cmp first.now second.now ≡ Less }
-{
-    first.from < second.from || (first.from == second.from && first.seq < second.seq)
-}
-
 // Copies the letters to these targets into one list, sorted by source. Room for `room` letters is made at the start.
 fn by_source(
     alloc: Global,
@@ -300,7 +348,7 @@ fn by_source(
     room: usize,
 ) -> Result<Vec<Vec<Letter>>, AllocError>
     requires { IsDistinct are_one (all_of lists.now) }
-    ensures { IfOk result (λ ordered. IsOrderOf (all_of lists.now) targets (all_of ordered.items)) }
+    ensures { IfOk result (λ ordered. AreSomeOf (all_of lists.now) targets (all_of ordered.items)) }
 {
     let letters = sorted_by_source(alloc, lists, targets, room)?;
     let mut ordered = Vec::with_capacity(alloc, 1)?;
@@ -464,6 +512,22 @@ fn together(alloc: Global, shares: Vec<Vec<Delivered>>) -> Result<Vec<Delivered>
         all.append(&mut parts)?;
     }
     Ok(all)
+}
+
+// Returns the inboxes of each part, and the number of letters that are in none of them. There are `letters` of them in all.
+fn with_dropped(
+    alloc: Global,
+    delivered: Vec<Delivered>,
+    letters: u128,
+) -> Result<(Vec<Vec<Inbox>>, u128), AllocError>
+    requires { sum_by (λ part. part.count) delivered.items ≤ letters }
+    ensures inboxes { IfOk result (λ merged. merged.0.items ≡ inboxes_in delivered.items) }
+    ensures dropped { IfOk result (λ merged.
+        merged.1 + sum_by (λ part. part.count) delivered.items ≡ letters) }
+{
+    let dropped = letters - delivered_count(&delivered);
+    let parts = inboxes_in(alloc, delivered)?;
+    Ok((parts, dropped))
 }
 
 // Returns the inboxes of each part.

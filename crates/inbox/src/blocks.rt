@@ -30,31 +30,12 @@ pub struct Block<'a> {
     slips: Vec<Slip>,
 }
 
-// Makes the inboxes of these ids from letters sorted by source. Returns `None` where the ids do not rise by one gap.
-//
-// The letters are filed by block, and then each block's inboxes are filled, so that writes stay close together in memory.
-// Room for `room` letters is made at the start.
-pub fn by_blocks(
-    rt: &(impl Threads + Sync),
-    alloc: Global,
-    lists: &[Vec<Letter>],
-    ids: &[u64],
-    room: usize,
-) -> Result<Option<Vec<Inbox>>, AllocError>
-    ensures { IfOk result (λ found. IfSome found (λ inboxes.
-        inboxes.items ≡ inboxes_of (all_of lists.now) ids.now)) }
-{
-    let grid = Grid::of(ids);
-    let mut blocks = blocks_of(alloc, ids, room)?;
-    if !are_in_place(grid, &blocks) {
-        return Ok(None);
-    }
-    let inboxes = filled(rt, alloc, lists, grid, &mut blocks)?;
-    Ok(Some(inboxes))
-}
-
 // Splits the ids into blocks with no messages, which together have room for `room` messages.
-fn blocks_of<'a>(alloc: Global, ids: &'a [u64], room: usize) -> Result<Vec<Block<'a>>, AllocError>
+pub fn blocks_of<'a>(
+    alloc: Global,
+    ids: &'a [u64],
+    room: usize,
+) -> Result<Vec<Block<'a>>, AllocError>
     ensures ids { IfOk result (λ blocks. flat_map ids_of blocks.items ≡ ids.now) }
     ensures none { IfOk result (λ blocks. AllByRecursion none_in (map slips_of blocks.items)) }
 {
@@ -87,7 +68,7 @@ fn push_block<'a>(
 }
 
 // Checks that the ids of each block rise and have that block's number.
-fn are_in_place(grid: Grid, blocks: &[Block]) -> bool
+pub fn are_in_place(grid: Grid, blocks: &[Block]) -> bool
     ensures { IsTrue result → AreInPlace grid (map ids_of blocks.now) }
 {
     for index in 0..blocks.len() {
@@ -115,37 +96,8 @@ fn rise(ids: &[u64]) -> bool
     true
 }
 
-// Makes the inboxes of all blocks, which have no messages yet.
-fn filled(
-    rt: &(impl Threads + Sync),
-    alloc: Global,
-    lists: &[Vec<Letter>],
-    grid: Grid,
-    blocks: &mut Vec<Block>,
-) -> Result<Vec<Inbox>, AllocError>
-    requires place { AreInPlace grid (map ids_of blocks.old.items) }
-    requires none { AllByRecursion none_in (map slips_of blocks.old.items) }
-    ensures { IfOk result (λ inboxes.
-        inboxes.items ≡ inboxes_of (all_of lists.now) (flat_map ids_of blocks.old.items)) }
-{
-    file_all(lists, grid, blocks)?;
-    let made = made_of(rt, alloc, grid, blocks)?;
-    together(alloc, made)
-}
-
-// Files the letters of all lists.
-fn file_all(lists: &[Vec<Letter>], grid: Grid, blocks: &mut Vec<Block>) -> Result<(), AllocError>
-    requires { AllByRecursion none_in (map slips_of blocks.old.items) }
-    ensures ids { OnOk result (map ids_of blocks.new.items ≡ map ids_of blocks.old.items) }
-    ensures filed { OnOk result (AreFiled grid (all_of lists.now) (map slips_of blocks.new.items)) }
-{
-    for list in lists {
-        file_list(list, grid, blocks)?;
-    }
-    Ok(())
-}
-
-fn file_list(letters: &[Letter], grid: Grid, blocks: &mut Vec<Block>) -> Result<(), AllocError>
+// Files the letters, which follow those that are filed.
+pub fn file_list(letters: &[Letter], grid: Grid, blocks: &mut Vec<Block>) -> Result<(), AllocError>
     ensures ids { OnOk result (map ids_of blocks.new.items ≡ map ids_of blocks.old.items) }
     ensures filed { OnOk result ((sent : List AnyLetter)
         → AreFiled grid sent (map slips_of blocks.old.items)
@@ -191,7 +143,7 @@ fn push_slip(blocks: &mut Vec<Block>, place: usize, slip: Slip) -> Result<(), Al
 const LEAST_BLOCKS: usize = 4;
 
 // Makes the inboxes of each block.
-fn made_of(
+pub fn made_of(
     rt: &(impl Threads + Sync),
     alloc: Global,
     grid: Grid,
@@ -314,7 +266,7 @@ fn place_near(ids: &[u64], near: usize, id: u64) -> Option<usize>
 }
 
 // Concatenates the inboxes of all blocks.
-fn together(alloc: Global, made: Vec<Vec<Inbox>>) -> Result<Vec<Inbox>, AllocError>
+pub fn together(alloc: Global, made: Vec<Vec<Inbox>>) -> Result<Vec<Inbox>, AllocError>
     ensures { IfOk result (λ inboxes. inboxes.items ≡ all_of made.items) }
 {
     let mut inboxes = Vec::with_capacity(alloc, made.len().saturating_mul(BLOCK))?;

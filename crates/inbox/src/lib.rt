@@ -7,14 +7,16 @@
 mod all_parts;
 mod arrivals;
 mod blocks;
+mod filing;
 mod grid;
 mod inboxes;
 mod laws;
 mod letters;
 mod merging;
 mod shares;
+mod streams;
 
-pub use all_parts::{letter_count, merge_parts};
+pub use all_parts::{letter_count, merge_own_parts, merge_parts};
 pub use arrivals::{Arrival, merge_few};
 pub use inboxes::Inbox;
 pub use laws::{

@@ -2,16 +2,13 @@
 use Rattle.std.specs.Prelude.{◌≡◌, ◌<◌, ℕ, ℤ, true, List, [], map, length, slice_index_or}
 use Rattle.std.specs.Global.{Vec}
 use Rattle.std.specs.List.{AllByRecursion}
-use Rattle.std.specs.List.Sorted.{IsStrictlyIncreasing, IsStrictlySortedBy}
-use Rattle.std.specs.Prelude.{Contains}
+use Rattle.std.specs.List.Sorted.{IsStrictlyIncreasing}
 use Rattle.inbox.specs.declared.blocks.Block.{Block}
 use Rattle.inbox.specs.declared.blocks.Slip.{Slip}
 use Rattle.inbox.specs.declared.grid.Grid.{Grid}
 use Rattle.inbox.specs.declared.letters.Letter.{Letter}
-use Rattle.inbox.specs.declared.shares.TargetSet.{TargetSet}
-use Rattle.inbox.specs.Merging.{inbox_of, inboxes_of, source_cmp}
+use Rattle.inbox.specs.Merging.{inbox_of, inboxes_of}
 use Rattle.inbox.specs.inside.Grids.{block_of, stands_in}
-use Rattle.inbox.specs.inside.Shares.{goes_into}
 
 -- a letter with the message, of no source
 abbrev pub letter_of : Slip → Letter
@@ -43,9 +40,3 @@ AreInPlace grid blocks = (k : ℕ) → k < length blocks → IsInPlace grid k (s
 -- these are the inboxes of a block's ids, made from its messages
 abbrev pub IsMade : Block → Vec (List ℤ) → Type 0
 IsMade block inboxes = IsStrictlyIncreasing (ids_of block) → inboxes.items ≡ inboxes_of (map letter_of (slips_of block)) (ids_of block)
-
--- Some of the letters, sorted by source, with all that go to the set's targets.
-pub record IsOrderOf (letters : List Letter) (target_set : TargetSet) (ordered : List Letter) : Type 0 where
-  pub rising : IsStrictlySortedBy source_cmp ordered
-  pub among : (letter : Letter) → Contains ordered letter → Contains letters letter
-  pub all : (letter : Letter) → Contains letters letter → goes_into target_set letter ≡ true → Contains ordered letter

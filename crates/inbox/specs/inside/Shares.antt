@@ -40,6 +40,10 @@ pub record IsPutIn (letters : List Letter) (ids : List ℕ) (delivered : Deliver
   pub inboxes : AllZip (IsInboxIn letters) ids delivered.inboxes.items
   pub count : delivered.count ≡ sum_by length delivered.inboxes.items
 
+-- the same of a part
+abbrev pub ArePutIn : List Letter → Vec ℕ → Delivered → Type 0
+ArePutIn letters ids delivered = IsPutIn letters ids.items delivered
+
 -- these are the inboxes of a part's ids, from all letters, and the number of their messages
 pub record IsDelivered (letters : List Letter) (ids : Vec ℕ) (delivered : Delivered) : Type 0 where
   pub inboxes : (ordered : List Letter) → IsBySource letters ordered → delivered.inboxes.items ≡ inboxes_of ordered ids.items

@@ -1,16 +1,16 @@
 use Rattle.std.proofs.Common.{[], ◌∷◌, ◌++◌, take, ap, sym, ◌∙◌}
 use Rattle.rayon.proofs.ListFacts.{AllZip-append}
 use Rattle.std.proofs.lemmas.List.{take_all, take_more}
-use Rattle.inbox.specs.Merging.{all_of}
-use Rattle.inbox.specs.inside.Shares.{IsDelivered}
-use Rattle.inbox.proofs.all_parts.delivered_to_parts.Goals as goal
+use Rattle.inbox.specs.inside.Shares.{ArePutIn}
+use Rattle.inbox.proofs.all_parts.put_to_parts.Goals as goal
 
 pub loop-ids-preserved : goal.loop-ids-preserved
 loop-ids-preserved g c =
+    let letters = c.args.letters.now in
     let parts = c.args.parts.now in
     let ids = c.ids-item.result in
     let before = take c.loop-ids.ids-index parts in
-    let more = AllZip-append (IsDelivered (all_of c.args.lists.now)) before (ids ∷ []) c.loop-ids.all.items (c.in_ok-delivered.delivered ∷ []) c.loop-ids.invariant (c.in_ok-delivered.ensures, tt) in
+    let more = AllZip-append (ArePutIn letters) before (ids ∷ []) c.loop-ids.all.items (c.in_ok-delivered.delivered ∷ []) c.loop-ids.invariant (c.in_ok-delivered.ensures, tt) in
     let grown = take_more parts c.loop-ids.ids-index ids c.loop-ids-test.true ∙ ap (λ ids. before ++ ids ∷ []) (sym c.ids-item.is) in
     rw (grown, c.in_ok-push.ensures.items) more
 

@@ -1,8 +1,0 @@
-use Rattle.std.proofs.Common.{◌≡◌, ℕ, ◌+◌, ◌<◌, get_or}
-use Rattle.std.specs.declared.cmp.Ordering.TheVariants.{Less}
-use Rattle.inbox.specs.declared.letters.Letter.{Letter}
-use Rattle.inbox.specs.Merging.{source_cmp}
-use Rattle.inbox.proofs.all_parts.is_by_source.Given as goal
-
-abbrev pub invariant-loop-index : goal.invariant-loop-index
-invariant-loop-index l = (k : ℕ) (d : Letter) → k + 1 < l.index → source_cmp (get_or l.letters k d) (get_or l.letters (k + 1) d) ≡ Less

@@ -1,0 +1,7 @@
+use Rattle.std.proofs.Common.{take}
+use Rattle.std.specs.List.{AllZip}
+use Rattle.inbox.specs.inside.Filing.{IsMadeFrom}
+use Rattle.inbox.proofs.all_parts.made_parts.Given as goal
+
+abbrev pub invariant-loop-part : goal.invariant-loop-part
+invariant-loop-part g l = AllZip IsMadeFrom (take l.part-index l.parts) l.all.items

@@ -26,7 +26,7 @@ use host_calls::aggregator_starts;
 use inbox::{
     Arrival, Inbox, Letter, drops_add_up_over_sources, inboxes_are_concatenated_by_source,
     letter_count, letters_drop_alike_in_any_order, letters_keep_their_order_in_any_lists,
-    merge_few, merge_parts, sources_send_in_any_order,
+    merge_few, merge_own_parts, sources_send_in_any_order,
 };
 use rayon::prelude::*;
 use std::alloc::{AllocError, Global};
@@ -62,7 +62,7 @@ pub fn barrier<J: Origin>(
         aggregators,
         units,
     } = gather(alloc, job.settings().parts, dones)?;
-    let (parts, dropped) = handed_out(rt, alloc, vertices, &letters, job.ids())?;
+    let (parts, dropped) = handed_out(rt, alloc, vertices, letters, job.ids())?;
     let totals = totals.after(units, dropped)?;
     Ok(State::of_parts(totals, aggregators, parts))
 }
@@ -128,26 +128,26 @@ fn handed_out(
     rt: &(impl Threads + Sync),
     alloc: Global,
     vertices: Vec<PartStates>,
-    letters: &[Vec<Letter>],
+    letters: Vec<Vec<Letter>>,
     ids: &[Vec<u64>],
 ) -> Result<(Vec<PartStates>, u128), AllocError>
     requires spread { (lefts : List (List VertexOutcome)) × (ordered : List VertexOutcome)
-        × AreSpread ids.now letters.now lefts ordered
+        × AreSpread ids.now letters.items lefts ordered
         × (vertices.items ≡ map (map emptied) lefts) }
     requires rising { All (λ part. IsStrictlyIncreasing part.items) ids.now }
     ensures parts { IfOk result (λ out.
         (lefts : List (List VertexOutcome)) (ordered : List VertexOutcome)
-        → AreSpread ids.now letters.now lefts ordered
+        → AreSpread ids.now letters.items lefts ordered
         → vertices.items ≡ map (map emptied) lefts
         → out.0.items ≡ all_filled vertices.items
         (map (λ left. map (messages_to (outcomes_in ordered)) (left_ids left)) lefts)) }
     ensures dropped { IfOk result (λ out.
         (lefts : List (List VertexOutcome)) (ordered : List VertexOutcome)
-        → AreSpread ids.now letters.now lefts ordered
+        → AreSpread ids.now letters.items lefts ordered
         → out.1 ≡ sum_by (dropped_by (left_ids ordered)) (outcomes_in ordered)) }
 {
-    if are_few(letters, &vertices) {
-        let (arrivals, dropped) = few_delivered(alloc, letters, ids)?;
+    if are_few(&letters, &vertices) {
+        let (arrivals, dropped) = few_delivered(alloc, &letters, ids)?;
         let parts = all_handed(alloc, vertices, arrivals)?;
         return Ok((parts, dropped));
     }
@@ -194,23 +194,23 @@ fn letters_are_spread(letters: &[Vec<Letter>], ids: &[Vec<u64>])
 fn delivered(
     rt: &(impl Threads + Sync),
     alloc: Global,
-    letters: &[Vec<Letter>],
+    letters: Vec<Vec<Letter>>,
     ids: &[Vec<u64>],
 ) -> Result<(Vec<Vec<Inbox>>, u128), AllocError>
     requires { (lefts : List (List VertexOutcome)) × (ordered : List VertexOutcome)
-        × AreSpread ids.now letters.now lefts ordered }
+        × AreSpread ids.now letters.items lefts ordered }
     ensures inboxes { IfOk result (λ merged.
         (lefts : List (List VertexOutcome)) (ordered : List VertexOutcome)
-        → AreSpread ids.now letters.now lefts ordered
+        → AreSpread ids.now letters.items lefts ordered
         → map vec_items merged.0.items
         ≡ map (λ left. map (messages_to (outcomes_in ordered)) (left_ids left)) lefts) }
     ensures dropped { IfOk result (λ merged.
         (lefts : List (List VertexOutcome)) (ordered : List VertexOutcome)
-        → AreSpread ids.now letters.now lefts ordered
+        → AreSpread ids.now letters.items lefts ordered
         → merged.1 ≡ sum_by (dropped_by (left_ids ordered)) (outcomes_in ordered)) }
 {
-    letters_are_spread(letters, ids);
-    merge_parts(rt, alloc, letters, ids)
+    letters_are_spread(&letters, ids);
+    merge_own_parts(rt, alloc, letters, ids)
 }
 
 // Makes those inboxes of each part's vertices that get messages, and counts the letters that go to no vertex.

@@ -17,7 +17,7 @@ handed_out-requires-clause-spread g c κs within =
       sums = c.requires.totals;
       parts = c.in_ok-vertices.ensures;
     } in
-    (lefts _ _ _ _ _ _ ready, all _ _ _ _ _ _ ready, rw (c.deref.ensures.value) (spreads _ _ _ _ _ _ ready _ c.ids.ensures), all_left_empty _ _ _ _ _ _ ready)
+    (lefts _ _ _ _ _ _ ready, all _ _ _ _ _ _ ready, spreads _ _ _ _ _ _ ready _ c.ids.ensures, all_left_empty _ _ _ _ _ _ ready)
 
 pub handed_out-requires-clause-rising : goal.handed_out-requires-clause-rising
 handed_out-requires-clause-rising g c κs within =
@@ -43,8 +43,8 @@ module _ (g : _) (c : goal.In_ok-totals g) where
   made =
       record {
         inboxes = refl;
-        dropped = c.in_ok-parts.ensures.dropped (lefts _ _ _ _ _ _ ready) (all _ _ _ _ _ _ ready) (rw (c.deref.ensures.value) (spreads _ _ _ _ _ _ ready _ c.ids.ensures));
-        fills = λ long. c.in_ok-parts.ensures.parts (lefts _ _ _ _ _ _ ready) (all _ _ _ _ _ _ ready) (rw (c.deref.ensures.value) (spreads _ _ _ _ _ _ ready _ c.ids.ensures))
+        dropped = c.in_ok-parts.ensures.dropped (lefts _ _ _ _ _ _ ready) (all _ _ _ _ _ _ ready) (spreads _ _ _ _ _ _ ready _ c.ids.ensures);
+        fills = λ long. c.in_ok-parts.ensures.parts (lefts _ _ _ _ _ _ ready) (all _ _ _ _ _ _ ready) (spreads _ _ _ _ _ _ ready _ c.ids.ensures)
             (all_left_empty _ _ _ _ _ _ ready);
         follows = c.in_ok-totals.ensures;
       }
@@ -54,10 +54,10 @@ of_parts-requires g c = next_is_kept _ _ _ _ _ _ (ready g c) _ _ _ _ (made g c)
 
 pub returns-clause-next : goal.returns-clause-next
 returns-clause-next g c = λ sure at meaning.
-    let before = c.before.before in
+    let before = c.before in
     rw c.of_parts.ensures (next_is_at _ _ _ _ _ _ (ready g before) _ _ _ _ (made g before) sure meaning (at meaning))
 
 pub returns-clause-ids : goal.returns-clause-ids
 returns-clause-ids g c = λ other is.
-    let before = c.before.before in
+    let before = c.before in
     ap (λ (state : Standing). map state_id state.vertices) c.of_parts.ensures ∙ next_has_ids _ _ _ _ _ _ (ready g before) _ _ _ _ (made g before) other is

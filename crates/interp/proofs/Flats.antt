@@ -15,14 +15,15 @@ use Rattle.flat_code.specs.Plains.{plain_of}
 use Rattle.flat_code.specs.View.{then_code, then_plain}
 use Rattle.cost.specs.Weights.{plain_units}
 use Rattle.host_calls.specs.Host.{Host}
-use Rattle.host_calls.specs.declared.imports.HostCall.{HostCall}
+use Rattle.interp.specs.Configuration.{tick}
 use Rattle.interp.specs.declared.plain.Acted.{Acted}
-use Rattle.interp.specs.inside.Flat.{BesideDid, Fails, FlatDid, PlainDid, Stops}
+use Rattle.interp.specs.inside.Cells.{cell_effect, in_width}
+use Rattle.interp.specs.inside.Flat.{BesideDid, Fails, FlatDid, PlainDid}
 use Rattle.interp.specs.inside.Kept.{count_kept}
 use Rattle.interp.specs.inside.OperandStack.{operand_stack}
 use Rattle.interp.specs.inside.Renewed.{Renewed}
-use Rattle.interp.specs.inside.Straight.{GoesBeside, Passes, PopsZero, SendsBeside, Spot, plainly, skips_zero, spot}
-use Rattle.interp.proofs.Passing.{goes_plain, passes_on, passes_past, past_zero, straight_step}
+use Rattle.interp.specs.inside.Straight.{GoesBeside, Passes, PopsZero, SendsBeside, Spot, skips_zero, spot}
+use Rattle.interp.proofs.Passing.{effect_past, passes_past, past_zero}
 
 -- a place over the lists of the walk
 abbrev pub here_of : (cells : List ℕ) (top : ℕ) → Code → (locals : List ℕ) → Renewed → (bytes : List ℕ) → Host → (count : ℕ) → Spot
@@ -34,9 +35,9 @@ module _ (m : Module) (most : ℕ) (start : Spot) (top : ℕ) (cells cells' loca
   passes_known (Some p) first rest by known did on =
       let s = here_of cells top (code.plain p rest) locals globals bytes h count in
       let t = here_of cells' by.top rest locals' globals' bytes' h (count + plain_units p) in
-      let goes = goes_plain m (code.plain p rest) rest p refl in
       let there = subst (λ (o : Option Plain). Passes m most start (here_of cells top (then_plain o first rest) locals globals bytes h count)) (sym known) on in
-      let one = passes_on m most start s t there (straight_step m most s (plainly p) (plain_units p) rest goes t (did.0.acts h (count + plain_units p)) refl) in
+      let step = effect_past m most s t (cell_effect in_width p s.values (tick (plain_units p) s.state)) (count + plain_units p) (λ ls. refl) (did.0.acts h (count + plain_units p)) in
+      let one = passes_past m most start s t there step in
       subst (λ (x : Host). Passes m most start (here_of cells' by.top rest locals' globals' bytes' x (count + by.units))) (sym did.1)
       (subst (λ (n : ℕ). Passes m most start (here_of cells' by.top rest locals' globals' bytes' h (count + n))) (sym did.0.units) one)
   passes_known None first rest by known did on =
@@ -56,15 +57,6 @@ module _ (m : Module) (most : ℕ) (start : Spot) (top : ℕ) (cells cells' loca
   flat_keeps (Some p) first by did = (did.0.within, did.0.kept_globals, did.0.kept_bytes)
   flat_keeps None first by did =
       (did.within, ap (λ (g : Renewed). g.initial) did.same_globals, ap (λ (b : List ℕ). count_kept b) did.same_bytes)
-
-  -- where straight code stops
-  pub passes_stopped : (calls : List HostCall) (first : FlatInstr) (whole : Code) → Stops calls first cells cells' locals locals' globals globals' bytes bytes' h h' → Passes m most start (here_of cells top whole locals globals bytes h count) → Passes m most start (here_of cells' top whole locals' globals' bytes' h' count)
-  passes_stopped calls first whole is on =
-      let a1 = subst (λ (x : List ℕ). Passes m most start (here_of x top whole locals globals bytes h count)) (sym is.same_cells) on in
-      let a2 = subst (λ (x : List ℕ). Passes m most start (here_of cells' top whole x globals bytes h count)) (sym is.same_locals) a1 in
-      let a3 = subst (λ (x : Renewed). Passes m most start (here_of cells' top whole locals' x bytes h count)) (sym is.same_globals) a2 in
-      let a4 = subst (λ (x : List ℕ). Passes m most start (here_of cells' top whole locals' globals' x h count)) (sym is.same_bytes) a3 in
-      subst (λ (x : Host). Passes m most start (here_of cells' top whole locals' globals' bytes' x count)) (sym is.same_host) a4
 
 -- ---- an instruction that acts on the operands alone
 

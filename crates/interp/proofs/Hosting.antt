@@ -1,5 +1,5 @@
 -- Control instructions leave the host as it is, whatever it is.
-use Rattle.std.proofs.Common.{◌≡◌, ℕ, zero, suc, Bool, true, false, List, [], ◌∷◌, length, nat_le, slice_get, Option, Some, None, is_some, if◌then◌else◌, refl, sym, ap, ◌∙◌, subst}
+use Rattle.std.proofs.Common.{◌≡◌, ℕ, zero, suc, Bool, true, false, List, [], ◌∷◌, length, nat_le, slice_get, Option, Some, None, if◌then◌else◌, refl, sym, ap, ◌∙◌, subst}
 use Rattle.wasm_ast.specs.declared.types.ValType.TheVariants as val_type
 use Rattle.wasm_ast.specs.declared.types.FuncType.{FuncType}
 use Rattle.wasm_ast.specs.declared.types.Value.{Value}
@@ -22,6 +22,7 @@ use Rattle.interp.specs.inside.Place.{Standing, at, hosted, running, state_of}
 use Rattle.interp.specs.inside.Straight.{is_straight}
 use Rattle.interp.specs.inside.Walk.{Turned}
 use Rattle.interp.proofs.Functions.{no_host}
+use Rattle.interp.proofs.Passing.{no_host_call}
 
 module _ (h : Host) where
   -- a machine with this host
@@ -86,10 +87,6 @@ module _ (h : Host) where
     call_with_it f (Some (host (Some c))) e none vs is ls st = absurd (no_host m calls imports f c none e)
     call_with_it f (Some (defined g)) e none vs is ls st = enter_with_it (celled g) (slice_get m.types g.type_number) vs is ls st
 
-    none_there : (o : Option HostCall) → is_some o ≡ false → o ≡ None
-    none_there None e = refl
-    none_there (Some c) e = absurd cc
-
     -- a step that is not straight
     pub step_with_it : (k : Code) → is_straight calls k ≡ false → (vs : List Value) (ls : List ControlEntry) (st : State) → cell_advance may m (Running vs k ls (with_host st h)) ≡ with_it (cell_advance may m (Running vs k ls st))
     step_with_it code.end e vs ls st = leave_with_it vs ls st
@@ -98,7 +95,7 @@ module _ (h : Host) where
     step_with_it (code.branch (branch.BrIf l) is) e vs ls st = taking_with_it (seen (val_type.I32 ∷ []) vs) _ _ _ (λ n us. unless_with_it n l us is ls (tick (next_units m (code.branch (branch.BrIf l) is)) st))
     step_with_it (code.branch (branch.BrTable labels other) is) e vs ls st = taking_with_it (seen (val_type.I32 ∷ []) vs) _ _ _ (λ n us. jump_with_it (label_of labels n other) (first us) ls (tick (next_units m (code.branch (branch.BrTable labels other) is)) st))
     step_with_it (code.branch branch.Return is) e vs ls st = back_with_it (first vs) ls (tick (next_units m (code.branch branch.Return is)) st)
-    step_with_it (code.call f is) e vs ls st = call_with_it f (slice_get (functions_of m) f) refl (none_there (slice_get calls f) e) vs is ls (tick (next_units m (code.call f is)) st)
+    step_with_it (code.call f is) e vs ls st = call_with_it f (slice_get (functions_of m) f) refl (no_host_call calls f is e) vs is ls (tick (next_units m (code.call f is)) st)
     step_with_it (code.call_indirect t is) e vs ls st = refl
     step_with_it (code.unreachable is) e vs ls st = refl
     step_with_it (code.block t body is) e vs ls st = refl

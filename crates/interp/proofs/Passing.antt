@@ -1,5 +1,5 @@
 -- Straight code: one instruction more.
-use Rattle.std.proofs.Common.{◌≡◌, ◌≢◌, ℕ, zero, suc, ◌+◌, ◌<◌, ◌≤◌, Bool, true, false, List, [], ◌∷◌, ◌++◌, length, map, nat_eq, Option, Some, None, is_some, slice_get, refl, sym, ap, ◌∙◌, subst, arith}
+use Rattle.std.proofs.Common.{◌≡◌, ◌≢◌, ℕ, suc, ◌+◌, ◌<◌, ◌≤◌, Bool, true, false, List, [], ◌∷◌, length, nat_eq, Option, Some, None, is_some, slice_get, refl, sym, ap, ◌∙◌, subst, arith}
 use Rattle.std.proofs.lemmas.Bool.{true≢false}
 use Rattle.wasm_ast.specs.declared.types.ValType.TheVariants as val_type
 use Rattle.wasm_ast.specs.declared.types.Value.{Value}
@@ -18,56 +18,31 @@ use Rattle.host_calls.specs.Host.{Host}
 use Rattle.host_calls.specs.declared.imports.HostCall.{HostCall}
 use Rattle.interp.specs.Configuration.{State, Effect, Gives, tick}
 use Rattle.interp.specs.Heights.{beneath}
-use Rattle.interp.specs.Machine.{Machine, Running, ControlEntry, Label, Callee, defined, host, after_effect, arm, branch_unless_zero, functions_of, has_result, next_units}
+use Rattle.interp.specs.Machine.{Machine, Running, ControlEntry, Label, Callee, host, after_effect, arm, branch_unless_zero, functions_of, has_result, next_units}
 use Rattle.interp.specs.inside.Cells.{cell_advance, cell_call, cell_take_call, in_width, narrowed, of_any_width}
-use Rattle.interp.specs.inside.Given.{HasGiven}
+use Rattle.interp.specs.inside.Given.{HasGiven, gives}
 use Rattle.interp.specs.inside.Going.{is_going}
-use Rattle.interp.specs.inside.Meaning.{AreImports, host_callee}
+use Rattle.interp.specs.inside.Meaning.{AreImports}
 use Rattle.interp.specs.inside.Acts.{ActsOnHost, state}
 use Rattle.interp.specs.inside.Place.{Place, running}
 use Rattle.interp.specs.inside.Flat.{flat_asks}
-use Rattle.interp.specs.inside.Straight.{GoesBeside, GoesStraight, LeadsAmid, Passes, SendsAmid, SendsBeside, Spot, Straight, amid, beside_asks, by_host, host_asks, is_end, is_straight, plainly, skips_zero, spot, straight_asks, straight_effect, straight_gives}
+use Rattle.interp.specs.inside.Straight.{GoesBeside, LeadsAmid, Passes, SendsAmid, SendsBeside, Spot, amid, beside_asks, host_asks, is_end, is_straight, skips_zero, spot}
 use Rattle.interp.proofs.Asking.{call_asked, plain_asked, taking_asks}
 use Rattle.interp.proofs.Following.{cell_goes, cell_room, fewer_here, follows_on, gives_on}
+use Rattle.interp.proofs.Functions.{callee_host}
 use Rattle.interp.proofs.Sending.{call_gives}
 use Rattle.interp.proofs.Weighing.{call_counts}
 
-straight_asked : (may : Value → Bool) (what : Straight) (vs : List Value) (is : Code) (ls : List ControlEntry) (st : State) → is_going (after_effect (straight_effect may what vs st) is ls st.count) ≡ true → straight_asks what vs st.locals st.globals st.memory ≡ true
-straight_asked may (plainly p) vs is ls st g = plain_asked may p vs is ls st g
-straight_asked may (by_host c) vs is ls st g = call_asked may c vs is ls st g
+-- ---- a call of the host
 
--- a call that may take memory gives something where it is done
-straight_given : (what : Straight) (vs : List Value) (is : Code) (ls : List ControlEntry) (st : State) (count : ℕ) → straight_gives what ≡ true → is_going (after_effect (straight_effect of_any_width what vs st) is ls count) ≡ true → HasGiven (after_effect (straight_effect in_width what vs st) is ls count)
-straight_given (plainly p) vs is ls st count g e = absurd cc
-straight_given (by_host c) vs is ls st count g e = call_gives c vs is ls st count g e
-
--- ---- which instructions go straight on
-
--- an import's function of the host is the machine's
-host_there : (calls : List HostCall) (others : List Callee) (f : ℕ) (c : HostCall) → Some c ≡ slice_get calls f → slice_get (map host_callee calls ++ others) f ≡ Some (host (Some c))
-host_there [] others f c e = absurd cc
-host_there (d ∷ ds) others zero c e = let same : c ≡ d = cc in ap (λ (x : HostCall). Some (host (Some x))) (sym same)
-host_there (d ∷ ds) others (suc f) c e = host_there ds others f c e
-
-module _ (m : Module) (whole rest : Code) where
-  pub goes_plain : (p : Plain) → whole ≡ code.plain p rest → GoesStraight m whole (plainly p) (plain_units p) rest
-  goes_plain p e = record {
-    counts = ap (λ (k : Code). next_units m k) e;
-    steps = λ may vs ls st. ap (λ (k : Code). cell_advance may m (Running vs k ls st)) e;
-  }
-
-  pub goes_host : (calls : List HostCall) → AreImports calls m → (f : ℕ) (c : HostCall) → whole ≡ code.call f rest → Some c ≡ slice_get calls f → GoesStraight m whole (by_host c) (host_units (Some c)) rest
-  goes_host calls imports f c e found =
+module _ (m : Module) (calls : List HostCall) (imports : AreImports calls m) (f : ℕ) (c : HostCall) (found : Some c ≡ slice_get calls f) where
+  -- the machine takes this step
+  host_turn : (may : Value → Bool) (vs : List Value) (rest : Code) (ls : List ControlEntry) (st : State) → cell_advance may m (Running vs (code.call f rest) ls st) ≡ after_effect (cell_call may c vs (tick (host_units (Some c)) st)) rest ls (st.count + host_units (Some c))
+  host_turn may vs rest ls st =
       let counted : host_units (Some c) ≡ call_units m f = ap host_units found ∙ call_counts m calls imports f in
-      let there : slice_get (functions_of m) f ≡ Some (host (Some c)) =
-      ap (λ (cs : List Callee). slice_get (cs ++ map defined m.functions) f) imports ∙ host_there calls (map defined m.functions) f c found in
-      record {
-        counts = ap (λ (k : Code). next_units m k) e ∙ sym counted;
-        steps = λ may vs ls st.
-            ap (λ (k : Code). cell_advance may m (Running vs k ls st)) e
-            ∙ ap (λ (o : Option Callee). cell_take_call may m o vs rest ls (tick (call_units m f) st)) there
-            ∙ ap (λ (n : ℕ). after_effect (cell_call may c vs (tick n st)) rest ls (st.count + n)) (sym counted);
-      }
+      let there : slice_get (functions_of m) f ≡ Some (host (Some c)) = callee_host m calls imports f c (sym found) in
+      ap (λ (o : Option Callee). cell_take_call may m o vs rest ls (tick (call_units m f) st)) there
+      ∙ ap (λ (n : ℕ). after_effect (cell_call may c vs (tick n st)) rest ls (st.count + n)) (sym counted)
 
 -- ---- where straight code stops
 
@@ -150,8 +125,8 @@ past_zero m _ h cell old us g f z rest most count locals globals bytes ls from f
 host_asked : (m : Module) (calls : List HostCall) → AreImports calls m → (f : ℕ) (rest : Code) (o : Option HostCall) → o ≡ slice_get calls f → (vs : List Value) (ls : List ControlEntry) (st : State) → is_going (cell_advance of_any_width m (Running vs (code.call f rest) ls st)) ≡ true → host_asks o vs ≡ true
 host_asked m calls imports f rest None found vs ls st g = refl
 host_asked m calls imports f rest (Some c) found vs ls st g =
-    let goes = goes_host m (code.call f rest) rest calls imports f c refl found in
-    call_asked of_any_width c vs rest ls (tick (host_units (Some c)) st) (ap (λ (x : Machine). is_going x) (sym (goes.steps of_any_width vs ls st)) ∙ g)
+    let turn = host_turn m calls imports f c found of_any_width vs rest ls st in
+    call_asked of_any_width c vs rest ls (tick (host_units (Some c)) st) (ap (λ (x : Machine). is_going x) (sym turn) ∙ g)
 
 beside_asked : (m : Module) (calls : List HostCall) → AreImports calls m → (i : FlatInstr) (rest : Code) (vs : List Value) (ls : List ControlEntry) (st : State) → is_going (cell_advance of_any_width m (Running vs (then_code i rest) ls st)) ≡ true → beside_asks calls i vs ≡ true
 beside_asked m calls imports (flat.Call f) rest vs ls st g = host_asked m calls imports f rest (slice_get calls f) refl vs ls st g
@@ -172,9 +147,6 @@ module _ (m : Module) (most : ℕ) where
       let d = l.leads in
       record { entries = l.entries; leads = record { from = d.from; follows = on l.entries d.from d.follows d.ends; ends = d.ends }; low = l.low }
 
-  pub passes_on : (s t u : Spot) → Passes m most s t → ((ls : List ControlEntry) → cell_advance in_width m (running (amid t ls)) ≡ running (amid u ls)) → Passes m most s u
-  passes_on s t u on step = λ ls from follows ends. follows_on m from (amid t ls) (on ls from follows ends) most ends (amid u ls) (step ls)
-
   pub sends_on : (s t : Spot) → Passes m most s t → SendsAmid m most t → SendsAmid m most s
   sends_on s t on sends = λ ls from follows ends. sends ls from (on ls from follows ends) ends
 
@@ -193,49 +165,36 @@ module _ (m : Module) (most : ℕ) where
   pub passes_past : (s t u : Spot) → Passes m most s t → Passes m most t u → Passes m most s u
   passes_past s t u on past = λ ls from follows ends. past ls from (on ls from follows ends) ends
 
+  -- a step with this effect further
+  pub effect_past : (s t : Spot) (e : Effect) (n : ℕ) → ((ls : List ControlEntry) → cell_advance in_width m (running (amid s ls)) ≡ after_effect e t.code ls n) → e ≡ Gives t.values t.state → Passes m most s t
+  effect_past s t e n turns same = λ ls from follows ends. follows_on m from (amid s ls) follows most ends (amid t ls) (turns ls ∙ ap (λ (x : Effect). after_effect x t.code ls n) same)
+
   -- there is room for one operand more
   pub fewer_amid : (free : ℕ) (s : Spot) → LeadsAmid m s most free → length s.values < free
   fewer_amid free s l =
       let d = l.leads in
       let h = fewer_here m d.from (amid s l.entries) (beneath l.entries + free) d.follows l.low in omega (arith, h)
 
-  module _ (s : Spot) (what : Straight) (units : ℕ) (rest : Code) (g : GoesStraight m s.code what units rest) where
-    pub straight_room : (free : ℕ) → LeadsAmid m s most free → s.state.count + units ≤ most
-    straight_room free l = subst (λ (n : ℕ). s.state.count + n ≤ most) g.counts (room_amid free s l)
-
-    pub straight_asked_amid : (free : ℕ) → LeadsAmid m s most free → straight_asks what s.values s.state.locals s.state.globals s.state.memory ≡ true
-    straight_asked_amid free l =
-        straight_asked of_any_width what s.values rest l.entries (tick units s.state)
-        (ap (λ (x : Machine). is_going x) (sym (g.steps of_any_width s.values l.entries s.state)) ∙ goes_amid free s l)
-
-    -- it sends something, or contributes to an aggregator
-    pub straight_sends : straight_gives what ≡ true → SendsAmid m most s
-    straight_sends may_take ls from follows ends =
-        let going = ap (λ (x : Machine). is_going x) (sym (g.steps of_any_width s.values ls s.state)) ∙ cell_goes m from (amid s ls) follows most ends in
-        let given = straight_given what s.values rest ls (tick units s.state) (s.state.count + units) may_take going in
-        gives_on m from (amid s ls) follows most ends (subst HasGiven (sym (g.steps in_width s.values ls s.state)) given)
-
-    pub straight_step : (t : Spot) → straight_effect in_width what s.values (tick units s.state) ≡ Gives t.values t.state → rest ≡ t.code → (ls : List ControlEntry) → cell_advance in_width m (running (amid s ls)) ≡ running (amid t ls)
-    straight_step t gives same ls =
-        g.steps in_width s.values ls s.state
-        ∙ ap (λ (x : Effect). after_effect x rest ls (s.state.count + units)) gives
-        ∙ ap (λ (k : Code). Running t.values k ls t.state) same
-
--- ---- a call of the host
+-- ---- what a call of the host does
 
 module _ (m : Module) (calls : List HostCall) (imports : AreImports calls m) (f : ℕ) (c : HostCall) (found : Some c ≡ slice_get calls f) where
   pub host_goes_beside : (old new : List Value) (h h' : Host) → ActsOnHost (cell_call in_width c) old new h h' → GoesBeside m (flat.Call f) old h new h' (host_units (Some c))
   host_goes_beside old new h h' acts rest most count locals globals bytes =
       let units = host_units (Some c) in
+      let st : State = state locals globals bytes h count in
       let s : Spot = spot old (code.call f rest) locals globals bytes h count in
       let t : Spot = spot new rest locals globals bytes h' (count + units) in
-      let goes = goes_host m (code.call f rest) rest calls imports f c refl found in
-      passes_on m most s s t (λ ls from follows ends. follows) (straight_step m most s (by_host c) units rest goes t (acts locals globals bytes (count + units)) refl)
+      effect_past m most s t (cell_call in_width c old (tick units st)) (count + units) (λ ls. host_turn m calls imports f c found in_width old rest ls st) (acts locals globals bytes (count + units))
 
-  pub host_sends_beside : (old : List Value) (h : Host) → straight_gives (by_host c) ≡ true → SendsBeside m (flat.Call f) old h
-  host_sends_beside old h gives rest most count locals globals bytes =
-      let s : Spot = spot old (code.call f rest) locals globals bytes h count in
-      straight_sends m most s (by_host c) (host_units (Some c)) rest (goes_host m (code.call f rest) rest calls imports f c refl found) gives
+  -- it sends something, or contributes to an aggregator
+  pub host_sends_beside : (old : List Value) (h : Host) → gives c ≡ true → SendsBeside m (flat.Call f) old h
+  host_sends_beside old h given rest most count locals globals bytes ls from follows ends =
+      let units = host_units (Some c) in
+      let st : State = state locals globals bytes h count in
+      let here = amid (spot old (code.call f rest) locals globals bytes h count) ls in
+      let turn : (may : Value → Bool) → cell_advance may m (Running old (code.call f rest) ls st) ≡ after_effect (cell_call may c old (tick units st)) rest ls (count + units) = λ may. host_turn m calls imports f c found may old rest ls st in
+      let going = ap (λ (x : Machine). is_going x) (sym (turn of_any_width)) ∙ cell_goes m from here follows most ends in
+      gives_on m from here follows most ends (subst HasGiven (sym (turn in_width)) (call_gives c old rest ls (tick units st) (count + units) given going))
 
 -- the same in other words
 module _ (m : Module) (most : ℕ) (k j : Code) (vs us ls ms : List Value) (v : vs ≡ us) (l : ls ≡ ms) (gs : List Value) (bs : List ℕ) (h h' : Host) (n : ℕ) where

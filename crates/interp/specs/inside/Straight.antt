@@ -14,17 +14,16 @@ use Rattle.wasm_ast.specs.Code as code
 use Rattle.flat_code.specs.declared.body.FlatInstr.{FlatInstr}
 use Rattle.flat_code.specs.declared.body.FlatInstr.TheVariants as flat
 use Rattle.flat_code.specs.View.{then_code}
-use Rattle.cost.specs.Weights.{host_units, plain_units}
+use Rattle.cost.specs.Weights.{host_units}
 use Rattle.host_calls.specs.Host.{Host}
 use Rattle.host_calls.specs.declared.imports.HostCall.{HostCall}
-use Rattle.interp.specs.Configuration.{State, Effect, tick}
+use Rattle.interp.specs.Configuration.{State}
 use Rattle.interp.specs.Heights.{beneath, operands}
-use Rattle.interp.specs.Machine.{Running, ControlEntry, after_effect, next_units, run}
+use Rattle.interp.specs.Machine.{ControlEntry, run}
 use Rattle.interp.specs.declared.plain.Acted.{Acted}
 use Rattle.interp.specs.inside.Acts.{ActsOnHost, state}
-use Rattle.interp.specs.inside.Cells.{cell_advance, cell_call, cell_effect, in_width, narrowed}
-use Rattle.interp.specs.inside.Given.{gives}
-use Rattle.interp.specs.inside.Going.{call_asks, has_tops, plain_asks}
+use Rattle.interp.specs.inside.Cells.{cell_call, in_width, narrowed}
+use Rattle.interp.specs.inside.Going.{call_asks, has_tops}
 use Rattle.interp.specs.inside.Place.{Place}
 use Rattle.interp.specs.inside.Walk.{Arrives, Leads, SendsFrom}
 
@@ -62,34 +61,6 @@ abbrev pub is_straight : List HostCall → Code → Bool
 is_straight calls (code.plain p is) = true
 is_straight calls (code.call f is) = is_some (slice_get calls f)
 is_straight calls _ = false
-
--- a straight instruction: one that neither branches nor calls, or a call of the host
-pub data Straight : Type 0 where
-  plainly : Plain → Straight
-  by_host : HostCall → Straight
-
--- its effect, what it requires, and whether it sends or contributes
-abbrev pub straight_effect : (Value → Bool) → Straight → List Value → State → Effect
-straight_effect may (plainly p) vs st = cell_effect may p vs st
-straight_effect may (by_host c) vs st = cell_call may c vs st
-
-abbrev pub straight_asks : Straight → (values locals globals : List Value) → (bytes : List ℕ) → Bool
-straight_asks (plainly p) vs locals globals bytes = plain_asks p vs locals globals bytes
-straight_asks (by_host c) vs locals globals bytes = call_asks c vs
-
-abbrev pub straight_gives : Straight → Bool
-straight_gives (plainly p) = false
-straight_gives (by_host c) = gives c
-
--- the units of a straight instruction
-abbrev pub straight_units : Straight → ℕ
-straight_units (plainly p) = plain_units p
-straight_units (by_host c) = host_units (Some c)
-
--- the code begins with this instruction, which counts this many units
-pub record GoesStraight (m : Module) (whole : Code) (what : Straight) (units : ℕ) (rest : Code) : Type 0 where
-  pub counts : next_units m whole ≡ units
-  pub steps : (may : Value → Bool) (vs : List Value) (ls : List ControlEntry) (st : State) → cell_advance may m (Running vs whole ls st) ≡ after_effect (straight_effect may what vs (tick units st)) rest ls (st.count + units)
 
 -- an instruction that only pops its operand where that is 0: a `br_if`, or an `if` with nothing to do for 0
 abbrev pub is_end : Code → Bool

@@ -1,6 +1,6 @@
 -- Where a step goes on, all that its parts ask is there.
-use Rattle.std.proofs.Common.{◌≡◌, ℕ, zero, suc, ◌+◌, ◌≤◌, List, [], ◌∷◌, Bool, true, false, not, ◌&&◌, Option, Some, None, IsSome, length, slice_get, nat_lt, nat_le, if◌then◌else◌, refl, ◌∙◌, ap, sym, arith}
-use Rattle.std.proofs.lemmas.Bool.{false≢true, leb-true, lt-ltb}
+use Rattle.std.proofs.Common.{◌≡◌, ℕ, zero, suc, ◌+◌, ◌≤◌, List, [], ◌∷◌, Bool, true, false, not, Option, Some, None, IsSome, length, slice_get, nat_lt, nat_le, if◌then◌else◌, refl, ◌∙◌, ap, sym, arith}
+use Rattle.std.proofs.lemmas.Bool.{and_from, false≢true, leb-true, lt-ltb}
 use Rattle.wasm_ast.specs.declared.types.ValType.{ValType}
 use Rattle.wasm_ast.specs.declared.types.ValType.TheVariants as val_type
 use Rattle.wasm_ast.specs.declared.types.Value.{Value}
@@ -54,10 +54,6 @@ pub enter_asks : (f : Function) (t : FuncType) (vs : List Value) (is : Code) (ls
 enter_asks f t vs is ls st g = leb-true (length t.parameters) (length vs) (framed (nat_le (length t.parameters) (length vs)) _ st.count g)
 
 -- ---- operands
-
-both : (a b : Bool) → a ≡ true → b ≡ true → a && b ≡ true
-both true b e h = h
-both false b e h = e
 
 pub taking_asks : (vs : List Value) (count : ℕ) (go : ℕ → List Value → Machine) → is_going (taking (seen (val_type.I32 ∷ []) vs) count go) ≡ true → has_tops 1 vs ≡ true
 taking_asks [] count go g = g
@@ -126,7 +122,7 @@ numbers_asked (numeric.Comparison t op) vs st h = popped_tops t (t ∷ []) 1 vs 
 numbers_asked (numeric.Unary t op) vs st h = popped_tops t [] 0 vs _ h (λ x us g. refl)
 numbers_asked (numeric.Binary t op) vs st h = popped_tops t (t ∷ []) 1 vs _ h (λ y us g. popped_tops t [] 0 us _ g (λ x ws i. refl))
 numbers_asked (numeric.Division t op) vs st h =
-    both (has_tops 2 vs) (divides t op vs) (popped_tops t (t ∷ []) 1 vs _ h (λ y us g. popped_tops t [] 0 us _ g (λ x ws i. refl))) (divided t op vs st h)
+    and_from (has_tops 2 vs) (divides t op vs) (popped_tops t (t ∷ []) 1 vs _ h (λ y us g. popped_tops t [] 0 us _ g (λ x ws i. refl))) (divided t op vs st h)
 numbers_asked (numeric.Conversion op) vs st h = popped_tops (conversion_from op) [] 0 vs _ h (λ x us g. refl)
 
 numeric_asked : (may : Value → Bool) (op : Numeric) (vs : List Value) (st : State) → IsGiven (cell_numeric may op vs st) → numeric_asks op vs ≡ true
@@ -152,12 +148,12 @@ set_asked false vs st h = absurd h
 variable_asked : (op : Variable) (vs : List Value) (st : State) → IsGiven (variable_effect op vs st) → variable_asks op vs st.locals st.globals ≡ true
 variable_asked (variable.LocalGet x) vs st h = pushed_asked (slice_get st.locals x) vs st h
 variable_asked (variable.LocalSet x) [] st h = absurd h
-variable_asked (variable.LocalSet x) (v ∷ vs) st h = both (nat_lt 0 (length (v ∷ vs))) (nat_lt x (length st.locals)) (lt-ltb 0 (length (v ∷ vs)) (omega arith)) (set_asked (nat_lt x (length st.locals)) _ _ h)
+variable_asked (variable.LocalSet x) (v ∷ vs) st h = and_from (nat_lt 0 (length (v ∷ vs))) (nat_lt x (length st.locals)) (lt-ltb 0 (length (v ∷ vs)) (omega arith)) (set_asked (nat_lt x (length st.locals)) _ _ h)
 variable_asked (variable.LocalTee x) [] st h = absurd h
-variable_asked (variable.LocalTee x) (v ∷ vs) st h = both (nat_lt 0 (length (v ∷ vs))) (nat_lt x (length st.locals)) (lt-ltb 0 (length (v ∷ vs)) (omega arith)) (set_asked (nat_lt x (length st.locals)) _ _ h)
+variable_asked (variable.LocalTee x) (v ∷ vs) st h = and_from (nat_lt 0 (length (v ∷ vs))) (nat_lt x (length st.locals)) (lt-ltb 0 (length (v ∷ vs)) (omega arith)) (set_asked (nat_lt x (length st.locals)) _ _ h)
 variable_asked (variable.GlobalGet x) vs st h = pushed_asked (slice_get st.globals x) vs st h
 variable_asked (variable.GlobalSet x) [] st h = absurd h
-variable_asked (variable.GlobalSet x) (v ∷ vs) st h = both (nat_lt 0 (length (v ∷ vs))) (nat_lt x (length st.globals)) (lt-ltb 0 (length (v ∷ vs)) (omega arith)) (set_asked (nat_lt x (length st.globals)) _ _ h)
+variable_asked (variable.GlobalSet x) (v ∷ vs) st h = and_from (nat_lt 0 (length (v ∷ vs))) (nat_lt x (length st.globals)) (lt-ltb 0 (length (v ∷ vs)) (omega arith)) (set_asked (nat_lt x (length st.globals)) _ _ h)
 
 -- ---- the memory
 
@@ -183,14 +179,14 @@ over_asked place width n vs st h =
 
 loads_asked : (op : Load) (a : MemoryArgument) (vs : List Value) (st : State) → IsGiven (kept_effect (memory.Load op a) (seen (val_type.I32 ∷ []) vs) st) → memory_asks (memory.Load op a) vs st.memory ≡ true
 loads_asked op a vs st h =
-    both (has_tops 1 vs) (of_top val_type.I32 (reaches a.offset (load_width op) st.memory) vs)
+    and_from (has_tops 1 vs) (of_top val_type.I32 (reaches a.offset (load_width op) st.memory) vs)
     (popped_tops val_type.I32 [] 0 vs _ h (λ i us g. refl))
     (popped_top val_type.I32 [] (reaches a.offset (load_width op) st.memory) vs _ h (λ i us g. kept_asked op (i + a.offset) (load_width op) us st g))
 
 memory_asked : (may : Value → Bool) (op : Memory) (vs : List Value) (st : State) → IsGiven (cell_memory may op vs st) → memory_asks op vs st.memory ≡ true
 memory_asked may (memory.Load op a) vs st h = loads_asked op a vs st (topped_given may (kept_effect (memory.Load op a) (seen (val_type.I32 ∷ []) vs) st) h)
 memory_asked may (memory.Store op a) vs st h =
-    both (has_tops 2 vs) (of_next val_type.I32 (reaches a.offset (store_width op) st.memory) vs)
+    and_from (has_tops 2 vs) (of_next val_type.I32 (reaches a.offset (store_width op) st.memory) vs)
     (popped_tops (store_type op) (val_type.I32 ∷ []) 1 vs _ h (λ n us g. popped_tops val_type.I32 [] 0 us _ g (λ i ws j. refl)))
     (popped_next (store_type op) val_type.I32 (val_type.I32 ∷ []) (reaches a.offset (store_width op) st.memory) vs _ h (λ n us g. popped_top val_type.I32 [] (reaches a.offset (store_width op) st.memory) us _ g (λ i ws j. over_asked (i + a.offset) (store_width op) n ws st j)))
 memory_asked may memory.Size vs st h = refl
@@ -240,12 +236,12 @@ call_given may call.Send vs st h =
     argument_tops val_type.I64 (val_type.I64 ∷ []) 1 vs _ (lifted_given (host_effect call.Send (seen (call_takes call.Send) vs) st.host) st h) (λ n us i. argument_tops val_type.I64 [] 0 us _ i (λ k ws j. refl))
 call_given may call.Aggregate vs st h =
     let g = lifted_given (host_effect call.Aggregate (seen (call_takes call.Aggregate) vs) st.host) st h in
-    both (has_tops 2 vs) (of_next val_type.I32 (λ k. nat_lt k AGGREGATORS) vs)
+    and_from (has_tops 2 vs) (of_next val_type.I32 (λ k. nat_lt k AGGREGATORS) vs)
     (argument_tops val_type.I64 (val_type.I32 ∷ []) 1 vs _ g (λ n us i. argument_tops val_type.I32 [] 0 us _ i (λ k ws j. refl)))
     (next IsAnswered host.Misses (λ x. x) val_type.I64 val_type.I32 (val_type.I32 ∷ []) (λ k. nat_lt k AGGREGATORS) vs _ g (λ n us i. top IsAnswered host.Misses (λ x. x) val_type.I32 [] (λ k. nat_lt k AGGREGATORS) us _ i (λ k ws j. slot_asked (nat_lt k AGGREGATORS) _ j)))
 call_given may call.Aggregated vs st h =
     let g = lifted_given (host_effect call.Aggregated (seen (call_takes call.Aggregated) vs) st.host) st h in
-    both (has_tops 1 vs) (of_top val_type.I32 (λ k. nat_lt k AGGREGATORS) vs)
+    and_from (has_tops 1 vs) (of_top val_type.I32 (λ k. nat_lt k AGGREGATORS) vs)
     (argument_tops val_type.I32 [] 0 vs _ g (λ k us i. refl))
     (top IsAnswered host.Misses (λ x. x) val_type.I32 [] (λ k. nat_lt k AGGREGATORS) vs _ g (λ k us i. slot_asked (nat_lt k AGGREGATORS) _ i))
 call_given may call.VertexId vs st h = refl

@@ -1,6 +1,5 @@
 -- How the start of a call goes on over the lists of a module.
 use Rattle.std.proofs.Common.{◌≡◌, ◌≤◌, List, [], ◌∷◌, ◌++◌, Option, Some, None, length, refl, sym, ap, ◌∙◌, arith, append_assoc}
-use Rattle.std.proofs.lemmas.List.{append-nil}
 use Rattle.wasm_ast.specs.declared.types.Value.{Value}
 use Rattle.wasm_ast.specs.declared.plain.Plain.{Plain}
 use Rattle.wasm_ast.specs.declared.body.Instr.{Instr}
@@ -44,13 +43,6 @@ abbrev pub after : List Value → Option (List Value) → Option (List Value)
 after vs None = None
 after vs (Some us) = Some (vs ++ us)
 
-pub after_none : (o : Option (List Value)) → o ≡ after [] o
-after_none None = refl
-after_none (Some us) = refl
-
 pub after_one : (vs : List Value) (v : Value) (o : Option (List Value)) → after vs (before (Some v) o) ≡ after (vs ++ v ∷ []) o
 after_one vs v None = refl
 after_one vs v (Some us) = ap (λ (l : List Value). Some l) (sym (append_assoc vs (v ∷ []) us))
-
-pub after_all : (vs : List Value) → after vs (Some []) ≡ Some vs
-after_all vs = ap (λ (l : List Value). Some l) (append-nil vs)

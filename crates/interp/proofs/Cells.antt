@@ -34,7 +34,7 @@ use Rattle.wasm_ast.specs.Widths.{load_width, store_type, store_width}
 use Rattle.host_calls.specs.declared.call.TheConstants.{AGGREGATORS}
 use Rattle.host_calls.specs.declared.imports.HostCall.{HostCall}
 use Rattle.host_calls.specs.declared.imports.HostCall.TheVariants as call
-use Rattle.host_calls.specs.Effects.{HostEffect, host_effect}
+use Rattle.host_calls.specs.Effects.{HostEffect}
 use Rattle.host_calls.specs.Effects as host
 use Rattle.host_calls.specs.Host.{Host, aggregator_value}
 use Rattle.host_calls.specs.Operands.{pop}
@@ -43,7 +43,7 @@ use Rattle.interp.specs.Configuration.{State, Effect, Gives, Traps, Misses, with
 use Rattle.interp.specs.Memory.{read, write}
 use Rattle.interp.specs.Effects.{value, popped, numeric_effect, select, pushed, local_set, global_set, variable_effect, load_effect, store_effect, memory_effect, effect, lifted, call_effect}
 use Rattle.interp.specs.Machine as machine
-use Rattle.interp.specs.Machine.{Machine, Running, Done, Trapped, Stuck, ControlEntry, Label, Frame, Callee, defined, functions_of, first, carry, landed, arrive, jump, back, leave, label_of, branch_unless_zero, take_branch, taking, arm, has_result, gives_one, after_effect, enter, take_call, next_units, take_next, advance}
+use Rattle.interp.specs.Machine.{Machine, Running, Stuck, ControlEntry, Label, Frame, Callee, defined, functions_of, first, carry, landed, arrive, jump, back, leave, label_of, branch_unless_zero, take_branch, taking, gives_one, after_effect, enter, take_call, next_units, take_next, advance}
 use Rattle.interp.specs.inside.Going.{is_going}
 use Rattle.interp.specs.inside.Cells.{cell_of, cells_place, cells_state, cells_entry, cells, in_width, narrowed, of_any_width, seen, topped, zero_cells, cell_numeric, cell_memory, cell_effect, cell_call, cell_branch, celled, cell_take_call, cell_next, cell_advance}
 use Rattle.interp.specs.inside.Fits.{AreFit, EntriesFit, MachineFits, StateFits}

@@ -23,7 +23,7 @@ use Rattle.interp.specs.Heights.{beneath, callers}
 use Rattle.interp.proofs.Values.{HasKinds, IsTop}
 use Rattle.interp.proofs.Plains.{context}
 use Rattle.interp.proofs.Sound.{Sound, items_left, ticked}
-use Rattle.interp.proofs.Reach.{Comes, Exit, Falls, Branches, Returns, Names, Named, Reach, Reaches, GoodStep, renamed, comes_one, comes_on, cost_more, times}
+use Rattle.interp.proofs.Reach.{Comes, Exit, Falls, Branches, Returns, Names, Named, Reach, Reaches, GoodStep, renamed, comes_one, comes_on, cost_more, cost_seq, times}
 use Rattle.interp.proofs.Loops.{GoesOn, Turned}
 use Rattle.interp.proofs.Opening.{Took, item_or_none}
 
@@ -38,9 +38,6 @@ no_turn s a b t N none (Falls vs) n = tt
 no_turn s a b t N none (Branches zero top) n = absurd (none n)
 no_turn s a b t N none (Branches (suc l) top) n = tt
 no_turn s a b t N none (Returns top) n = tt
-
-cost_both : (s1 s2 a b c t1 t2 : ℕ) → b ≤ a + s1 * (1 + t1) → c ≤ b + s2 * (1 + t2) → c ≤ a + (s1 + s2) * (1 + (t1 + t2))
-cost_both s1 s2 a b c t1 t2 h k = omega arith
 
 -- the code before the last item costs as if there were one item fewer
 cost_before : (s1 s2 a b c t1 t2 : ℕ) → 1 ≤ t2 → b ≤ a + s1 * (1 + t1) → c ≤ b + s2 * t2 → c ≤ a + (s1 + s2) * (t1 + t2)
@@ -64,7 +61,7 @@ module _ (m : Module) (H F : ℕ) (R : ℕ → ℕ → Type 0) where
     after_first x ls st low shallow (Falls vs) p =
         let y = good vs ls p.final p.fits p.sound (omega (arith, low, less)) shallow in
         let q = y.1 in
-        (y.0, record { final = q.final; steps = p.steps + q.steps; by = comes_on m H F R p.steps q.steps x _ _ p.by q.by; fits = q.fits; named = renamed m H F R (Named rest) (Named whole) up2 y.0 q.named; sound = q.sound; taken = p.taken + q.taken; items = omega (arith, p.items, q.items); cost = cost_both u s _ _ _ p.taken q.taken p.cost q.cost; short = omega (arith, p.short, q.short) }, goes_too u s st.count p.final.count q.final.count p.taken q.taken y.0 p.cost y.2)
+        (y.0, record { final = q.final; steps = p.steps + q.steps; by = comes_on m H F R p.steps q.steps x _ _ p.by q.by; fits = q.fits; named = renamed m H F R (Named rest) (Named whole) up2 y.0 q.named; sound = q.sound; taken = p.taken + q.taken; items = omega (arith, p.items, q.items); cost = cost_seq u s _ _ _ p.taken q.taken p.cost q.cost; short = omega (arith, p.short, q.short) }, goes_too u s st.count p.final.count q.final.count p.taken q.taken y.0 p.cost y.2)
     after_first x ls st low shallow (Branches l top) p =
         (Branches l top, record { final = p.final; steps = p.steps; by = p.by; fits = p.fits; named = up1 l p.named; sound = p.sound; taken = p.taken; items = p.items; cost = cost_more u (u + s) _ _ p.taken (omega arith) p.cost; short = p.short }, no_turn (u + s) st.count p.final.count p.taken N none (Branches l top) p.named)
     after_first x ls st low shallow (Returns top) p =

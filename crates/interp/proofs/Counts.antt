@@ -298,10 +298,3 @@ nearer m b vs (code.choice t body other is) ls st h = nearer_counted m b vs (cod
 
 pub falls : (m : Module) (b : ℕ) (p q : Place) → advance m (running p) ≡ running q → p.state.count + next_units m p.code ≤ b → left_of b q < left_of b p
 falls m b p q e h = subst (λ (x : Machine). Nearer b (left_of b p) x) e (nearer m b p.values p.code p.entries p.state h)
-
--- the count where the step came
-pub counted_running : (m : Module) (p q : Place) → advance m (running p) ≡ running q → q.state.count ≡ p.state.count + next_units m p.code
-counted_running m p q e = (subst (λ (x : Machine). Within (p.state.count + next_units m p.code) (suc (length p.entries)) x) e (within m p.values p.code p.entries p.state)).0
-
-pub counted_over : (m : Module) (p : Place) (x : Machine) → advance m (running p) ≡ x → Within (p.state.count + next_units m p.code) (suc (length p.entries)) x
-counted_over m p x e = subst (λ (x : Machine). Within (p.state.count + next_units m p.code) (suc (length p.entries)) x) e (within m p.values p.code p.entries p.state)

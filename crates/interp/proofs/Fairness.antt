@@ -14,7 +14,8 @@ use Rattle.bounded_profile.specs.Hosts.{host_call_at}
 use Rattle.bounded_profile.specs.Shapes.{Everywhere, NotIndirect, NotUnreachable, NotGrow, NamesNot, TakesItem, OpensWithItem, ClosesWithItem, LoopTakes, followed}
 use Rattle.interp.proofs.Induction.{Fair, Opens, Closes}
 
-parts : (P : ℕ → Type 0) (xs ys : List ℕ) → AllByRecursion P (xs ++ ys) → AllByRecursion P xs × AllByRecursion P ys
+-- what holds of joined lists holds of each
+pub parts : (P : ℕ → Type 0) (xs ys : List ℕ) → AllByRecursion P (xs ++ ys) → AllByRecursion P xs × AllByRecursion P ys
 parts P [] ys h = (tt, h)
 parts P (x ∷ xs) ys h = let p = parts P xs ys h.1 in ((h.0, p.0), p.1)
 

@@ -1,6 +1,6 @@
 -- The kept bytes of a memory, compared with the whole memory and with the adjacent bytes.
-use Rattle.std.proofs.Common.{◌≡◌, ℕ, zero, suc, ◌+◌, ◌*◌, ◌<◌, ◌≤◌, Bool, true, false, ◌&&◌, List, [], ◌∷◌, ◌++◌, length, map, take, drop, replicate, get_or, nat_le, Some, None, option_map, cond, if◌then◌else◌, refl, sym, ap, ◌∙◌, subst, arith}
-use Rattle.std.proofs.lemmas.Bool.{and_parts, le-leb, leb-true}
+use Rattle.std.proofs.Common.{◌≡◌, ℕ, zero, suc, ◌+◌, ◌*◌, ◌<◌, ◌≤◌, Bool, true, false, List, [], ◌∷◌, ◌++◌, length, map, take, drop, replicate, get_or, nat_le, Some, None, option_map, cond, if◌then◌else◌, refl, sym, ap, ◌∙◌, subst, arith}
+use Rattle.std.proofs.lemmas.Bool.{and_from, and_parts, le-leb, leb-true}
 use Rattle.std.proofs.lemmas.List.{get_or-drop, length-drop, length-replicate, take-append-drop}
 use Rattle.wasm_ast.specs.declared.module.Module.{Module}
 use Rattle.bounded_profile.specs.Memory.{max_minimum, memory_bytes, page}
@@ -10,10 +10,6 @@ use Rattle.interp.specs.Memory.{bytes_of_number, number_of_bytes, read, write}
 use Rattle.interp.specs.inside.Kept.{AreMarked, are_kept, byte_of, count_kept, is_kept, kept_read, kept_write, laid_over, marked_before, marks, marks_from, masked, over, spread}
 use Rattle.bounded_profile.proofs.ReachedFootprint.{memory_small}
 use Rattle.interp.proofs.Plains.{bytes_length}
-
-both_true : (a b : Bool) → a ≡ true → b ≡ true → a && b ≡ true
-both_true true b e h = h
-both_true false b e h = e
 
 drop_none : {A : Type 0} (n : ℕ) → drop {A = A} n [] ≡ []
 drop_none zero = refl
@@ -59,7 +55,7 @@ module _ (ms : List Bool) (place width : ℕ) (bs : List ℕ) (marked : AreMarke
   pub marked_is_kept : is_kept place width (masked ms bs) ≡ true
   marked_is_kept =
       let n = length-masked ms bs in
-      both_true (nat_le (place + width) (length (masked ms bs))) (are_kept (take width (drop place (masked ms bs)))) (le-leb (place + width) (length (masked ms bs)) (omega (arith, n, there))) kept_there.0
+      and_from (nat_le (place + width) (length (masked ms bs))) (are_kept (take width (drop place (masked ms bs)))) (le-leb (place + width) (length (masked ms bs)) (omega (arith, n, there))) kept_there.0
 
   pub read_masked : kept_read place width (masked ms bs) ≡ read place width bs
   read_masked =
@@ -129,11 +125,6 @@ laid_both (suc place) xs ys [] =
 laid_both (suc place) xs ys (b ∷ bs) =
     let e : suc place + length xs ≡ suc (place + length xs) = omega arith in
     ap (λ (n : ℕ). laid_over n ys (b ∷ laid_over place xs bs)) e ∙ ap (λ (l : List ℕ). b ∷ l) (laid_both place xs ys bs)
-
-none_over : (place : ℕ) (bs : List ℕ) → laid_over place [] bs ≡ bs
-none_over zero bs = refl
-none_over (suc place) [] = refl
-none_over (suc place) (b ∷ bs) = ap (λ (l : List ℕ). b ∷ l) (none_over place bs)
 
 -- ---- bytes that lie together
 
@@ -249,7 +240,7 @@ all_marked ms bs place width h e there =
     let n = length-drop (marked_before ms place) bs in
     let b = before-drop ms place width in
     let k = all_kept width (drop place ms) (drop (marked_before ms place) bs) (omega (arith, b, e)) (omega (arith, n, there)) in
-    both_true (nat_le (place + width) (length (spread ms bs))) (are_kept (take width (drop place (spread ms bs)))) (le-leb (place + width) (length (spread ms bs)) (omega (arith, l, h))) (subst (λ (l : List ℕ). are_kept (take width l) ≡ true) (sym (drop-spread place ms bs)) k)
+    and_from (nat_le (place + width) (length (spread ms bs))) (are_kept (take width (drop place (spread ms bs)))) (le-leb (place + width) (length (spread ms bs)) (omega (arith, l, h))) (subst (λ (l : List ℕ). are_kept (take width l) ≡ true) (sym (drop-spread place ms bs)) k)
 
 none_kept : (others : List ℕ) (ms : List Bool) (bs : List ℕ) → marked_before ms (length others) ≡ 0 → over others (spread ms bs) ≡ spread ms bs
 none_kept [] ms bs e = refl

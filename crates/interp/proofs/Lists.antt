@@ -1,6 +1,5 @@
 -- Lists that are cut, and turned round.
 use Rattle.std.proofs.Common.{◌≡◌, ℕ, zero, suc, ◌+◌, ◌-◌, ◌≤◌, List, [], ◌∷◌, ◌++◌, length, take, drop, reverse, refl, sym, ap, ◌∙◌, arith}
-use Rattle.std.specs.Prelude.{slice_set}
 use Rattle.std.proofs.lemmas.List.{reverse-append, length-reverse, take-append-drop}
 use Rattle.std.proofs.Common.{length-drop}
 use Rattle.std.proofs.Math.Seq.{take-append_seam, drop-append_seam}
@@ -49,20 +48,6 @@ module _ {A : Type 0} where
   pub left_below : (k n m : ℕ) (xs : List A) → k ≤ n → m ≡ length (take n xs) → reverse (take k xs) ≡ drop (m - k) (reverse (take n xs))
   left_below k n m xs h e =
       ap (λ (l : List A). reverse l) (sym (take-take k n xs h)) ∙ sym (drop-reverse k m (take n xs) e)
-
-  pub drop-set : (k i : ℕ) (xs : List A) (x : A) → drop k (slice_set xs (k + i) x) ≡ slice_set (drop k xs) i x
-  drop-set zero i xs x = ap (λ (j : ℕ). slice_set xs j x) (omega arith)
-  drop-set (suc k) i [] x = refl
-  drop-set (suc k) i (y ∷ xs) x =
-      let e : suc k + i ≡ suc (k + i) = omega arith in
-      rw e (drop-set k i xs x)
-
-  pub take-set : (k i : ℕ) (xs : List A) (x : A) → take k (slice_set xs (k + i) x) ≡ take k xs
-  take-set zero i xs x = refl
-  take-set (suc k) i [] x = refl
-  take-set (suc k) i (y ∷ xs) x =
-      let e : suc k + i ≡ suc (k + i) = omega arith in
-      rw e (ap (λ (l : List A). y ∷ l) (take-set k i xs x))
 
   drop-nil : (k : ℕ) → drop k (let e : List A = [] in e) ≡ []
   drop-nil zero = refl

@@ -43,6 +43,7 @@ use Rattle.interp.proofs.Callees.{IsDefinedFunction, IsHostFunction, function_at
 use Rattle.interp.proofs.Covering.{Anywhere}
 use Rattle.interp.proofs.EffectLengths.{Leaves, leaves_call, leaves_plain}
 use Rattle.interp.proofs.Entering.{call_length}
+use Rattle.interp.proofs.Fairness.{parts}
 use Rattle.interp.proofs.Lengths.{all_at, call_counts, call_results, changes_length, kinds_count, low_from, plain_length, requirements_count}
 use Rattle.interp.proofs.OneEnd.{one_start}
 use Rattle.interp.proofs.Plains.{context}
@@ -68,9 +69,6 @@ Level m (code.choice t body other rest) n k =
 
 module _ (m : Module) (typed : IsTyped m) (bounded : IsBounded m) where
   module _ (lo : List ValType) (o : Option ValType) where
-    level_at : (is : Code) (n n' k k' : ℕ) → n ≡ n' → k ≡ k' → Level m is n k → Level m is n' k'
-    level_at is n n' k k' e g h = subst (λ (j : ℕ). Level m is n' j) g (subst (λ (j : ℕ). Level m is j k) e h)
-
     level_body : (is : Code) (t : Option ValType) → Level m is (length {A = Kind} []) (length (kinds t)) → Level m is 0 (result_count t)
     level_body is t h = subst (λ (j : ℕ). Level m is 0 j) (kinds_count t) h
 
@@ -133,10 +131,6 @@ module _ (m : Module) (typed : IsTyped m) (bounded : IsBounded m) where
   every : (P : ℕ → Type 0) (xs : List ℕ) → ((k : ℕ) → k < length xs → P (get_or xs k 0)) → AllByRecursion P xs
   every P [] h = tt
   every P (x ∷ xs) h = (h 0 (omega arith), every P xs (λ k less. h (suc k) (omega (arith, less))))
-
-  halves : (P : ℕ → Type 0) (xs ys : List ℕ) → AllByRecursion P (xs ++ ys) → AllByRecursion P xs × AllByRecursion P ys
-  halves P [] ys h = (tt, h)
-  halves P (x ∷ xs) ys h = let p = halves P xs ys h.1 in ((h.0, p.0), p.1)
 
   without : (P : ℕ → Type 0) (j : ℕ) (xs : List ℕ) → AllByRecursion P xs → AllByRecursion P (drop j xs)
   without P zero xs h = h
@@ -478,21 +472,21 @@ module _ (m : Module) (typed : IsTyped m) (bounded : IsBounded m) where
   step f fs vs (code.call_indirect t rest) ls st w = inl (stuck (f ∷ fs) (st.count + next_units m (code.call_indirect t rest)))
   step f fs vs (code.unreachable rest) ls st w = inl (trapped (f ∷ fs) (st.count + next_units m (code.unreachable rest)))
   step f fs vs (code.block t body rest) ls st w =
-      let c = halves (Calls (callees m) f) (calls_of body) (calls_of rest) w.1.2 in
+      let c = parts (Calls (callees m) f) (calls_of body) (calls_of rest) w.1.2 in
       let whole = peak m no_heights (code.block t body rest) (length vs) in
       let r = block_rest t f rest (after (block_arity t) (length vs)) (length vs) w.0 (under ls) whole refl w.1.0.1 (omega arith) w.1.1 c.1 in
       let h = w.1.1 in
       inl (begins_block t vs f fs (has_result t) body rest rest ls (tick (next_units m (code.block t body rest)) st) w.0 w.1.0.0 (omega (arith, h)) c.0 (at_same f rest (length vs - 0 + result_count t) (with_kept (has_result t) (length vs)) w.0 (under ls) (result_kept t (length vs)) r) r w.2)
   step f fs vs (code.loop t body rest) ls st w =
-      let c = halves (Calls (callees m) f) (calls_of body) (calls_of rest) w.1.2 in
+      let c = parts (Calls (callees m) f) (calls_of body) (calls_of rest) w.1.2 in
       let whole = peak m no_heights (code.loop t body rest) (length vs) in
       let r = block_rest t f rest (after (block_arity t) (length vs)) (length vs) w.0 (under ls) whole refl w.1.0.1 (omega arith) w.1.1 c.1 in
       let h = w.1.1 in
       inl (begins_block t vs f fs false body (code.loop t body rest) rest ls (tick (next_units m (code.loop t body rest)) st) w.0 w.1.0.0 (omega (arith, h)) c.0 w.1 r w.2)
   step f fs vs (code.choice t body other rest) ls st w =
       let s = tick (next_units m (code.choice t body other rest)) st in
-      let c = halves (Calls (callees m) f) (calls_of body) (calls_of other ++ calls_of rest) w.1.2 in
-      let d = halves (Calls (callees m) f) (calls_of other) (calls_of rest) c.1 in
+      let c = parts (Calls (callees m) f) (calls_of body) (calls_of other ++ calls_of rest) w.1.2 in
+      let d = parts (Calls (callees m) f) (calls_of other) (calls_of rest) c.1 in
       let whole = peak m no_heights (code.choice t body other rest) (length vs) in
       inl (takes_one (f ∷ fs) vs s.count (λ n us. Running [] (arm n body other) (Label (has_result t) us rest rest ∷ ls) s) (λ n us g.
       let same : length vs - 1 + 0 - 0 + result_count t ≡ length us - 0 + result_count t = omega (arith, g) in

@@ -15,10 +15,6 @@ below_long n xs h = length-reverse (take n xs) ∙ length-take-le n xs h
 abbrev pub below_of : (room n : ℕ) → List Value → Below
 below_of r n xs = record { values = reverse (take n xs); room = r }
 
--- one on top of these parts
-abbrev pub top_on : (room : ℕ) → Value → (n : ℕ) → List Value → Split
-top_on r v n xs = record { here = v ∷ reverse (drop n xs); below = record { values = reverse (take n xs); room = r } }
-
 module _ (r : ℕ) where
   pub floor_below : (n f : ℕ) (xs : List Value) (s : Split) → parts r n xs ≡ s → n ≤ length xs → f ≤ length s.below.values → f ≤ n
   floor_below n f xs s e h g =

@@ -94,7 +94,7 @@ GoodStep m H F R c N u h r whole rest from mid =
 pub cost_more : (s s' a b t : ℕ) → s ≤ s' → b ≤ a + s * (1 + t) → b ≤ a + s' * (1 + t)
 cost_more s s' a b t h c = grind arith
 
-cost_seq : (s1 s2 a b c t1 t2 : ℕ) → b ≤ a + s1 * (1 + t1) → c ≤ b + s2 * (1 + t2) → c ≤ a + (s1 + s2) * (1 + (t1 + t2))
+pub cost_seq : (s1 s2 a b c t1 t2 : ℕ) → b ≤ a + s1 * (1 + t1) → c ≤ b + s2 * (1 + t2) → c ≤ a + (s1 + s2) * (1 + (t1 + t2))
 cost_seq s1 s2 a b c t1 t2 h k = omega arith
 
 pub cost_tick : (u s a b t : ℕ) → b ≤ a + u + s * (1 + t) → b ≤ a + (u + s) * (1 + t)

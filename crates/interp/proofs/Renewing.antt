@@ -1,8 +1,7 @@
 -- Globals that are put back by the numbers of those that were set.
 use Rattle.std.proofs.Common.{◌≡◌, ℕ, zero, suc, ◌<◌, ◌≤◌, List, [], ◌∷◌, ◌++◌, length, get_or, refl, sym, ap, ◌∙◌, arith}
 use Rattle.std.proofs.lemmas.List.{length-set, set-set, set_past}
-use Rattle.std.proofs.lemmas.Option.{get_or_from_slice_get}
-use Rattle.std.specs.Prelude.{None, Some, slice_get, slice_set}
+use Rattle.std.specs.Prelude.{None, slice_get, slice_set}
 use Rattle.wasm_ast.specs.declared.types.Value.{Value}
 use Rattle.wasm_ast.specs.declared.types.Value.TheVariants.{I64}
 use Rattle.interp.specs.inside.Renewed.{AreRenewed, put_back, put_one}
@@ -30,9 +29,6 @@ back_more [] initial here x = refl
 back_more (n ∷ ns) initial here x = back_more ns initial (put_one n initial here) x
 
 -- ---- one that is put back
-
-pub put_there : (initial here : List Value) (x : ℕ) (v : Value) → Some v ≡ slice_get initial x → slice_set here x v ≡ put_one x initial here
-put_there initial here x v e = ap (λ (w : Value). slice_set here x w) (sym (get_or_from_slice_get initial x v (I64 0) (sym e)))
 
 none_past : (l : List Value) (x : ℕ) → slice_get l x ≡ None → length l ≤ x
 none_past [] x e = omega arith
@@ -63,21 +59,3 @@ noted initial here ns room x v a less =
       spare = omega (arith, same, a.spare);
       back = λ h. back_after ns initial here x v (a.back less);
     }
-
--- one more is set where no number can be noted
-pub full : (initial here : List Value) (ns : List ℕ) (room x : ℕ) (v : Value) → AreRenewed initial here ns room → length here ≤ length ns → AreRenewed initial (slice_set here x v) ns room
-full initial here ns room x v a most =
-    let same : length (slice_set here x v) ≡ length here = length-set here x v in
-    record {
-      long = same ∙ a.long;
-      spare = omega (arith, same, a.spare);
-      back = λ h. absurd (omega (arith, h, same, most));
-    }
-
--- all are what they begin with
-pub anew : (initial here : List Value) (ns : List ℕ) (room : ℕ) → here ≡ initial → ns ≡ [] → length initial ≤ room → AreRenewed initial here ns room
-anew initial here ns room same none spare = record {
-  long = ap (λ (l : List Value). length l) same;
-  spare = omega (arith, ap (λ (l : List Value). length l) same, spare);
-  back = λ h. ap (λ (l : List ℕ). put_back l initial here) none ∙ same;
-}

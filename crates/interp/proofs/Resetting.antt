@@ -28,7 +28,7 @@ use Rattle.interp.specs.inside.Cells.{cell_of, cells_place, in_width, zero_cells
 use Rattle.interp.specs.inside.Fits.{AreFit, IsFit}
 use Rattle.interp.specs.inside.Kept.{laid_over, marks, masked}
 use Rattle.interp.specs.inside.Place.{Place, Standing, at, hosted, running}
-use Rattle.interp.proofs.Beginnings.{after, after_all, after_one}
+use Rattle.interp.proofs.Beginnings.{after, after_one}
 use Rattle.interp.proofs.Cells.{zeros_follow}
 use Rattle.interp.proofs.Ending.{comes_here}
 use Rattle.interp.proofs.Fits.{fit-append, zeros_fit}
@@ -66,19 +66,6 @@ one_more all left rest g cells v cell e is same fits s = record {
   are = map-append cell_of s.values (v ∷ []) ∙ ap (λ (l : List Value). l ++ cell_of v ∷ []) s.are ∙ ap (λ (c : Value). cells ++ c ∷ []) (sym same);
   fit = fit-append s.values (v ∷ []) s.fit (fits_in v fits, tt);
 }
-
-pub all_laid : (all left : List Global) (cells : List Value) → left ≡ [] → SoFar all left cells → AreInitial all cells
-all_laid all left cells e s = record {
-  values = s.values;
-  initial = s.initial ∙ ap (λ (gs : List Global). after s.values (initial_globals gs)) e ∙ after_all s.values;
-  are = s.are;
-  fit = s.fit;
-}
-
--- they are the same
-pub same_initial : (globals : List Global) (cells others : List Value) → AreInitial globals cells → AreInitial globals others → cells ≡ others
-same_initial globals cells others a b =
-    sym a.are ∙ ap (λ (vs : List Value). map cell_of vs) (some_is a.values b.values (sym a.initial ∙ b.initial)) ∙ b.are
 
 -- the next one is set
 pub take-set_next : (n : ℕ) (vs : List Value) (v : Value) → n < length vs → take (suc n) (slice_set vs n v) ≡ take n vs ++ v ∷ []

@@ -142,9 +142,6 @@ along : {A E : Type 0} {P Q : A → Type 0} (r : Result A E) → ((x : A) → P 
 along (Ok x) go h = go x h
 along (Err e) go h = h
 
-pub outcome_told : {E : Type 0} (r : Result CallOutcome E) (n m : Module) (input : CallInput) (s : Standing) (k : Code) (most : ℕ) → n ≡ m → ((x : Machine) → Starts n input x → EndsWithin n x most) → IsBeginning n k input s → IfOk r (EndsFrom n (at s k 0) most) → IfOk r (IsOutcome m input)
-outcome_told r n m input s k most same ends b = subst (λ (m : Module). IfOk r (EndsFrom n (at s k 0) most) → IfOk r (IsOutcome m input)) same (along r (λ outcome c. comes_to n input b.from outcome b.starts (c b.from b.follows (ends b.from b.starts))))
-
 left_as_cells : (ms : List Bool) (st final : State) (outcome : CallOutcome) → cells_state ms st ≡ final → Leaves outcome final.host final.count → Leaves outcome st.host st.count
 left_as_cells ms st final outcome e l = subst (λ (s : State). Leaves outcome s.host s.count) (sym e) l
 

@@ -137,10 +137,6 @@ on_any (Err e) P p = p
 
 -- ---- the answer of a call
 
-pub sends_told : {T E : Type 0} (r : Result T E) (P Q : Type 0) → OnErr r P → (P → Q) → OnErr r Q
-sends_told (Ok x) P Q h go = h
-sends_told (Err e) P Q h go = go h
-
 pub silent_ok : {T E : Type 0} (r : Result T E) (m k : Module) → m ≡ k → IsTyped k → IsBounded k → IsWithinLimits k → (input : CallInput) → OnErr r (Sends m input) → IsSilent k input → IsOk r
 silent_ok (Ok x) m k same typed bounded limits input h silent = refl
 silent_ok (Err e) m k same typed bounded limits input h silent =

@@ -1,5 +1,5 @@
 -- The control entries, as one is popped or pushed.
-use Rattle.std.proofs.Common.{◌≡◌, ℕ, suc, Option, Some, None, ◌+◌, ◌-◌, ◌<◌, ◌≤◌, List, [], ◌∷◌, ◌++◌, Bool, true, length, take, drop, refl, sym, ap, ◌∙◌, subst, arith, length-drop, length-append}
+use Rattle.std.proofs.Common.{◌≡◌, ℕ, suc, Option, ◌+◌, ◌-◌, ◌<◌, ◌≤◌, List, [], ◌∷◌, Bool, true, length, take, drop, refl, sym, ap, ◌∙◌, subst, arith, length-drop}
 use Rattle.std.proofs.lemmas.List.{length-reverse, length-take-le}
 use Rattle.std.proofs.lemmas.Bool.{false≢true}
 use Rattle.std.specs.Borrow.{Bor}
@@ -12,13 +12,12 @@ use Rattle.interp.specs.Configuration.{State}
 use Rattle.interp.specs.Heights.{beneath, held}
 use Rattle.interp.specs.Machine as machine
 use Rattle.interp.specs.inside.Going.{has_labels}
-use Rattle.interp.specs.inside.Meaning.{entries_of, Ordered, floor_of, keeps_of, target_of}
+use Rattle.interp.specs.inside.Meaning.{entries_of, Ordered, keeps_of, target_of}
 use Rattle.interp.specs.inside.Place.{HasEntryRoom, Standing}
 use Rattle.interp.specs.inside.Split.{HasSpare, Split}
 use Rattle.interp.specs.declared.control_entry.ControlEntry.{ControlEntry}
 use Rattle.interp.specs.declared.control_entry.ControlEntry.TheVariants as control
 use Rattle.interp.specs.declared.control_entry.Form.{Form}
-use Rattle.interp.proofs.Lists.{take-length_is, drop-length_is}
 
 left_of : (f : ℕ) (vs : List Value) → f ≤ length vs → length (drop (length vs - f) vs) ≡ f
 left_of f vs h = omega (arith, length-drop (length vs - f) vs)
@@ -64,27 +63,6 @@ frame_off rs rs' vs vs' ls ls' f b keeps a e o d g =
       entries = ap (λ (r : List ControlEntry). entries_of r vs ls) e ∙ ap (λ (l : List Value). machine.Frame keeps (drop b ls) (take (length vs - f) vs) (code_of a.now) ∷ entries_of rs' l (take b ls)) (sym d) ∙ ap (λ (l : List Value). machine.Frame keeps (drop b ls) (take (length vs - f) vs) (code_of a.now) ∷ entries_of rs' vs' l) (sym g);
     }
 
--- what a label put on stands over
-pub above_is : (vs us : List Value) → take (length (vs ++ us) - length us) (vs ++ us) ≡ vs
-above_is vs us = take-length_is (length (vs ++ us) - length us) vs us (omega (arith, length-append vs us))
-
-pub under_is : (vs us : List Value) → drop (length (vs ++ us) - length us) (vs ++ us) ≡ us
-under_is vs us = drop-length_is (length (vs ++ us) - length us) vs us (omega (arith, length-append vs us))
-
-pub label_on : (rs : List ControlEntry) (vs us ls : List Value) (f : ℕ) (w : Form) (a : Bor (List FlatInstr)) → f ≡ length us → entries_of (control.Label w f a ∷ rs) (vs ++ us) ls ≡ machine.Label (keeps_of w) vs (target_of w (code_of a.now)) (code_of a.now) ∷ entries_of rs us ls
-label_on rs vs us ls f w a e =
-    ap (λ (k : ℕ). machine.Label (keeps_of w) (take (length (vs ++ us) - k) (vs ++ us)) (target_of w (code_of a.now)) (code_of a.now) ∷ entries_of rs (drop (length (vs ++ us) - k) (vs ++ us)) ls) e
-    ∙ ap (λ (l : List Value). machine.Label (keeps_of w) l (target_of w (code_of a.now)) (code_of a.now) ∷ entries_of rs (drop (length (vs ++ us) - length us) (vs ++ us)) ls) (above_is vs us)
-    ∙ ap (λ (l : List Value). machine.Label (keeps_of w) vs (target_of w (code_of a.now)) (code_of a.now) ∷ entries_of rs l ls) (under_is vs us)
-
-pub frame_on : (rs : List ControlEntry) (vs us ls ms : List Value) (f b : ℕ) (keeps : Bool) (a : Bor (List FlatInstr)) → f ≡ length us → b ≡ length ms → entries_of (control.Frame keeps f b a ∷ rs) (vs ++ us) (ms ++ ls) ≡ machine.Frame keeps ls vs (code_of a.now) ∷ entries_of rs us ms
-frame_on rs vs us ls ms f b keeps a e g =
-    ap (λ (k : ℕ). machine.Frame keeps (drop b (ms ++ ls)) (take (length (vs ++ us) - k) (vs ++ us)) (code_of a.now) ∷ entries_of rs (drop (length (vs ++ us) - k) (vs ++ us)) (take b (ms ++ ls))) e
-    ∙ ap (λ (l : List Value). machine.Frame keeps (drop b (ms ++ ls)) l (code_of a.now) ∷ entries_of rs (drop (length (vs ++ us) - length us) (vs ++ us)) (take b (ms ++ ls))) (above_is vs us)
-    ∙ ap (λ (l : List Value). machine.Frame keeps (drop b (ms ++ ls)) vs (code_of a.now) ∷ entries_of rs l (take b (ms ++ ls))) (under_is vs us)
-    ∙ ap (λ (l : List Value). machine.Frame keeps l vs (code_of a.now) ∷ entries_of rs us (take b (ms ++ ls))) (drop-length_is b ms ls g)
-    ∙ ap (λ (l : List Value). machine.Frame keeps ls vs (code_of a.now) ∷ entries_of rs us l) (take-length_is b ms ls g)
-
 -- a branch goes past a label
 pub jump_label : (n k : ℕ) (top : Option Value) (st : State) (ls ms : List machine.ControlEntry) (keeps : Bool) (vs : List Value) (t a : Code) → n ≡ suc k → ls ≡ machine.Label keeps vs t a ∷ ms → machine.jump n top ls st ≡ machine.jump k top ms st
 jump_label n k top st ls ms keeps vs t a e g = ap (λ (j : ℕ). machine.jump j top ls st) e ∙ ap (λ (l : List machine.ControlEntry). machine.jump (suc k) top l st) g
@@ -98,39 +76,6 @@ no_frame n k ls ms keeps xs vs a e g h = false≢true (sym (ap (λ (j : ℕ). ha
 
 pub no_end : (n k : ℕ) (rs : List ControlEntry) (vs ls : List Value) → n ≡ suc k → rs ≡ [] → has_labels n (entries_of rs vs ls) ≡ true → ⊥
 no_end n k rs vs ls e g h = false≢true (sym (ap (λ (j : ℕ). has_labels j (entries_of rs vs ls)) e ∙ ap (λ (r : List ControlEntry). has_labels (suc k) (entries_of r vs ls)) g) ∙ h)
-
--- out of a frame past a label
-pub record LabelPast (rs' : List ControlEntry) (vs vs' ls : List Value) (f : ℕ) (rs : List ControlEntry) : Type 0 where
-  pub floor : f ≤ length vs
-  pub ordered : Ordered rs' (length vs') (length ls)
-  pub back : (top : Option Value) (st : State) → machine.back top (entries_of rs vs ls) st ≡ machine.back top (entries_of rs' vs' ls) st
-
-pub floor_fits : (rs : List ControlEntry) (vs ls : List Value) (f : ℕ) → floor_of rs ≡ Some f → Ordered rs (length vs) (length ls) → f ≤ length vs
-floor_fits [] vs ls f e o = absurd cc
-floor_fits (control.Label w g a ∷ rs) vs ls f e o = let h : g ≡ f = cc in subst (λ (k : ℕ). k ≤ length vs) h o.0
-floor_fits (control.Frame keeps g b a ∷ rs) vs ls f e o = absurd cc
-
-past_cons : (l : ControlEntry) (rs : List ControlEntry) (vs vs' ls : List Value) (f : ℕ) → floor_of (l ∷ rs) ≡ Some f → Ordered (l ∷ rs) (length vs) (length ls) → vs' ≡ drop (length vs - f) vs → LabelPast rs vs vs' ls f (l ∷ rs)
-past_cons (control.Label w g a) rs vs vs' ls f e o d =
-    let h : g ≡ f = cc in
-    let d' : vs' ≡ drop (length vs - g) vs = d ∙ ap (λ (k : ℕ). drop (length vs - k) vs) (sym h) in
-    let off = label_off (control.Label w g a ∷ rs) rs vs vs' ls g w a refl o d' in
-    record {
-      floor = subst (λ (k : ℕ). k ≤ length vs) h o.0;
-      ordered = off.ordered;
-      back = λ top st. ap (λ (l : List machine.ControlEntry). machine.back top l st) off.entries;
-    }
-past_cons (control.Frame keeps g b a) rs vs vs' ls f e o d = absurd cc
-
-pub label_past : (rs rs' : List ControlEntry) (l : ControlEntry) (vs vs' ls : List Value) (f : ℕ) → floor_of rs ≡ Some f → rs ≡ l ∷ rs' → Ordered rs (length vs) (length ls) → vs' ≡ drop (length vs - f) vs → LabelPast rs' vs vs' ls f rs
-label_past rs rs' l vs vs' ls f e g o d =
-    let P : List ControlEntry → Type 0 = λ (r : List ControlEntry). LabelPast rs' vs vs' ls f r in
-    subst P (sym g) (past_cons l rs' vs vs' ls f (ap (λ (r : List ControlEntry). floor_of r) (sym g) ∙ e) (subst (λ (r : List ControlEntry). Ordered r (length vs) (length ls)) g o) d)
-
-pub back_arrives : (rs : List ControlEntry) (vs ls : List Value) (top : Option Value) (st : State) → floor_of rs ≡ None → machine.back top (entries_of rs vs ls) st ≡ machine.arrive top (entries_of rs vs ls) st
-back_arrives [] vs ls top st e = refl
-back_arrives (control.Label w g a ∷ rs) vs ls top st e = absurd cc
-back_arrives (control.Frame keeps g b a ∷ rs) vs ls top st e = refl
 
 -- ---- how many there are
 

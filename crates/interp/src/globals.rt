@@ -71,7 +71,10 @@ impl Globals {
         requires { length self.old ≡ length others.now }
         ensures { self.new ≡ others.now }
     {
-        self.cells.copy_from_slice(others.cells.as_slice());
+        let cells = others.cells.as_slice();
+        if !cells.is_empty() {
+            self.cells.copy_from_slice(cells);
+        }
     }
 
     /// Returns the global with this number, if there is one.
@@ -87,7 +90,7 @@ impl Globals {
         requires { IsSome (slice_get self.now number) }
         ensures { slice_get self.now number ≡ Some (I64 result) }
     {
-        self.find(number).unwrap()
+        self.cells[number as usize]
     }
 
     /// Sets the global with this number.

@@ -61,7 +61,10 @@ impl<'a> Memory<'a> {
         ensures { self.new ≡ other.now }
     {
         self.verified = other.verified;
-        self.bytes.copy_from_slice(other.bytes.as_slice());
+        let bytes = other.bytes.as_slice();
+        if !bytes.is_empty() {
+            self.bytes.copy_from_slice(bytes);
+        }
     }
 
     /// Counts the pages (Core 1.0, 4.4.4, memory.size).

@@ -84,9 +84,9 @@ pub(crate) fn call_in<'a>(
     ensures sends { OnErr result (Sends program.entry.«module».now input.now) }
     ensures outcome { IfOk result (IsOutcome program.entry.«module».now input.now) }
 {
+    let mut host = CallState::with_lists(input, sends, contributions);
     image.reset(definition.function, walk);
     let code = definition.body.as_slice();
-    let mut host = CallState::with_lists(input, sends, contributions);
     let count = walk.finish(program, code, &mut host)?;
     Ok(host.into_outcome(count))
 }

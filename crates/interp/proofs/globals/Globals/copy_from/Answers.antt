@@ -5,7 +5,4 @@ use Rattle.interp.proofs.globals.Globals.copy_from.Goals as goal
 
 pub copy_from_slice-requires : goal.copy_from_slice-requires
 copy_from_slice-requires c =
-    omega (arith, c.requires, ap length c.self.view_is, ap length c.others.view_is, length-map c.self.inside.cells.items I64, length-map c.others.inside.cells.items I64, ap length c.as_slice.ensures.value)
-
-pub returns : goal.returns
-returns c = ap (map I64) c.copy_from_slice.ensures.items ∙ ap (map I64) c.as_slice.ensures.value ∙ c.others.view_is
+    omega (arith, c.requires, ap length c.self.view_is, ap length c.others.view_is, length-map c.self.inside.cells.items I64, length-map c.others.inside.cells.items I64, ap length c.as_slice-cells.ensures.value)

@@ -4,8 +4,4 @@ use Rattle.interp.proofs.memory.Memory.copy_from.Goals as goal
 
 pub copy_from_slice-requires : goal.copy_from_slice-requires
 copy_from_slice-requires c =
-    omega (arith, c.requires, c.self.invariant, c.other.invariant, ap count_kept c.self.view_is, ap count_kept c.other.view_is, ap length c.as_slice.ensures.value)
-
-pub returns : goal.returns
-returns c =
-    ap (spread (marks c.other.inside.verified.now)) (c.copy_from_slice.ensures.items ∙ c.as_slice.ensures.value) ∙ c.other.view_is
+    omega (arith, c.requires, c.self.invariant, c.other.invariant, ap count_kept c.self.view_is, ap count_kept c.other.view_is, ap length c.as_slice-bytes.ensures.value)

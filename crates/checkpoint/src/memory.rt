@@ -32,7 +32,8 @@ impl MemoryKeep {
 }
 
 impl Keep for MemoryKeep {
-    ghost use Rattle.std.specs.Prelude.{true};
+    ghost use Rattle.std.specs.Prelude.{true, ℕ, List, Some, OnErr, OnOk};
+    ghost use Rattle.checkpoint.specs.Keep.{HasCause, IsKeptOrNone, Only};
     ghost use Rattle.checkpoint.specs.Memory.{IsHeld, superstep_in};
 
     ghost saved = { superstep_in };
@@ -48,7 +49,18 @@ impl Keep for MemoryKeep {
         _rt: &R,
         superstep: u32,
         bytes: &[u8],
-    ) -> Result<(), KeepFault> {
+    ) -> Result<(), KeepFault>
+        ensures saved { OnOk result (superstep_in self.new ≡ Some superstep) }
+        ensures bytes { OnOk result (Only bytes.now (IsHeld self.new)) }
+        ensures held { OnOk result (IsHeld self.new bytes.now) }
+        // A failed save leaves the last good one, also if that one has the same superstep.
+        ensures left { OnErr result (self.new ≡ self.old) }
+        ensures kept { OnErr result
+            (IsKeptOrNone superstep (superstep_in self.old) (superstep_in self.new)) }
+        ensures kept_bytes { OnErr result ((other : List ℕ)
+            → IsHeld self.new other → IsHeld self.old other) }
+        ensures cause { HasCause 0 0 result }
+    {
         match bytes.to_vec(self.alloc) {
             Ok(bytes) => {
                 self.last = Some(Saved { superstep, bytes });

@@ -14,17 +14,19 @@ use Rattle.rollback.specs.Events.{Stamp}
 use Rattle.rollback.specs.Events.Stamp.{DoneBy, FailedBy, JoinedBy, LostBy, Ticked}
 use Rattle.rollback.specs.Machine.{Machine}
 use Rattle.channels.specs.Channel.{Channel}
+use Rattle.channels.specs.Orders.{at}
 use Rattle.channels.specs.Protocol.{has_bye, of}
-use Rattle.channels.specs.declared.order.Order.{Order}
 use Rattle.channels.proofs.Handing.{at_set_else, at_set_here, get_end, get_more}
-use Rattle.workers.specs.Hub.{HasByes, received, staff}
-use Rattle.workers.specs.Joining.{JoinedFrom, events_by, first_of, joins_counted, rest_of, stamp_sender}
+use Rattle.workers.specs.Hub.{HasByes, handed, received, staff}
+use Rattle.workers.specs.Joining.{JoinedFrom, first_of, joins_counted, rest_of}
 use Rattle.workers.specs.Messages.{event_sender, is_joined, is_lost, sender_number, sender_of}
 use Rattle.workers.specs.Passes.{handed_in_by}
-use Rattle.workers.specs.Steps.{events, stamps_in}
+use Rattle.workers.specs.Returns.{IsWorkOn, events_by, stamp_sender}
+use Rattle.workers.specs.Steps.{events, outs_in, stamps_in}
 use Rattle.workers.specs.Threads.{AreSettled, IsSettledHub}
 use Rattle.workers.specs.Verdicts.{from_coordinator, never_closes, told_to, was_counted}
 use Rattle.workers.specs.inside.Joins.{AddsCounted, AreJoined, AreLinked, IsToldNext, ToldFrom, due_to, line_of}
+use Rattle.workers.specs.inside.Returning.{HasReturned}
 use Rattle.workers.specs.declared.coordinator.Receipts.{Receipts}
 use Rattle.workers.specs.declared.coordinator_ends.CoordinatorEnds.{CoordinatorEnds}
 use Rattle.workers.specs.declared.event_loop.Due.{Due}
@@ -35,6 +37,7 @@ use Rattle.workers.specs.declared.pass.WorkerReceipt.{WorkerReceipt}
 use Rattle.workers.specs.declared.thread_promises.WorkerPromise.{WorkerPromise}
 use Rattle.workers.specs.declared.verdict.Verdict.{Verdict}
 use Rattle.workers.proofs.Moving.{length_set, stamps_bye, stamps_event}
+use Rattle.workers.proofs.Returning.{work_on}
 
 -- ---- verdicts
 
@@ -227,12 +230,13 @@ module _ {J T : Type 0} where
       (subst (λ l. AreLinked (lines ++ line ∷ []) 0 l) (sym one) (linked_longer (lines ++ line ∷ []) 0 ts t (linked_wider lines line 0 ts old) here))
 
 module _ {J : Type 0} where
-  pub joined_more : (told : List (List Bool)) (n : ℕ) (rs : List (WorkerReceipt J)) (r : WorkerReceipt J)
-      → AreJoined told n rs → joins_counted false (told_to told (n + length rs)) (stamps_in (handed_in_by r)) ≡ true → AreJoined told n (rs ++ r ∷ [])
-  joined_more told n [] r old new =
-      (subst (λ (k : ℕ). joins_counted false (told_to told k) (stamps_in (handed_in_by r)) ≡ true) (let z : n + 0 ≡ n = omega arith in z) new, tt)
-  joined_more told n (x ∷ xs) r old new =
-      (old.0, joined_more told (n + 1) xs r old.1 (subst (λ (k : ℕ). joins_counted false (told_to told k) (stamps_in (handed_in_by r)) ≡ true) (let z : n + length (x ∷ xs) ≡ n + 1 + length xs = omega arith in z) new))
+  pub joined_more : (work : Work) (honest : ℕ → Bool) (told : List (List Bool)) (n : ℕ) (rs : List (WorkerReceipt J)) (r : WorkerReceipt J)
+      → AreJoined work honest told n rs → joins_counted false (told_to told (n + length rs)) (stamps_in (handed_in_by r)) ≡ true → HasReturned work honest r
+      → AreJoined work honest told n (rs ++ r ∷ [])
+  joined_more work honest told n [] r old new own =
+      (subst (λ (k : ℕ). joins_counted false (told_to told k) (stamps_in (handed_in_by r)) ≡ true) (let z : n + 0 ≡ n = omega arith in z) new, own, tt)
+  joined_more work honest told n (x ∷ xs) r old new own =
+      (old.0, old.1, joined_more work honest told (n + 1) xs r old.2 (subst (λ (k : ℕ). joins_counted false (told_to told k) (stamps_in (handed_in_by r)) ≡ true) (let z : n + length (x ∷ xs) ≡ n + 1 + length xs = omega arith in z) new) own)
 
   -- ---- the whole job
 
@@ -260,20 +264,31 @@ module _ {J : Type 0} where
       ∙ event_kept (event_sender x == p) x (of sender_of p xs)
   events_of_sender p (message.Bye sender ∷ xs) = events_of_sender p xs ∙ bye_kept (sender_number sender == p) sender (of sender_of p xs)
 
-  joined_at : (ends : CoordinatorEnds J) (told : List (List Bool)) (n : ℕ) (rs : List (WorkerReceipt J)) → AreSettled ends n rs → AreJoined told n rs → HasByes (staff ends) (received ends)
+  joined_at : (work : Work) (honest : ℕ → Bool) (ends : CoordinatorEnds J) (told : List (List Bool)) (n : ℕ) (rs : List (WorkerReceipt J)) → AreSettled ends n rs → AreJoined work honest told n rs → HasByes (staff ends) (received ends)
       → n + length rs ≡ staff ends → (w : ℕ) → n ≤ w → w < staff ends → (n ≡ w) ⊎ (n ≢ w) → joins_counted false (told_to told w) (events_by w (stamps_in (received ends))) ≡ true
-  joined_at ends told n [] s j byes all w low high which = absurd (omega (arith, all, low, high))
-  joined_at ends told n (r ∷ rs) s j byes all w low high (inl e) =
+  joined_at work honest ends told n [] s j byes all w low high which = absurd (omega (arith, all, low, high))
+  joined_at work honest ends told n (r ∷ rs) s j byes all w low high (inl e) =
       let whole : of sender_of (n + 1) (received ends) ≡ handed_in_by r = s.0.events.whole (byes (n + 1) (omega (arith, e, high))) in
       subst (λ (k : ℕ). joins_counted false (told_to told k) (events_by k (stamps_in (received ends))) ≡ true) e
       (ap (λ l. joins_counted false (told_to told n) l) (events_of_sender (n + 1) (received ends) ∙ ap stamps_in whole) ∙ j.0)
-  joined_at ends told n (r ∷ rs) s j byes all w low high (inr e) =
-      joined_at ends told (n + 1) rs s.2 j.1 byes (omega (arith, all)) w (omega (arith, low, e)) high (either_way (n + 1) w)
+  joined_at work honest ends told n (r ∷ rs) s j byes all w low high (inr e) =
+      joined_at work honest ends told (n + 1) rs s.2 j.2 byes (omega (arith, all)) w (omega (arith, low, e)) high (either_way (n + 1) w)
 
-  pub joined_from : (work : Work) (honest : ℕ → Bool) (first : Machine) (ends : CoordinatorEnds J) (handed : List (List (Order J))) (receipts : Receipts J) (told : List (List Bool)) (r : Result Report JobFault)
-      → IsSettledHub ends receipts → AreJoined told 0 receipts.workers.items → staff ends ≡ work.settings.workers → length told ≡ staff ends
-      → ToldFrom work honest first (received ends) handed told r → HasByes (staff ends) (received ends) → JoinedFrom work honest first (received ends) handed r
-  joined_from work honest first ends handed receipts told r s j many wide t byes = record {
+  worked_at : (work : Work) (honest : ℕ → Bool) (ends : CoordinatorEnds J) (told : List (List Bool)) (n : ℕ) (rs : List (WorkerReceipt J)) → AreSettled ends n rs → AreJoined work honest told n rs
+      → HasByes (staff ends) (received ends) → n + length rs ≡ staff ends → (w : ℕ) → n ≤ w → w < staff ends → (n ≡ w) ⊎ (n ≢ w)
+      → IsWorkOn work honest (outs_in (at (handed ends) w)) (events_by w (stamps_in (received ends)))
+  worked_at work honest ends told n [] s j byes all w low high which = absurd (omega (arith, all, low, high))
+  worked_at work honest ends told n (r ∷ rs) s j byes all w low high (inl e) =
+      let whole : of sender_of (n + 1) (received ends) ≡ handed_in_by r = s.0.events.whole (byes (n + 1) (omega (arith, e, high))) in
+      subst (λ (k : ℕ). IsWorkOn work honest (outs_in (at (handed ends) k)) (events_by k (stamps_in (received ends)))) e
+      (work_on work honest r (at (handed ends) n) (events_by n (stamps_in (received ends))) s.0.tasks.begins (events_of_sender (n + 1) (received ends) ∙ ap stamps_in whole) j.1)
+  worked_at work honest ends told n (r ∷ rs) s j byes all w low high (inr e) =
+      worked_at work honest ends told (n + 1) rs s.2 j.2 byes (omega (arith, all)) w (omega (arith, low, e)) high (either_way (n + 1) w)
+
+  pub joined_from : (work : Work) (honest : ℕ → Bool) (first : Machine) (ends : CoordinatorEnds J) (receipts : Receipts J) (told : List (List Bool)) (r : Result Report JobFault)
+      → IsSettledHub ends receipts → AreJoined work honest told 0 receipts.workers.items → staff ends ≡ work.settings.workers → length told ≡ staff ends
+      → ToldFrom work honest first (received ends) (handed ends) told r → HasByes (staff ends) (received ends) → JoinedFrom work honest first (received ends) (handed ends) r
+  joined_from work honest first ends receipts told r s j many wide t byes = record {
     ran = t.ran;
     joins = λ w h.
         let here : w < staff ends = subst (λ (n : ℕ). w < n) (sym many) h in
@@ -281,5 +296,11 @@ module _ {J : Type 0} where
         let all : 0 + length receipts.workers.items ≡ staff ends = omega (arith, s.all, receipts.workers.ok.0) in
         ap (λ l. joins_counted false l (events_by w (events t.ran.moves))) (sym (t.told_is w heard))
         ∙ ap (λ l. joins_counted false (told_to told w) (events_by w l)) (sym t.ran.took)
-        ∙ joined_at ends told 0 receipts.workers.items s.workers j byes all w (omega arith) here (either_way 0 w);
+        ∙ joined_at work honest ends told 0 receipts.workers.items s.workers j byes all w (omega arith) here (either_way 0 w);
+    returns = λ w h.
+        let here : w < staff ends = subst (λ (n : ℕ). w < n) (sym many) h in
+        let all : 0 + length receipts.workers.items ≡ staff ends = omega (arith, s.all, receipts.workers.ok.0) in
+        subst (λ l. IsWorkOn work honest l (events_by w (events t.ran.moves))) (t.ran.gave w h)
+        (subst (λ l. IsWorkOn work honest (outs_in (at (handed ends) w)) (events_by w l)) t.ran.took
+        (worked_at work honest ends told 0 receipts.workers.items s.workers j byes all w (omega arith) here (either_way 0 w)));
   }

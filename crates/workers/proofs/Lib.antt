@@ -10,5 +10,6 @@ pub mod Moving
 pub mod Opening
 pub mod Over
 pub mod Passing
+pub mod Returning
 pub mod Spent
 pub mod RunAnswers

@@ -64,7 +64,7 @@ module _ {J : Type 0} where
   pub stamps_bye : (a : List (Message J)) (sender : Sender) → stamps_in (a ++ message.Bye sender ∷ []) ≡ stamps_in a
   stamps_bye a sender = ap (map stamp_of) (events_in-append a (message.Bye sender ∷ []) ∙ append-nil (events_in a))
 
-  outs_task : (a : List (Order J)) (task : Task J) → outs_in (a ++ Do task ∷ []) ≡ outs_in a ++ task_out task ∷ []
+  pub outs_task : (a : List (Order J)) (task : Task J) → outs_in (a ++ Do task ∷ []) ≡ outs_in a ++ task_out task ∷ []
   outs_task a task = ap (map task_out) (tasks-append a (Do task ∷ [])) ∙ map-append task_out (tasks_in a) (task ∷ [])
 
 -- ---- one hand

@@ -15,6 +15,7 @@ use Rattle.rollback.specs.Machine.{Machine, opened}
 use Rattle.rollback.specs.Saving.{IsKeptStep, IsLoadResult, IsMadeAt, KeepsFor}
 use Rattle.rollback.specs.Simulation.{IsCalmAt, NeverFails}
 use Rattle.channels.specs.Orders.{at}
+use Rattle.workers.specs.Returns.{IsWorkOn, events_by}
 use Rattle.workers.specs.Steps.{AreMoves, KeptAlong, Move, after, events, hands, outs_in, stamps_in}
 use Rattle.workers.specs.Units.{cut, units_by}
 use Rattle.workers.specs.declared.message.Message.{Message}
@@ -124,7 +125,8 @@ module _ {K : Type 0} (honest : K → Bool) (saved : K → Option ℕ) (may_load
   abbrev pub RanOnOwn : {J : Type 0} → (superstep : ℕ) → List (Message J) → List (List (Order J)) → K → Result Report JobFault → Type 0
   RanOnOwn superstep received handed keep answer = (last : K) × RanOnOver superstep received handed keep last answer
 
-  -- the list alone, without what was received and sent
+  -- The list alone, without what was received and sent. In it each worker sends events for the tasks that it was assigned alone, one
+  -- result at most for each.
   pub record KeptRun (first : Machine) (keep : K) (answer : Result Report JobFault) : Type 0 where
     pub moves : List Move
     pub are : AreMoves work trusted first moves
@@ -132,6 +134,7 @@ module _ {K : Type 0} (honest : K → Bool) (saved : K → Option ℕ) (may_load
     pub leads : after first moves ≡ end
     pub last : K
     pub kept : KeptAlong (IsKeptStep honest saved may_load faults work trusted) first keep moves last
+    pub returns : (w : ℕ) → w < work.settings.workers → IsWorkOn work trusted (hands w moves) (events_by w (events moves))
     pub answers : IsAnswerAt work trusted end end.ending answer
 
   -- from superstep 0 on

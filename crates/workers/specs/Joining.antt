@@ -1,8 +1,7 @@
 -- A worker joins again only after a loss that was counted.
-use Rattle.std.specs.Prelude.{◌≡◌, ◌<◌, ◌+◌, ◌==◌, ◌&&◌, ℕ, Bool, true, false, List, [], ◌∷◌, ◌++◌, Result, Ok, Err, if◌then◌else◌}
+use Rattle.std.specs.Prelude.{◌≡◌, ◌<◌, ◌==◌, ◌&&◌, ℕ, Bool, true, false, List, [], ◌∷◌, ◌++◌, Result, Ok, Err, if◌then◌else◌}
 use Rattle.superstep.specs.Job.{Work}
 use Rattle.superstep.specs.declared.fault.JobFault.{JobFault}
-use Rattle.channels.specs.Protocol.{of}
 use Rattle.channels.specs.declared.order.Order.{Order}
 use Rattle.rollback.specs.declared.event.Answer.{Answer}
 use Rattle.rollback.specs.declared.event.Answer.TheVariants.{Advanced, Ended, RolledBack, Stale, Taken}
@@ -12,7 +11,8 @@ use Rattle.rollback.specs.Events.{Heard, Stamp, accepted, begun, reply_of}
 use Rattle.rollback.specs.Events.Stamp.{DoneBy, FailedBy, JoinedBy, LostBy, Ticked}
 use Rattle.rollback.specs.Machine.{Machine, opened}
 use Rattle.workers.specs.JobAnswers.{RanFrom}
-use Rattle.workers.specs.Steps.{Move, events, moved}
+use Rattle.workers.specs.Returns.{IsWorkOn, events_by}
+use Rattle.workers.specs.Steps.{Move, events, hands, moved}
 use Rattle.workers.specs.Steps.Move.{Hand, Take}
 use Rattle.workers.specs.declared.message.Message.{Message}
 
@@ -49,18 +49,6 @@ losses w m (move ∷ moves) = loss_in w m move ++ losses w (moved m move) moves
 
 -- ---- its joins
 
--- the sender of an event
-abbrev pub stamp_sender : Stamp → ℕ
-stamp_sender (DoneBy w task units) = w + 1
-stamp_sender (FailedBy w place) = w + 1
-stamp_sender (LostBy w) = w + 1
-stamp_sender (JoinedBy w) = w + 1
-stamp_sender Ticked = 0
-
--- the events of worker w
-abbrev pub events_by : ℕ → List Stamp → List Stamp
-events_by w stamps = of stamp_sender (w + 1) stamps
-
 abbrev pub first_of : List Bool → Bool
 first_of [] = false
 first_of (b ∷ bs) = b
@@ -81,10 +69,12 @@ joins_counted counted ls (Ticked ∷ stamps) = joins_counted false ls stamps
 
 -- ---- whole runs
 
--- There is a list as in `RanFrom`. In it a worker joins again only right after a loss that it reported and that was counted.
+-- There is a list as in `RanFrom`. In it each worker sends events for the tasks that it was assigned alone, one result at most for
+-- each. It joins again only right after a loss that it reported and that was counted.
 pub record JoinedFrom {J : Type 0} (work : Work) (honest : ℕ → Bool) (first : Machine) (received : List (Message J)) (handed : List (List (Order J))) (answer : Result Report JobFault) : Type 0 where
   pub ran : RanFrom work honest first received handed answer
   pub joins : (w : ℕ) → w < work.settings.workers → joins_counted false (losses w first ran.moves) (events_by w (events ran.moves)) ≡ true
+  pub returns : (w : ℕ) → w < work.settings.workers → IsWorkOn work honest (hands w ran.moves) (events_by w (events ran.moves))
 
 -- from superstep 0 on
 abbrev pub JoinedOver : {J : Type 0} → Work → (ℕ → Bool) → List (Message J) → List (List (Order J)) → Result Report JobFault → Type 0

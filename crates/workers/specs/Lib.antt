@@ -3,9 +3,10 @@
 pub mod Messages
 pub mod Passes
 pub mod Hub
--- one list of assignments and events, the units in it, and the answers over it
+-- one list of assignments and events, the units in it, what workers send for their tasks in it, and the answers over it
 pub mod Steps
 pub mod Units
+pub mod Returns
 pub mod JobAnswers
 -- which losses were counted, and what workers are told of them
 pub mod Joining

@@ -1,3 +1,4 @@
 pub mod EventLoop
 pub mod Joins
 pub mod Opening
+pub mod Returning

@@ -30,10 +30,11 @@ fn settle_one<J: Origin, R: Threads>(
     requires lines { vec_len verdicts.old ≡ staff ends.old }
     requires line { slice_get (map sends_on verdicts.old.items) (vec_len receipts.old)
         ≡ Some (line_of thread) }
-    requires joined { AreJoined (map told_on verdicts.old.items) 0 receipts.old.items }
+    requires joined { AreJoined J.work J.honest
+        (map told_on verdicts.old.items) 0 receipts.old.items }
     ensures settled { OnOk result (AreSettled ends.new 0 receipts.new.items) }
     ensures joined { OnOk result
-        (AreJoined (map told_on verdicts.new.items) 0 receipts.new.items) }
+        (AreJoined J.work J.honest (map told_on verdicts.new.items) 0 receipts.new.items) }
     ensures told { map told_on verdicts.new.items ≡ map told_on verdicts.old.items }
     ensures linked { map sends_on verdicts.new.items ≡ map sends_on verdicts.old.items }
     ensures lines { vec_len verdicts.new ≡ vec_len verdicts.old }
@@ -65,7 +66,7 @@ pub fn settle_all<J: Origin, R: Threads>(
     requires linked { AreLinked (map sends_on verdicts.old.items) 0 spawned.workers.items }
     ensures settled { IfOk result (IsSettledHub ends.new) }
     ensures joined { IfOk result (λ receipts.
-        AreJoined (map told_on verdicts.new.items) 0 receipts.workers.items) }
+        AreJoined J.work J.honest (map told_on verdicts.new.items) 0 receipts.workers.items) }
     ensures told { map told_on verdicts.new.items ≡ map told_on verdicts.old.items }
     ensures received { received ends.new ≡ received ends.old }
     ensures handed { handed ends.new ≡ handed ends.old }

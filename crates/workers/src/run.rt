@@ -198,8 +198,9 @@ pub fn run_job<
     ensures kept { WhereRun result
         (EndedOverOwn K.honest K.saved K.may_load K.faults J.work J.honest
         (lent.received coordinator.new) (lent.handed coordinator.new) keep result) }
-    // In one such list each join of a worker comes right after a loss that it reported and that was counted. So a worker that was
-    // lost by its lease never joins again.
+    // In one such list each worker sends events for the tasks that it was assigned alone: one result at most for each, whose units
+    // are those of the plain run if its epoch is trusted. Each join of a worker comes right after a loss that it reported and that
+    // was counted. So a worker that was lost by its lease never joins again.
     ensures joins { WhereRun result
         (JoinedOver J.work J.honest (lent.received coordinator.new)
         (lent.handed coordinator.new) result) }
@@ -273,7 +274,8 @@ pub fn resume_job<
     ensures kept { WhereRun result
         (RanOnOwn K.honest K.saved K.may_load K.faults J.work J.honest superstep
         (lent.received coordinator.new) (lent.handed coordinator.new) keep result) }
-    // In one such list each join of a worker comes right after a loss that it reported and that was counted.
+    // In one such list each worker sends events for the tasks that it was assigned alone, and joins again only right after a loss
+    // that it reported and that was counted.
     ensures joins { WhereRun result
         (JoinedOn J.work J.honest superstep (lent.received coordinator.new)
         (lent.handed coordinator.new) result) }

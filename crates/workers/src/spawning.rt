@@ -3,10 +3,11 @@
 ghost use Rattle.std.specs.Prelude.{◌≡◌, [], map, vec_len, IfErr, IfOk};
 ghost use Rattle.superstep.specs.declared.fault.JobFault.TheVariants.{ThreadRefused};
 ghost use Rattle.workers.specs.Hub.{AreNewPasses, IsNewPass, IsNewTicker, channels_of, staff};
-ghost use Rattle.workers.specs.Passes.{IsReceipt, handed_in};
+ghost use Rattle.workers.specs.Passes.{IsReceipt, handed_in, taken};
 ghost use Rattle.workers.specs.Threads.{AreSpawned, AreThreadsOf, IsSpawned, IsSpawnedTicker, JoinsAfterLoss};
 ghost use Rattle.workers.specs.Verdicts.{heard_on, reads_on, sends_on, told_on};
 ghost use Rattle.workers.specs.inside.Joins.{AreLinked, AreUntold, HasJoined, line_of};
+ghost use Rattle.workers.specs.inside.Returning.{HasReturned};
 
 use crate::coordinator_ends::CoordinatorEnds;
 use crate::gate::Gate;
@@ -126,10 +127,12 @@ fn spawn_worker<'s, E, J: Origin + Send + Sync + 's, G: Gate + Sync + 's, R: Wai
     let work = move || -> Result<WorkerEnd<J>, JobFault>
         requires job { J.work ≡ job.now }
         requires new { handed_in pass ≡ [] }
+        requires untaken { taken pass ≡ [] }
         requires unheard { heard_on reader ≡ [] }
         ensures whose { IfOk result (λ end. IsReceipt pass end.receipt) }
         ensures joins { IfOk result (λ end. JoinsAfterLoss end.receipt) }
         ensures counted { IfOk result HasJoined }
+        ensures returned { IfOk result (λ end. HasReturned J.work J.honest end.receipt) }
         ensures line { IfOk result (λ end. reads_on end.reader ≡ reads_on reader) }
     { work_all(rt, alloc, job, gate, pass, reader) };
     match scope.spawn_with(promise, work) {

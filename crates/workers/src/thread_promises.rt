@@ -8,8 +8,9 @@ use std::snapshot::Snapshot;
 use std::thread::{Promise, PromisedHandle};
 use superstep::{JobFault, Origin};
 
-/// The promise of a worker's thread: it returns this worker's receipt, on the channels of this hub. The worker joined again only
-/// right after a loss that it reported, and of which it heard on this line that it was counted.
+/// The promise of a worker's thread: it returns this worker's receipt, on the channels of this hub. The worker sent events for the
+/// tasks that it took alone. It joined again only right after a loss that it reported, and of which it heard on this line that it was
+/// counted.
 #[derive(Drop)]
 pub struct WorkerPromise<J: Origin> {
     pub worker: u32,
@@ -32,7 +33,7 @@ impl<J: Origin> Promise<Result<WorkerEnd<J>, JobFault>> for WorkerPromise<J> {
     ghost kept_by = { λ promise result. IfOk result (λ end.
         IsReceiptOn (channels_of promise.hub.value) promise.worker end.receipt
         × JoinsAfterLoss end.receipt
-        × IsEndOn promise.line.value end) };
+        × IsEndOn J.work J.honest promise.line.value end) };
 }
 
 impl<J: Origin> Promise<Result<TickReceipt<J>, JobFault>> for TickerPromise<J> {

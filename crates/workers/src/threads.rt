@@ -60,7 +60,8 @@ pub fn run_in_threads<
     ensures since { IfOk result (λ report. trusts (K.honest keep) report.epoch ≡ true
         → report.ended.since ≡ 0) }
     // The job ended over one list of assignments and events, of which each leaves the Keep as its save or its load left it, or
-    // as it was.
+    // as it was. In it each worker sends one result at most for each task that it was assigned. So its units are those of tasks that
+    // it did.
     ensures kept { WhereBegun result
         (IsKeptRun K.honest K.saved K.may_load K.faults job.now (trusts (K.honest keep)) keep
         result) }

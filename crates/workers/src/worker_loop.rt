@@ -1,11 +1,17 @@
 //! The loops of the workers' threads and of the ticker's.
 
-ghost use Rattle.std.specs.Prelude.{◌≡◌, ◌+◌, [], false, IfOk, IfSome, OnOk};
+ghost use Rattle.std.specs.Prelude.{◌≡◌, ◌+◌, ◌∷◌, [], false, true, IfErr, IfOk, IfSome, OnOk};
+ghost use Rattle.superstep.specs.Tasks.{AreUnitsAt};
+ghost use Rattle.superstep.specs.declared.fault.Place.TheVariants.{Call};
+ghost use Rattle.rollback.specs.declared.control.Out.{Out};
+ghost use Rattle.rollback.specs.Book.{stamp_of, task_out};
 ghost use Rattle.workers.specs.Messages.{AddsJoins, event_sender, is_joined, is_lost};
-ghost use Rattle.workers.specs.Passes.{IsReceipt, IsSamePass, IsTickReceipt, handed_in, worker_of};
+ghost use Rattle.workers.specs.Passes.{IsReceipt, IsSamePass, IsTickReceipt, handed_in, taken, worker_of};
+ghost use Rattle.workers.specs.Returns.{IsReturnOf};
 ghost use Rattle.workers.specs.Threads.{JoinsAfterLoss};
 ghost use Rattle.workers.specs.Verdicts.{heard_on, reads_on};
 ghost use Rattle.workers.specs.inside.Joins.{AddsCounted, HasJoined};
+ghost use Rattle.workers.specs.inside.Returning.{AddsReturn, AddsReturns, HasReturned};
 
 use crate::gate::{Gate, Turn, Worked};
 use crate::pass::{TickPass, TickReceipt, WorkerPass, WorkerReceipt};
@@ -33,6 +39,12 @@ fn work_on<'a, J: Origin>(
     requires job { J.work ≡ job.now }
     requires fits { IfSome scratch.old (λ scratch. scratch ≡ job.now.«module») }
     ensures fits { IfSome scratch.new (λ scratch. scratch ≡ job.now.«module») }
+    ensures epoch { IfOk result (λ done. done.epoch ≡ task.epoch) }
+    ensures superstep { IfOk result (λ done. done.superstep ≡ task.superstep) }
+    ensures part { IfOk result (λ done. done.part ≡ task.part) }
+    ensures units { IfOk result (λ done. J.honest task.epoch ≡ true
+        → AreUnitsAt J.work task.superstep task.part done.units) }
+    ensures lost { IfErr result (λ lost. lost.place ≡ Call) }
 {
     if scratch.is_none() {
         let Ok(made) = Scratch::new(alloc, job.verified()) else {
@@ -59,6 +71,7 @@ fn outcome<'a, J: Origin>(
     ensures own { event_sender result ≡ worker + 1 }
     ensures work { is_joined result ≡ false }
     ensures stays { is_lost result ≡ false }
+    ensures returns { IsReturnOf J.work J.honest (task_out task) (stamp_of result ∷ []) }
     ensures fits { IfSome scratch.new (λ scratch. scratch ≡ job.now.«module») }
 {
     match work_on(alloc, job, task, scratch) {
@@ -107,6 +120,9 @@ fn be_lost<J: Origin, G: Gate, R: Wait>(
 ) -> Result<bool, JobFault>
     ensures same { IsSamePass pass.old pass.new }
     ensures joins { OnOk result (AddsJoins (handed_in pass.old) (handed_in pass.new)) }
+    ensures taken { taken pass.new ≡ taken pass.old }
+    ensures returns { OnOk result ((task : Out)
+        → AddsReturn J.work J.honest task (handed_in pass.old) (handed_in pass.new)) }
     ensures counted { OnOk result (AddsCounted (handed_in pass.old) (handed_in pass.new)
         (heard_on reader.old) (heard_on reader.new)) }
     ensures line { reads_on reader.new ≡ reads_on reader.old }
@@ -141,6 +157,9 @@ fn work_one<'a, J: Origin, G: Gate, R: Wait>(
     ensures fits { IfSome scratch.new (λ scratch. scratch ≡ job.now.«module») }
     ensures same { IsSamePass pass.old pass.new }
     ensures joins { OnOk result (AddsJoins (handed_in pass.old) (handed_in pass.new)) }
+    ensures taken { taken pass.new ≡ taken pass.old }
+    ensures returns { OnOk result (AddsReturn J.work J.honest (task_out task)
+        (handed_in pass.old) (handed_in pass.new)) }
     ensures counted { OnOk result (AddsCounted (handed_in pass.old) (handed_in pass.new)
         (heard_on reader.old) (heard_on reader.new)) }
     ensures line { reads_on reader.new ≡ reads_on reader.old }
@@ -178,6 +197,9 @@ fn work_unless_lost<'a, J: Origin, G: Gate, R: Wait>(
     ensures fits { IfSome scratch.new (λ scratch. scratch ≡ job.now.«module») }
     ensures same { IsSamePass pass.old pass.new }
     ensures joins { OnOk result (AddsJoins (handed_in pass.old) (handed_in pass.new)) }
+    ensures taken { taken pass.new ≡ taken pass.old }
+    ensures returns { OnOk result (AddsReturn J.work J.honest (task_out task)
+        (handed_in pass.old) (handed_in pass.new)) }
     ensures counted { OnOk result (AddsCounted (handed_in pass.old) (handed_in pass.new)
         (heard_on reader.old) (heard_on reader.new)) }
     ensures line { reads_on reader.new ≡ reads_on reader.old }
@@ -204,6 +226,8 @@ fn work_until_stopped<'a, J: Origin, G: Gate, R: Wait>(
     requires fits { IfSome scratch.old (λ scratch. scratch ≡ job.now.«module») }
     ensures same { IsSamePass pass.old pass.new }
     ensures joins { OnOk result (AddsJoins (handed_in pass.old) (handed_in pass.new)) }
+    ensures returns { OnOk result (AddsReturns J.work J.honest (taken pass.old) (taken pass.new)
+        (handed_in pass.old) (handed_in pass.new)) }
     ensures counted { OnOk result (AddsCounted (handed_in pass.old) (handed_in pass.new)
         (heard_on reader.old) (heard_on reader.new)) }
     ensures line { reads_on reader.new ≡ reads_on reader.old }
@@ -211,11 +235,11 @@ fn work_until_stopped<'a, J: Origin, G: Gate, R: Wait>(
     let mut lost = false;
     for _ in rt.forever() {
         let Some(task) = pass.take(rt)? else {
-            break;
+            return Ok(());
         };
         lost = work_unless_lost(rt, alloc, job, gate, lost, pass, reader, task, scratch)?;
     }
-    Ok(())
+    unreachable!()
 }
 
 /// Runs a worker's loop. It asks the gate before each task, works on it or is lost with it, and sends the event. It joins
@@ -230,10 +254,12 @@ pub fn work_all<J: Origin, G: Gate, R: Wait>(
 ) -> Result<WorkerEnd<J>, JobFault>
     requires job { J.work ≡ job.now }
     requires new { handed_in pass ≡ [] }
+    requires untaken { taken pass ≡ [] }
     requires unheard { heard_on reader ≡ [] }
     ensures whose { IfOk result (λ end. IsReceipt pass end.receipt) }
     ensures joins { IfOk result (λ end. JoinsAfterLoss end.receipt) }
     ensures counted { IfOk result HasJoined }
+    ensures returned { IfOk result (λ end. HasReturned J.work J.honest end.receipt) }
     ensures line { IfOk result (λ end. reads_on end.reader ≡ reads_on reader) }
 {
     let mut scratch = None;

@@ -17,6 +17,7 @@ use Rattle.workers.specs.Passes.{handed_in_by}
 use Rattle.workers.specs.Steps.{stamps_in}
 use Rattle.workers.specs.Verdicts.{heard_on, reads_on, sends_on, told_to}
 use Rattle.workers.specs.inside.EventLoop.{StepsOver}
+use Rattle.workers.specs.inside.Returning.{HasReturned}
 use Rattle.workers.specs.declared.event_loop.Due.{Due}
 use Rattle.workers.specs.declared.message.Message.{Message}
 use Rattle.workers.specs.declared.pass.WorkerReceipt.{WorkerReceipt}
@@ -96,13 +97,16 @@ module _ {J : Type 0} where
   AreLinked lines w [] = Unit {0}
   AreLinked lines w (thread ∷ threads) = (slice_get lines w ≡ Some (line_of thread)) × AreLinked lines (w + 1) threads
 
-  -- what the thread of a worker returns: it heard on this channel, and joined only after losses that were counted
-  pub record IsEndOn (sender : VerdictSender) (end : WorkerEnd J) : Type 0 where
+  -- What the thread of a worker returns: it heard on this channel, and joined only after losses that were counted. It sent events
+  -- for its tasks alone.
+  pub record IsEndOn (work : Work) (honest : ℕ → Bool) (sender : VerdictSender) (end : WorkerEnd J) : Type 0 where
     pub line : reads_on end.reader ≡ sends_on sender
     pub joined : HasJoined end
+    pub returned : HasReturned work honest end.receipt
 
-  -- The workers from w on joined only after losses that were counted, by what they were told.
-  abbrev pub AreJoined : List (List Bool) → ℕ → List (WorkerReceipt J) → Type 0
-  AreJoined told w [] = Unit {0}
-  AreJoined told w (receipt ∷ receipts) =
-      (joins_counted false (told_to told w) (stamps_in (handed_in_by receipt)) ≡ true) × AreJoined told (w + 1) receipts
+  -- The workers from w on joined only after losses that were counted, by what they were told, and sent events for their tasks alone.
+  abbrev pub AreJoined : Work → (ℕ → Bool) → List (List Bool) → ℕ → List (WorkerReceipt J) → Type 0
+  AreJoined work honest told w [] = Unit {0}
+  AreJoined work honest told w (receipt ∷ receipts) =
+      (joins_counted false (told_to told w) (stamps_in (handed_in_by receipt)) ≡ true)
+      × HasReturned work honest receipt × AreJoined work honest told (w + 1) receipts

@@ -15,7 +15,7 @@ invariant-loop-thread g l = record {
   settled : AreSettled l.ends 0 l.receipts.items;
   linked : AreLinked (map sends_on l.verdicts.items) (vec_len l.receipts) (into_iter_items l.thread-iterator);
   lines : vec_len l.verdicts ≡ staff l.fn.ends;
-  joined : AreJoined (map told_on l.verdicts.items) 0 l.receipts.items;
+  joined : AreJoined g.J.Origin.work g.J.Origin.honest (map told_on l.verdicts.items) 0 l.receipts.items;
   told : map told_on l.verdicts.items ≡ map told_on l.fn.verdicts.items;
   received : received l.ends ≡ received l.fn.ends;
   handed : handed l.ends ≡ handed l.fn.ends;

@@ -9,6 +9,7 @@ use Rattle.workers.specs.Threads.{AreSettled}
 use Rattle.workers.specs.Verdicts.{heard_on, sends_on, told_on, told_to}
 use Rattle.workers.specs.inside.Joins.{AreJoined, line_of}
 use Rattle.workers.proofs.Joins.{joined_more, joins_told}
+use Rattle.workers.proofs.Returning.{returned_same}
 use Rattle.workers.proofs.SpawnedThreads.{settled_more, settled_same}
 use Rattle.workers.proofs.audit.settle_one.Goals as goal
 
@@ -65,8 +66,9 @@ returns-clause-joined g c =
     let here_told : told_to (map told_on verdicts.items) (0 + length old.items) ≡ told_on sender =
     subst (λ (k : ℕ). told_to (map told_on verdicts.items) k ≡ told_on sender) next (at_map told_on verdicts.items w sender here c.index_mut-sender.ensures.value) in
     let joins = joins_told (told_on sender) (heard_on end.reader) (stamps_in (handed_in_by end.receipt)) c.compare.ensures.prefix c.in_ok-end.ensures.2.joined in
-    subst (λ l. AreJoined l 0 c.push_reserved.new.self.items) (sym still)
-    (subst (λ l. AreJoined (map told_on verdicts.items) 0 l) (sym c.push_reserved.ensures.items)
-    (joined_more (map told_on verdicts.items) 0 old.items receipt c.requires.joined
+    subst (λ l. AreJoined g.J.Origin.work g.J.Origin.honest l 0 c.push_reserved.new.self.items) (sym still)
+    (subst (λ l. AreJoined g.J.Origin.work g.J.Origin.honest (map told_on verdicts.items) 0 l) (sym c.push_reserved.ensures.items)
+    (joined_more g.J.Origin.work g.J.Origin.honest (map told_on verdicts.items) 0 old.items receipt c.requires.joined
     (ap (λ l. joins_counted false l (stamps_in (handed_in_by receipt))) here_told
-    ∙ ap (λ l. joins_counted false (told_on sender) (stamps_in l)) c.settle-receipt.ensures.handed_in ∙ joins)))
+    ∙ ap (λ l. joins_counted false (told_on sender) (stamps_in l)) c.settle-receipt.ensures.handed_in ∙ joins)
+    (returned_same g.J.Origin.work g.J.Origin.honest end.receipt receipt c.settle-receipt.ensures.handed_in c.settle-receipt.ensures.taken c.in_ok-end.ensures.2.returned)))

@@ -50,12 +50,12 @@ returns-in-Ok-clause-joins g c =
     let told = map told_on verdicts.items in
     let many = c.settle_all.ensures.hub.workers ∙ c.drive-answer.ensures.hub.workers ∙ c.requires.workers in
     let wide : length told ≡ staff f = omega (arith, c.drive-answer.ensures.lines, c.requires.lines, verdicts.ok.0, length_map told_on verdicts.items, c.settle_all.ensures.hub.workers, c.drive-answer.ensures.hub.workers) in
-    let joined = subst (λ l. AreJoined l 0 c.in-Ok.receipts.workers.items) c.in-Ok.ensures.told c.in-Ok.ensures.joined in
+    let joined = subst (λ l. AreJoined g.J.Origin.work g.J.Origin.honest l 0 c.in-Ok.receipts.workers.items) c.in-Ok.ensures.told c.in-Ok.ensures.joined in
     let ran = subst (λ l. WhereEnded r (ToldFrom g.J.Origin.work g.J.Origin.honest c.args.book l (handed f) told r)) (sym c.settle_all.ensures.received)
     (subst (λ l. WhereEnded r (ToldFrom g.J.Origin.work g.J.Origin.honest c.args.book (received e) l told r)) (sym c.settle_all.ensures.handed) c.drive-answer.ensures.told) in
     let byes = subst (λ (n : ℕ). WhereEnded r (HasByes n (received f))) (sym c.settle_all.ensures.hub.workers)
     (subst (λ l. WhereEnded r (HasByes (staff e) l)) (sym c.settle_all.ensures.received) c.drive-answer.ensures.byes) in
-    where_two r _ _ _ (joined_from g.J.Origin.work g.J.Origin.honest c.args.book f (handed f) c.in-Ok.receipts told r c.in-Ok.ensures.settled joined many wide) ran byes
+    where_two r _ _ _ (joined_from g.J.Origin.work g.J.Origin.honest c.args.book f c.in-Ok.receipts told r c.in-Ok.ensures.settled joined many wide) ran byes
 
 pub returns-in-Ok-clause-byes : goal.returns-in-Ok-clause-byes
 returns-in-Ok-clause-byes g c =

@@ -11,4 +11,4 @@ returns-clause-since g c =
 
 pub returns-clause-kept : goal.returns-clause-kept
 returns-clause-kept g c =
-    kept_told g.K.Keep.honest g.K.Keep.saved g.K.Keep.may_load g.K.Keep.faults g.J.Origin.work g.J.Origin.honest _ _ c.args.keep c.run_job-answer.result c.run_job-answer.ensures.kept
+    kept_told g.K.Keep.honest g.K.Keep.saved g.K.Keep.may_load g.K.Keep.faults g.J.Origin.work g.J.Origin.honest _ _ c.args.keep c.run_job-answer.result c.run_job-answer.ensures.kept c.run_job-answer.ensures.joins

@@ -1,6 +1,7 @@
 use Rattle.std.proofs.Common.{◌≡◌, true, refl}
 use Rattle.workers.proofs.Joins.{counted_join, counted_loss}
 use Rattle.workers.proofs.Passing.{joins_event, joins_pair}
+use Rattle.workers.proofs.Returning.{return_joined, return_lost}
 use Rattle.workers.proofs.worker_loop.be_lost.Goals as goal
 
 pub returns-then-not-again-clause-joins : goal.returns-then-not-again-clause-joins
@@ -22,3 +23,12 @@ pub returns-clause-counted : goal.returns-clause-counted
 returns-clause-counted g c =
     let sure : c.in_ok-counted.counted ≡ true = cc in
     counted_join _ _ _ _ _ _ _ c.in_ok-hand_in.ensures.handed_in c.in_ok-hand_in-2.ensures.handed_in c.in_ok-counted.ensures.heard sure
+
+pub returns-then-not-again-clause-returns : goal.returns-then-not-again-clause-returns
+returns-then-not-again-clause-returns g c = λ task. return_lost g.J.Origin.work g.J.Origin.honest task _ _ _ c.in_ok-hand_in.ensures.handed_in
+
+pub returns-then-not-counted-clause-returns : goal.returns-then-not-counted-clause-returns
+returns-then-not-counted-clause-returns g c = λ task. return_lost g.J.Origin.work g.J.Origin.honest task _ _ _ c.in_ok-hand_in.ensures.handed_in
+
+pub returns-clause-returns : goal.returns-clause-returns
+returns-clause-returns g c = λ task. return_joined g.J.Origin.work g.J.Origin.honest task _ _ _ _ c.in_ok-hand_in.ensures.handed_in c.in_ok-hand_in-2.ensures.handed_in

@@ -1,7 +1,10 @@
-use Rattle.std.proofs.Common.{refl}
+use Rattle.std.proofs.Common.{refl, subst, sym}
 use Rattle.workers.specs.Passes.{handed_in, handed_in_by}
+use Rattle.workers.specs.Returns.{AreReturnsOf}
+use Rattle.workers.specs.Steps.{outs_in, stamps_in}
 use Rattle.workers.proofs.Joins.{counted_bye}
 use Rattle.workers.proofs.Passing.{joins_all, joins_more, joins_then}
+use Rattle.workers.proofs.Returning.{returns_all}
 use Rattle.workers.proofs.worker_loop.work_all.Goals as goal
 
 pub returns-in_ok-receipt-in-Ok-clause-joins : goal.returns-in_ok-receipt-in-Ok-clause-joins
@@ -14,3 +17,9 @@ returns-in_ok-receipt-in-Ok-clause-joins g c =
 pub returns-in_ok-receipt-in-Ok-clause-counted : goal.returns-in_ok-receipt-in-Ok-clause-counted
 returns-in_ok-receipt-in-Ok-clause-counted g c =
     counted_bye _ _ _ _ _ _ c.requires.new c.requires.unheard c.in-Ok.ensures.counted c.in_ok-receipt-in-Ok.ensures.handed_in
+
+pub returns-in_ok-receipt-in-Ok-clause-returned : goal.returns-in_ok-receipt-in-Ok-clause-returned
+returns-in_ok-receipt-in-Ok-clause-returned g c =
+    let receipt = c.in_ok-receipt-in-Ok.receipt in
+    subst (λ l. AreReturnsOf g.J.Origin.work g.J.Origin.honest (outs_in l) (stamps_in (handed_in_by receipt))) (sym c.in_ok-receipt-in-Ok.ensures.taken)
+    (returns_all g.J.Origin.work g.J.Origin.honest _ _ _ _ _ _ c.requires.untaken c.requires.new c.in-Ok.ensures.returns c.in_ok-receipt-in-Ok.ensures.handed_in)

@@ -1,9 +1,11 @@
-use Rattle.std.proofs.Common.{refl, subst, ◌∙◌}
+use Rattle.std.proofs.Common.{[], ◌∷◌, ◌++◌, ap, refl, subst, ◌∙◌}
+use Rattle.channels.specs.Orders.{order_of}
 use Rattle.workers.specs.Messages.{AddsJoins}
-use Rattle.workers.specs.Passes.{handed_in}
+use Rattle.workers.specs.Passes.{handed_in, taken}
 use Rattle.workers.specs.Verdicts.{heard_on}
 use Rattle.workers.proofs.Joins.{counted_as, counted_none, counted_then}
 use Rattle.workers.proofs.Passing.{joins_none, joins_then, pass_same, pass_then}
+use Rattle.workers.proofs.Returning.{order_stop, returns_next, returns_none, returns_stop}
 use Rattle.workers.proofs.worker_loop.work_until_stopped.Goals as goal
 
 pub loop-init : goal.loop-init
@@ -12,6 +14,7 @@ loop-init g c = record {
   same = pass_same c.args.pass.now;
   joins = joins_none (handed_in c.args.pass.now);
   counted = counted_none (handed_in c.args.pass.now) (heard_on c.args.reader.now);
+  returns = returns_none g.J.Origin.work g.J.Origin.honest (taken c.args.pass.now) (handed_in c.args.pass.now);
   line = refl;
 }
 
@@ -24,5 +27,11 @@ loop-preserved g c =
       same = pass_then i.same (pass_then c.take.ensures.same c.work_unless_lost.ensures.same);
       joins = joins_then i.joins (subst (λ l. AddsJoins l (handed_in c.work_unless_lost.new.pass)) c.take.ensures.handed_in w.joins);
       counted = counted_then i.counted (counted_as c.take.ensures.handed_in w.counted);
+      returns = returns_next g.J.Origin.work g.J.Origin.honest c.in-Some-2.task i.returns (c.work_unless_lost.ensures.taken ∙ c.in_ok-task.ensures.taken ∙ ap (λ t. taken c.loop.pass ++ order_of t ∷ []) c.in-Some-2.is) c.take.ensures.handed_in w.returns;
       line = c.work_unless_lost.ensures.line ∙ i.line;
     }
+
+pub returns-in_default-clause-returns : goal.returns-in_default-clause-returns
+returns-in_default-clause-returns g c =
+    returns_stop g.J.Origin.work g.J.Origin.honest c.loop.invariant.returns
+    (c.in_ok-task.ensures.taken ∙ ap (λ o. taken c.loop.pass ++ o ∷ []) (order_stop c.in_ok-task.field-0 c.in_default.not-Some)) c.take.ensures.handed_in

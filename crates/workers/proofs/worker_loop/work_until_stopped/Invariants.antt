@@ -1,8 +1,9 @@
 use Rattle.std.proofs.Common.{◌≡◌, IfSome}
 use Rattle.workers.specs.Messages.{AddsJoins}
-use Rattle.workers.specs.Passes.{IsSamePass, handed_in}
+use Rattle.workers.specs.Passes.{IsSamePass, handed_in, taken}
 use Rattle.workers.specs.Verdicts.{heard_on, reads_on}
 use Rattle.workers.specs.inside.Joins.{AddsCounted}
+use Rattle.workers.specs.inside.Returning.{AddsReturns}
 use Rattle.workers.proofs.worker_loop.work_until_stopped.Given as goal
 
 abbrev pub invariant-loop : goal.invariant-loop
@@ -11,5 +12,6 @@ invariant-loop g l = record {
   same : IsSamePass l.initial.pass l.pass;
   joins : AddsJoins (handed_in l.initial.pass) (handed_in l.pass);
   counted : AddsCounted (handed_in l.initial.pass) (handed_in l.pass) (heard_on l.initial.reader) (heard_on l.reader);
+  returns : AddsReturns g.J.Origin.work g.J.Origin.honest (taken l.initial.pass) (taken l.pass) (handed_in l.initial.pass) (handed_in l.pass);
   line : reads_on l.reader ≡ reads_on l.initial.reader;
 }

@@ -256,7 +256,7 @@ module _ {J : Type 0} where
   bye_kept false sender xs = refl
 
   -- a worker's events are those in its messages
-  events_of_sender : (p : ℕ) (xs : List (Message J)) → of stamp_sender p (stamps_in xs) ≡ stamps_in (of sender_of p xs)
+  pub events_of_sender : (p : ℕ) (xs : List (Message J)) → of stamp_sender p (stamps_in xs) ≡ stamps_in (of sender_of p xs)
   events_of_sender p [] = refl
   events_of_sender p (message.Event x ∷ xs) =
       ap (λ (n : ℕ). cond (n == p) (stamp_of x ∷ of stamp_sender p (stamps_in xs)) (of stamp_sender p (stamps_in xs))) (same_sender x)

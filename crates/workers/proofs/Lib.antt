@@ -1,6 +1,7 @@
 pub mod Accounts
 pub mod Calm
 pub mod Ending
+pub mod Epochs
 pub mod Faults
 pub mod HandedIn
 pub mod Handing

@@ -50,6 +50,7 @@ module _ {J : Type 0} where
     ticker = old.ticker ∙ sym hub.channels;
     workers = spawned_same ends now 0 spawned.workers.items hub.channels old.workers;
     all = old.all ∙ sym hub.workers;
+    gate = old.gate;
     nothing = old.nothing;
     room = subst (λ (n : ℕ). n ≤ vec_capacity spawned.receipts) (sym hub.workers) old.room;
   }

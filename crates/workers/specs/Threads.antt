@@ -1,5 +1,5 @@
 -- The threads of a hub, and their receipts.
-use Rattle.std.specs.Prelude.{◌≡◌, ◌≤◌, ◌+◌, ℕ, Option, Some, None, List, [], ◌∷◌, vec_len, vec_capacity, slice_index_or, false, true}
+use Rattle.std.specs.Prelude.{◌≡◌, ◌≤◌, ◌+◌, ℕ, Bool, Option, Some, None, List, [], ◌∷◌, vec_len, vec_capacity, slice_index_or, false, true}
 use Rattle.std.specs.declared.thread.PromisedHandle.{PromisedHandle}
 use Rattle.rollback.specs.declared.report.Report.{Report}
 use Rattle.workers.specs.Hub.{IsSettled, IsTickerSettled, channels_of, handed, received, staff}
@@ -29,11 +29,17 @@ module _ {J : Type 0} where
   abbrev pub IsSpawnedTicker : {T : Type 0} → CoordinatorEnds J → PromisedHandle T (TickerPromise J) → Type 0
   IsSpawnedTicker ends thread = channels_of thread.promise.hub.value ≡ channels_of ends
 
-  -- all threads of a hub, and room for the receipts of its workers
+  -- whether the gate of each of them may lose workers
+  abbrev pub AreOfGate : {T : Type 0} → (loses : Bool) → List (PromisedHandle T (WorkerPromise J)) → Type 0
+  AreOfGate loses [] = Unit {0}
+  AreOfGate loses (thread ∷ threads) = (thread.promise.loses ≡ loses) × AreOfGate loses threads
+
+  -- all threads of a hub, which have one gate, and room for the receipts of its workers
   pub record AreThreadsOf (ends : CoordinatorEnds J) (spawned : HubThreads J) : Type 0 where
     pub ticker : IsSpawnedTicker ends spawned.ticker
     pub workers : AreSpawned ends 0 spawned.workers.items
     pub all : vec_len spawned.workers ≡ staff ends
+    pub gate : AreOfGate spawned.ticker.promise.loses spawned.workers.items
     pub nothing : spawned.receipts.items ≡ []
     pub room : staff ends ≤ vec_capacity spawned.receipts
 

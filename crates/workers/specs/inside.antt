@@ -1,3 +1,4 @@
+pub mod Epochs
 pub mod EventLoop
 pub mod Joins
 pub mod Opening

@@ -1,9 +1,10 @@
 //! The audit after a job: threads are joined, and their receipts compared with what was received and sent.
 
-ghost use Rattle.std.specs.Prelude.{◌≡◌, ◌<◌, ◌+◌, map, slice_get, vec_len, vec_capacity, IfOk, OnOk, Some};
+ghost use Rattle.std.specs.Prelude.{◌≡◌, ◌<◌, ◌+◌, false, map, slice_get, vec_len, vec_capacity, IfOk, OnOk, Some};
 ghost use Rattle.workers.specs.Hub.{IsSameHub, handed, received, staff};
 ghost use Rattle.workers.specs.Threads.{AreSettled, AreThreadsOf, IsSpawned, IsSettledHub};
 ghost use Rattle.workers.specs.Verdicts.{sends_on, told_on};
+ghost use Rattle.workers.specs.inside.Epochs.{AreSteady, IsSteadyHub};
 ghost use Rattle.workers.specs.inside.Joins.{AreJoined, AreLinked, line_of};
 
 use crate::coordinator::Receipts;
@@ -38,6 +39,8 @@ fn settle_one<J: Origin, R: Threads>(
     ensures told { map told_on verdicts.new.items ≡ map told_on verdicts.old.items }
     ensures linked { map sends_on verdicts.new.items ≡ map sends_on verdicts.old.items }
     ensures lines { vec_len verdicts.new ≡ vec_len verdicts.old }
+    ensures steady { thread.promise.loses ≡ false → AreSteady receipts.old.items
+        → OnOk result (AreSteady receipts.new.items) }
     ensures len { OnOk result (vec_len receipts.new ≡ vec_len receipts.old + 1) }
     ensures room { OnOk result (vec_capacity receipts.new ≡ vec_capacity receipts.old) }
     ensures received { received ends.new ≡ received ends.old }
@@ -65,6 +68,7 @@ pub fn settle_all<J: Origin, R: Threads>(
     requires lines { vec_len verdicts.old ≡ staff ends.old }
     requires linked { AreLinked (map sends_on verdicts.old.items) 0 spawned.workers.items }
     ensures settled { IfOk result (IsSettledHub ends.new) }
+    ensures steady { spawned.ticker.promise.loses ≡ false → IfOk result IsSteadyHub }
     ensures joined { IfOk result (λ receipts.
         AreJoined J.work J.honest (map told_on verdicts.new.items) 0 receipts.workers.items) }
     ensures told { map told_on verdicts.new.items ≡ map told_on verdicts.old.items }

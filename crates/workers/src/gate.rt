@@ -28,20 +28,32 @@ pub struct Worked {
     pub found: Option<Found>,
 }
 
-/// The judge of which workers are lost and when the ticker ticks, which may also watch the job. Nothing is claimed of its answers,
-/// and the answer of a job does not depend on what it is shown.
+/// The judge of which workers are lost and when the ticker ticks, which may also watch the job. Of its answers it is claimed alone
+/// that a gate that loses nobody lets each worker go on, and no tick come. The answer of a job does not depend on what it is shown.
 ///
 /// A gate that shows progress, or reports what a job did, implements `worked`, and `counts` if it needs more than units.
 pub trait Gate {
+    ghost use Rattle.std.specs.Prelude.{◌≡◌, Bool, false};
+    ghost use Rattle.workers.specs.declared.gate.Turn.TheVariants.{Go};
+
+    /// Whether a worker may be lost or a tick come.
+    ghost loses: { Self → Bool };
+
+    /// Returns whether a worker may be lost or a tick come.
+    fn may_lose(&self) -> bool
+        ensures { result ≡ loses self.now };
+
     /// Returns what the worker does with the task of this part. It is called before each task.
-    fn before(&self, worker: u32, superstep: u32, part: u32) -> Turn;
+    fn before(&self, worker: u32, superstep: u32, part: u32) -> Turn
+        ensures goes { loses self.now ≡ false → result ≡ Go };
 
     /// Returns whether a lost worker joins again. It is called right after each `Lose`. A worker that its lease has lost before does
     /// not join.
     fn again(&self, worker: u32) -> bool;
 
     /// Returns whether the tick of this number comes. Ticks are numbered from 1. It is called before each tick.
-    fn tick(&self, n: u64) -> bool;
+    fn tick(&self, n: u64) -> bool
+        ensures never { loses self.now ≡ false → result ≡ false };
 
     /// Returns whether `worked` is shown what each task found in its part. To count that takes a look at each vertex. By default
     /// nothing is counted.
@@ -61,6 +73,14 @@ pub struct NoLoss;
 impl Gate for NoLoss {
     ghost use Rattle.std.specs.Prelude.{◌≡◌, false};
     ghost use Rattle.workers.specs.declared.gate.Turn.TheVariants.{Go};
+
+    ghost loses = { λ _. false };
+
+    fn may_lose(&self) -> bool
+        ensures { result ≡ false }
+    {
+        false
+    }
 
     fn before(&self, _worker: u32, _superstep: u32, _part: u32) -> Turn
         ensures { result ≡ Go }

@@ -1,7 +1,8 @@
 //! Running a job in threads.
 
 ghost use Rattle.std.specs.Thread.{IsSync};
-ghost use Rattle.std.specs.Prelude.{◌≡◌, ◌<◌, true, map, vec_len, IfErr, IfOk, Some};
+ghost use Rattle.std.specs.Prelude.{◌≡◌, ◌<◌, false, true, map, vec_len, IfErr, IfOk, Some};
+ghost use Rattle.rollback.specs.Machine.{count_set};
 ghost use Rattle.rollback.specs.Saving.{HasLeft, KeepsFor};
 ghost use Rattle.checkpoint.specs.Keep.{LoadsNothingElse};
 ghost use Rattle.rollback.specs.Simulation.{NeverFails};
@@ -67,6 +68,8 @@ fn drive_all<J: Origin, K: Keep, R: Wait + Threads + Sync + Files + AllocGlobal>
         (received ends.new) (handed ends.new) result.1) }
     ensures byes { WhereEnded result.1 (HasByes (staff ends.new) (received ends.new)) }
     ensures spent { IfOk result.1 (HasSpent (staff ends.new) (received ends.new)) }
+    ensures epoch { spawned.ticker.promise.loses ≡ false → count_set book.entry.waiting ≡ 0
+        → IfOk result.1 (λ report. report.epoch ≡ book.entry.epoch) }
     ensures settled { WhereEnded result.1 (HasSettled ends.new result.0) }
     ensures refused { IfErr result.1 IsDriveFault }
     ensures hub { IsSameHub ends.old ends.new }
@@ -119,6 +122,8 @@ fn run_spawned<
         (received result.0) (handed result.0) result.2) }
     ensures byes { WhereEnded result.2 (HasByes (staff result.0) (received result.0)) }
     ensures spent { IfOk result.2 (HasSpent (staff result.0) (received result.0)) }
+    ensures epoch { G.loses gate.now ≡ false → count_set book.entry.waiting ≡ 0
+        → IfOk result.2 (λ report. report.epoch ≡ book.entry.epoch) }
     ensures settled { WhereEnded result.2 (HasSettled result.0 result.1) }
     ensures idle { WhereRefused result.2 (IsIdle result.0) }
     ensures refused { IfErr result.2 IsRunFault }
@@ -142,6 +147,8 @@ fn run_spawned<
                 (received result.0) (handed result.0) result.2) }
             ensures byes { WhereEnded result.2 (HasByes (staff result.0) (received result.0)) }
             ensures spent { IfOk result.2 (HasSpent (staff result.0) (received result.0)) }
+            ensures epoch { G.loses gate.entry.now ≡ false → count_set book.entry.waiting ≡ 0
+                → IfOk result.2 (λ report. report.epoch ≡ book.entry.epoch) }
             ensures settled { WhereEnded result.2 (HasSettled result.0 result.1) }
             ensures idle { WhereRefused result.2 (IsIdle result.0) }
             ensures refused { IfErr result.2 IsRunFault }
@@ -212,6 +219,8 @@ pub fn run_job<
     ensures spent { IfOk result
         (HasSpent (lent.staff coordinator.new) (lent.received coordinator.new)) }
     ensures handed_in { IfOk result (lent.HasHandedIn coordinator.new) }
+    // If the gate may lose nobody, the job ends in the epoch in which it began, so nothing is loaded.
+    ensures epoch { G.loses gate.now ≡ false → IfOk result (λ report. report.epoch ≡ 0) }
     // All that the threads sent was received, once and in order, and what workers took is what they were sent.
     ensures settled { WhereRun result (lent.IsSettled coordinator.new) }
     ensures idle { WhereRefused result (lent.IsIdle coordinator.new) }

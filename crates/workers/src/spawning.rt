@@ -1,17 +1,18 @@
 //! Starting the threads of a hub.
 
-ghost use Rattle.std.specs.Prelude.{◌≡◌, [], map, vec_len, IfErr, IfOk};
+ghost use Rattle.std.specs.Prelude.{◌≡◌, [], false, map, vec_len, IfErr, IfOk};
 ghost use Rattle.superstep.specs.declared.fault.JobFault.TheVariants.{ThreadRefused};
 ghost use Rattle.workers.specs.Hub.{AreNewPasses, IsNewPass, IsNewTicker, channels_of, staff};
-ghost use Rattle.workers.specs.Passes.{IsReceipt, handed_in, taken};
-ghost use Rattle.workers.specs.Threads.{AreSpawned, AreThreadsOf, IsSpawned, IsSpawnedTicker, JoinsAfterLoss};
+ghost use Rattle.workers.specs.Passes.{IsReceipt, IsTickReceipt, handed_in, taken, ticked};
+ghost use Rattle.workers.specs.Threads.{AreOfGate, AreSpawned, AreThreadsOf, IsSpawned, IsSpawnedTicker, JoinsAfterLoss};
 ghost use Rattle.workers.specs.Verdicts.{heard_on, reads_on, sends_on, told_on};
+ghost use Rattle.workers.specs.inside.Epochs.{IsSteady, IsSteadyTicker};
 ghost use Rattle.workers.specs.inside.Joins.{AreLinked, AreUntold, HasJoined, line_of};
 ghost use Rattle.workers.specs.inside.Returning.{HasReturned};
 
 use crate::coordinator_ends::CoordinatorEnds;
 use crate::gate::Gate;
-use crate::pass::{TickPass, WorkerPass};
+use crate::pass::{TickPass, TickReceipt, WorkerPass};
 use crate::thread_promises::{HubThreads, TickThread, TickerPromise, WorkerPromise, WorkerThread};
 use crate::verdict::VerdictSender;
 use crate::worker_loop::{WorkerEnd, tick_all, work_all};
@@ -38,6 +39,7 @@ pub fn spawn_all<'s, E, J: Origin + Send + Sync + 's, G: Gate + Sync + 's, R: Wa
     requires all { vec_len passes ≡ staff ends.now }
     requires ticker { IsNewTicker (channels_of ends.now) ticker }
     ensures spawned { IfOk result (λ pair. AreThreadsOf ends.now pair.0) }
+    ensures gate { IfOk result (λ pair. pair.0.ticker.promise.loses ≡ G.loses gate.now) }
     ensures linked { IfOk result (λ pair.
         AreLinked (map sends_on pair.1.items) 0 pair.0.workers.items) }
     ensures lines { IfOk result (λ pair. vec_len pair.1 ≡ staff ends.now) }
@@ -79,6 +81,7 @@ fn spawn_workers<'s, E, J: Origin + Send + Sync + 's, G: Gate + Sync + 's, R: Wa
     requires job { J.work ≡ job.now }
     requires passes { AreNewPasses (channels_of ends.now) 0 passes.items }
     ensures spawned { IfOk result (λ pair. AreSpawned ends.now 0 pair.0.items) }
+    ensures gate { IfOk result (λ pair. AreOfGate (G.loses gate.now) pair.0.items) }
     ensures all { IfOk result (λ pair. vec_len pair.0 ≡ vec_len passes) }
     ensures linked { IfOk result (λ pair. AreLinked (map sends_on pair.1.items) 0 pair.0.items) }
     ensures lines { IfOk result (λ pair. vec_len pair.1 ≡ vec_len passes) }
@@ -112,6 +115,7 @@ fn spawn_worker<'s, E, J: Origin + Send + Sync + 's, G: Gate + Sync + 's, R: Wai
     requires job { J.work ≡ job.now }
     requires pass { IsNewPass (channels_of ends.now) pass.worker pass }
     ensures spawned { IfOk result (λ pair. IsSpawned ends.now pass.worker pair.0) }
+    ensures gate { IfOk result (λ pair. pair.0.promise.loses ≡ G.loses gate.now) }
     ensures line { IfOk result (λ pair. line_of pair.0 ≡ sends_on pair.1) }
     ensures untold { IfOk result (λ pair. told_on pair.1 ≡ []) }
     ensures refused { IfErr result (λ fault. fault ≡ ThreadRefused) }
@@ -123,6 +127,7 @@ fn spawn_worker<'s, E, J: Origin + Send + Sync + 's, G: Gate + Sync + 's, R: Wai
         worker: pass.worker(),
         hub: Snapshot::of(ends),
         line: Snapshot::of(&sender),
+        loses: gate.may_lose(),
     };
     let work = move || -> Result<WorkerEnd<J>, JobFault>
         requires job { J.work ≡ job.now }
@@ -133,6 +138,7 @@ fn spawn_worker<'s, E, J: Origin + Send + Sync + 's, G: Gate + Sync + 's, R: Wai
         ensures joins { IfOk result (λ end. JoinsAfterLoss end.receipt) }
         ensures counted { IfOk result HasJoined }
         ensures returned { IfOk result (λ end. HasReturned J.work J.honest end.receipt) }
+        ensures steady { G.loses gate.entry.now ≡ false → IfOk result (λ end. IsSteady end.receipt) }
         ensures line { IfOk result (λ end. reads_on end.reader ≡ reads_on reader) }
     { work_all(rt, alloc, job, gate, pass, reader) };
     match scope.spawn_with(promise, work) {
@@ -151,12 +157,19 @@ fn spawn_ticker<'s, E, J: Origin + Send + Sync + 's, G: Gate + Sync + 's, R: Wai
 ) -> Result<TickThread<J>, JobFault>
     requires { IsNewTicker (channels_of ends.now) pass }
     ensures spawned { IfOk result (IsSpawnedTicker ends.now) }
+    ensures gate { IfOk result (λ thread. thread.promise.loses ≡ G.loses gate.now) }
     ensures refused { IfErr result (λ fault. fault ≡ ThreadRefused) }
 {
     let promise = TickerPromise {
         hub: Snapshot::of(ends),
+        loses: gate.may_lose(),
     };
-    match scope.spawn_with(promise, move || tick_all(rt, gate, pass)) {
+    let work = move || -> Result<TickReceipt<J>, JobFault>
+        requires new { ticked pass ≡ [] }
+        ensures whose { IfOk result (IsTickReceipt pass) }
+        ensures steady { G.loses gate.entry.now ≡ false → IfOk result IsSteadyTicker }
+    { tick_all(rt, gate, pass) };
+    match scope.spawn_with(promise, work) {
         Ok(thread) => Ok(thread),
         Err(_) => Err(JobFault::ThreadRefused),
     }

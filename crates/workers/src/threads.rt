@@ -1,6 +1,6 @@
 //! Running a job in threads over a hub of its own.
 
-ghost use Rattle.std.specs.Prelude.{◌≡◌, ◌<◌, true, IfErr, IfOk, Some};
+ghost use Rattle.std.specs.Prelude.{◌≡◌, ◌<◌, false, true, IfErr, IfOk, Some};
 ghost use Rattle.rollback.specs.Saving.{HasLeft};
 ghost use Rattle.superstep.specs.Ending.{IsEndOf};
 ghost use Rattle.superstep.specs.Tasks.{trusts};
@@ -37,6 +37,7 @@ fn run_as<
         (IsKeptRun K.honest K.saved K.may_load K.faults J.work J.honest keep result) }
     ensures calm { LoadsNothingElse K.saved K.may_load → NeverFails K.faults
         → IfOk result IsCalmReport }
+    ensures epoch { G.loses gate.now ≡ false → IfOk result (λ report. report.epoch ≡ 0) }
     ensures refused { IfErr result IsRunFault }
 {
     let (mut coordinator, passes, ticker) = Hub::open::<J, K>(alloc, job, &keep)?;
@@ -68,6 +69,8 @@ pub fn run_in_threads<
     // If the Keep loads only what was saved and its device never fails, no save is missed and the job never begins again.
     ensures calm { LoadsNothingElse K.saved K.may_load → NeverFails K.faults
         → IfOk result IsCalmReport }
+    // If the gate may lose nobody, the job ends in epoch 0, whatever its Keep is.
+    ensures epoch { G.loses gate.now ≡ false → IfOk result (λ report. report.epoch ≡ 0) }
     ensures refused { IfErr result IsRunFault }
 {
     run_as::<Brand, K, G, R>(rt, alloc, job, keep, gate)

@@ -6,10 +6,12 @@ ghost use Rattle.superstep.specs.declared.fault.Place.TheVariants.{Call};
 ghost use Rattle.rollback.specs.declared.control.Out.{Out};
 ghost use Rattle.rollback.specs.Book.{stamp_of, task_out};
 ghost use Rattle.workers.specs.Messages.{AddsJoins, event_sender, is_joined, is_lost};
-ghost use Rattle.workers.specs.Passes.{IsReceipt, IsSamePass, IsTickReceipt, handed_in, taken, worker_of};
+ghost use Rattle.workers.specs.Passes.{IsReceipt, IsSamePass, IsTickReceipt, handed_in, taken, ticked, worker_of};
 ghost use Rattle.workers.specs.Returns.{IsReturnOf};
+ghost use Rattle.workers.specs.Steps.{stamps_in};
 ghost use Rattle.workers.specs.Threads.{JoinsAfterLoss};
 ghost use Rattle.workers.specs.Verdicts.{heard_on, reads_on};
+ghost use Rattle.workers.specs.inside.Epochs.{IsSteady, IsSteadyTicker, may_renew, renews};
 ghost use Rattle.workers.specs.inside.Joins.{AddsCounted, HasJoined};
 ghost use Rattle.workers.specs.inside.Returning.{AddsReturn, AddsReturns, HasReturned};
 
@@ -71,6 +73,7 @@ fn outcome<'a, J: Origin>(
     ensures own { event_sender result ≡ worker + 1 }
     ensures work { is_joined result ≡ false }
     ensures stays { is_lost result ≡ false }
+    ensures steady { may_renew (stamp_of result) ≡ false }
     ensures returns { IsReturnOf J.work J.honest (task_out task) (stamp_of result ∷ []) }
     ensures fits { IfSome scratch.new (λ scratch. scratch ≡ job.now.«module») }
 {
@@ -162,6 +165,8 @@ fn work_one<'a, J: Origin, G: Gate, R: Wait>(
         (handed_in pass.old) (handed_in pass.new)) }
     ensures counted { OnOk result (AddsCounted (handed_in pass.old) (handed_in pass.new)
         (heard_on reader.old) (heard_on reader.new)) }
+    ensures steady { G.loses gate.now ≡ false → OnOk result
+        (renews (stamps_in (handed_in pass.new)) ≡ renews (stamps_in (handed_in pass.old))) }
     ensures line { reads_on reader.new ≡ reads_on reader.old }
 {
     let worker = pass.worker();
@@ -202,6 +207,8 @@ fn work_unless_lost<'a, J: Origin, G: Gate, R: Wait>(
         (handed_in pass.old) (handed_in pass.new)) }
     ensures counted { OnOk result (AddsCounted (handed_in pass.old) (handed_in pass.new)
         (heard_on reader.old) (heard_on reader.new)) }
+    ensures steady { G.loses gate.now ≡ false → OnOk result
+        (renews (stamps_in (handed_in pass.new)) ≡ renews (stamps_in (handed_in pass.old))) }
     ensures line { reads_on reader.new ≡ reads_on reader.old }
 {
     if lost {
@@ -230,6 +237,8 @@ fn work_until_stopped<'a, J: Origin, G: Gate, R: Wait>(
         (handed_in pass.old) (handed_in pass.new)) }
     ensures counted { OnOk result (AddsCounted (handed_in pass.old) (handed_in pass.new)
         (heard_on reader.old) (heard_on reader.new)) }
+    ensures steady { G.loses gate.now ≡ false → OnOk result
+        (renews (stamps_in (handed_in pass.new)) ≡ renews (stamps_in (handed_in pass.old))) }
     ensures line { reads_on reader.new ≡ reads_on reader.old }
 {
     let mut lost = false;
@@ -260,6 +269,7 @@ pub fn work_all<J: Origin, G: Gate, R: Wait>(
     ensures joins { IfOk result (λ end. JoinsAfterLoss end.receipt) }
     ensures counted { IfOk result HasJoined }
     ensures returned { IfOk result (λ end. HasReturned J.work J.honest end.receipt) }
+    ensures steady { G.loses gate.now ≡ false → IfOk result (λ end. IsSteady end.receipt) }
     ensures line { IfOk result (λ end. reads_on end.reader ≡ reads_on reader) }
 {
     let mut scratch = None;
@@ -284,7 +294,9 @@ pub fn tick_all<J: Origin, G: Gate, R: Wait>(
     gate: &G,
     mut pass: TickPass<J>,
 ) -> Result<TickReceipt<J>, JobFault>
-    ensures { IfOk result (IsTickReceipt pass) }
+    requires new { ticked pass ≡ [] }
+    ensures whose { IfOk result (IsTickReceipt pass) }
+    ensures steady { G.loses gate.now ≡ false → IfOk result IsSteadyTicker }
 {
     for n in 1..u64::MAX {
         if pass.stopped() || !gate.tick(n) {

@@ -1,8 +1,9 @@
-use Rattle.std.proofs.Common.{◌≡◌, ◌+◌, ◌≤◌, map, vec_len, vec_capacity}
+use Rattle.std.proofs.Common.{◌≡◌, ◌+◌, ◌≤◌, false, map, vec_len, vec_capacity}
 use Rattle.std.specs.Vec.Iter.{into_iter_items, into_iter_len}
 use Rattle.workers.specs.Hub.{IsSameHub, IsTickerSettled, handed, received, staff}
-use Rattle.workers.specs.Threads.{AreSpawned, AreSettled}
+use Rattle.workers.specs.Threads.{AreOfGate, AreSpawned, AreSettled}
 use Rattle.workers.specs.Verdicts.{sends_on, told_on}
+use Rattle.workers.specs.inside.Epochs.{AreSteady, IsSteadyTicker}
 use Rattle.workers.specs.inside.Joins.{AreJoined, AreLinked}
 use Rattle.workers.proofs.audit.settle_all.Given as goal
 
@@ -16,6 +17,9 @@ invariant-loop-thread g l = record {
   linked : AreLinked (map sends_on l.verdicts.items) (vec_len l.receipts) (into_iter_items l.thread-iterator);
   lines : vec_len l.verdicts ≡ staff l.fn.ends;
   joined : AreJoined g.J.Origin.work g.J.Origin.honest (map told_on l.verdicts.items) 0 l.receipts.items;
+  gate : AreOfGate l.fn.spawned.ticker.promise.loses (into_iter_items l.thread-iterator);
+  ticks : l.fn.spawned.ticker.promise.loses ≡ false → IsSteadyTicker l.ticker;
+  steady : l.fn.spawned.ticker.promise.loses ≡ false → AreSteady l.receipts.items;
   told : map told_on l.verdicts.items ≡ map told_on l.fn.verdicts.items;
   received : received l.ends ≡ received l.fn.ends;
   handed : handed l.ends ≡ handed l.fn.ends;

@@ -7,7 +7,9 @@ use Rattle.workers.specs.Passes.{handed_in_by}
 use Rattle.workers.specs.Steps.{stamps_in}
 use Rattle.workers.specs.Threads.{AreSettled}
 use Rattle.workers.specs.Verdicts.{heard_on, sends_on, told_on, told_to}
+use Rattle.workers.specs.inside.Epochs.{AreSteady, renews}
 use Rattle.workers.specs.inside.Joins.{AreJoined, line_of}
+use Rattle.workers.proofs.Epochs.{steady_more}
 use Rattle.workers.proofs.Joins.{joined_more, joins_told}
 use Rattle.workers.proofs.Returning.{returned_same}
 use Rattle.workers.proofs.SpawnedThreads.{settled_more, settled_same}
@@ -72,3 +74,10 @@ returns-clause-joined g c =
     (ap (λ l. joins_counted false l (stamps_in (handed_in_by receipt))) here_told
     ∙ ap (λ l. joins_counted false (told_on sender) (stamps_in l)) c.settle-receipt.ensures.handed_in ∙ joins)
     (returned_same g.J.Origin.work g.J.Origin.honest end.receipt receipt c.settle-receipt.ensures.handed_in c.settle-receipt.ensures.taken c.in_ok-end.ensures.2.returned)))
+
+pub returns-clause-steady : goal.returns-clause-steady
+returns-clause-steady g c = λ never old.
+    let receipt = c.settle-receipt.result in
+    subst (λ l. AreSteady l) (sym c.push_reserved.ensures.items)
+    (steady_more c.args.receipts.now.items receipt old
+    (ap (λ l. renews (stamps_in l)) c.settle-receipt.ensures.handed_in ∙ c.in_ok-end.ensures.3 never))

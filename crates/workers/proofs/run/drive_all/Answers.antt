@@ -5,6 +5,7 @@ use Rattle.workers.specs.Verdicts.{told_on}
 use Rattle.workers.specs.inside.Joins.{AreJoined, AreLinked, ToldFrom}
 use Rattle.channels.proofs.Handing.{length_map}
 use Rattle.workers.proofs.Ending.{not_ended, where_ended, where_mapped, where_two, with_last}
+use Rattle.workers.proofs.Epochs.{epoch_told}
 use Rattle.workers.proofs.Handing.{hub_then}
 use Rattle.workers.proofs.Joins.{joined_from}
 use Rattle.workers.proofs.SpawnedThreads.{threads_same}
@@ -56,6 +57,18 @@ returns-in-Ok-clause-joins g c =
     let byes = subst (λ (n : ℕ). WhereEnded r (HasByes n (received f))) (sym c.settle_all.ensures.hub.workers)
     (subst (λ l. WhereEnded r (HasByes (staff e) l)) (sym c.settle_all.ensures.received) c.drive-answer.ensures.byes) in
     where_two r _ _ _ (joined_from g.J.Origin.work g.J.Origin.honest c.args.book f c.in-Ok.receipts told r c.in-Ok.ensures.settled joined many wide) ran byes
+
+pub returns-in-Ok-clause-epoch : goal.returns-in-Ok-clause-epoch
+returns-in-Ok-clause-epoch g c = λ never none.
+    let r = c.drive-answer.result in
+    let e = c.drive-answer.new.self in
+    let f = c.settle_all.new.ends in
+    let told = map told_on c.drive-answer.new.verdicts.items in
+    let width = c.requires.book.width ∙ sym (c.settle_all.ensures.hub.workers ∙ c.drive-answer.ensures.hub.workers ∙ c.requires.workers) in
+    let ran = subst (λ l. WhereEnded r (ToldFrom g.J.Origin.work g.J.Origin.honest c.args.book l (handed e) told r)) (sym c.settle_all.ensures.received) c.drive-answer.ensures.told in
+    let byes = subst (λ (n : ℕ). WhereEnded r (HasByes n (received f))) (sym c.settle_all.ensures.hub.workers)
+    (subst (λ l. WhereEnded r (HasByes (staff e) l)) (sym c.settle_all.ensures.received) c.drive-answer.ensures.byes) in
+    epoch_told g.J.Origin.work g.J.Origin.honest c.args.book f (handed e) c.in-Ok.receipts told r c.in-Ok.ensures.settled (c.in-Ok.ensures.steady never) width none ran byes
 
 pub returns-in-Ok-clause-byes : goal.returns-in-Ok-clause-byes
 returns-in-Ok-clause-byes g c =

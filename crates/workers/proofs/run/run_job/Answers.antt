@@ -1,5 +1,9 @@
 use Rattle.workers.proofs.Ending.{calm_told, ended_own, joined_opened, keeps_first, opened_of, own_opened, unspent_opened, where_mapped, where_run}
+use Rattle.std.proofs.Common.{◌∙◌, ap}
+use Rattle.rollback.specs.Machine.{Machine, count_set}
+use Rattle.rollback.proofs.ByPlace.{count_none}
 use Rattle.workers.specs.Hub.{handed, received}
+use Rattle.workers.proofs.Epochs.{epoch_none}
 use Rattle.workers.proofs.HandedIn.{handed_in}
 use Rattle.workers.proofs.run.run_job.Goals as goal
 
@@ -50,3 +54,10 @@ returns-clause-handed_in g c =
     let r = c.run_spawned-ends.result in
     let e = c.run_spawned-ends.ensures in
     handed_in r.0 r.1 r.2 e.settled e.byes e.spent
+
+pub returns-clause-epoch : goal.returns-clause-epoch
+returns-clause-epoch g c = λ never.
+    let r = c.run_spawned-ends.result in
+    let o = opened_of g.J.Origin.work c.args.job.now c.in-Ok.book c.requires.job c.in-Ok.ensures.opened in
+    let none = ap (λ (m : Machine). count_set m.waiting) o.2 ∙ count_none g.J.Origin.work.settings.workers in
+    epoch_none r.2 c.in-Ok.book.epoch (ap (λ (m : Machine). m.epoch) o.2) (c.run_spawned-ends.ensures.epoch never none)

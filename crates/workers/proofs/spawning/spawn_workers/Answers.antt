@@ -2,6 +2,7 @@ use Rattle.std.proofs.Common.{◌∷◌, [], ◌∙◌, ap, map, rules, arith}
 use mathlib.Core.List.{map-append}
 use Rattle.channels.proofs.Handing.{length_map}
 use Rattle.workers.specs.Verdicts.{sends_on, told_on, told_to}
+use Rattle.workers.proofs.Epochs.{gate_more}
 use Rattle.workers.proofs.Joins.{linked_next}
 use Rattle.workers.proofs.Opening.{at_more}
 use Rattle.workers.proofs.SpawnedThreads.{spawned_next, pass_first, pass_rest}
@@ -21,6 +22,7 @@ loop-pass-preserved g c =
       rest = pass_rest _ _ _ _ pass _ step.0 c.push_reserved.ensures.len i.rest;
       all = search rules;
       spawned = spawned_next c.args.ends.now pass.worker threads.items _ one.thread c.push_reserved.ensures.items (omega (arith, new.worker)) i.spawned one.ensures.spawned;
+      gate = gate_more _ threads.items _ one.thread c.push_reserved.ensures.items i.gate one.ensures.gate;
       room = search rules;
       linked = linked_next (map sends_on verdicts.items) _ (sends_on one.sender) threads.items _ one.thread (ap (map sends_on) added ∙ map-append sends_on verdicts.items (one.sender ∷ [])) c.push_reserved.ensures.items
           (omega (arith, i.lines, threads.ok.0, verdicts.ok.0, length_map sends_on verdicts.items)) one.ensures.line i.linked;

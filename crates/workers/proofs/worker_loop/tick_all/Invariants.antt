@@ -1,5 +1,9 @@
-use Rattle.workers.specs.Passes.{IsSameTicker}
+use Rattle.std.proofs.Common.{◌≡◌, false}
+use Rattle.workers.specs.Passes.{IsSameTicker, ticked}
 use Rattle.workers.proofs.worker_loop.tick_all.Given as goal
 
 abbrev pub invariant-loop-n : goal.invariant-loop-n
-invariant-loop-n g l = IsSameTicker l.fn.pass l.pass
+invariant-loop-n g l = record {
+  same : IsSameTicker l.fn.pass l.pass;
+  steady : g.G.Gate.loses l.gate ≡ false → ticked l.pass ≡ ticked l.fn.pass;
+}

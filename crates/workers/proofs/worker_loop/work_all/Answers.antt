@@ -2,6 +2,7 @@ use Rattle.std.proofs.Common.{refl, subst, sym}
 use Rattle.workers.specs.Passes.{handed_in, handed_in_by}
 use Rattle.workers.specs.Returns.{AreReturnsOf}
 use Rattle.workers.specs.Steps.{outs_in, stamps_in}
+use Rattle.workers.proofs.Epochs.{steady_bye}
 use Rattle.workers.proofs.Joins.{counted_bye}
 use Rattle.workers.proofs.Passing.{joins_all, joins_more, joins_then}
 use Rattle.workers.proofs.Returning.{returns_all}
@@ -23,3 +24,7 @@ returns-in_ok-receipt-in-Ok-clause-returned g c =
     let receipt = c.in_ok-receipt-in-Ok.receipt in
     subst (λ l. AreReturnsOf g.J.Origin.work g.J.Origin.honest (outs_in l) (stamps_in (handed_in_by receipt))) (sym c.in_ok-receipt-in-Ok.ensures.taken)
     (returns_all g.J.Origin.work g.J.Origin.honest _ _ _ _ _ _ c.requires.untaken c.requires.new c.in-Ok.ensures.returns c.in_ok-receipt-in-Ok.ensures.handed_in)
+
+pub returns-in_ok-receipt-in-Ok-clause-steady : goal.returns-in_ok-receipt-in-Ok-clause-steady
+returns-in_ok-receipt-in-Ok-clause-steady g c = λ never.
+    steady_bye _ _ _ _ c.requires.new (c.in-Ok.ensures.steady never) c.in_ok-receipt-in-Ok.ensures.handed_in

@@ -1,6 +1,7 @@
 use Rattle.rollback.specs.Book.{task_out}
 use Rattle.channels.proofs.Handing.{on_ok}
 use Rattle.workers.specs.Verdicts.{heard_on}
+use Rattle.workers.proofs.Epochs.{steady_event}
 use Rattle.workers.proofs.Joins.{counted_event}
 use Rattle.workers.proofs.Passing.{joins_event}
 use Rattle.workers.proofs.Returning.{return_event}
@@ -19,3 +20,6 @@ returns-in_ok-hand_in-in-Go-clause-returns g c =
 
 pub returns-in-Lose-clause-returns : goal.returns-in-Lose-clause-returns
 returns-in-Lose-clause-returns g c = on_ok _ _ c.be_lost.result c.be_lost.ensures.returns (λ lost. lost (task_out c.args.task))
+
+pub returns-in_ok-hand_in-in-Go-clause-steady : goal.returns-in_ok-hand_in-in-Go-clause-steady
+returns-in_ok-hand_in-in-Go-clause-steady g c = λ never. steady_event _ _ _ c.in_ok-hand_in-in-Go.ensures.handed_in c.outcome-event.ensures.steady

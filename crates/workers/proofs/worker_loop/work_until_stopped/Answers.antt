@@ -2,7 +2,9 @@ use Rattle.std.proofs.Common.{[], ◌∷◌, ◌++◌, ap, refl, subst, ◌∙�
 use Rattle.channels.specs.Orders.{order_of}
 use Rattle.workers.specs.Messages.{AddsJoins}
 use Rattle.workers.specs.Passes.{handed_in, taken}
+use Rattle.workers.specs.Steps.{stamps_in}
 use Rattle.workers.specs.Verdicts.{heard_on}
+use Rattle.workers.specs.inside.Epochs.{renews}
 use Rattle.workers.proofs.Joins.{counted_as, counted_none, counted_then}
 use Rattle.workers.proofs.Passing.{joins_none, joins_then, pass_same, pass_then}
 use Rattle.workers.proofs.Returning.{order_stop, returns_next, returns_none, returns_stop}
@@ -15,6 +17,7 @@ loop-init g c = record {
   joins = joins_none (handed_in c.args.pass.now);
   counted = counted_none (handed_in c.args.pass.now) (heard_on c.args.reader.now);
   returns = returns_none g.J.Origin.work g.J.Origin.honest (taken c.args.pass.now) (handed_in c.args.pass.now);
+  steady = λ never. refl;
   line = refl;
 }
 
@@ -28,6 +31,7 @@ loop-preserved g c =
       joins = joins_then i.joins (subst (λ l. AddsJoins l (handed_in c.work_unless_lost.new.pass)) c.take.ensures.handed_in w.joins);
       counted = counted_then i.counted (counted_as c.take.ensures.handed_in w.counted);
       returns = returns_next g.J.Origin.work g.J.Origin.honest c.in-Some-2.task i.returns (c.work_unless_lost.ensures.taken ∙ c.in_ok-task.ensures.taken ∙ ap (λ t. taken c.loop.pass ++ order_of t ∷ []) c.in-Some-2.is) c.take.ensures.handed_in w.returns;
+      steady = λ never. w.steady never ∙ ap (λ l. renews (stamps_in l)) c.take.ensures.handed_in ∙ i.steady never;
       line = c.work_unless_lost.ensures.line ∙ i.line;
     }
 

@@ -1,7 +1,9 @@
-use Rattle.std.proofs.Common.{◌≡◌, IfSome}
+use Rattle.std.proofs.Common.{◌≡◌, IfSome, false}
 use Rattle.workers.specs.Messages.{AddsJoins}
 use Rattle.workers.specs.Passes.{IsSamePass, handed_in, taken}
 use Rattle.workers.specs.Verdicts.{heard_on, reads_on}
+use Rattle.workers.specs.Steps.{stamps_in}
+use Rattle.workers.specs.inside.Epochs.{renews}
 use Rattle.workers.specs.inside.Joins.{AddsCounted}
 use Rattle.workers.specs.inside.Returning.{AddsReturns}
 use Rattle.workers.proofs.worker_loop.work_until_stopped.Given as goal
@@ -13,5 +15,6 @@ invariant-loop g l = record {
   joins : AddsJoins (handed_in l.initial.pass) (handed_in l.pass);
   counted : AddsCounted (handed_in l.initial.pass) (handed_in l.pass) (heard_on l.initial.reader) (heard_on l.reader);
   returns : AddsReturns g.J.Origin.work g.J.Origin.honest (taken l.initial.pass) (taken l.pass) (handed_in l.initial.pass) (handed_in l.pass);
+  steady : g.G.Gate.loses l.gate ≡ false → renews (stamps_in (handed_in l.pass)) ≡ renews (stamps_in (handed_in l.initial.pass));
   line : reads_on l.reader ≡ reads_on l.initial.reader;
 }

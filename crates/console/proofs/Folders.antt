@@ -1,6 +1,6 @@
 -- Why a folder is not made ready for the states of a job.
 use denote.Bor.{Bor}
-use Rattle.std.proofs.Common.{inl, inr, ◌≡◌, ◌⊎◌, Bool, false, true, List, Result, Some, ℕ, refl, subst, sym}
+use Rattle.std.proofs.Common.{inl, inr, ◌≡◌, ◌⊎◌, Bool, false, true, List, Option, None, Result, Some, ℕ, refl, subst, sym}
 use Rattle.std.specs.Prelude.{String}
 use Rattle.command_line.specs.declared.request.JobRequest.{JobRequest}
 use Rattle.command_line.specs.declared.request.RunRequest.{RunRequest}
@@ -10,7 +10,8 @@ use Rattle.sources.specs.Disk.{Disk, Stays}
 use Rattle.sources.proofs.Disks.{unread_before}
 use Rattle.sources.specs.OutputLines.{IfText}
 use Rattle.superstep.specs.Job.{Work}
-use Rattle.console.specs.Jobs.{AreEndLines, AreKeptLines, AreRunLines, IsNoFolder}
+use Rattle.console.specs.Jobs.{AreEndLines, AreJobLines, AreKeptLines, AreRunLines, IsNoFolder}
+use Rattle.console.specs.declared.loss.Loss.{Loss}
 use Rattle.console.specs.FileCommands.{IsFaultOfKeeping, IsNotReady, IsNotResumed, IsUnidentified}
 
 -- a job that is not identified after a read was not identified before
@@ -45,8 +46,10 @@ nested (inl a) = inl a
 nested (inr b) = inr (inl b)
 
 -- the lines of a run whose states are kept in a folder
-pub folder_lines : {Z E : Type 0} (job : Work) (folder : Bor (List ℕ)) (resumes tells_units : Bool) (answer : Result (String Z) E)
+pub folder_lines : {Z E : Type 0} (job : Work) (folder : Bor (List ℕ)) (loss : Option Loss) (resumes tells_units : Bool) (answer : Result (String Z) E)
     → IfText answer (AreEndLines tells_units) → (resumes ≡ false → IfText answer (AreKeptLines job tells_units))
-    → IfText answer (AreRunLines job (Some folder) resumes tells_units)
-folder_lines job folder true tells_units answer ends kept = ends
-folder_lines job folder false tells_units answer ends kept = kept refl
+    → (resumes ≡ false → loss ≡ None → IfText answer (AreJobLines job tells_units))
+    → IfText answer (AreRunLines job (Some folder) loss resumes tells_units)
+folder_lines job folder loss true tells_units answer ends kept unlost = ends
+folder_lines job folder None false tells_units answer ends kept unlost = unlost refl refl
+folder_lines job folder (Some loss) false tells_units answer ends kept unlost = kept refl

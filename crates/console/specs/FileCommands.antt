@@ -67,7 +67,7 @@ pub record PrintsRun (disk : Disk) (asked : RunRequest) (told : List ℕ) : Type
   pub named : NamesLoss asked.lose loss
   pub job : Work
   pub is_job : IsJobAt disk asked.job job
-  pub lines : AreRunLines job asked.keep asked.resume asked.job.tells_units told
+  pub lines : AreRunLines job asked.keep loss asked.resume asked.job.tells_units told
 
 -- the file's text means these steps
 abbrev pub AreStepsAt : Disk → (path : List ℕ) → List Step → Type 0

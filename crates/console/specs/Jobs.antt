@@ -7,6 +7,7 @@ use Rattle.superstep.specs.Job.{Meaning, Work}
 use Rattle.superstep.specs.PlainRun.{Answer, IsAnswer, units_at}
 use Rattle.rollback.specs.declared.report.Report.{Report}
 use Rattle.workers.specs.JobAnswers.{IsRunFault}
+use Rattle.console.specs.declared.loss.Loss.{Loss}
 use Rattle.sources.specs.OutputLines.{ended_lines, job_lines}
 use Rattle.sources.specs.declared.fault.CommandFault.{CommandFault}
 use Rattle.sources.specs.declared.fault.CommandFault.TheVariants as command
@@ -33,12 +34,14 @@ pub record AreKeptLines (job : Work) (tells_units : Bool) (lines : List ℕ) : T
   pub answer : report.epoch ≡ 0 → AreJobLines job tells_units lines
 
 -- The lines of a run in threads. If states are kept in memory, they are those of the job's answer. If states are kept in a
--- folder, others may change its files: they are those of some end, and those of the answer if nothing was loaded. A run that
--- resumes may begin with a load.
-abbrev pub AreRunLines : Work → (folder : Option (Bor (List ℕ))) → (resumes tells_units : Bool) → List ℕ → Type 0
-AreRunLines job None resumes tells_units lines = AreJobLines job tells_units lines
-AreRunLines job (Some folder) true tells_units lines = AreEndLines tells_units lines
-AreRunLines job (Some folder) false tells_units lines = AreKeptLines job tells_units lines
+-- folder, others may change its files. A run that resumes may begin with a load: its lines are those of some end. A run from
+-- superstep 0 on loads nothing unless a worker is lost: its lines are those of the job's answer. If a worker is to be lost, they
+-- are those of some end, and those of the answer if nothing was loaded.
+abbrev pub AreRunLines : Work → (folder : Option (Bor (List ℕ))) → (loss : Option Loss) → (resumes tells_units : Bool) → List ℕ → Type 0
+AreRunLines job None loss resumes tells_units lines = AreJobLines job tells_units lines
+AreRunLines job (Some folder) loss true tells_units lines = AreEndLines tells_units lines
+AreRunLines job (Some folder) None false tells_units lines = AreJobLines job tells_units lines
+AreRunLines job (Some folder) (Some loss) false tells_units lines = AreKeptLines job tells_units lines
 
 -- ---- refusals
 

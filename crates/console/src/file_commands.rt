@@ -7,7 +7,7 @@ ghost use Rattle.wasm_decode.specs.Canonical.{canonical};
 ghost use Rattle.checkpoint.specs.Checkpoint.{checkpoint_bytes};
 ghost use Rattle.sources.specs.Disk.{Stays, Tries};
 ghost use Rattle.checkpoint.specs.Files.{superstep_on};
-ghost use Rattle.console.specs.Jobs.{AreEndLines, AreKeptLines, AreRunLines, IsFaultOfRun};
+ghost use Rattle.console.specs.Jobs.{AreEndLines, AreJobLines, AreKeptLines, AreRunLines, IsFaultOfRun};
 ghost use Rattle.sources.specs.OutputLines.{IfText};
 ghost use Rattle.console.specs.Loss.{NamesLoss, RefusesLoss};
 ghost use Rattle.sources.specs.Source.{RefusesModule};
@@ -293,7 +293,8 @@ fn run_kept<'a, F: Files, V: View + Sync>(
     notes: &mut RunNotes,
 ) -> Result<String, CommandFault<'a>>
     ensures told { IfText result
-        (AreRunLines job.now asked.entry.keep asked.entry.resume asked.entry.job.tells_units) }
+        (AreRunLines job.now asked.entry.keep gate.now.loss.loss asked.entry.resume
+        asked.entry.job.tells_units) }
     ensures noted { IsSome gate.now.loss.watch
         → IfText result (NotesEnd job.now asked.entry.job.tells_units notes.new) }
     ensures fault_noted { IsSome gate.now.loss.watch
@@ -335,6 +336,8 @@ fn run_in_folder<'a, F: Files, V: View + Sync>(
     ensures told { IfText result (AreEndLines tells_units) }
     ensures unloaded { superstep_on keep ≡ None
         → IfText result (AreKeptLines job.now tells_units) }
+    ensures unlost { superstep_on keep ≡ None → gate.now.loss.loss ≡ None
+        → IfText result (AreJobLines job.now tells_units) }
     ensures noted { IsSome gate.now.loss.watch
         → IfText result (NotesEnd job.now tells_units notes.new) }
     ensures fault_noted { IsSome gate.now.loss.watch

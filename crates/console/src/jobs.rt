@@ -1,6 +1,6 @@
 //! A job, from a module and a graph to printed lines.
 
-ghost use Rattle.std.specs.Prelude.{◌≡◌, ◌<◌, true, IfOk, IfErr, IsSome, MatchResult, OnOk, Some, string_bytes};
+ghost use Rattle.std.specs.Prelude.{◌≡◌, ◌<◌, true, IfOk, IfErr, IsSome, MatchResult, None, OnOk, Some, string_bytes};
 ghost use Rattle.rollback.specs.Saving.{HasLeft};
 ghost use Rattle.superstep.specs.Ending.{answer_of};
 ghost use Rattle.sources.specs.Disk.{Stays};
@@ -115,6 +115,8 @@ pub fn run<'a, K: Keep + Drop, V: View + Sync, F: Files>(
     ensures answered { K.honest keep ≡ true → IfText result (AreJobLines job.now tells_units) }
     // So they are where the Keep loaded nothing, whatever it is.
     ensures unloaded { IfText result (AreKeptLines job.now tells_units) }
+    // It loads nothing if the gate loses no worker.
+    ensures unlost { gate.now.loss.loss ≡ None → IfText result (AreJobLines job.now tells_units) }
     // Where the gate watches the job, what it ended with is noted.
     ensures noted { IsSome gate.now.loss.watch
         → IfText result (NotesEnd job.now tells_units notes.new) }

@@ -68,11 +68,20 @@ impl LossGate {
 impl Gate for LossGate {
     ghost use Rattle.std.specs.Prelude.{◌≡◌, IsSomeAnd, false, is_some, true};
     ghost use Rattle.console.specs.Loss.{is_due};
-    ghost use Rattle.workers.specs.declared.gate.Turn.TheVariants.{Lose};
+    ghost use Rattle.workers.specs.declared.gate.Turn.TheVariants.{Go, Lose};
+
+    ghost loses = { λ gate. is_some gate.loss };
+
+    fn may_lose(&self) -> bool
+        ensures { result ≡ is_some self.now.loss }
+    {
+        self.loss.is_some()
+    }
 
     fn before(&self, worker: u32, superstep: u32, _part: u32) -> Turn
+        ensures goes { is_some self.now.loss ≡ false → result ≡ Go }
         // A worker is lost only with a task of the loss.
-        ensures { result ≡ Lose
+        ensures loses { result ≡ Lose
             → IsSomeAnd self.now.loss (λ loss. is_due loss worker superstep ≡ true) }
     {
         let Some(loss) = self.loss else {

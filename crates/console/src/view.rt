@@ -72,7 +72,20 @@ impl<V> RunGate<'_, V> {
 }
 
 impl<V: View> Gate for RunGate<'_, V> {
-    fn before(&self, worker: u32, superstep: u32, part: u32) -> Turn {
+    ghost use Rattle.std.specs.Prelude.{◌≡◌, false};
+    ghost use Rattle.workers.specs.declared.gate.Turn.TheVariants.{Go};
+
+    ghost loses = { λ gate. is_some gate.loss.loss };
+
+    fn may_lose(&self) -> bool
+        ensures { result ≡ is_some self.now.loss.loss }
+    {
+        self.loss.may_lose()
+    }
+
+    fn before(&self, worker: u32, superstep: u32, part: u32) -> Turn
+        ensures { is_some self.now.loss.loss ≡ false → result ≡ Go }
+    {
         if let Some(view) = self.view {
             view.show(superstep);
         }
@@ -83,7 +96,9 @@ impl<V: View> Gate for RunGate<'_, V> {
         self.loss.again(worker)
     }
 
-    fn tick(&self, n: u64) -> bool {
+    fn tick(&self, n: u64) -> bool
+        ensures { result ≡ false }
+    {
         self.loss.tick(n)
     }
 

@@ -138,7 +138,8 @@ fn spawn_worker<'s, E, J: Origin + Send + Sync + 's, G: Gate + Sync + 's, R: Wai
         ensures joins { IfOk result (λ end. JoinsAfterLoss end.receipt) }
         ensures counted { IfOk result HasJoined }
         ensures returned { IfOk result (λ end. HasReturned J.work J.honest end.receipt) }
-        ensures steady { G.loses gate.entry.now ≡ false → IfOk result (λ end. IsSteady end.receipt) }
+        ensures steady { G.loses gate.entry.now ≡ false
+            → IfOk result (λ end. IsSteady end.receipt) }
         ensures line { IfOk result (λ end. reads_on end.reader ≡ reads_on reader) }
     { work_all(rt, alloc, job, gate, pass, reader) };
     match scope.spawn_with(promise, work) {

@@ -68,6 +68,14 @@ impl PlannedGate {
 }
 
 impl Gate for PlannedGate {
+    ghost use Rattle.std.specs.Prelude.{true};
+
+    ghost loses = { λ _. true };
+
+    fn may_lose(&self) -> bool {
+        true
+    }
+
     fn before(&self, _worker: u32, superstep: u32, part: u32) -> Turn {
         match self.plan {
             Plan::Holds => self.hold(part),
@@ -136,6 +144,14 @@ impl WatchedGate {
 }
 
 impl Gate for WatchedGate {
+    ghost use Rattle.std.specs.Prelude.{true};
+
+    ghost loses = { λ _. true };
+
+    fn may_lose(&self) -> bool {
+        true
+    }
+
     fn before(&self, worker: u32, superstep: u32, part: u32) -> Turn {
         let turn = self.gate.before(worker, superstep, part);
         if matches!(turn, Turn::Lose) {
@@ -225,6 +241,14 @@ fn wait_for(flag: &AtomicBool) {
 }
 
 impl Gate for LateGate {
+    ghost use Rattle.std.specs.Prelude.{true};
+
+    ghost loses = { λ _. true };
+
+    fn may_lose(&self) -> bool {
+        true
+    }
+
     fn before(&self, worker: u32, _superstep: u32, part: u32) -> Turn {
         if worker == 1 {
             return self.lose();

@@ -1,7 +1,8 @@
-use Rattle.std.proofs.Common.{◌∙◌, ap, inl, inr, is_some}
+use Rattle.std.proofs.Common.{◌∙◌, ap, inl, inr, is_some, subst}
 use Rattle.sources.proofs.Disks.{stays_again}
 use Rattle.sources.proofs.Faults.{IfErr-along, IfOk-along, is_fault}
 use Rattle.console.specs.declared.loss.LossGate.{LossGate}
+use Rattle.console.specs.Jobs.{AreRunLines}
 use Rattle.console.proofs.Noted.{end_noted, fault_noted, only_noted, unopened_noted}
 use Rattle.console.proofs.Folders.{keeping_before}
 use Rattle.console.proofs.file_commands.run_files.Goals as goal
@@ -16,13 +17,14 @@ returns-in_err-job-clause-refused g c =
 
 pub returns-clause-answered : goal.returns-clause-answered
 returns-clause-answered g c =
+    let loss = ap (λ (gate : LossGate). gate.loss) c.new-gate.ensures ∙ c.new-loss.ensures.loss in
     IfOk-along c.run_kept.result
     (λ text told. record {
       loss = c.in_ok-loss.loss;
       named = c.in_ok-loss.ensures.named;
       job = c.in_ok-job.job;
       is_job = c.in_ok-job.ensures.found;
-      lines = told;
+      lines = subst (λ l. AreRunLines c.in_ok-job.job c.args.asked.keep l c.args.asked.resume c.args.asked.job.tells_units _) loss told;
     })
     c.run_kept.ensures.told
 

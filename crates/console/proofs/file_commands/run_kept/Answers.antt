@@ -14,8 +14,9 @@ returns-in_ok-keep-in-Some-clause-refused g c =
 
 pub returns-in_ok-keep-in-Some-clause-told : goal.returns-in_ok-keep-in-Some-clause-told
 returns-in_ok-keep-in-Some-clause-told g c =
-    rw c.in-Some.is (folder_lines c.args.job.now c.in-Some.folder c.args.asked.resume c.args.asked.job.tells_units c.run_in_folder.result
-    c.run_in_folder.ensures.told (λ never. c.run_in_folder.ensures.unloaded (c.in_ok-keep-in-Some.ensures.fresh never)))
+    rw c.in-Some.is (folder_lines c.args.job.now c.in-Some.folder c.args.gate.now.loss.loss c.args.asked.resume c.args.asked.job.tells_units c.run_in_folder.result
+    c.run_in_folder.ensures.told (λ never. c.run_in_folder.ensures.unloaded (c.in_ok-keep-in-Some.ensures.fresh never))
+    (λ never. c.run_in_folder.ensures.unlost (c.in_ok-keep-in-Some.ensures.fresh never)))
 
 pub returns-in_err-keep-in-Some-clause-fault_noted : goal.returns-in_err-keep-in-Some-clause-fault_noted
 returns-in_err-keep-in-Some-clause-fault_noted g c = λ watched.

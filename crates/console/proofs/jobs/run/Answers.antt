@@ -1,4 +1,4 @@
-use Rattle.std.proofs.Common.{◌≡◌, ◌∙◌, true, refl, sym, subst, IfOk}
+use Rattle.std.proofs.Common.{◌≡◌, ◌∙◌, ap, is_some, true, refl, sym, subst, IfOk}
 use Rattle.superstep.specs.Ending.{IsEndOf}
 use Rattle.superstep.specs.Tasks.{trusts}
 use Rattle.superstep.proofs.Trusting.{trusts_sure}
@@ -30,6 +30,17 @@ returns-in_ok-text-in-Ok-clause-unloaded g c =
           let trusted = subst (λ n. trusts honest n ≡ true) (sym first) refl in
           answer_printed job c.args.tells_units report.ended _ (ends trusted) (since trusted) c.in_ok-text-in-Ok.ensures;
     }
+
+pub returns-in_ok-text-in-Ok-clause-unlost : goal.returns-in_ok-text-in-Ok-clause-unlost
+returns-in_ok-text-in-Ok-clause-unlost g c = λ none.
+    let job = c.args.job.now in
+    let report = c.in-Ok.report in
+    let honest = g.K.Keep.honest c.args.keep in
+    let ends = subst (λ r. IfOk r (λ report. trusts honest report.epoch ≡ true → IsEndOf job report.ended)) c.in-Ok.is c.run_in_threads-answer.ensures.answer in
+    let since = subst (λ r. IfOk r (λ report. trusts honest report.epoch ≡ true → report.ended.since ≡ 0)) c.in-Ok.is c.run_in_threads-answer.ensures.since in
+    let first = subst (λ r. IfOk r (λ report. report.epoch ≡ 0)) c.in-Ok.is (c.run_in_threads-answer.ensures.epoch (ap is_some none)) in
+    let trusted = subst (λ n. trusts honest n ≡ true) (sym first) refl in
+    answer_printed job c.args.tells_units report.ended _ (ends trusted) (since trusted) c.in_ok-text-in-Ok.ensures
 
 pub returns-in_ok-text-in-Ok-clause-noted : goal.returns-in_ok-text-in-Ok-clause-noted
 returns-in_ok-text-in-Ok-clause-noted g c = λ watched.

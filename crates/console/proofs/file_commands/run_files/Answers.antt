@@ -1,4 +1,4 @@
-use Rattle.std.proofs.Common.{◌∙◌, ap, inl, inr, is_some, subst}
+use Rattle.std.proofs.Common.{◌∙◌, ap, inl, inr, is_some, string_bytes, subst}
 use Rattle.sources.proofs.Disks.{stays_again}
 use Rattle.sources.proofs.Faults.{IfErr-along, IfOk-along, is_fault}
 use Rattle.console.specs.declared.loss.LossGate.{LossGate}
@@ -24,7 +24,7 @@ returns-clause-answered g c =
       named = c.in_ok-loss.ensures.named;
       job = c.in_ok-job.job;
       is_job = c.in_ok-job.ensures.found;
-      lines = subst (λ l. AreRunLines c.in_ok-job.job c.args.asked.keep l c.args.asked.resume c.args.asked.job.tells_units _) loss told;
+      lines = subst (λ l. AreRunLines c.in_ok-job.job c.args.asked.keep l c.args.asked.resume c.args.asked.job.tells_units (string_bytes text)) loss told;
     })
     c.run_kept.ensures.told
 

@@ -9,7 +9,7 @@ use crate::arity::{Arity, arity_table};
 use crate::height_table::HeightTable;
 use crate::stack_height::{Callees, StackHeight};
 use std::alloc::{AllocError, Global};
-use wasm_ast::{FuncType, Function, Module};
+use wasm_ast::{Function, Module, parameter_count};
 
 /// The cells that the frame of a function needs.
 #[derive(Clone, Copy)]
@@ -47,15 +47,5 @@ fn cells_of(module: &Module, arities: &[Arity], heights: &HeightTable, function:
     Cells {
         locals: (parameters + function.locals.as_slice().len()) as u32,
         operands: operands.min(u32::MAX as usize) as u32,
-    }
-}
-
-// Counts the parameters of the type with this number; 0 where there is no such type.
-fn parameter_count(types: &[FuncType], type_number: u32) -> usize
-    ensures { result ≡ parameters_of types.now type_number }
-{
-    match types.get(type_number as usize) {
-        Some(func_type) => func_type.parameters.as_slice().len(),
-        None => 0,
     }
 }

@@ -10,12 +10,11 @@ ghost use Rattle.bounded_profile.specs.Profile.{SizeWithin};
 
 use crate::arity::{Arity, arity_table};
 use crate::height_table::HeightTable;
-use crate::module_rules::imported_count;
 use crate::stack_height::{Callees, StackHeight};
 use cost::{Ranks, has_one_sizing};
 use std::alloc::{AllocError, Global};
 use validate::Valid;
-use wasm_ast::Body;
+use wasm_ast::{Body, imported_function_count};
 
 /// Finds the greatest height of the operand stack in a call of the function. The only error is that an allocation
 /// fails.
@@ -56,7 +55,7 @@ fn add_heights(
     ensures kept { length heights.new ≡ length heights.old }
 {
     let module = valid.module();
-    let imported = imported_count(module.imports.as_slice());
+    let imported = imported_function_count(module.imports.as_slice());
     for (index, function) in module.functions.as_slice().iter().enumerate() {
         let number = imported + index;
         if ranks.rank(number as u32) == rank {

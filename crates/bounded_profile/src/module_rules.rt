@@ -1,7 +1,6 @@
 //! Rules on the parts of a module other than its code.
 
 ghost use Rattle.std.specs.Prelude.{◌≡◌, ◌↔◌, IfSome, IfNone, MatchResult, IsTrue};
-ghost use Rattle.wasm_ast.specs.Limits.{imported_functions};
 ghost use Rattle.validate.specs.Modules.{IsTyped};
 ghost use Rattle.bounded_profile.specs.Compute.{exported_compute, IsDefinedPlain, IsComputeNumber};
 ghost use Rattle.bounded_profile.specs.Faults.{Denies, Settles};
@@ -12,7 +11,10 @@ ghost use Rattle.bounded_profile.specs.Profile.{ImportsHostCalls, HasCompute, Ha
 use crate::fault::{ProfileFault, ProfileRule};
 use host_calls::HostCall;
 use validate::Place;
-use wasm_ast::{Export, ExportDescription, FuncType, Function, Import, ImportDescription, Module};
+use wasm_ast::{
+    Export, ExportDescription, FuncType, Function, Import, ImportDescription, Module,
+    imported_function_count,
+};
 
 /// No function and no instruction.
 pub const NOWHERE: Place = Place {
@@ -97,7 +99,7 @@ fn exported_compute(exports: &[Export]) -> Option<u32>
 fn is_defined_plain(module: &Module, number: u32) -> bool
     ensures { IsTrue result ↔ IsDefinedPlain «module».now number }
 {
-    let imported = imported_count(module.imports.as_slice());
+    let imported = imported_function_count(module.imports.as_slice());
     let number = number as usize;
     if number < imported {
         return false;
@@ -106,16 +108,6 @@ fn is_defined_plain(module: &Module, number: u32) -> bool
         Some(function) => is_of_plain_type(module, function),
         None => false,
     }
-}
-
-/// Counts the imports that are functions.
-pub fn imported_count(imports: &[Import]) -> usize
-    ensures { result ≡ imported_functions imports.now }
-{
-    imports
-        .iter()
-        .filter(|import| matches!(import.description, ImportDescription::Function(_)))
-        .count()
 }
 
 fn is_of_plain_type(module: &Module, function: &Function) -> bool

@@ -26,10 +26,15 @@ use validate::{Valid, validate};
 use wasm_ast::Module;
 
 /// A valid module in the bounded profile. Only `verify` makes one, and `copy`.
-#[derive(Drop)]
 pub struct Verified {
     // In a box, so that dropping the owner is one call.
     judged: Box<Judged>,
+}
+
+impl Drop for Verified {
+    fn drop(self) {
+        let Verified { judged: _ } = self;
+    }
 }
 
 /// A module with its tables and the flat forms of its functions' bodies.

@@ -3,7 +3,6 @@
 ghost use Rattle.std.specs.Prelude.{◌≡◌, IfOk, OnOk};
 ghost use Rattle.std.specs.Option.{option_copied};
 ghost use Rattle.wasm_ast.specs.Code.{end};
-ghost use Rattle.wasm_ast.specs.Limits.{imported_functions};
 ghost use Rattle.wasm_ast.specs.View.{then_code};
 ghost use Rattle.cost.specs.inside.Outline.{nothing, with_units, with_call, with_code};
 ghost use Rattle.cost.specs.inside.Outlines.{AreOutlines, outlines_of, outline_at, own_at, called};
@@ -13,7 +12,7 @@ use crate::weights::Weights;
 use std::alloc::{AllocError, Global};
 use std::marker::Model;
 use validate::Valid;
-use wasm_ast::{Body, Function, Import, ImportDescription, Instr};
+use wasm_ast::{Body, Function, Instr, imported_function_count};
 
 /// The largest count of units, one more than `MAX_SIZE`. A count that reaches it stays there.
 pub const CAP: u64 = MAX_SIZE as u64 + 1;
@@ -117,7 +116,7 @@ impl Outlines {
         let inner = valid.module();
         let weights = Weights::of(alloc, inner)?;
         Ok(Outlines {
-            imported: imported_count(inner.imports.as_slice()),
+            imported: imported_function_count(inner.imports.as_slice()),
             defined: outlines_of(alloc, &weights, inner.functions.as_slice())?,
         })
     }
@@ -153,15 +152,6 @@ impl Outlines {
             None => &[],
         }
     }
-}
-
-fn imported_count(imports: &[Import]) -> usize
-    ensures { result ≡ imported_functions imports.now }
-{
-    imports
-        .iter()
-        .filter(|import| matches!(import.description, ImportDescription::Function(_)))
-        .count()
 }
 
 fn outlines_of(

@@ -11,7 +11,6 @@ use std::marker::Model;
 use wasm_ast::{FuncType, Function, Global, GlobalType, Import, ImportDescription, Limits, Module};
 
 /// The type of each item of the index spaces, the imports first.
-#[derive(Drop)]
 pub struct IndexSpaces<'a> {
     pub types: &'a [FuncType],
     // the index of each function's type
@@ -19,6 +18,18 @@ pub struct IndexSpaces<'a> {
     pub tables: Vec<Limits>,
     pub memories: Vec<Limits>,
     pub globals: Vec<GlobalType>,
+}
+
+impl<'a> Drop for IndexSpaces<'a> {
+    fn drop(self) {
+        let IndexSpaces {
+            types: _,
+            functions: _,
+            tables: _,
+            memories: _,
+            globals: _,
+        } = self;
+    }
 }
 
 impl<'a> Model for IndexSpaces<'a> {

@@ -17,10 +17,15 @@ use std::marker::Model;
 use wasm_ast::{Module, within_limits};
 
 /// A valid module (Core 1.0, 3.4.10). Only `validate` makes one.
-#[derive(Drop)]
 pub struct Valid {
     // The box keeps the owners' drop code small: one call.
     module: Box<Module>,
+}
+
+impl Drop for Valid {
+    fn drop(self) {
+        let Valid { module: _ } = self;
+    }
 }
 
 impl Model for Valid {

@@ -23,6 +23,8 @@ pub use limits::MAX_MODULE_BYTES;
 pub use limits::MAX_NESTING;
 pub use limits::MAX_PARAMETERS;
 pub use limits::MAX_RESULTS;
+pub use limits::imported_function_count;
+pub use limits::parameter_count;
 pub use limits::within_limits;
 pub use module::Data;
 pub use module::Element;

@@ -71,7 +71,8 @@ fn is_count_within(imports: &[Import], functions: &[Function]) -> bool
         && imported <= MAX_FUNCTIONS as usize - functions.len()
 }
 
-fn imported_function_count(imports: &[Import]) -> usize
+/// Counts the imports that are functions.
+pub fn imported_function_count(imports: &[Import]) -> usize
     ensures { result ≡ imported_functions imports.now }
 {
     imports
@@ -96,7 +97,8 @@ fn is_function_within(types: &[FuncType], function: &Function) -> bool
         && is_body_within(&function.body)
 }
 
-fn parameter_count(types: &[FuncType], type_number: u32) -> usize
+/// Counts the parameters of the type with this index. It is 0 where there is no such type.
+pub fn parameter_count(types: &[FuncType], type_number: u32) -> usize
     ensures { result ≡ parameters_of types.now type_number }
 {
     match types.get(type_number as usize) {

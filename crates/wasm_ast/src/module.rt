@@ -75,7 +75,6 @@ pub struct Data {
 }
 
 /// A module (Core 1.0, 2.5). Tables hold functions and memories hold bytes.
-#[derive(Drop)]
 pub struct Module {
     pub types: Sequence<FuncType>,
     pub imports: Sequence<Import>,
@@ -87,6 +86,23 @@ pub struct Module {
     pub start: Option<u32>,
     pub elements: Sequence<Element>,
     pub data: Sequence<Data>,
+}
+
+impl Drop for Module {
+    fn drop(self) {
+        let Module {
+            types: _,
+            imports: _,
+            functions: _,
+            tables: _,
+            memories: _,
+            globals: _,
+            exports: _,
+            start: _,
+            elements: _,
+            data: _,
+        } = self;
+    }
 }
 
 impl Module {

@@ -1,7 +1,6 @@
 //! Readers of the locals and bodies of functions (Core 1.0, 5.5.13).
 
 ghost use Rattle.std.specs.Prelude.{◌≡◌, ◌++◌, replicate, OnOk};
-ghost use Rattle.wasm_ast.specs.Limits.{parameters_of};
 ghost use Rattle.wasm_decode.specs.inside.Reading.{Gives, GivesAndLeaves};
 ghost use Rattle.wasm_decode.specs.inside.ReadingModule.{groups_at, locals_at, function_in, function_at, bodies_at, functions_at};
 
@@ -10,7 +9,7 @@ use crate::fault::{DecodeFault, DecodeRule};
 use crate::reader::Reader;
 use crate::types::val_type;
 use std::alloc::{AllocError, Global};
-use wasm_ast::{FuncType, Function, MAX_LOCALS, Sequence, ValType};
+use wasm_ast::{FuncType, Function, MAX_LOCALS, Sequence, ValType, parameter_count};
 
 /// Reads the content of the code section: a body for each function, whose type index is given.
 #[tactic(auto, unfolding(crate::specs::inside::ReadingModule::functions_at))]
@@ -47,16 +46,6 @@ fn bodies(
         functions.push(function)?;
     }
     Ok(functions)
-}
-
-// Returns how many parameters the type with this index has: 0 where there is no such type.
-fn parameter_count(types: &[FuncType], type_number: u32) -> usize
-    ensures { result ≡ parameters_of types.now type_number }
-{
-    match types.get(type_number as usize) {
-        Some(function_type) => function_type.parameters.as_slice().len(),
-        None => 0,
-    }
 }
 
 // Reads a size, and a function's locals and body of exactly that many bytes.

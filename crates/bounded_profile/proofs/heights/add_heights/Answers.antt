@@ -13,8 +13,8 @@ use Rattle.bounded_profile.proofs.heights.add_heights.Goals.{then-rank, else-ran
 pub loop-index-init : goal.loop-index-init
 loop-index-init c =
     let m = c.args.valid.now in
-    let n = c.imported_count-imported.result in
-    let e : n ≡ imported_functions m.imports = c.imported_count-imported.ensures ∙ ap imported_functions (c.as_slice.ensures ∙ ap (λ (k : Module). k.imports) c.module-module.ensures.value) in
+    let n = c.imported_function_count-imported.result in
+    let e : n ≡ imported_functions m.imports = c.imported_function_count-imported.ensures ∙ ap imported_functions (c.as_slice.ensures ∙ ap (λ (k : Module). k.imports) c.module-module.ensures.value) in
     record {
       told = begins m c.args.ranks.now c.requires.ranked c.args.heights.now c.args.rank n c.requires.positive e c.requires.told;
       long = c.requires.long;
@@ -23,8 +23,8 @@ loop-index-init c =
 pub set-requires : goal.set-requires
 set-requires c =
     let m = c.args.valid.now in
-    let n = c.imported_count-imported.result in
-    let e : n ≡ imported_functions m.imports = c.imported_count-imported.ensures ∙ ap imported_functions (c.as_slice.ensures ∙ ap (λ (k : Module). k.imports) c.module-module.ensures.value) in
+    let n = c.imported_function_count-imported.result in
+    let e : n ≡ imported_functions m.imports = c.imported_function_count-imported.ensures ∙ ap imported_functions (c.as_slice.ensures ∙ ap (λ (k : Module). k.imports) c.module-module.ensures.value) in
     let f : length c.as_slice-function-items.result.now ≡ length m.functions = ap length (c.as_slice-function-items.ensures ∙ ap (λ (k : Module). k.functions) c.module-module.ensures.value) in
     let t = length_of_table m in
     let a = ap length c.requires.arities in
@@ -34,9 +34,9 @@ set-requires c =
 pub loop-index-preserved : goal.loop-index-preserved
 loop-index-preserved c =
     let m = c.args.valid.now in
-    let n = c.imported_count-imported.result in
+    let n = c.imported_function_count-imported.result in
     let i = c.loop-index.index in
-    let e : n ≡ imported_functions m.imports = c.imported_count-imported.ensures ∙ ap imported_functions (c.as_slice.ensures ∙ ap (λ (k : Module). k.imports) c.module-module.ensures.value) in
+    let e : n ≡ imported_functions m.imports = c.imported_function_count-imported.ensures ∙ ap imported_functions (c.as_slice.ensures ∙ ap (λ (k : Module). k.imports) c.module-module.ensures.value) in
     let same = c.as_slice-function-items.ensures ∙ ap (λ (k : Module). k.functions) c.module-module.ensures.value in
     let f : length c.as_slice-function-items.result.now ≡ length m.functions = ap length same in
     let t = length_of_table m in
@@ -61,7 +61,7 @@ loop-index-preserved c =
 pub returns-clause-told : goal.returns-clause-told
 returns-clause-told c =
     let m = c.args.valid.now in
-    let n = c.imported_count-imported.result in
-    let e : n ≡ imported_functions m.imports = c.imported_count-imported.ensures ∙ ap imported_functions (c.as_slice.ensures ∙ ap (λ (k : Module). k.imports) c.module-module.ensures.value) in
+    let n = c.imported_function_count-imported.result in
+    let e : n ≡ imported_functions m.imports = c.imported_function_count-imported.ensures ∙ ap imported_functions (c.as_slice.ensures ∙ ap (λ (k : Module). k.imports) c.module-module.ensures.value) in
     let f : length c.as_slice-function-items.result.now ≡ length m.functions = ap length (c.as_slice-function-items.ensures ∙ ap (λ (k : Module). k.functions) c.module-module.ensures.value) in
     ends m c.args.ranks.now c.requires.ranked c.loop-index.heights c.args.rank n c.loop-index.index c.requires.positive e (omega (arith, f, c.loop-index-test.false)) c.loop-index.invariant.told

@@ -94,7 +94,7 @@ prove_copy() {
 # of the run is enough for both. So each crate of the longest chain has a run of its own. The crates at its side are proved beside
 # it, one processor a run. A run takes over what another has proved, or waits for it.
 prove_side_by_side() {
-    local room=$1 crate small formats
+    local room=$1 chain small formats
     {
         RT_JOBS=1 prove_copy "$room/small" graph inbox graph_import run_report job_file
         RT_JOBS=1 prove_copy "$room/binary" wasm_decode
@@ -102,8 +102,9 @@ prove_side_by_side() {
         RT_JOBS=1 prove_copy "$room/channels" channels
     } &
     small=$!
-    prove_copy "$room/first" wasm_ast &
-    wait $! || true
+    prove_in_turn "$room" wasm_ast validate cost bounded_profile interp superstep checkpoint rollback workers &
+    chain=$!
+    wait_for "$room/past_wasm_ast"
     {
         RT_JOBS=1 prove_copy "$room/hosts" host_calls flat_code
         RT_JOBS=1 prove_copy "$room/text" wat_asm fit
@@ -113,17 +114,32 @@ prove_side_by_side() {
         RT_JOBS=2 prove_copy "$room/reading" explain sources
     } &
     formats=$!
-    {
-        for crate in validate cost bounded_profile interp superstep checkpoint rollback workers; do
-            prove_copy "$room/$crate" "$crate" || break
-            touch "$room/past_$crate"
-        done
-        touch "$room/past_superstep" "$room/past_checkpoint"
-    } &
-    wait $! "$small" "$formats" || true
+    wait "$chain" "$small" "$formats" || true
     prove_copy "$room/session" session &
     prove_copy "$room/console" console &
     wait
+}
+
+# Proves these crates one after another, each in a run of its own in a copy in the folder $1, and marks each that is done.
+#
+# A run begins a few seconds after the proof of the crate before its own has begun, and waits for that proof. So no time is lost
+# between them, and the memory that rt sees as free is not yet in use.
+prove_in_turn() {
+    local room=$1 crate next last= before=
+    shift
+    for crate in "$@"; do
+        prove_copy "$room/$crate" "$crate" &
+        next=$!
+        if [ -n "$last" ]; then
+            wait "$before" || break
+            touch "$room/past_$last"
+        fi
+        before=$next
+        last=$crate
+        sleep 5
+    done
+    wait
+    for crate in "$@"; do touch "$room/past_$crate"; done
 }
 
 # Waits until there is this file.

@@ -1,10 +1,10 @@
 -- One flat instruction of straight code.
-use Rattle.std.proofs.Common.{◌≡◌, ℕ, ◌+◌, ◌≤◌, true, List, length, map, Option, Some, None, Result, Ok, Err, refl, sym, ap, subst}
-use Rattle.std.specs.Prelude.{IfOk, IfSome, OnErr}
+use Rattle.std.proofs.Common.{◌≡◌, ℕ, ◌+◌, ◌≤◌, true, false, List, length, map, slice_get, Option, Some, None, Result, Ok, Err, refl, sym, ap, ◌∙◌, subst}
+use Rattle.std.specs.Prelude.{IfNone, IfOk, IfSome, OnErr}
+use Rattle.std.specs.Option.{is_some}
 use Rattle.wasm_ast.specs.declared.types.Value.{Value}
 use Rattle.wasm_ast.specs.declared.types.Value.TheVariants.{I64}
 use Rattle.wasm_ast.specs.declared.module.Module.{Module}
-use Rattle.wasm_ast.specs.declared.numeric.Numeric.{Numeric}
 use Rattle.wasm_ast.specs.declared.plain.Plain.{Plain}
 use Rattle.wasm_ast.specs.declared.plain.Plain.TheVariants as plain
 use Rattle.wasm_ast.specs.Code.{Code}
@@ -15,14 +15,18 @@ use Rattle.flat_code.specs.Plains.{plain_of}
 use Rattle.flat_code.specs.View.{then_code, then_plain}
 use Rattle.cost.specs.Weights.{plain_units}
 use Rattle.host_calls.specs.Host.{Host}
+use Rattle.host_calls.specs.declared.imports.HostCall.{HostCall}
 use Rattle.interp.specs.Configuration.{tick}
 use Rattle.interp.specs.declared.plain.Acted.{Acted}
 use Rattle.interp.specs.inside.Cells.{cell_effect, in_width}
-use Rattle.interp.specs.inside.Flat.{BesideDid, Fails, FlatDid, PlainDid}
+use Rattle.interp.specs.inside.Flat.{BesideDid, Fails, FlatDid, PlainDid, Stops, flat_asks}
+use Rattle.interp.specs.declared.found.Operator.{Operator}
+use Rattle.interp.specs.inside.Found.{Ends, PassesZero, numeric_of}
+use Rattle.interp.specs.inside.Going.{has_tops, plain_asks}
 use Rattle.interp.specs.inside.Kept.{count_kept}
 use Rattle.interp.specs.inside.OperandStack.{operand_stack}
 use Rattle.interp.specs.inside.Renewed.{Renewed}
-use Rattle.interp.specs.inside.Straight.{GoesBeside, Passes, PopsZero, SendsBeside, Spot, skips_zero, spot}
+use Rattle.interp.specs.inside.Straight.{GoesBeside, Passes, PopsZero, SendsBeside, Spot, host_asks, is_straight, skips_zero, spot}
 use Rattle.interp.proofs.Passing.{effect_past, passes_past, past_zero}
 
 -- a place over the lists of the walk
@@ -58,11 +62,19 @@ module _ (m : Module) (most : ℕ) (start : Spot) (top : ℕ) (cells cells' loca
   flat_keeps None first by did =
       (did.within, ap (λ (g : Renewed). g.initial) did.same_globals, ap (λ (b : List ℕ). count_kept b) did.same_bytes)
 
--- ---- an instruction that acts on the operands alone
+-- ---- an instruction that neither branches nor calls
 
-pub op_did : (m : Module) (first : FlatInstr) (op : Numeric) → plain_of first ≡ Some (plain.Numeric op) → (by : Acted) (top : ℕ) (cells cells' locals : List ℕ) (globals : Renewed) (bytes : List ℕ) (h : Host) → PlainDid (plain.Numeric op) by top cells cells' locals locals globals globals bytes bytes → FlatDid m (plain_of first) first by top cells cells' locals locals globals globals bytes bytes h h
-op_did m first op is by top cells cells' locals globals bytes h did =
-    subst (λ (o : Option Plain). FlatDid m o first by top cells cells' locals locals globals globals bytes bytes h h) (sym is) (did, refl)
+pub known_did : (m : Module) (first : FlatInstr) (p : Plain) → plain_of first ≡ Some p → (by : Acted) (top : ℕ) (cells cells' locals locals' : List ℕ) (globals globals' : Renewed) (bytes bytes' : List ℕ) (h : Host) → PlainDid p by top cells cells' locals locals' globals globals' bytes bytes' → FlatDid m (plain_of first) first by top cells cells' locals locals' globals globals' bytes bytes' h h
+known_did m first p is by top cells cells' locals locals' globals globals' bytes bytes' h did =
+    subst (λ (o : Option Plain). FlatDid m o first by top cells cells' locals locals' globals globals' bytes bytes' h h) (sym is) (did, refl)
+
+pub operator_did : (op known : Operator) → op ≡ known → (by : Acted) (top : ℕ) (cells cells' : List ℕ) → ((locals : List ℕ) (globals : Renewed) (bytes : List ℕ) → PlainDid (plain.Numeric (numeric_of known)) by top cells cells' locals locals globals globals bytes bytes) → (locals : List ℕ) (globals : Renewed) (bytes : List ℕ) → PlainDid (plain.Numeric (numeric_of op)) by top cells cells' locals locals globals globals bytes bytes
+operator_did op known is by top cells cells' did =
+    subst (λ (o : Operator). (locals : List ℕ) (globals : Renewed) (bytes : List ℕ) → PlainDid (plain.Numeric (numeric_of o)) by top cells cells' locals locals globals globals bytes bytes) (sym is) did
+
+pub known_asks : (calls : List HostCall) (first : FlatInstr) (p : Plain) → plain_of first ≡ Some p → (vs locals globals : List Value) (bytes : List ℕ) → flat_asks calls (plain_of first) first vs locals globals bytes ≡ true → plain_asks p vs locals globals bytes ≡ true
+known_asks calls first p is vs locals globals bytes asks =
+    subst (λ (o : Option Plain). flat_asks calls o first vs locals globals bytes ≡ true) is asks
 
 -- ---- an instruction that only pops a zero
 
@@ -83,7 +95,41 @@ zero_did m first (Some by) top cells locals globals bytes h skips none pops =
     } in
     subst (λ (o : Option Plain). FlatDid m o first by top cells cells locals locals globals globals bytes bytes h h) (sym none) did
 
+pub zero_asks : (calls : List HostCall) (first : FlatInstr) → PassesZero first → (vs locals globals : List Value) (bytes : List ℕ) → flat_asks calls (plain_of first) first vs locals globals bytes ≡ true → has_tops 1 vs ≡ true
+zero_asks calls first zero vs locals globals bytes asks =
+    sym (zero.asks calls vs) ∙ subst (λ (o : Option Plain). flat_asks calls o first vs locals globals bytes ≡ true) zero.none asks
+
+pub ends_stops : (calls : List HostCall) (first : FlatInstr) → Ends first → (cells locals : List ℕ) (globals : Renewed) (bytes : List ℕ) (h : Host) → Stops calls first cells cells locals locals globals globals bytes bytes h h
+ends_stops calls first ends cells locals globals bytes h = record {
+  stops = ends calls;
+  same_cells = refl;
+  same_locals = refl;
+  same_globals = refl;
+  same_bytes = refl;
+  same_host = refl;
+}
+
+pub zero_stops : (calls : List HostCall) (first : FlatInstr) → Ends first → (o : Option Acted) (cells locals : List ℕ) (globals : Renewed) (bytes : List ℕ) (h : Host) → IfNone o (Stops calls first cells cells locals locals globals globals bytes bytes h h)
+zero_stops calls first ends (Some by) cells locals globals bytes h = tt
+zero_stops calls first ends None cells locals globals bytes h = ends_stops calls first ends cells locals globals bytes h
+
 -- ---- a call of the host
+
+pub call_asks : (calls : List HostCall) (n : ℕ) (first : FlatInstr) → first ≡ flat.Call n → (vs locals globals : List Value) (bytes : List ℕ) → flat_asks calls (plain_of first) first vs locals globals bytes ≡ true → host_asks (slice_get calls n) vs ≡ true
+call_asks calls n first is vs locals globals bytes asks =
+    subst (λ (i : FlatInstr). flat_asks calls (plain_of i) i vs locals globals bytes ≡ true) is asks
+
+pub call_stops : {E : Type 0} (calls : List HostCall) (n : ℕ) (first : FlatInstr) → first ≡ flat.Call n → (r : Result (Option Acted) E) (cells cells' locals : List ℕ) (globals : Renewed) (bytes : List ℕ) (h h' : Host) → IfOk r (λ o. IfNone o (slice_get calls n ≡ None)) → IfOk r (λ o. IfNone o (cells' ≡ cells)) → IfOk r (λ o. IfNone o (h' ≡ h)) → IfOk r (λ o. IfNone o (Stops calls first cells cells' locals locals globals globals bytes bytes h h'))
+call_stops calls n first is (Err e) cells cells' locals globals bytes h h' other same_cells same_host = tt
+call_stops calls n first is (Ok (Some by)) cells cells' locals globals bytes h h' other same_cells same_host = tt
+call_stops calls n first is (Ok None) cells cells' locals globals bytes h h' other same_cells same_host = record {
+  stops = λ rest. subst (λ (i : FlatInstr). is_straight calls (then_code i rest) ≡ false) (sym is) (ap (λ (o : Option HostCall). is_some o) other);
+  same_cells = same_cells;
+  same_locals = refl;
+  same_globals = refl;
+  same_bytes = refl;
+  same_host = same_host;
+}
 
 pub call_did : {E : Type 0} (m : Module) (n : ℕ) (first : FlatInstr) → first ≡ flat.Call n → (r : Result (Option Acted) E) (top : ℕ) (cells cells' locals : List ℕ) (globals : Renewed) (bytes : List ℕ) (h h' : Host) → IfOk r (λ o. IfSome o (λ by. GoesBeside m (flat.Call n) (operand_stack cells top) h (operand_stack cells' by.top) h' by.units)) → IfOk r (λ o. IfSome o (λ by. by.top ≤ length cells')) → IfOk r (λ o. IfSome o (λ by. FlatDid m (plain_of first) first by top cells cells' locals locals globals globals bytes bytes h h'))
 call_did m n first is (Ok None) top cells cells' locals globals bytes h h' goes within = tt

@@ -15,6 +15,7 @@ pub mod Going
 pub mod Walk
 pub mod Straight
 pub mod Flat
+pub mod Found
 -- how a call begins and ends
 pub mod Begun
 -- the machine over cells, and values that fit their type

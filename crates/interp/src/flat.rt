@@ -7,6 +7,7 @@ ghost use Rattle.wasm_ast.specs.declared.types.Value.TheVariants.{I64};
 ghost use Rattle.flat_code.specs.declared.body.FlatInstr.TheVariants as flat;
 ghost use Rattle.flat_code.specs.Plains.{plain_of};
 ghost use Rattle.interp.specs.inside.Flat.{Fails, FlatDid, PlainDid, Stops, flat_asks};
+ghost use Rattle.interp.specs.inside.Found.{numeric_of};
 ghost use Rattle.interp.specs.inside.Going.{has_tops, numeric_asks, plain_asks};
 ghost use Rattle.interp.specs.inside.Meaning.{AreImports};
 ghost use Rattle.interp.specs.inside.OperandStack.{operand_stack};
@@ -15,6 +16,7 @@ ghost use Rattle.interp.specs.inside.Straight.{GoesBeside, PopsZero, SendsBeside
 
 use crate::call_globals::CallGlobals;
 use crate::cell::as_i32;
+use crate::found::{Found, Operator, find_flat};
 use crate::host::call_host;
 use crate::memory::Memory;
 use crate::numeric::act_numeric;
@@ -25,10 +27,7 @@ use cost::host_units;
 use flat_code::FlatInstr;
 use host_calls::CallState;
 use std::alloc::AllocError;
-use wasm_ast::{
-    Binary, Comparison, Conversion, Load, Memory as MemoryAccess, Numeric, Plain, Store, ValType,
-    Value, Variable,
-};
+use wasm_ast::{Binary, Comparison, Conversion, Numeric, Plain, ValType};
 
 /// Executes an instruction that is straight: one that neither branches nor calls, a call of the host, or one that only
 /// pops a zero. `None` is any other instruction. The only error is that an allocation fails, in a call that sends or
@@ -58,143 +57,64 @@ pub fn act_flat(
         (operand_stack cells.old top) host.old
         globals.old globals.new bytes.old bytes.new) }
 {
-    match first {
-        FlatInstr::LocalGet(number) => Ok(Some(act_known(
-            Plain::Variable(Variable::LocalGet(*number)),
-            cells,
-            top,
-            locals,
-            globals,
-            bytes,
-        ))),
-        FlatInstr::LocalSet(number) => Ok(Some(act_known(
-            Plain::Variable(Variable::LocalSet(*number)),
-            cells,
-            top,
-            locals,
-            globals,
-            bytes,
-        ))),
-        FlatInstr::LocalTee(number) => Ok(Some(act_known(
-            Plain::Variable(Variable::LocalTee(*number)),
-            cells,
-            top,
-            locals,
-            globals,
-            bytes,
-        ))),
-        FlatInstr::GlobalGet(number) => Ok(Some(act_known(
-            Plain::Variable(Variable::GlobalGet(*number)),
-            cells,
-            top,
-            locals,
-            globals,
-            bytes,
-        ))),
-        FlatInstr::GlobalSet(number) => Ok(Some(act_known(
-            Plain::Variable(Variable::GlobalSet(*number)),
-            cells,
-            top,
-            locals,
-            globals,
-            bytes,
-        ))),
-        FlatInstr::I32Const(number) => Ok(Some(act_known(
-            Plain::Const(Value::I32(*number)),
-            cells,
-            top,
-            locals,
-            globals,
-            bytes,
-        ))),
-        FlatInstr::I64Const(number) => Ok(Some(act_known(
-            Plain::Const(Value::I64(*number)),
-            cells,
-            top,
-            locals,
-            globals,
-            bytes,
-        ))),
-        FlatInstr::Drop => Ok(Some(act_known(Plain::Drop, cells, top, locals, globals, bytes))),
-        FlatInstr::Select => Ok(Some(act_known(Plain::Select, cells, top, locals, globals, bytes))),
-        FlatInstr::I64Add => Ok(Some(act_binary(ValType::I64, Binary::Add, cells, top))),
-        FlatInstr::I64Sub => Ok(Some(act_binary(ValType::I64, Binary::Sub, cells, top))),
-        FlatInstr::I64Mul => Ok(Some(act_binary(ValType::I64, Binary::Mul, cells, top))),
-        FlatInstr::I64And => Ok(Some(act_binary(ValType::I64, Binary::And, cells, top))),
-        FlatInstr::I64Or => Ok(Some(act_binary(ValType::I64, Binary::Or, cells, top))),
-        FlatInstr::I64Xor => Ok(Some(act_binary(ValType::I64, Binary::Xor, cells, top))),
-        FlatInstr::I64Shl => Ok(Some(act_binary(ValType::I64, Binary::Shl, cells, top))),
-        FlatInstr::I64ShrS => Ok(Some(act_binary(ValType::I64, Binary::ShrS, cells, top))),
-        FlatInstr::I64ShrU => Ok(Some(act_binary(ValType::I64, Binary::ShrU, cells, top))),
-        FlatInstr::I64Rotl => Ok(Some(act_binary(ValType::I64, Binary::Rotl, cells, top))),
-        FlatInstr::I64Eqz => Ok(Some(act_op(Numeric::Eqz(ValType::I64), cells, top))),
-        FlatInstr::I64Eq => Ok(Some(act_comparison(ValType::I64, Comparison::Eq, cells, top))),
-        FlatInstr::I64Ne => Ok(Some(act_comparison(ValType::I64, Comparison::Ne, cells, top))),
-        FlatInstr::I64LtS => Ok(Some(act_comparison(ValType::I64, Comparison::LtS, cells, top))),
-        FlatInstr::I64LtU => Ok(Some(act_comparison(ValType::I64, Comparison::LtU, cells, top))),
-        FlatInstr::I64GtS => Ok(Some(act_comparison(ValType::I64, Comparison::GtS, cells, top))),
-        FlatInstr::I64GtU => Ok(Some(act_comparison(ValType::I64, Comparison::GtU, cells, top))),
-        FlatInstr::I64LeS => Ok(Some(act_comparison(ValType::I64, Comparison::LeS, cells, top))),
-        FlatInstr::I64LeU => Ok(Some(act_comparison(ValType::I64, Comparison::LeU, cells, top))),
-        FlatInstr::I64GeS => Ok(Some(act_comparison(ValType::I64, Comparison::GeS, cells, top))),
-        FlatInstr::I64GeU => Ok(Some(act_comparison(ValType::I64, Comparison::GeU, cells, top))),
-        FlatInstr::I32Add => Ok(Some(act_binary(ValType::I32, Binary::Add, cells, top))),
-        FlatInstr::I32Sub => Ok(Some(act_binary(ValType::I32, Binary::Sub, cells, top))),
-        FlatInstr::I32Mul => Ok(Some(act_binary(ValType::I32, Binary::Mul, cells, top))),
-        FlatInstr::I32And => Ok(Some(act_binary(ValType::I32, Binary::And, cells, top))),
-        FlatInstr::I32Or => Ok(Some(act_binary(ValType::I32, Binary::Or, cells, top))),
-        FlatInstr::I32Xor => Ok(Some(act_binary(ValType::I32, Binary::Xor, cells, top))),
-        FlatInstr::I32Eqz => Ok(Some(act_op(Numeric::Eqz(ValType::I32), cells, top))),
-        FlatInstr::I32Eq => Ok(Some(act_comparison(ValType::I32, Comparison::Eq, cells, top))),
-        FlatInstr::I32Ne => Ok(Some(act_comparison(ValType::I32, Comparison::Ne, cells, top))),
-        FlatInstr::I32LtS => Ok(Some(act_comparison(ValType::I32, Comparison::LtS, cells, top))),
-        FlatInstr::I32LtU => Ok(Some(act_comparison(ValType::I32, Comparison::LtU, cells, top))),
-        FlatInstr::I32GtS => Ok(Some(act_comparison(ValType::I32, Comparison::GtS, cells, top))),
-        FlatInstr::I32GtU => Ok(Some(act_comparison(ValType::I32, Comparison::GtU, cells, top))),
-        FlatInstr::I32LeS => Ok(Some(act_comparison(ValType::I32, Comparison::LeS, cells, top))),
-        FlatInstr::I32GeS => Ok(Some(act_comparison(ValType::I32, Comparison::GeS, cells, top))),
-        FlatInstr::I32WrapI64 => Ok(Some(act_op(
-            Numeric::Conversion(Conversion::Wrap),
-            cells,
-            top,
-        ))),
-        FlatInstr::I64ExtendI32S => Ok(Some(act_op(
-            Numeric::Conversion(Conversion::ExtendS),
-            cells,
-            top,
-        ))),
-        FlatInstr::I64ExtendI32U => Ok(Some(act_op(
-            Numeric::Conversion(Conversion::ExtendU),
-            cells,
-            top,
-        ))),
-        FlatInstr::I64Load(argument) => Ok(Some(act_known(
-            Plain::Memory(MemoryAccess::Load(Load::I64, *argument)),
-            cells,
-            top,
-            locals,
-            globals,
-            bytes,
-        ))),
-        FlatInstr::I64Store(argument) => Ok(Some(act_known(
-            Plain::Memory(MemoryAccess::Store(Store::I64, *argument)),
-            cells,
-            top,
-            locals,
-            globals,
-            bytes,
-        ))),
-        FlatInstr::Plain(plain) => Ok(Some(act_known(*plain, cells, top, locals, globals, bytes))),
-        FlatInstr::Call(number) => act_call(program, *number, cells, top, host),
-        FlatInstr::BrIf(_) => Ok(pass_zero(cells, top)),
-        FlatInstr::If(_, _, else_body) => {
-            if else_body.as_slice().is_empty() {
-                Ok(pass_zero(cells, top))
-            } else {
-                Ok(None)
-            }
-        }
-        _ => Ok(None),
+    match find_flat(first) {
+        Found::Operator(op) => Ok(Some(act_operator(op, cells, top))),
+        Found::Plain(plain) => Ok(Some(act_known(plain, cells, top, locals, globals, bytes))),
+        Found::Call(number) => act_call(program, number, cells, top, host),
+        Found::Zero => Ok(pass_zero(cells, top)),
+        Found::Other => Ok(None),
+    }
+}
+
+/// Executes a numeric instruction that is a variant of its own in flat form.
+#[inline(always)]
+fn act_operator(op: Operator, cells: &mut [u64], top: usize) -> Acted
+    requires room { top < length cells.old }
+    requires asks { numeric_asks (numeric_of op) (operand_stack cells.old top) ≡ true }
+    ensures { (locals : List ℕ) (globals : Renewed) (bytes : List ℕ)
+        → PlainDid (plain.Numeric (numeric_of op))
+        result top cells.old cells.new locals locals globals globals bytes bytes }
+{
+    match op {
+        Operator::I64Add => act_binary(ValType::I64, Binary::Add, cells, top),
+        Operator::I64Sub => act_binary(ValType::I64, Binary::Sub, cells, top),
+        Operator::I64Mul => act_binary(ValType::I64, Binary::Mul, cells, top),
+        Operator::I64And => act_binary(ValType::I64, Binary::And, cells, top),
+        Operator::I64Or => act_binary(ValType::I64, Binary::Or, cells, top),
+        Operator::I64Xor => act_binary(ValType::I64, Binary::Xor, cells, top),
+        Operator::I64Shl => act_binary(ValType::I64, Binary::Shl, cells, top),
+        Operator::I64ShrS => act_binary(ValType::I64, Binary::ShrS, cells, top),
+        Operator::I64ShrU => act_binary(ValType::I64, Binary::ShrU, cells, top),
+        Operator::I64Rotl => act_binary(ValType::I64, Binary::Rotl, cells, top),
+        Operator::I64Eqz => act_op(Numeric::Eqz(ValType::I64), cells, top),
+        Operator::I64Eq => act_comparison(ValType::I64, Comparison::Eq, cells, top),
+        Operator::I64Ne => act_comparison(ValType::I64, Comparison::Ne, cells, top),
+        Operator::I64LtS => act_comparison(ValType::I64, Comparison::LtS, cells, top),
+        Operator::I64LtU => act_comparison(ValType::I64, Comparison::LtU, cells, top),
+        Operator::I64GtS => act_comparison(ValType::I64, Comparison::GtS, cells, top),
+        Operator::I64GtU => act_comparison(ValType::I64, Comparison::GtU, cells, top),
+        Operator::I64LeS => act_comparison(ValType::I64, Comparison::LeS, cells, top),
+        Operator::I64LeU => act_comparison(ValType::I64, Comparison::LeU, cells, top),
+        Operator::I64GeS => act_comparison(ValType::I64, Comparison::GeS, cells, top),
+        Operator::I64GeU => act_comparison(ValType::I64, Comparison::GeU, cells, top),
+        Operator::I32Add => act_binary(ValType::I32, Binary::Add, cells, top),
+        Operator::I32Sub => act_binary(ValType::I32, Binary::Sub, cells, top),
+        Operator::I32Mul => act_binary(ValType::I32, Binary::Mul, cells, top),
+        Operator::I32And => act_binary(ValType::I32, Binary::And, cells, top),
+        Operator::I32Or => act_binary(ValType::I32, Binary::Or, cells, top),
+        Operator::I32Xor => act_binary(ValType::I32, Binary::Xor, cells, top),
+        Operator::I32Eqz => act_op(Numeric::Eqz(ValType::I32), cells, top),
+        Operator::I32Eq => act_comparison(ValType::I32, Comparison::Eq, cells, top),
+        Operator::I32Ne => act_comparison(ValType::I32, Comparison::Ne, cells, top),
+        Operator::I32LtS => act_comparison(ValType::I32, Comparison::LtS, cells, top),
+        Operator::I32LtU => act_comparison(ValType::I32, Comparison::LtU, cells, top),
+        Operator::I32GtS => act_comparison(ValType::I32, Comparison::GtS, cells, top),
+        Operator::I32GtU => act_comparison(ValType::I32, Comparison::GtU, cells, top),
+        Operator::I32LeS => act_comparison(ValType::I32, Comparison::LeS, cells, top),
+        Operator::I32GeS => act_comparison(ValType::I32, Comparison::GeS, cells, top),
+        Operator::I32WrapI64 => act_op(Numeric::Conversion(Conversion::Wrap), cells, top),
+        Operator::I64ExtendI32S => act_op(Numeric::Conversion(Conversion::ExtendS), cells, top),
+        Operator::I64ExtendI32U => act_op(Numeric::Conversion(Conversion::ExtendU), cells, top),
     }
 }
 

@@ -1,15 +1,16 @@
 //! Host calls (Core 1.0, 4.4.7) on an operand stack with room for one more cell. Each returns the new height of the
 //! stack.
 
-ghost use Rattle.std.specs.Prelude.{◌≡◌, ◌<◌, ◌≤◌, length, nat_lt, true, IfOk, OnErr};
+ghost use Rattle.std.specs.Prelude.{◌≡◌, ◌∷◌, ◌<◌, ◌≤◌, List, length, nat_lt, true, IfOk, OnErr};
 ghost use Rattle.wasm_ast.specs.declared.types.ValType.TheVariants.{I32 as i32_type};
+ghost use Rattle.wasm_ast.specs.declared.types.Value.{Value as AnyValue};
 ghost use Rattle.wasm_ast.specs.declared.types.Value.TheVariants.{I64};
 ghost use Rattle.host_calls.specs.declared.call.TheConstants.{AGGREGATORS};
 ghost use Rattle.host_calls.specs.declared.imports.HostCall.TheVariants as calls;
 ghost use Rattle.host_calls.specs.Effects.{signed};
 ghost use Rattle.interp.specs.inside.Acts.{ActsOnHost};
 ghost use Rattle.interp.specs.inside.Cells.{cell_call, in_width};
-ghost use Rattle.interp.specs.inside.Given.{gives};
+ghost use Rattle.interp.specs.inside.Given.{gives, only_pushes};
 ghost use Rattle.interp.specs.inside.Going.{call_asks, has_tops, of_next, of_top};
 ghost use Rattle.interp.specs.inside.OperandStack.{operand_stack};
 
@@ -36,16 +37,7 @@ pub fn call_host(
     ensures fails { OnErr result (gives call ≡ true) }
 {
     match call {
-        HostCall::VertexId => Ok(push(cells, top, signed(vertex.vertex_id()))),
-        HostCall::Superstep => Ok(push(cells, top, signed(vertex.superstep()))),
-        HostCall::NumVertices => Ok(push(cells, top, signed(vertex.num_vertices()))),
-        HostCall::GetValue => Ok(push(cells, top, signed(vertex.get_value()))),
         HostCall::SetValue => Ok(set_value(cells, top, vertex)),
-        HostCall::NextMessage => { Ok(push(cells, top, of_i32(u32::from(vertex.next_message())))) }
-        HostCall::MessageValue => Ok(push(cells, top, signed(vertex.message_value()))),
-        HostCall::NextEdge => Ok(push(cells, top, of_i32(u32::from(vertex.next_edge())))),
-        HostCall::EdgeTarget => Ok(push(cells, top, signed(vertex.edge_target()))),
-        HostCall::EdgeValue => Ok(push(cells, top, signed(vertex.edge_value()))),
         HostCall::Send => send(cells, top, vertex),
         HostCall::Aggregate => aggregate(cells, top, vertex),
         HostCall::Aggregated => Ok(aggregated(cells, top, vertex)),
@@ -53,6 +45,28 @@ pub fn call_host(
             vertex.vote_to_halt();
             Ok(top)
         }
+        _ => Ok(push(cells, top, answer(call, vertex))),
+    }
+}
+
+// Makes a host call that has no arguments and one result, and returns the result as a cell.
+#[inline(always)]
+fn answer(call: HostCall, vertex: &mut CallState) -> u64
+    requires { only_pushes call ≡ true }
+    ensures { (values : List AnyValue) → ActsOnHost (cell_call in_width call)
+        values (I64 result ∷ values) vertex.old vertex.new }
+{
+    match call {
+        HostCall::VertexId => signed(vertex.vertex_id()),
+        HostCall::Superstep => signed(vertex.superstep()),
+        HostCall::NumVertices => signed(vertex.num_vertices()),
+        HostCall::GetValue => signed(vertex.get_value()),
+        HostCall::NextMessage => of_i32(u32::from(vertex.next_message())),
+        HostCall::MessageValue => signed(vertex.message_value()),
+        HostCall::NextEdge => of_i32(u32::from(vertex.next_edge())),
+        HostCall::EdgeTarget => signed(vertex.edge_target()),
+        HostCall::EdgeValue => signed(vertex.edge_value()),
+        _ => unreachable!(),
     }
 }
 

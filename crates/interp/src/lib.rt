@@ -6,6 +6,7 @@ mod call_globals;
 mod cell;
 mod control_entry;
 mod flat;
+mod found;
 mod globals;
 mod host;
 mod laws;

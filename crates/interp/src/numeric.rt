@@ -13,6 +13,7 @@ ghost use Rattle.wasm_ast.specs.declared.types.ValType.TheVariants.{I32 as i32_t
 use crate::cell::{as_i32, of_i32};
 use crate::operand_stack::{pop, push};
 use crate::plain::Acted;
+use cost::plain_units;
 use wasm_ast::{
     Binary, Comparison, Conversion, Division, Numeric, Plain, Unary, ValType, i32_eqz,
     i32_wrap_i64, i64_eqz, i64_extend_i32_s, i64_extend_i32_u,
@@ -28,20 +29,32 @@ pub fn act_numeric(op: Numeric, cells: &mut [u64], top: usize) -> Acted
     ensures units { result.units ≡ numeric_units op }
     ensures within { result.top ≤ length cells.new }
 {
-    let plain = Plain::Numeric(op);
+    let units = plain_units(Plain::Numeric(op));
     match op {
-        Numeric::Eqz(of) => Acted::by(plain, act_eqz(of, cells, top)),
-        Numeric::Comparison(of, comparison) => {
-            Acted::by(plain, act_comparison(of, comparison, cells, top))
-        }
-        Numeric::Unary(of, unary) => Acted::by(plain, act_unary(of, unary, cells, top)),
-        Numeric::Binary(of, binary) => Acted::by(plain, act_binary(of, binary, cells, top)),
-        Numeric::Division(of, division) => {
-            Acted::by(plain, act_division(of, division, cells, top))
-        }
-        Numeric::Conversion(conversion) => {
-            Acted::by(plain, act_conversion(conversion, cells, top))
-        }
+        Numeric::Eqz(of) => Acted {
+            top: act_eqz(of, cells, top),
+            units,
+        },
+        Numeric::Comparison(of, comparison) => Acted {
+            top: act_comparison(of, comparison, cells, top),
+            units,
+        },
+        Numeric::Unary(of, unary) => Acted {
+            top: act_unary(of, unary, cells, top),
+            units,
+        },
+        Numeric::Binary(of, binary) => Acted {
+            top: act_binary(of, binary, cells, top),
+            units,
+        },
+        Numeric::Division(of, division) => Acted {
+            top: act_division(of, division, cells, top),
+            units,
+        },
+        Numeric::Conversion(conversion) => Acted {
+            top: act_conversion(conversion, cells, top),
+            units,
+        },
     }
 }
 

@@ -26,7 +26,6 @@ use wasm_ast::{MAX_LOCALS, MAX_NESTING};
 
 /// The state that the calls of one module share: what each call begins with, and buffers that one call leaves to the
 /// next. Its model is the module.
-#[derive(Drop)]
 pub struct Scratch<'a> {
     verified: &'a Verified,
     // In a box, so that dropping the owner is one call.
@@ -40,6 +39,15 @@ pub struct Lists<'a> {
     walk: Walk<'a>,
     sends: Vec<(i64, i64)>,
     contributions: Vec<(u32, i64)>,
+}
+
+impl<'a> Drop for Scratch<'a> {
+    fn drop(self) {
+        let Scratch {
+            verified: _,
+            lists: _,
+        } = self;
+    }
 }
 
 impl<'a> Model for Scratch<'a> {

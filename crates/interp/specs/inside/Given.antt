@@ -23,3 +23,12 @@ abbrev pub gives : HostCall → Bool
 gives call.Send = true
 gives call.Aggregate = true
 gives _ = false
+
+-- the host calls that have no arguments and one result
+abbrev pub only_pushes : HostCall → Bool
+only_pushes call.SetValue = false
+only_pushes call.Send = false
+only_pushes call.Aggregate = false
+only_pushes call.Aggregated = false
+only_pushes call.VoteToHalt = false
+only_pushes _ = true

@@ -1,5 +1,5 @@
 -- One more target's letters: the inbox of its id arrives after those of lesser ids.
-use Rattle.std.proofs.Common.{◌≡◌, ◌≢◌, ◌<◌, ◌≤◌, ◌+◌, ℕ, zero, suc, ℤ, pos, negsuc, Bool, true, false, ◌||◌, List, [], ◌∷◌, ◌++◌, map, filter, length, get_or, take, drop, sum_by, vec_items, vec_len, arith, refl, sym, ap, ◌∙◌, Global, append-nil, append_assoc}
+use Rattle.std.proofs.Common.{◌≡◌, ◌≢◌, ◌<◌, ◌≤◌, ◌+◌, ℕ, zero, suc, ℤ, pos, negsuc, Bool, true, false, ◌||◌, List, [], ◌∷◌, ◌++◌, map, filter, length, get_or, take, drop, sum_by, vec_items, arith, refl, sym, ap, ◌∙◌, Global, append-nil, append_assoc}
 use Rattle.std.proofs.lemmas.Bool.Decides.{nat_tests}
 use Rattle.std.proofs.lemmas.Int.{ints}
 use Rattle.std.proofs.lemmas.List.{get_or-take, get_or-drop, length-take-le, length-drop, map-append, nil_from_length, take-append-drop}
@@ -23,7 +23,7 @@ use Rattle.inbox.specs.inside.Targets.{IsByTarget, target_cmp}
 use Rattle.inbox.proofs.Counting.{delivered_or_dropped, dropped_of_none}
 use Rattle.inbox.proofs.Delivery.{other_id}
 use Rattle.inbox.proofs.InOrder.{in_order}
-use Rattle.inbox.proofs.InShares.{counted, same_inboxes}
+use Rattle.inbox.proofs.InShares.{same_inboxes}
 use Rattle.inbox.proofs.OneOrder.{same_dropped}
 
 -- ---- what one target's letters bring to an id
@@ -313,13 +313,12 @@ all_parts letters (own ∷ ids) (part ∷ parts) same =
     omega (arith, ap (sum_by messages) here, one_part 0 (inboxes_of letters own.items), rest, joined, sum_by-cons (λ (part : Vec Arrival Global). sum_by messages part.items) part parts)
 
 -- each letter is in one inbox or goes to none of the ids
-pub few_or_lost : (lists : List (Vec Letter Global)) (ids : List (Vec ℕ Global)) (sorted : List Letter) (target_set : TargetSet) (parts : List (Vec Arrival Global))
-    → IsDistinct are_one (all_of lists) → IsDistinct nat_eq (all_of ids) → ((id : ℕ) → has target_set id ≡ true) → IsByTarget (filter (goes_into target_set) (all_of lists)) sorted
+pub few_or_lost : (letters : List Letter) (ids : List (Vec ℕ Global)) (sorted : List Letter) (target_set : TargetSet) (parts : List (Vec Arrival Global))
+    → IsDistinct are_one letters → IsDistinct nat_eq (all_of ids) → ((id : ℕ) → has target_set id ≡ true) → IsByTarget (filter (goes_into target_set) letters) sorted
     → map vec_items parts ≡ map (λ part. arrivals_from 0 (inboxes_of sorted part.items)) ids
-    → sum_by (λ part. sum_by messages part.items) parts + dropped_of (all_of lists) (all_of ids) ≡ sum_by vec_len lists
-few_or_lost lists ids sorted target_set parts differ apart all by same =
-    let letters = all_of lists in
+    → sum_by (λ part. sum_by messages part.items) parts + dropped_of letters (all_of ids) ≡ length letters
+few_or_lost letters ids sorted target_set parts differ apart all by same =
     let order = in_order letters differ in
     let here = all_parts order.0 ids parts (same ∙ few_same letters sorted order.0 target_set ids all by order.1) in
     let none = same_dropped letters order.0 [] order.1.same ∙ dropped_of_none letters in
-    omega (arith, here, none, counted lists, same_dropped letters order.0 (all_of ids) order.1.same, delivered_or_dropped order.0 [] (all_of ids) apart)
+    omega (arith, here, none, same_dropped letters order.0 (all_of ids) order.1.same, delivered_or_dropped order.0 [] (all_of ids) apart)

@@ -35,7 +35,7 @@ later_numbers : (source : ℕ) (a : Letter) (letters : List Letter) → a.from �
 later_numbers source a [] own all up = tt
 later_numbers source a (b ∷ letters) own all up = (by_number a b (own ∙ sym all.0) up.0, later_numbers source a letters own all.1 up.1)
 
-of_one_source : (source : ℕ) (letters : List Letter) → AllByRecursion (λ b. b.from ≡ source) letters → IsStrictlySortedBy (λ a b. nat_cmp a.seq b.seq) letters → IsStrictlySortedBy source_cmp letters
+pub of_one_source : (source : ℕ) (letters : List Letter) → AllByRecursion (λ b. b.from ≡ source) letters → IsStrictlySortedBy (λ a b. nat_cmp a.seq b.seq) letters → IsStrictlySortedBy source_cmp letters
 unfolding IsStrictlySortedBy
 of_one_source source [] all up = tt
 of_one_source source (a ∷ letters) all up = (later_numbers source a letters all.0 all.1 up.0, of_one_source source letters all.1 up.1)

@@ -78,15 +78,6 @@ pub from_search : (n : ℕ) (ids : List ℕ) (r : Result ℕ ℕ) → IsStrictly
 from_search n ids r up found =
     from_searched n ids r (searched ids n r found (λ i j le inside. non_decreasing_from_sorted ids (sorted_from_strictly_increasing ids up) i j 0 le inside))
 
--- a signed number that fits an unsigned one
-pub as_number : (z : ℤ) (n : ℕ) → SFits w64 z → FitsUnsignedBits 64 (to_z w64 (of_z w64 z)) × (n ≡ nat_abs (to_z w64 (of_z w64 z))) → z ≡ pos n
-as_number z n signed is = number z n (simp to_z-of_z at is.0) (simp to_z-of_z at is.1)
-
--- the same where the ids may not rise
-pub none_where_rising : (n : ℕ) (ids : List ℕ) (r : Result ℕ ℕ) → IsBinarySearchResult (λ y. nat_cmp y n) ids r → IfNone (result_ok r) (IsStrictlyIncreasing ids → list_any (λ other. int_eq (pos n) (pos other)) ids ≡ false)
-none_where_rising n ids (Ok i) found = tt
-none_where_rising n ids (Err i) found = λ up. from_search n ids (Err i) up found
-
 -- what a search that finds nothing says
 pub none_from_search : (z : ℤ) (n : ℕ) (ids : List ℕ) (r : Result ℕ ℕ) → SFits w64 z → FitsUnsignedBits 64 (to_z w64 (of_z w64 z)) × (n ≡ nat_abs (to_z w64 (of_z w64 z))) → IsStrictlyIncreasing ids → IsBinarySearchResult (λ y. nat_cmp y n) ids r → IfNone (result_ok r) (list_any (λ other. int_eq z (pos other)) ids ≡ false)
 none_from_search z n ids r signed is up found =

@@ -136,10 +136,9 @@ counts_in letters (part ∷ ids) (delivered ∷ all) zip =
     omega (arith, zip.0.count, rest, sum_by-cons (λ (part : Delivered). part.count) delivered all, sum_by-cons (λ (part : Vec (List ℤ) Global). sum_by length part.items) delivered.inboxes (inboxes_in all))
 
 -- each letter stands in one inbox or goes to none of the ids
-pub delivered_or_lost : (lists : List (Vec Letter Global)) (ids : List (Vec ℕ Global)) (all : List Delivered) → IsDistinct are_one (all_of lists) → IsDistinct nat_eq (all_of ids) → AllZip (IsDelivered (all_of lists)) ids all → sum_by (λ part. part.count) all + dropped_of (all_of lists) (all_of ids) ≡ sum_by vec_len lists
-delivered_or_lost lists ids all differ apart zip =
-    let letters = all_of lists in
+pub delivered_or_lost : (letters : List Letter) (ids : List (Vec ℕ Global)) (all : List Delivered) → IsDistinct are_one letters → IsDistinct nat_eq (all_of ids) → AllZip (IsDelivered letters) ids all → sum_by (λ part. part.count) all + dropped_of letters (all_of ids) ≡ length letters
+delivered_or_lost letters ids all differ apart zip =
     let order = in_order letters differ in
     let here = delivered_to_all order.0 ids (inboxes_in all) (all_made letters order.0 order.1 ids all zip) in
     let none = same_dropped letters order.0 [] order.1.same ∙ dropped_of_none letters in
-    omega (arith, counts_in letters ids all zip, here, none, counted lists, same_dropped letters order.0 (all_of ids) order.1.same, delivered_or_dropped order.0 [] (all_of ids) apart)
+    omega (arith, counts_in letters ids all zip, here, none, same_dropped letters order.0 (all_of ids) order.1.same, delivered_or_dropped order.0 [] (all_of ids) apart)

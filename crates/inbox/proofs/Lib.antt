@@ -8,8 +8,10 @@ pub mod Filed
 pub mod InOrder
 pub mod InShares
 pub mod Kept
+pub mod Messages
 pub mod OneOrder
 pub mod Order
+pub mod Sending
 pub mod SideBySide
 pub mod Spread
 pub mod Streaming

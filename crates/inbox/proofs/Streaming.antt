@@ -1,5 +1,5 @@
--- Letters of several lists, taken a run after another: those taken, with those left, are all, and they are filed by source.
-use Rattle.std.proofs.Common.{◌≡◌, ◌<◌, ◌≤◌, ◌+◌, ℕ, zero, suc, List, [], ◌∷◌, ◌++◌, length, get_or, take, drop, arith, sym, ap, subst, ◌∙◌, append-nil, append_assoc, length-append}
+-- Letters of several lists or outboxes, taken a run after another: those taken, with those left, are all, and they are filed by source.
+use Rattle.std.proofs.Common.{◌≡◌, ◌==◌, ◌<◌, ◌≤◌, ◌+◌, ℕ, zero, suc, ℤ, pos, Bool, false, List, [], ◌∷◌, ◌++◌, length, get_or, take, drop, arith, sym, ap, subst, ◌∙◌, append-nil, append_assoc, length-append}
 use Rattle.std.proofs.Math.ListN.{set}
 use Rattle.std.proofs.lemmas.Bool.Decides.{nat_tests}
 use Rattle.std.proofs.lemmas.List.{get_or-take, length-take-le, take-append-drop, take_more}
@@ -9,14 +9,21 @@ use Rattle.std.proofs.lemmas.List.Sorted.{IsPermutation-refl, IsPermutation-tran
 use Rattle.std.specs.List.{AllByRecursion, flat_map}
 use Rattle.std.specs.List.Sorted.{IsPermutation, IsStrictlySortedBy}
 use Rattle.std.specs.declared.cmp.Ordering.TheVariants.{Less}
-use Rattle.inbox.specs.declared.blocks.Slip.{Slip}
+use denote.Ref.{Bor}
+use Rattle.inbox.specs.declared.slips.Slip.{Slip}
 use Rattle.inbox.specs.declared.grid.Grid.{Grid}
 use Rattle.inbox.specs.declared.letters.Letter.{Letter}
-use Rattle.inbox.specs.Merging.{IsBySource, source_cmp}
+use Rattle.inbox.specs.declared.outbox.Unread.{Unread}
+use Rattle.inbox.specs.declared.streams.Rest.TheVariants.{OfList, OfOutbox}
+use Rattle.inbox.specs.declared.streams.Run.TheVariants.{Letters, Sends}
+use Rattle.inbox.specs.declared.streams.Taken.{Taken}
+use Rattle.inbox.specs.Merging.{IsBySource, letters_sent, source_cmp}
 use Rattle.inbox.specs.inside.Blocks.{AreFiled}
-use Rattle.inbox.specs.inside.Streams.{AreFiledSoFar, IsNextRun}
+use Rattle.inbox.specs.inside.Outboxes.{unread_letters}
+use Rattle.inbox.specs.inside.Streams.{AreFiledSoFar, IsNextRun, IsTaken, run_letters}
 use Rattle.inbox.proofs.Concatenation.{each_append, each_weaker, sorted-append}
 use Rattle.inbox.proofs.Order.{rise_adjacent}
+use Rattle.inbox.proofs.Sending.{length_sent, sent_own, sent_rise}
 
 -- ---- lists, by what each shows
 
@@ -39,27 +46,29 @@ module _ {B X : Type 0} (shown : B → List X) where
   one_pushed lists list = flat_map-append shown lists (list ∷ []) ∙ ap (λ items. flat_map shown lists ++ items) (append-nil (shown list))
 
   -- a run is taken from the front of one list
-  pub run_taken : (lists : List B) (place count : ℕ) (rest others : B) → place < length lists → rest ≡ get_or lists place rest → shown others ≡ drop count (shown rest)
-      → IsPermutation (flat_map shown lists) (take count (shown rest) ++ flat_map shown (set lists place others))
-  run_taken [] place count rest others inside is cut = absurd (omega arith)
-  run_taken (first ∷ lists) zero count rest others inside is cut =
+  pub run_taken : (lists : List B) (place : ℕ) (rest others : B) (run : List X) → place < length lists → rest ≡ get_or lists place rest → run ++ shown others ≡ shown rest
+      → IsPermutation (flat_map shown lists) (run ++ flat_map shown (set lists place others))
+  run_taken [] place rest others run inside is cut = absurd (omega arith)
+  run_taken (first ∷ lists) zero rest others run inside is cut =
       let later = flat_map shown lists in
-      let run = take count (shown rest) in
-      let same : shown first ++ later ≡ run ++ (shown others ++ later) =
-      ap (λ items. items ++ later) (ap shown (sym is) ∙ sym (take-append-drop count (shown rest)) ∙ ap (λ items. run ++ items) (sym cut))
-      ∙ append_assoc run (shown others) later in
+      let same : shown first ++ later ≡ run ++ (shown others ++ later) = ap (λ items. items ++ later) (ap shown (sym is) ∙ sym cut) ∙ append_assoc run (shown others) later in
       subst (IsPermutation (shown first ++ later)) same (IsPermutation-refl (shown first ++ later))
-  run_taken (first ∷ lists) (suc place) count rest others inside is cut =
+  run_taken (first ∷ lists) (suc place) rest others run inside is cut =
       let own = shown first in
-      let run = take count (shown rest) in
       let after = flat_map shown (set lists place others) in
-      let further : IsPermutation (own ++ flat_map shown lists) (own ++ (run ++ after)) = IsPermutation-append_right own (flat_map shown lists) (run ++ after) (run_taken lists place count rest others (omega arith) is cut) in
+      let further : IsPermutation (own ++ flat_map shown lists) (own ++ (run ++ after)) = IsPermutation-append_right own (flat_map shown lists) (run ++ after) (run_taken lists place rest others run (omega arith) is cut) in
       let turned : IsPermutation ((own ++ run) ++ after) ((run ++ own) ++ after) = IsPermutation-append_left after (own ++ run) (run ++ own) (IsPermutation-append_comm own run) in
       IsPermutation-trans _ _ _ further
       (subst (λ items. IsPermutation items (run ++ (own ++ after))) (append_assoc own run after)
       (subst (IsPermutation ((own ++ run) ++ after)) (append_assoc run own after) turned))
 
 -- ---- one run
+
+abbrev pub no_letter : Letter
+no_letter = record { to = pos 0; from = 0; seq = 0; value = pos 0 }
+
+pub not_none : (n : ℕ) (b : Bool) → b ≡ (n == 0) → b ≡ false → 0 < n
+not_none n b is off = grind (arith, nat_tests)
 
 -- what the length of a run says
 pub record IsRun (letters : List Letter) (least count : ℕ) : Type 0 where
@@ -84,14 +93,37 @@ module _ (letters : List Letter) (least count : ℕ) (is : IsRun letters least c
       let here : k < count = omega arith in
       rw (get_or-take count letters k d here, get_or-take count letters (k + 1) d next) (is.rising k d next))
 
-  pub next_run : (left later : List Letter) (next : ℕ) → 0 < count → IsPermutation left (take count letters ++ later) → ((d : Letter) → (get_or letters 0 d).from + 1 ≡ next) → IsNextRun left least (take count letters) later next
-  next_run left later next some same above = record {
-    some = omega (arith, length-take-le count letters is.bound);
-    same = same;
-    rising = rises;
-    late = each (λ letter. least ≤ letter.from) (λ k d below. omega (arith, is.late d some, is.own k d below));
-    early = each (λ letter. letter.from < next) (λ k d below. omega (arith, above d, is.own k d below));
+  -- it is taken from the front of a list
+  pub list_taken : (source : ℕ) (run others : Bor (List Letter)) → run.now ≡ take count letters → others.now ≡ drop count letters → 0 < count → ((d : Letter) → (get_or letters 0 d).from ≡ source)
+      → IsTaken letters least (record { source = source; run = Letters run; rest = OfList others })
+  list_taken source run others front back some of = record {
+    some = omega (arith, ap length front, length-take-le count letters is.bound);
+    whole = (λ i. front i ++ back i) ∙ take-append-drop count letters;
+    rising = subst (IsStrictlySortedBy source_cmp) (sym front) rises;
+    late = omega (arith, is.late no_letter some, of no_letter);
+    own = subst (AllByRecursion (λ letter. letter.from ≡ source)) (sym front) (each (λ letter. letter.from ≡ source) (λ k d below. is.own k d below ∙ of d));
   }
+
+-- a source's letters are taken from the front of an outbox
+pub batch_taken : (letters : List Letter) (least source : ℕ) (sends : Bor (List (ℤ × ℤ))) (others : Unread) → letters_sent source sends.now ++ unread_letters others ≡ letters → 0 < length sends.now → least ≤ source
+    → IsTaken letters least (record { source = source; run = Sends source sends; rest = OfOutbox others })
+batch_taken letters least source sends others whole some late = record {
+  some = omega (arith, some, length_sent source sends.now);
+  whole = whole;
+  rising = sent_rise source sends.now;
+  late = late;
+  own = sent_own source sends.now;
+}
+
+-- the next run of all lists or outboxes is that of one of them
+pub next_taken : (left later letters : List Letter) (least : ℕ) (taken : Taken) → IsTaken letters least taken → IsPermutation left (run_letters taken.run ++ later) → IsNextRun left least (run_letters taken.run) later (taken.source + 1)
+next_taken left later letters least taken is same = record {
+  some = is.some;
+  same = same;
+  rising = is.rising;
+  late = each_weaker (λ letter. letter.from ≡ taken.source) (λ letter. least ≤ letter.from) (λ letter own. omega (arith, own, is.late)) (run_letters taken.run) is.own;
+  early = each_weaker (λ letter. letter.from ≡ taken.source) (λ letter. letter.from < taken.source + 1) (λ letter own. omega (arith, own)) (run_letters taken.run) is.own;
+}
 
 -- ---- all runs
 

@@ -1,6 +1,6 @@
 -- Letters become inboxes: sorted by source, and those of one source in the order of sending.
 use Rattle.std.specs.Prelude.{◌≡◌, ℕ, ℤ, pos, List, Bool, not, ◌&&◌, ◌==◌, map, filter, count_by, vec_items, All}
-use Rattle.std.specs.List.{list_any, flat_map}
+use Rattle.std.specs.List.{list_any, enumerate_from, flat_map}
 use Rattle.std.specs.declared.vec.Vec.{Vec}
 use Rattle.std.specs.Ordering.{int_eq, nat_cmp, ordering_then}
 use Rattle.std.specs.declared.cmp.Ordering.{Ordering}
@@ -39,6 +39,18 @@ dropped_of letters ids = count_by (λ letter. not (list_any (goes_to letter) ids
 -- the concatenation of lists: the letters of all lists, or the ids of all parts
 abbrev pub all_of : {X Z : Type 0} → List (Vec X Z) → List X
 all_of lists = flat_map vec_items lists
+
+-- the letter of a message that the vertex with this id sent, given its number, its target and its value
+abbrev pub letter_sent : ℕ → ℕ × (ℤ × ℤ) → Letter
+letter_sent id sent = record { to = sent.1.0; from = id; seq = sent.0; value = sent.1.1 }
+
+-- the letters of a vertex: its messages, numbered in the order of sending
+abbrev pub letters_sent : ℕ → List (ℤ × ℤ) → List Letter
+letters_sent id sends = map (letter_sent id) (enumerate_from 0 sends)
+
+-- the letters of all outboxes, one outbox after another
+abbrev pub sent_in : List (List Letter) → List Letter
+sent_in outboxes = flat_map (λ (letters : List Letter). letters) outboxes
 
 -- each source sends letters of its own, in the order of their numbers
 pub record AreSent (sent_by : ℕ → List Letter) : Type 0 where

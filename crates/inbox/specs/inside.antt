@@ -2,7 +2,10 @@ pub mod Blocks
 pub mod Filing
 pub mod Grids
 pub mod Held
+pub mod Mail
+pub mod Outboxes
 pub mod Runs
 pub mod Shares
+pub mod Slips
 pub mod Streams
 pub mod Targets

@@ -3,7 +3,8 @@ ghost use Rattle.std.specs.Global.{Vec as AnyVec};
 ghost use Rattle.std.specs.List.{AllZip, IsDistinct};
 ghost use Rattle.std.specs.List.Sorted.{IsStrictlySortedBy, IsPartitionPoint};
 ghost use Rattle.inbox.specs.declared.letters.Letter.{Letter as AnyLetter};
-ghost use Rattle.inbox.specs.Merging.{are_one, goes_to, all_of, IsBySource, inboxes_of, dropped_of};
+ghost use Rattle.inbox.specs.Merging.{are_one, goes_to, all_of, sent_in, IsBySource, inboxes_of, dropped_of};
+ghost use Rattle.inbox.specs.inside.Mail.{letters_in};
 ghost use Rattle.inbox.specs.inside.Filing.{AreAllFiled, AreInBlocks, AreSomeOf, IsFiled, IsMadeFrom, IsMadeOf};
 ghost use Rattle.inbox.specs.inside.Targets.{IsByTarget, target_cmp};
 ghost use Rattle.inbox.specs.inside.Shares.{goes_into, ArePutIn, IsDelivered, IsInboxIn, IsPutIn, inboxes_in};
@@ -12,6 +13,8 @@ use crate::filing::{PartBlocks, filed_parts, made_part};
 use crate::grid::Grid;
 use crate::inboxes::Inbox;
 use crate::letters::Letter;
+use crate::mail::{Mail, item_count};
+use crate::outbox::Outbox;
 use crate::shares::{Share, TargetSet, shares};
 use rayon::current_num_threads;
 use rayon::prelude::*;
@@ -30,7 +33,7 @@ use std::thread::Threads;
 ///
 /// 1. It reads all letters by source. Up to 16 lists, each sorted by source already, are read side by side if it has one part,
 ///    and one such list if it has more. Otherwise it copies the letters that may go to an id of its parts, and sorts them.
-/// 2. It files them by blocks of 4,096 ids. It files 16 bytes of each letter.
+/// 2. It files them by blocks of 4,096 ids. It files 10 bytes of each letter.
 /// 3. When all threads are done with that, it makes the inboxes of each block. An inbox of more than four messages has no room
 ///    beyond them. Many ids of one part are shared among threads again.
 ///
@@ -56,30 +59,35 @@ pub fn merge_parts(
     ensures dropped { IfOk result (λ merged.
         merged.1 ≡ dropped_of (all_of lists.now) (all_of ids.now)) }
 {
-    let filed = filed_in_all(rt, alloc, lists, ids)?;
+    let mail = Mail::Loose(lists);
+    let filed = filed_in_all(rt, alloc, mail, ids)?;
     let delivered = made_of_all(rt, alloc, filed)?;
-    with_dropped(alloc, delivered, letter_count(lists))
+    with_dropped(alloc, delivered, mail.count())
 }
 
-/// Makes the inboxes of all parts in threads, and counts the letters that go to no id. It returns what [`merge_parts`] returns,
-/// in less memory: it frees the letters after the second step, before there are inboxes.
+/// Makes the inboxes of all parts in threads, and counts the letters that go to no id. It returns what [`merge_parts`] returns
+/// for the letters in these outboxes, in less memory: it frees the outboxes after the second step, before there are inboxes.
+///
+/// A share of up to four parts reads up to 16 outboxes side by side, and copies no letter, if the ids of each outbox's sources
+/// rise.
 pub fn merge_own_parts(
     rt: &(impl Threads + Sync),
     alloc: Global,
-    lists: Vec<Vec<Letter>>,
+    outboxes: Vec<Outbox>,
     ids: &[Vec<u64>],
 ) -> Result<(Vec<Vec<Inbox>>, u128), AllocError>
     requires apart { IsDistinct nat_eq (all_of ids.now) }
-    requires distinct { IsDistinct are_one (all_of lists.items) }
+    requires distinct { IsDistinct are_one (sent_in outboxes.items) }
     ensures inboxes { IfOk result (λ merged. (ordered : List AnyLetter)
-        → IsBySource (all_of lists.items) ordered
+        → IsBySource (sent_in outboxes.items) ordered
         → map vec_items merged.0.items ≡ map (λ part. inboxes_of ordered part.items) ids.now) }
     ensures dropped { IfOk result (λ merged.
-        merged.1 ≡ dropped_of (all_of lists.items) (all_of ids.now)) }
+        merged.1 ≡ dropped_of (sent_in outboxes.items) (all_of ids.now)) }
 {
-    let filed = filed_in_all(rt, alloc, &lists, ids)?;
-    let count = letter_count(&lists);
-    drop(lists);
+    let mail = Mail::Sent(&outboxes);
+    let count = mail.count();
+    let filed = filed_in_all(rt, alloc, mail, ids)?;
+    drop(outboxes);
     let delivered = made_of_all(rt, alloc, filed)?;
     with_dropped(alloc, delivered, count)
 }
@@ -91,26 +99,12 @@ struct Delivered {
     count: u128,
 }
 
-/// Counts the letters of all lists.
-pub fn letter_count(lists: &[Vec<Letter>]) -> u128
-    ensures { result ≡ sum_by (λ list. vec_len list) lists.now }
-{
-    lists.iter().map(|list| list.len() as u128).sum()
-}
-
-// Returns the length of all lists together. It stops at the greatest number.
-pub fn length_of_all<T>(lists: &[Vec<T>]) -> usize {
-    lists
-        .iter()
-        .fold(0usize, |count, list| count.saturating_add(list.len()))
-}
-
 // The least number of letters and ids together that is worth threads, or asking for the number of processors.
-const LEAST_WORK: usize = 10_000;
+const LEAST_WORK: u128 = 10_000;
 
 // Returns the number of shares that is worth its threads.
-fn most_shares(rt: &impl Threads, lists: &[Vec<Letter>], ids: &[Vec<u64>]) -> usize {
-    let work = length_of_all(lists).saturating_add(length_of_all(ids));
+fn most_shares(rt: &impl Threads, mail: Mail, ids: &[Vec<u64>]) -> usize {
+    let work = mail.count().saturating_add(item_count(ids));
     if work < LEAST_WORK {
         1
     } else {
@@ -118,12 +112,10 @@ fn most_shares(rt: &impl Threads, lists: &[Vec<Letter>], ids: &[Vec<u64>]) -> us
     }
 }
 
-// Returns the room for a share's letters: an equal share and a sixteenth more, so that most shares need not grow. It is at
-// most the number of letters.
-fn room_for(lists: &[Vec<Letter>], shares: usize) -> usize {
-    let letters = length_of_all(lists);
-    let share = letters / shares.max(1);
-    share.saturating_add(share / 16).min(letters)
+// Returns the room for a share's letters: an equal share and a sixteenth more, so that most shares need not grow.
+fn room_for(mail: Mail, shares: usize) -> usize {
+    let share = mail.len() / shares.max(1);
+    share.saturating_add(share / 16)
 }
 
 // What one share has filed, of which its inboxes are made.
@@ -145,27 +137,27 @@ struct Sorted<'a> {
 fn filed_in_all<'a>(
     rt: &(impl Threads + Sync),
     alloc: Global,
-    lists: &[Vec<Letter>],
+    mail: Mail,
     ids: &'a [Vec<u64>],
 ) -> Result<Vec<Filed<'a>>, AllocError>
-    requires { IsDistinct are_one (all_of lists.now) }
-    ensures { IfOk result (λ filed. AreAllFiled (all_of lists.now) ids.now filed.items) }
+    requires { IsDistinct are_one (letters_in mail) }
+    ensures { IfOk result (λ filed. AreAllFiled (letters_in mail.entry) ids.now filed.items) }
 {
-    let shares = shares(alloc, ids, most_shares(rt, lists, ids))?;
-    let room = room_for(lists, shares.len());
-    filed_in_shares(rt, alloc, lists, &shares, room)
+    let shares = shares(alloc, ids, most_shares(rt, mail, ids))?;
+    let room = room_for(mail, shares.len());
+    filed_in_shares(rt, alloc, mail, &shares, room)
 }
 
 // Files the letters to each share.
 fn filed_in_shares<'a>(
     rt: &(impl Threads + Sync),
     alloc: Global,
-    lists: &[Vec<Letter>],
+    mail: Mail,
     shares: &[Share<'a>],
     room: usize,
 ) -> Result<Vec<Filed<'a>>, AllocError>
-    requires { IsDistinct are_one (all_of lists.now) }
-    ensures { IfOk result (λ filed. AllZip (IsFiled (all_of lists.now)) shares.now filed.items) }
+    requires { IsDistinct are_one (letters_in mail) }
+    ensures { IfOk result (λ filed. AllZip (IsFiled (letters_in mail.entry)) shares.now filed.items) }
 {
     // Each share is worth a thread.
     shares
@@ -173,9 +165,9 @@ fn filed_in_shares<'a>(
         .with_min_len(1)
         .map(
             |share: &Share| -> Result<Filed, AllocError>
-                requires { IsDistinct are_one (all_of lists.now) }
-                ensures { IfOk result (IsFiled (all_of lists.entry.now) share.now) }
-            { filed_in_share(alloc, lists, share, room) },
+                requires { IsDistinct are_one (letters_in mail) }
+                ensures { IfOk result (IsFiled (letters_in mail.entry) share.now) }
+            { filed_in_share(alloc, mail, share, room) },
         )
         .collect::<Result<Vec<Filed<'a>>, AllocError>>(rt, alloc)?
 }
@@ -183,19 +175,19 @@ fn filed_in_shares<'a>(
 // Files the letters to one share's parts. Room for `room` letters is made at the start.
 fn filed_in_share<'a>(
     alloc: Global,
-    lists: &[Vec<Letter>],
+    mail: Mail,
     share: &Share<'a>,
     room: usize,
 ) -> Result<Filed<'a>, AllocError>
-    requires { IsDistinct are_one (all_of lists.now) }
-    ensures { IfOk result (IsFiled (all_of lists.now) share.now) }
+    requires { IsDistinct are_one (letters_in mail) }
+    ensures { IfOk result (IsFiled (letters_in mail.entry) share.now) }
 {
     let targets = share.targets();
     let parts = share.parts;
-    if let Some(filed) = filed_in_blocks(alloc, lists, targets, room, parts)? {
+    if let Some(filed) = filed_in_blocks(alloc, mail, targets, room, parts)? {
         return Ok(Filed::InBlocks(filed));
     }
-    let letters = by_target(alloc, lists, targets, room)?;
+    let letters = by_target(alloc, mail, targets, room)?;
     Ok(Filed::ByTarget(Sorted { parts, letters }))
 }
 
@@ -203,34 +195,26 @@ fn filed_in_share<'a>(
 // rise by one gap.
 fn filed_in_blocks<'a>(
     alloc: Global,
-    lists: &[Vec<Letter>],
+    mail: Mail,
     targets: TargetSet,
     room: usize,
     parts: &'a [Vec<u64>],
 ) -> Result<Option<Vec<PartBlocks<'a>>>, AllocError>
-    requires { IsDistinct are_one (all_of lists.now) }
+    requires { IsDistinct are_one (letters_in mail) }
     ensures { IfOk result (λ found. IfSome found (λ filed. (some : List AnyLetter)
-        × AreSomeOf (all_of lists.now) targets some
+        × AreSomeOf (letters_in mail.entry) targets some
         × AllZip (AreInBlocks some) parts.now filed.items)) }
 {
     if !are_even(parts) {
         return Ok(None);
     }
-    if are_streams(lists, parts)
-        && let Some(filed) = filed_parts(alloc, lists, room, parts)?
+    if mail.are_streams(parts.len())
+        && let Some(filed) = filed_parts(alloc, mail, room, parts)?
     {
         return Ok(Some(filed));
     }
-    let ordered = by_source(alloc, lists, targets, room)?;
-    filed_parts(alloc, &ordered, room, parts)
-}
-
-// The greatest number of lists that are read side by side.
-const MOST_STREAMS: usize = 16;
-
-// Checks that reading all letters for each part costs less than copying and sorting those that go to the parts.
-fn are_streams(lists: &[Vec<Letter>], parts: &[Vec<u64>]) -> bool {
-    lists.len() == 1 || (parts.len() == 1 && lists.len() <= MOST_STREAMS)
+    let ordered = by_source(alloc, mail, targets, room)?;
+    filed_parts(alloc, Mail::Loose(&ordered), room, parts)
 }
 
 // Makes the inboxes of all parts from what each share has filed.
@@ -343,14 +327,15 @@ fn put_to(
 // Copies the letters to these targets into one list, sorted by source. Room for `room` letters is made at the start.
 fn by_source(
     alloc: Global,
-    lists: &[Vec<Letter>],
+    mail: Mail,
     targets: TargetSet,
     room: usize,
 ) -> Result<Vec<Vec<Letter>>, AllocError>
-    requires { IsDistinct are_one (all_of lists.now) }
-    ensures { IfOk result (λ ordered. AreSomeOf (all_of lists.now) targets (all_of ordered.items)) }
+    requires { IsDistinct are_one (letters_in mail) }
+    ensures { IfOk result (λ ordered.
+        AreSomeOf (letters_in mail.entry) targets (all_of ordered.items)) }
 {
-    let letters = sorted_by_source(alloc, lists, targets, room)?;
+    let letters = sorted_by_source(alloc, mail, targets, room)?;
     let mut ordered = Vec::with_capacity(alloc, 1)?;
     ordered.push(letters)?;
     Ok(ordered)
@@ -358,15 +343,15 @@ fn by_source(
 
 fn sorted_by_source(
     alloc: Global,
-    lists: &[Vec<Letter>],
+    mail: Mail,
     targets: TargetSet,
     room: usize,
 ) -> Result<Vec<Letter>, AllocError>
-    requires { IsDistinct are_one (all_of lists.now) }
+    requires { IsDistinct are_one (letters_in mail) }
     ensures { IfOk result (λ ordered.
-        IsBySource (filter (goes_into targets) (all_of lists.now)) ordered.items) }
+        IsBySource (filter (goes_into targets) (letters_in mail.entry)) ordered.items) }
 {
-    let mut letters = letters_in(alloc, lists, targets, room)?;
+    let mut letters = mail.letters_to(alloc, targets, room)?;
     letters.sort_by_key(|letter| (letter.from, letter.seq))?;
     Ok(letters)
 }
@@ -374,34 +359,16 @@ fn sorted_by_source(
 // Copies the letters to these targets, sorted by target and then by source. Room for `room` letters is made at the start.
 pub fn by_target(
     alloc: Global,
-    lists: &[Vec<Letter>],
+    mail: Mail,
     targets: TargetSet,
     room: usize,
 ) -> Result<Vec<Letter>, AllocError>
-    requires { IsDistinct are_one (all_of lists.now) }
+    requires { IsDistinct are_one (letters_in mail) }
     ensures { IfOk result (λ letters.
-        IsByTarget (filter (goes_into targets) (all_of lists.now)) letters.items) }
+        IsByTarget (filter (goes_into targets) (letters_in mail.entry)) letters.items) }
 {
-    let mut letters = letters_in(alloc, lists, targets, room)?;
+    let mut letters = mail.letters_to(alloc, targets, room)?;
     letters.sort()?;
-    Ok(letters)
-}
-
-// Copies the letters to these targets, one list after the other.
-fn letters_in(
-    alloc: Global,
-    lists: &[Vec<Letter>],
-    targets: TargetSet,
-    room: usize,
-) -> Result<Vec<Letter>, AllocError>
-    ensures { IfOk result (λ letters.
-        letters.items ≡ filter (goes_into targets) (all_of lists.now)) }
-{
-    let mut letters = Vec::with_capacity(alloc, room)?;
-    for list in lists {
-        let within = |letter: &&Letter| targets.takes(letter);
-        letters.extend(list.iter().filter(within).copied())?;
-    }
     Ok(letters)
 }
 

@@ -3,14 +3,16 @@ ghost use Rattle.std.specs.List.{IsDistinct, list_any};
 ghost use Rattle.std.specs.List.Sorted.{IsStrictlyIncreasing, IsStrictlySortedBy};
 ghost use Rattle.inbox.specs.declared.letters.Letter.{Letter as AnyLetter};
 ghost use Rattle.inbox.specs.Arrivals.{arrivals_from};
-ghost use Rattle.inbox.specs.Merging.{all_of, are_one, dropped_of, goes_to, inboxes_of, IsBySource};
+ghost use Rattle.inbox.specs.Merging.{all_of, sent_in, are_one, dropped_of, goes_to, inboxes_of, IsBySource};
 ghost use Rattle.inbox.specs.inside.Runs.{IsRunAfter};
 ghost use Rattle.inbox.specs.inside.Targets.{target_cmp};
 
-use crate::all_parts::{by_target, inbox_with, length_of_all, letter_count};
+use crate::all_parts::{by_target, inbox_with};
 use crate::inboxes::Inbox;
 use crate::letters::Letter;
+use crate::mail::Mail;
 use crate::merging::place_of;
+use crate::outbox::Outbox;
 use crate::shares::TargetSet;
 use std::alloc::{AllocError, Global};
 
@@ -24,29 +26,29 @@ pub struct Arrival {
 /// Makes only the inboxes that get messages, and counts the letters that go to no id. It is for few letters to many ids. For
 /// each part there is a list of those inboxes, by rising row.
 ///
-/// The letters may be in any number of lists and in any order. The inboxes are those of [`merge_parts`](crate::merge_parts)
-/// that are not empty.
+/// There may be any number of outboxes. The inboxes are those of [`merge_own_parts`](crate::merge_own_parts) that are not empty.
 ///
 /// The letters are sorted by target, and each target is looked up among the ids of each part. For n letters, and p parts of m
 /// ids each, it takes O(n log n + p n log m) time: no step goes over all ids. It fails only where memory runs out.
 pub fn merge_few(
     alloc: Global,
-    lists: &[Vec<Letter>],
+    outboxes: &[Outbox],
     ids: &[Vec<u64>],
 ) -> Result<(Vec<Vec<Arrival>>, u128), AllocError>
     requires rising { All (λ part. IsStrictlyIncreasing part.items) ids.now }
     requires apart { IsDistinct nat_eq (all_of ids.now) }
-    requires distinct { IsDistinct are_one (all_of lists.now) }
+    requires distinct { IsDistinct are_one (sent_in outboxes.now) }
     ensures arrivals { IfOk result (λ merged. (ordered : List AnyLetter)
-        → IsBySource (all_of lists.now) ordered
+        → IsBySource (sent_in outboxes.now) ordered
         → map vec_items merged.0.items
         ≡ map (λ part. arrivals_from 0 (inboxes_of ordered part.items)) ids.now) }
     ensures dropped { IfOk result (λ merged.
-        merged.1 ≡ dropped_of (all_of lists.now) (all_of ids.now)) }
+        merged.1 ≡ dropped_of (sent_in outboxes.now) (all_of ids.now)) }
 {
-    let letters = by_target(alloc, lists, TargetSet::all(), length_of_all(lists))?;
+    let mail = Mail::Sent(outboxes);
+    let letters = by_target(alloc, mail, TargetSet::all(), mail.len())?;
     let parts = arrivals_in_all(alloc, &letters, ids)?;
-    let dropped = letter_count(lists) - message_count(&parts);
+    let dropped = mail.count() - message_count(&parts);
     Ok((parts, dropped))
 }
 

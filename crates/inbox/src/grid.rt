@@ -1,6 +1,5 @@
-ghost use Rattle.std.specs.Prelude.{◌≡◌, ◌↔◌, ◌/◌, ◌%◌, max, true, IsTrue};
-ghost use Rattle.std.specs.List.{AllByRecursion};
-ghost use Rattle.inbox.specs.inside.Grids.{block_at, block_for, block_of, stands_in};
+ghost use Rattle.std.specs.Prelude.{◌≡◌, ◌/◌, ◌%◌, max, Some, IsTrue};
+ghost use Rattle.inbox.specs.inside.Grids.{AreOfBlock, spot, spot_at, spot_for, spot_of};
 
 // Ids that rise by one gap, such as those of a part whose graph has every id.
 #[derive(Clone, Copy)]
@@ -9,8 +8,12 @@ pub struct Grid {
     gap: u64,
 }
 
-// The block number of targets that are in no block.
-const NOWHERE: usize = usize::MAX;
+// The number of an id's block, and its place among the 4,096 ids of that block. Both count from 0.
+#[derive(Clone, Copy)]
+pub struct Spot {
+    pub block: usize,
+    pub place: u16,
+}
 
 impl Grid {
     // Makes the grid of the first two ids.
@@ -34,56 +37,59 @@ impl Grid {
             .all(|pair| pair[1].wrapping_sub(pair[0]) == self.gap)
     }
 
-    // Returns the number of the block of 4,096 ids in which the target is, or `NOWHERE`.
-    pub fn block_for(self, target: i64) -> usize
-        ensures { result ≡ block_for self target }
+    // Returns the spot of the target, or `None` if the target is not in the grid. The grid has no last id.
+    pub fn spot_for(self, target: i64) -> Option<Spot>
+        ensures { result ≡ spot_for self target }
     {
         match u64::try_from(target) {
-            Ok(target) => self.block_of(target),
-            Err(_) => NOWHERE,
+            Ok(target) => self.spot_of(target),
+            Err(_) => None,
         }
     }
 
-    fn block_of(self, target: u64) -> usize
-        ensures { result ≡ block_of self target }
+    fn spot_of(self, id: u64) -> Option<Spot>
+        ensures { result ≡ spot_of self id }
     {
-        if self.first <= target {
-            self.block_at(target - self.first)
+        if self.first <= id {
+            self.spot_at(id - self.first)
         } else {
-            NOWHERE
+            None
         }
     }
 
-    fn block_at(self, far: u64) -> usize
-        ensures { result ≡ block_at self far }
+    fn spot_at(self, far: u64) -> Option<Spot>
+        ensures { result ≡ spot_at self far }
     {
-        let (steps, rest) = divided(far, self.gap);
+        let (row, rest) = divided(far, self.gap);
         if rest == 0 {
-            (steps / 4096) as usize
+            Some(Spot {
+                block: (row / 4096) as usize,
+                place: (row % 4096) as u16,
+            })
         } else {
-            NOWHERE
+            None
         }
     }
 
-    // Returns the number of gaps between the first of these ids and this one.
-    pub fn steps_between(self, ids: &[u64], id: u64) -> usize {
-        match ids.first() {
-            Some(first) => divided(id.wrapping_sub(*first), self.gap).0 as usize,
-            None => 0,
+    // Checks that these are the ids of the block of this number, from its first one on.
+    pub fn has_in_order(self, number: usize, ids: &[u64]) -> bool
+        ensures { IsTrue result → AreOfBlock self number ids.now }
+    {
+        for place in 0..ids.len() {
+            if !self.has_at(number, place, ids[place]) {
+                return false;
+            }
         }
+        true
     }
 
-    // Checks that each id is in the block of this number.
-    pub fn has_each(self, number: usize, ids: &[u64]) -> bool
-        ensures { IsTrue result ↔ AllByRecursion (λ id. stands_in self number id ≡ true) ids.now }
+    fn has_at(self, number: usize, place: usize, id: u64) -> bool
+        ensures { IsTrue result → spot_of self id ≡ Some (spot number place) }
     {
-        ids.iter().all(|id| self.has(number, *id))
-    }
-
-    fn has(self, number: usize, id: u64) -> bool
-        ensures { result ≡ stands_in self number id }
-    {
-        self.block_of(id) == number
+        match self.spot_of(id) {
+            Some(spot) => spot.block == number && usize::from(spot.place) == place,
+            None => false,
+        }
     }
 }
 

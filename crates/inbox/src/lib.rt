@@ -12,11 +12,14 @@ mod grid;
 mod inboxes;
 mod laws;
 mod letters;
+mod mail;
 mod merging;
+mod outbox;
 mod shares;
+mod slips;
 mod streams;
 
-pub use all_parts::{letter_count, merge_own_parts, merge_parts};
+pub use all_parts::{merge_own_parts, merge_parts};
 pub use arrivals::{Arrival, merge_few};
 pub use inboxes::Inbox;
 pub use laws::{
@@ -25,4 +28,6 @@ pub use laws::{
     letters_have_one_order, letters_keep_their_order_in_any_lists, sources_send_in_any_order,
 };
 pub use letters::Letter;
+pub use mail::letter_count;
 pub use merging::merge;
+pub use outbox::Outbox;

@@ -1,5 +1,5 @@
 -- What the parts left, gathered part by part.
-use Rattle.std.proofs.Common.{◌≡◌, ℕ, ℤ, ◌+◌, Bool, List, [], ◌∷◌, ◌++◌, map, vec_items, Some, refl, ap, sym, ◌∙◌, arith, subst}
+use Rattle.std.proofs.Common.{◌≡◌, ℕ, ℤ, ◌+◌, Bool, List, [], ◌∷◌, ◌++◌, map, Some, refl, ap, sym, ◌∙◌, arith, subst}
 use Rattle.std.specs.List.{AllByRecursion}
 use Rattle.std.specs.List.Sorted.{IsPermutation}
 use Rattle.std.proofs.lemmas.List.{append-nil, map-append}
@@ -63,7 +63,7 @@ capped_sum a b = omega arith
 -- What one more part has goes behind the others.
 pub record HasMore (old new : Gathered) (units : ℕ) (vertices : List VertexState) (letters : List Letter) (given : List ℤ) : Type 0 where
   pub more_vertices : new.vertices.items ≡ old.vertices.items ++ vertices ∷ []
-  pub more_letters : map vec_items new.letters.items ≡ map vec_items old.letters.items ++ letters ∷ []
+  pub more_letters : new.letters.items ≡ old.letters.items ++ letters ∷ []
   pub more_aggregators : new.aggregators ≡ united old.aggregators given
   pub more_units : new.units ≡ capped (old.units + units)
 
@@ -83,7 +83,7 @@ gathered_more work honest dones done old new vertices letters given before is mo
       vertices = more.more_vertices ∙ ap (λ xs. xs ++ vertices ∷ []) before.vertices
           ∙ ap (λ (own : List VertexState). map (λ (one : PartLeft). map emptied one.1) before.parts ++ own ∷ []) is.comes.vertices
           ∙ sym (map-append (λ (one : PartLeft). map emptied one.1) before.parts (part ∷ []));
-      letters = letters_more before.parts part (map vec_items old.letters.items) letters (map vec_items new.letters.items) before.letters is.comes.letters more.more_letters;
+      letters = letters_more before.parts part old.letters.items letters new.letters.items before.letters is.comes.letters more.more_letters;
       aggregators = more.more_aggregators ∙ ap (λ xs. united xs given) before.aggregators
           ∙ ap (united (aggregated (contributions_of (outcomes_in (spread before.parts))))) is.comes.aggregators
           ∙ sym (aggregators_more (spread before.parts) is.left)
@@ -103,7 +103,7 @@ gathered_none work honest gathered no_vertices no_letters aggregators units = re
   stamps = refl;
   each = tt;
   vertices = no_vertices;
-  letters = subst (λ xs. IsPermutation [] (joined (map vec_items xs))) (sym no_letters) (IsPermutation-refl []);
+  letters = subst (λ xs. IsPermutation [] (joined xs)) (sym no_letters) (IsPermutation-refl []);
   aggregators = aggregators;
   units = units;
 }

@@ -12,10 +12,10 @@ use Rattle.std.proofs.lemmas.List.Sorted.{list_any-IsPermutation, sum_by-IsPermu
 use Rattle.interp.specs.Call.{Outcome}
 use Rattle.graph.specs.Partition.{joined}
 use Rattle.inbox.specs.declared.letters.Letter.{Letter}
-use Rattle.inbox.specs.Merging.{AreSent, dropped_of, goes_to}
+use Rattle.inbox.specs.Merging.{AreSent, dropped_of, goes_to, letter_sent}
 use Rattle.inbox.specs.Merging.{inbox_of as letters_in}
 use Rattle.superstep.specs.Superstep.{dropped_by, messages_to, is_sent_to, sent_to}
-use Rattle.superstep.specs.Tasks.{VertexOutcome, letter_from, letters_from, letters_of, outcomes_in}
+use Rattle.superstep.specs.Tasks.{VertexOutcome, letters_from, letters_of, outcomes_in}
 use Rattle.superstep.specs.inside.Barrier.{IsSpread, left_id, left_ids}
 use Rattle.superstep.proofs.PartStates.{either_way}
 use Rattle.superstep.proofs.Spreading.{all_found, at_id, distinct_ids, outcome_at}
@@ -24,18 +24,18 @@ use Rattle.superstep.proofs.Spreading.{all_found, at_id, distinct_ids, outcome_a
 abbrev pub sent_by : List VertexOutcome → ℕ → List Letter
 sent_by left id = letters_from id (outcome_at left id)
 
-of_one : (id n : ℕ) (sends : List (ℤ × ℤ)) → AllByRecursion (λ letter. letter.from ≡ id) (map (letter_from id) (enumerate_from n sends))
+of_one : (id n : ℕ) (sends : List (ℤ × ℤ)) → AllByRecursion (λ letter. letter.from ≡ id) (map (letter_sent id) (enumerate_from n sends))
 of_one id n [] = tt
 of_one id n (send ∷ sends) = (refl, of_one id (n + 1) sends)
 
 less : (x y : ℕ) → x < y → nat_cmp x y ≡ Less
 less x y below = grind (arith, nat_tests)
 
-later : (id n m : ℕ) (sends : List (ℤ × ℤ)) → n < m → AllByRecursion (λ letter. nat_cmp n letter.seq ≡ Less) (map (letter_from id) (enumerate_from m sends))
+later : (id n m : ℕ) (sends : List (ℤ × ℤ)) → n < m → AllByRecursion (λ letter. nat_cmp n letter.seq ≡ Less) (map (letter_sent id) (enumerate_from m sends))
 later id n m [] below = tt
 later id n m (send ∷ sends) below = (less n m below, later id n (m + 1) sends (omega arith))
 
-numbered : (id n : ℕ) (sends : List (ℤ × ℤ)) → IsStrictlySortedBy (λ a b. nat_cmp a.seq b.seq) (map (letter_from id) (enumerate_from n sends))
+numbered : (id n : ℕ) (sends : List (ℤ × ℤ)) → IsStrictlySortedBy (λ a b. nat_cmp a.seq b.seq) (map (letter_sent id) (enumerate_from n sends))
 unfolding IsStrictlySortedBy
 numbered id n [] = tt
 numbered id n (send ∷ sends) = (later id n (n + 1) sends (omega arith), numbered id (n + 1) sends)
@@ -55,14 +55,14 @@ sent_by_all left apart =
 -- ---- inboxes
 
 values : (source id n : ℕ) (sends : List (ℤ × ℤ))
-    → map (λ (letter : Letter). letter.value) (filter (λ letter. goes_to letter id) (map (letter_from source) (enumerate_from n sends)))
+    → map (λ (letter : Letter). letter.value) (filter (λ letter. goes_to letter id) (map (letter_sent source) (enumerate_from n sends)))
     ≡ map (λ (send : ℤ × ℤ). send.1) (filter (is_sent_to id) sends)
 values source id n [] = refl
 values source id n (send ∷ sends) =
-    let rest = filter (λ letter. goes_to letter id) (map (letter_from source) (enumerate_from (n + 1) sends)) in
+    let rest = filter (λ letter. goes_to letter id) (map (letter_sent source) (enumerate_from (n + 1) sends)) in
     let others = filter (is_sent_to id) sends in
     either_way (is_sent_to id send)
-    (λ b. map (λ (letter : Letter). letter.value) (cond b (letter_from source (n, send) ∷ rest) rest) ≡ map (λ (one : ℤ × ℤ). one.1) (cond b (send ∷ others) others))
+    (λ b. map (λ (letter : Letter). letter.value) (cond b (letter_sent source (n, send) ∷ rest) rest) ≡ map (λ (one : ℤ × ℤ). one.1) (cond b (send ∷ others) others))
     (ap (λ xs. send.1 ∷ xs) (values source id (n + 1) sends)) (values source id (n + 1) sends)
 
 pub sent_values : (id source : ℕ) (outcome : Outcome) → letters_in (letters_from source outcome) id ≡ sent_to id outcome
@@ -80,7 +80,7 @@ inbox_found left ordered id found =
 -- ---- drops
 
 counted : (ids : List ℕ) (source n total : ℕ) (sends : List (ℤ × ℤ))
-    → fold (λ s (letter : Letter). s + cond (not (list_any (goes_to letter) ids)) 1 0) total (map (letter_from source) (enumerate_from n sends))
+    → fold (λ s (letter : Letter). s + cond (not (list_any (goes_to letter) ids)) 1 0) total (map (letter_sent source) (enumerate_from n sends))
     ≡ fold (λ s send. s + cond (not (list_any (λ id. is_sent_to id send) ids)) 1 0) total sends
 counted ids source n total [] = refl
 counted ids source n total (send ∷ sends) =

@@ -20,7 +20,6 @@ pub mod PlainCalls
 pub mod PlainSteps
 pub mod Rejoining
 pub mod Runs
-pub mod Sending
 pub mod SentLetters
 pub mod AggregatorFolds
 pub mod Spreading

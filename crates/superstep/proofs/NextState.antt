@@ -1,5 +1,5 @@
 -- The state after a superstep.
-use Rattle.std.proofs.Common.{◌≡◌, ℕ, ℤ, suc, ◌+◌, ◌-◌, ◌^◌, ◌<◌, ◌≤◌, Bool, None, not, List, [], ◌∷◌, ◌++◌, length, map, vec_items, refl, ap, sym, ◌∙◌, subst, arith, length-append}
+use Rattle.std.proofs.Common.{◌≡◌, ℕ, ℤ, suc, ◌+◌, ◌-◌, ◌^◌, ◌<◌, ◌≤◌, Bool, None, not, List, [], ◌∷◌, ◌++◌, length, map, refl, ap, sym, ◌∙◌, subst, arith, length-append}
 use Rattle.std.specs.List.{range_with_len, sum, sum_by}
 use Rattle.std.specs.List.Sorted.{IsPermutation, IsStrictlyIncreasing}
 use Rattle.std.proofs.lemmas.List.{length-map}
@@ -186,7 +186,7 @@ module _ (work now : Work) (honest : ℕ → Bool) (totals : Totals) (dones : Li
   abbrev pub all : List VertexOutcome
   all = ordered ready.parts.parts ready.graph.0
 
-  pub spreads : (numbers : List (List ℕ)) → numbers ≡ map ids now.parts → IsSpread numbers (map vec_items gathered.letters.items) lefts all
+  pub spreads : (numbers : List (List ℕ)) → numbers ≡ map ids now.parts → IsSpread numbers gathered.letters.items lefts all
   spreads numbers own =
       is_spread work honest totals.superstep dones gathered numbers ready.graph.0 own_some own_graph ready.parts own_row
       (own ∙ ap (λ (of : Work). map ids of.parts) (sym ready.job))
@@ -195,7 +195,7 @@ module _ (work now : Work) (honest : ℕ → Bool) (totals : Totals) (dones : Li
   pub all_left_empty : gathered.vertices.items ≡ map (map emptied) lefts
   all_left_empty = ready.parts.vertices ∙ sym (map-map (map emptied) part_left ready.parts.parts)
 
-  lies : IsSpread (map ids now.parts) (map vec_items gathered.letters.items) lefts all
+  lies : IsSpread (map ids now.parts) gathered.letters.items lefts all
   lies = spreads (map ids now.parts) refl
 
   -- What is made of it.

@@ -35,7 +35,7 @@ units_added old new total more was added = added ∙ ap (λ n. capped (n + more)
 -- a vertex that is not called adds nothing
 pub adds_idle : (row : Row) (id : ℕ) (left : PartOutput) → Adds id (idle row) left left
 adds_idle row id left = record {
-  letters = sym (append-nil left.letters.items);
+  letters = sym (append-nil left.letters);
   aggregators = refl;
   units = λ total was. was ∙ ap capped (omega arith);
 }
@@ -62,8 +62,8 @@ one_letters_more left one =
     ∙ ap (λ (xs : List Letter). letters_of left ++ xs) (append-nil (letters_from one.0 one.1))
 
 one_more_back : (left : List VertexOutcome) (one : VertexOutcome) (states : List VertexState) (state : VertexState) (old new : PartOutput)
-    → ComesBack left states old.letters.items old.aggregators old.units → state ≡ emptied one → Adds one.0 one.1 old new
-    → ComesBack (left ++ one ∷ []) (states ++ state ∷ []) new.letters.items new.aggregators new.units
+    → ComesBack left states old.letters old.aggregators old.units → state ≡ emptied one → Adds one.0 one.1 old new
+    → ComesBack (left ++ one ∷ []) (states ++ state ∷ []) new.letters new.aggregators new.units
 one_more_back left one states state old new back is adds = record {
   vertices =
       ap (λ (xs : List VertexState). xs ++ state ∷ []) back.vertices
@@ -71,8 +71,8 @@ one_more_back left one states state old new back is adds = record {
       ∙ sym (map-append emptied left (one ∷ []));
   letters =
       subst (λ (xs : List Letter). IsPermutation (letters_of (left ++ one ∷ [])) xs) (sym adds.letters)
-      (subst (λ (xs : List Letter). IsPermutation xs (old.letters.items ++ letters_from one.0 one.1)) (sym (one_letters_more left one))
-      (IsPermutation-append_left (letters_from one.0 one.1) (letters_of left) old.letters.items back.letters));
+      (subst (λ (xs : List Letter). IsPermutation xs (old.letters ++ letters_from one.0 one.1)) (sym (one_letters_more left one))
+      (IsPermutation-append_left (letters_from one.0 one.1) (letters_of left) old.letters back.letters));
   aggregators =
       adds.aggregators
       ∙ ap (λ (aggregators : List ℤ). fold give aggregators one.1.contributions) back.aggregators

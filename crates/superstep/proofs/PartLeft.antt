@@ -171,7 +171,7 @@ pub done_here : (work : Work) (honest : ℕ → Bool) (epoch part : ℕ) (shared
     → CallsPart shared (get_or work.parts part []) before after all → (honest epoch ≡ true → IsPartAt work shared.superstep part before)
     → (honest epoch ≡ true → AreAggregatesAt work shared.superstep shared.aggregated) → IsCount work shared.count
     → ((outcomes : Given → Outcome) → AreOutcomes work.«module» outcomes → Tells shared.verified.now outcomes)
-    → IsDone work honest (record { epoch = epoch; superstep = shared.superstep; part = part; units = all.units }) after all.letters.items all.aggregators
+    → IsDone work honest (record { epoch = epoch; superstep = shared.superstep; part = part; units = all.units }) after all.letters all.aggregators
 done_here work honest epoch part shared before after all fits calls at aggregates counted told = record {
   fits = fits_after work part before after calls.left fits calls.comes.vertices calls.ids;
   left = calls.left;

@@ -1,5 +1,5 @@
 -- What the parts left is what all vertices left.
-use Rattle.std.proofs.Common.{◌≡◌, ℕ, zero, suc, ◌<◌, Bool, true, List, [], ◌∷◌, length, get_or, map, vec_items, slice_get, Some, refl, ap, sym, ◌∙◌, subst}
+use Rattle.std.proofs.Common.{◌≡◌, ℕ, zero, suc, ◌<◌, Bool, true, List, [], ◌∷◌, length, get_or, map, slice_get, Some, refl, ap, sym, ◌∙◌, subst}
 use Rattle.std.specs.List.{AllByRecursion, range_with_len}
 use Rattle.std.specs.List.Sorted.{IsPermutation, IsStrictlyIncreasing}
 use Rattle.std.proofs.lemmas.List.{length-map}
@@ -94,10 +94,10 @@ ordered parts graph = map (at_id (joined (map part_left parts))) (ids graph)
 pub is_spread : (work : Work) (honest : ℕ → Bool) (s : ℕ) (dones : List DoneStamp) (gathered : Gathered) (numbers : List (List ℕ)) (graph : List Entry) → 0 < work.settings.parts
     → IsGraphOf work graph → (is : IsGathered work honest dones gathered) → IsRow work.settings.parts s dones
     → numbers ≡ map ids work.parts
-    → IsSpread numbers (map vec_items gathered.letters.items) (map part_left is.parts) (ordered is.parts graph)
+    → IsSpread numbers gathered.letters.items (map part_left is.parts) (ordered is.parts graph)
 is_spread work honest s dones gathered numbers graph some is_graph is row own = record {
   ids = own ∙ sym (parts_ids work honest s dones gathered graph is_graph is row) ∙ sym (map-map left_ids part_left is.parts);
-  letters = subst (λ left. IsPermutation (letters_of left) (joined (map vec_items gathered.letters.items))) (sym (joined_spread is.parts)) is.letters;
+  letters = subst (λ left. IsPermutation (letters_of left) (joined gathered.letters.items)) (sym (joined_spread is.parts)) is.letters;
   same = found_moved (joined (map part_left is.parts)) (ids graph) is_graph.proper.rising (all_ids work honest s dones gathered graph some is_graph is row);
   rising = subst (λ numbers. IsStrictlyIncreasing numbers) (sym (ids_found (joined (map part_left is.parts)) (ids graph))) is_graph.proper.rising;
 }

@@ -8,19 +8,20 @@ use Rattle.std.proofs.lemmas.List.Sums.{sum_by-cons}
 use Rattle.std.proofs.lemmas.Simd.{map-map}
 use Rattle.interp.specs.Call.{Outcome}
 use Rattle.inbox.specs.declared.letters.Letter.{Letter}
+use Rattle.inbox.specs.Merging.{letter_sent}
 use Rattle.superstep.specs.declared.state.VertexState.{VertexState}
 use Rattle.superstep.specs.Job.{Work}
 use Rattle.superstep.specs.PlainRun.{state_at}
 use Rattle.superstep.specs.Snapshot.{Row}
 use Rattle.superstep.specs.Superstep.{left_by, sends_left}
-use Rattle.superstep.specs.Tasks.{DoneStamp, IsDone, IsSentAt, VertexOutcome, letter_from, letters_from, letters_of, outcomes_in, part_rows}
+use Rattle.superstep.specs.Tasks.{DoneStamp, IsDone, IsSentAt, VertexOutcome, letters_from, letters_of, outcomes_in, part_rows}
 
 -- one letter for each message
 letters_long : (left : List VertexOutcome) → length (letters_of left) ≡ sends_left (outcomes_in left)
 letters_long [] = refl
 letters_long (one ∷ left) =
     let own : length (letters_from one.0 one.1) ≡ length one.1.sends =
-    length-map (enumerate_from 0 one.1.sends) (letter_from one.0) ∙ length-enumerate_from 0 one.1.sends in
+    length-map (enumerate_from 0 one.1.sends) (letter_sent one.0) ∙ length-enumerate_from 0 one.1.sends in
     length-append (letters_from one.0 one.1) (letters_of left)
     ∙ (λ k. own k + letters_long left k)
     ∙ sym (sum_by-cons (λ (outcome : Outcome). length outcome.sends) one.1 (outcomes_in left))

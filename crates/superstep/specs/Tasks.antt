@@ -1,10 +1,11 @@
 -- Slices, tasks and results: the parts of a state that move. Each has its job in its type.
 use Rattle.std.specs.Prelude.{◌≡◌, ◌%◌, ◌==◌, ℕ, zero, suc, ℤ, Bool, true, not, List, [], map, filter, slice_get, Some}
-use Rattle.std.specs.List.{All, enumerate_from, flat_map, range_with_len}
+use Rattle.std.specs.List.{All, flat_map, range_with_len}
 use Rattle.std.specs.List.Sorted.{IsPermutation}
 use Rattle.interp.specs.Call.{Outcome}
 use Rattle.graph.specs.Entry.{ids}
 use Rattle.inbox.specs.declared.letters.Letter.{Letter}
+use Rattle.inbox.specs.Merging.{letters_sent}
 use Rattle.superstep.specs.declared.state.VertexState.{VertexState}
 use Rattle.superstep.specs.Folds.{aggregated, capped}
 use Rattle.superstep.specs.Snapshot.{Row, Snapshot}
@@ -73,13 +74,9 @@ VertexOutcome = ℕ × Outcome
 abbrev pub outcomes_in : List VertexOutcome → List Outcome
 outcomes_in left = map (λ (one : VertexOutcome). one.1) left
 
--- the letter of a message, with its number among those of the vertex
-abbrev pub letter_from : ℕ → ℕ × (ℤ × ℤ) → Letter
-letter_from id sent = record { to = sent.1.0; from = id; seq = sent.0; value = sent.1.1 }
-
 -- the letters of a vertex: its messages, numbered in the order of sending
 abbrev pub letters_from : ℕ → Outcome → List Letter
-letters_from id outcome = map (letter_from id) (enumerate_from 0 outcome.sends)
+letters_from id outcome = letters_sent id outcome.sends
 
 -- the letters of several vertices, one vertex after another
 abbrev pub letters_of : List VertexOutcome → List Letter

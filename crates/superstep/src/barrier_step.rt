@@ -5,7 +5,7 @@ ghost use Rattle.std.specs.List.{AllByRecursion, IsDistinct, sum_by};
 ghost use Rattle.std.specs.List.Sorted.{IsStrictlyIncreasing};
 ghost use Rattle.inbox.specs.declared.letters.Letter.{Letter as AnyLetter};
 ghost use Rattle.inbox.specs.Arrivals.{arrivals_from};
-ghost use Rattle.inbox.specs.Merging.{IsBySource, all_of, are_one, dropped_of, inbox_of};
+ghost use Rattle.inbox.specs.Merging.{IsBySource, all_of, sent_in, are_one, dropped_of, inbox_of};
 ghost use Rattle.superstep.specs.Job.{Meaning};
 ghost use Rattle.superstep.specs.State.{HasIdsOf, IsStateAt};
 ghost use Rattle.superstep.specs.Superstep.{dropped_by, messages_to};
@@ -24,7 +24,7 @@ use crate::task::Done;
 use crate::totals::Totals;
 use host_calls::aggregator_starts;
 use inbox::{
-    Arrival, Inbox, Letter, drops_add_up_over_sources, inboxes_are_concatenated_by_source,
+    Arrival, Inbox, Outbox, drops_add_up_over_sources, inboxes_are_concatenated_by_source,
     letter_count, letters_drop_alike_in_any_order, letters_keep_their_order_in_any_lists,
     merge_few, merge_own_parts, sources_send_in_any_order,
 };
@@ -71,7 +71,7 @@ pub fn barrier<J: Origin>(
 #[derive(Drop)]
 struct Gathered {
     vertices: Vec<PartStates>,
-    letters: Vec<Vec<Letter>>,
+    letters: Vec<Outbox>,
     aggregators: [i64; 8],
     units: u128,
 }
@@ -128,7 +128,7 @@ fn handed_out(
     rt: &(impl Threads + Sync),
     alloc: Global,
     vertices: Vec<PartStates>,
-    letters: Vec<Vec<Letter>>,
+    letters: Vec<Outbox>,
     ids: &[Vec<u64>],
 ) -> Result<(Vec<PartStates>, u128), AllocError>
     requires spread { (lefts : List (List VertexOutcome)) × (ordered : List VertexOutcome)
@@ -161,26 +161,26 @@ fn handed_out(
 const FEW: u128 = 8;
 
 // Checks that there are few letters for so many vertices.
-fn are_few(letters: &[Vec<Letter>], parts: &[PartStates]) -> bool {
+fn are_few(letters: &[Outbox], parts: &[PartStates]) -> bool {
     let work = letter_count(letters).saturating_mul(parts.len() as u128);
     work.saturating_mul(FEW) < vertex_count(parts) as u128
 }
 
 // Shows where these letters go and in which order.
-fn letters_are_spread(letters: &[Vec<Letter>], ids: &[Vec<u64>])
+fn letters_are_spread(letters: &[Outbox], ids: &[Vec<u64>])
     ensures apart { (lefts : List (List VertexOutcome)) (ordered : List VertexOutcome)
         → AreSpread ids.now letters.now lefts ordered
         → IsDistinct nat_eq (all_of ids.now) }
     ensures distinct { (lefts : List (List VertexOutcome)) (ordered : List VertexOutcome)
         → AreSpread ids.now letters.now lefts ordered
-        → IsDistinct are_one (all_of letters.now) }
+        → IsDistinct are_one (sent_in letters.now) }
     ensures sent { (lefts : List (List VertexOutcome)) (ordered : List VertexOutcome)
         → AreSpread ids.now letters.now lefts ordered
-        → (sent : List AnyLetter) × IsBySource (all_of letters.now) sent
+        → (sent : List AnyLetter) × IsBySource (sent_in letters.now) sent
         × ((id : ℕ) → inbox_of sent id ≡ messages_to (outcomes_in ordered) id) }
     ensures dropped { (lefts : List (List VertexOutcome)) (ordered : List VertexOutcome)
         → AreSpread ids.now letters.now lefts ordered
-        → dropped_of (all_of letters.now) (all_of ids.now)
+        → dropped_of (sent_in letters.now) (all_of ids.now)
         ≡ sum_by (dropped_by (left_ids ordered)) (outcomes_in ordered) }
 {
     sources_send_in_any_order();
@@ -194,7 +194,7 @@ fn letters_are_spread(letters: &[Vec<Letter>], ids: &[Vec<u64>])
 fn delivered(
     rt: &(impl Threads + Sync),
     alloc: Global,
-    letters: Vec<Vec<Letter>>,
+    letters: Vec<Outbox>,
     ids: &[Vec<u64>],
 ) -> Result<(Vec<Vec<Inbox>>, u128), AllocError>
     requires { (lefts : List (List VertexOutcome)) × (ordered : List VertexOutcome)
@@ -216,7 +216,7 @@ fn delivered(
 // Makes those inboxes of each part's vertices that get messages, and counts the letters that go to no vertex.
 fn few_delivered(
     alloc: Global,
-    letters: &[Vec<Letter>],
+    letters: &[Outbox],
     ids: &[Vec<u64>],
 ) -> Result<(Vec<Vec<Arrival>>, u128), AllocError>
     requires spread { (lefts : List (List VertexOutcome)) × (ordered : List VertexOutcome)

@@ -17,7 +17,6 @@ pub enum EndReason {
 }
 
 /// The report of a job's end.
-#[derive(Drop)]
 pub struct JobEnd {
     pub how: EndReason,
     /// The superstep that would have come next.
@@ -32,6 +31,20 @@ pub struct JobEnd {
     pub since: u32,
     /// The units of each superstep from `since` on.
     pub by_superstep: Vec<u128>,
+}
+
+impl Drop for JobEnd {
+    fn drop(self) {
+        let JobEnd {
+            how: _,
+            superstep: _,
+            values: _,
+            units: _,
+            dropped: _,
+            since: _,
+            by_superstep: _,
+        } = self;
+    }
 }
 
 /// Reports the end of a job whose run stops in this state. It fails only where memory runs out.

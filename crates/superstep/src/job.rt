@@ -21,19 +21,35 @@ use std::marker::Model;
 ///
 /// It has the graph's parts, and the ids of each part's vertices, which every barrier needs. In contracts its model is the
 /// module, those parts and the settings.
-#[derive(Drop)]
 pub struct Job {
     kept: Box<Kept>,
 }
 
+impl Drop for Job {
+    fn drop(self) {
+        let Job { kept: _ } = self;
+    }
+}
+
 // The contents of a job. They are in a box, so that each owner drops them by one call.
-#[derive(Drop)]
 struct Kept {
     verified: Verified,
     parts: Vec<Part>,
     ids: Vec<Vec<u64>>,
     count: u32,
     settings: Settings,
+}
+
+impl Drop for Kept {
+    fn drop(self) {
+        let Kept {
+            verified: _,
+            parts: _,
+            ids: _,
+            count: _,
+            settings: _,
+        } = self;
+    }
 }
 
 // Counts the edges of these vertices. The count stops at the greatest number.

@@ -1,21 +1,20 @@
 //! The output of a part's vertices in a superstep.
 
-ghost use Rattle.std.specs.Prelude.{◌≡◌, ◌++◌, OnOk};
+ghost use Rattle.std.specs.Prelude.{◌≡◌, OnOk};
 ghost use Rattle.std.specs.List.{fold};
 ghost use Rattle.interp.specs.Call.{shown};
 ghost use Rattle.superstep.specs.Folds.{combined, give};
-ghost use Rattle.superstep.specs.Tasks.{letter_from, letters_from};
 ghost use Rattle.superstep.specs.inside.PartOutput.{Adds, IsNothing};
 
 use host_calls::{CallOutcome, aggregator_starts};
-use inbox::Letter;
+use inbox::Outbox;
 use std::alloc::{AllocError, Global};
 
 /// The output of the calls of a part so far.
 #[derive(Drop)]
 pub struct PartOutput {
     /// Their messages, in the order of sending.
-    pub letters: Vec<Letter>,
+    pub letters: Outbox,
     /// Their contributions, aggregated.
     pub aggregators: [i64; 8],
     /// The units of the calls. They stop at the greatest number of 128 bits.
@@ -28,7 +27,7 @@ impl PartOutput {
         ensures { IsNothing result }
     {
         PartOutput {
-            letters: Vec::new(alloc),
+            letters: Outbox::new(alloc),
             aggregators: aggregator_starts(),
             units: 0,
         }
@@ -38,35 +37,10 @@ impl PartOutput {
     pub fn add(&mut self, id: u64, outcome: &CallOutcome) -> Result<(), AllocError>
         ensures { OnOk result (Adds id (shown outcome.now) self.old self.new) }
     {
-        push_letters(&mut self.letters, id, outcome)?;
+        self.letters.send_all(id, &outcome.sends)?;
         give_all(&mut self.aggregators, &outcome.contributions);
         self.units = self.units.saturating_add(outcome.units);
         Ok(())
-    }
-}
-
-// Makes a letter of each message, numbered in the order of sending.
-fn push_letters(letters: &mut Vec<Letter>, id: u64, outcome: &CallOutcome) -> Result<(), AllocError>
-    ensures { OnOk result (letters.new.items
-        ≡ letters.old.items ++ letters_from id (shown outcome.now)) }
-{
-    letters.reserve(outcome.sends.len())?;
-    for (seq, send) in outcome.sends.iter().enumerate() {
-        letters.push(letter_from(id, seq as u64, *send))?;
-    }
-    Ok(())
-}
-
-// Makes the letter of a message, which has this number among those of its vertex.
-fn letter_from(id: u64, seq: u64, send: (i64, i64)) -> Letter
-    ensures { result ≡ letter_from id (seq, send) }
-{
-    let (to, value) = send;
-    Letter {
-        to,
-        from: id,
-        seq,
-        value,
     }
 }
 

@@ -20,7 +20,6 @@ use std::alloc::{AllocError, Global};
 use std::marker::Model;
 
 /// A vertex between two supersteps. Its edges stay with the job.
-#[derive(Drop)]
 pub struct VertexState {
     /// The vertex's id. In a state of a job it is the id of a vertex of the graph.
     pub id: u64,
@@ -29,6 +28,17 @@ pub struct VertexState {
     pub active: bool,
     /// The messages sent to it in the superstep before.
     pub inbox: Inbox,
+}
+
+impl Drop for VertexState {
+    fn drop(self) {
+        let VertexState {
+            id: _,
+            value: _,
+            active: _,
+            inbox: _,
+        } = self;
+    }
 }
 
 impl VertexState {
@@ -51,7 +61,6 @@ impl Identified for VertexState {
 /// The state of a job between two supersteps, which a checkpoint saves. It has no edges.
 ///
 /// The vertices are in parts, so that a superstep moves none of them. In contracts they are in one list, by rising id.
-#[derive(Drop)]
 pub struct State {
     superstep: u32,
     since: u32,
@@ -60,6 +69,20 @@ pub struct State {
     dropped: u128,
     aggregates: [i64; 8],
     parts: Vec<PartStates>,
+}
+
+impl Drop for State {
+    fn drop(self) {
+        let State {
+            superstep: _,
+            since: _,
+            by_superstep: _,
+            units: _,
+            dropped: _,
+            aggregates: _,
+            parts: _,
+        } = self;
+    }
 }
 
 impl Model for State {

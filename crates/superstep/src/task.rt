@@ -19,7 +19,7 @@ use crate::state::VertexState;
 use bounded_profile::Verified;
 use graph::Vertex;
 use host_calls::CallInput;
-use inbox::{Inbox, Letter};
+use inbox::{Inbox, Outbox};
 use interp::{Scratch, calls_are_a_function, run};
 use std::alloc::{AllocError, Global};
 use std::marker::{Model, PhantomData};
@@ -103,7 +103,7 @@ pub struct Done<J: Origin> {
     pub(crate) part: u32,
     pub(crate) units: u128,
     pub(crate) vertices: PartStates,
-    pub(crate) letters: Vec<Letter>,
+    pub(crate) letters: Outbox,
     pub(crate) aggregators: [i64; 8],
     pub(crate) origin: PhantomData<J>,
 }
@@ -127,7 +127,7 @@ impl<J: Origin> Model for Done<J> {
           part = done.part;
           units = done.units;
         })
-        done.vertices done.letters.items done.aggregators };
+        done.vertices done.letters done.aggregators };
 }
 
 impl<J: Origin> Done<J> {
@@ -172,7 +172,7 @@ impl<J: Origin> Done<J> {
         ensures { IfOk result (λ copy. copy ≡ self.now) }
     {
         let vertices = self.vertices.copy(alloc)?;
-        let letters = Vec::from_slice(alloc, &self.letters)?;
+        let letters = self.letters.copy(alloc)?;
         Ok(Done {
             epoch: self.epoch,
             superstep: self.superstep,

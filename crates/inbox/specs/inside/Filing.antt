@@ -7,6 +7,7 @@ use Rattle.inbox.specs.declared.all_parts.Filed.{Filed}
 use Rattle.inbox.specs.declared.all_parts.Filed.TheVariants.{InBlocks, ByTarget}
 use Rattle.inbox.specs.declared.all_parts.Sorted.{Sorted}
 use Rattle.inbox.specs.declared.filing.PartBlocks.{PartBlocks}
+use Rattle.inbox.specs.declared.grid.Grid.{Grid}
 use Rattle.inbox.specs.declared.letters.Letter.{Letter}
 use Rattle.inbox.specs.declared.shares.Share.{Share}
 use Rattle.inbox.specs.declared.shares.TargetSet.{TargetSet}
@@ -18,10 +19,11 @@ use Rattle.inbox.specs.inside.Targets.{IsByTarget}
 -- The letters are filed by source, in the blocks of these ids.
 pub record AreInBlocks (letters : List Letter) (ids : Vec ℕ) (part : PartBlocks) : Type 0 where
   pub whole : flat_map ids_of part.blocks.items ≡ ids.items
-  pub places : AreInPlace part.grid (map ids_of part.blocks.items)
+  pub grid : Grid
+  pub places : AreInPlace grid (map ids_of part.blocks.items)
   pub sent : List Letter
   pub by : IsBySource letters sent
-  pub filed : AreFiled part.grid sent (map slips_of part.blocks.items)
+  pub filed : AreFiled grid sent (map slips_of part.blocks.items)
 
 -- Some of the letters, with all that go to the set's targets.
 pub record AreSomeOf (letters : List Letter) (target_set : TargetSet) (some : List Letter) : Type 0 where

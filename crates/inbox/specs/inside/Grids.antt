@@ -1,22 +1,22 @@
--- Ids by the block in which they are.
-use Rattle.std.specs.Prelude.{◌-◌, ◌/◌, ◌%◌, ◌==◌, max, cond, ℕ, ℤ, pos, negsuc, Bool, nat_le}
+-- Ids by the block in which they are, and by their place there.
+use Rattle.std.specs.Prelude.{◌≡◌, ◌<◌, ◌-◌, ◌/◌, ◌%◌, ◌==◌, max, cond, ℕ, ℤ, pos, negsuc, List, length, slice_index, Option, Some, None, nat_le}
 use Rattle.inbox.specs.declared.grid.Grid.{Grid}
+use Rattle.inbox.specs.declared.grid.Spot.{Spot}
 
--- the block number of targets that are in no block
-abbrev pub nowhere : ℕ
-nowhere = 18446744073709551615
+abbrev pub spot : ℕ → ℕ → Spot
+spot number place = record { block = number; place = place }
 
--- the block of the id at this distance from the first
-abbrev pub block_at : Grid → ℕ → ℕ
-block_at grid far = cond ((far % max grid.gap 1) == 0) (far / max grid.gap 1 / 4096) nowhere
+-- the spot of the id at this distance from the first
+abbrev pub spot_at : Grid → ℕ → Option Spot
+spot_at grid far = cond ((far % max grid.gap 1) == 0) (Some (spot (far / max grid.gap 1 / 4096) (far / max grid.gap 1 % 4096))) None
 
-abbrev pub block_of : Grid → ℕ → ℕ
-block_of grid target = cond (nat_le grid.first target) (block_at grid (target - grid.first)) nowhere
+abbrev pub spot_of : Grid → ℕ → Option Spot
+spot_of grid id = cond (nat_le grid.first id) (spot_at grid (id - grid.first)) None
 
-abbrev pub block_for : Grid → ℤ → ℕ
-block_for grid (pos target) = block_of grid target
-block_for grid (negsuc n) = nowhere
+abbrev pub spot_for : Grid → ℤ → Option Spot
+spot_for grid (pos id) = spot_of grid id
+spot_for grid (negsuc n) = None
 
--- whether an id is in the block of this number
-abbrev pub stands_in : Grid → ℕ → ℕ → Bool
-stands_in grid number id = block_of grid id == number
+-- these are the ids of this block, from its first one on
+abbrev pub AreOfBlock : Grid → ℕ → List ℕ → Type 0
+AreOfBlock grid number ids = (k : ℕ) → k < length ids → spot_of grid (slice_index ids k) ≡ Some (spot number k)

@@ -46,7 +46,7 @@ pub record IsGathered (work : Work) (honest : ℕ → Bool) (dones : List DoneSt
   pub stamps : map (λ (part : PartLeft). part.0) parts ≡ dones
   pub each : AllByRecursion (IsPartLeft work honest) parts
   pub vertices : gathered.vertices.items ≡ map (λ (part : PartLeft). map emptied part.1) parts
-  pub letters : IsPermutation (letters_of (spread parts)) (joined (map vec_items gathered.letters.items))
+  pub letters : IsPermutation (letters_of (spread parts)) (joined gathered.letters.items)
   pub aggregators : gathered.aggregators ≡ aggregated (contributions_of (outcomes_in (spread parts)))
   pub units : gathered.units ≡ capped (units_left (outcomes_in (spread parts)))
 
@@ -57,9 +57,9 @@ pub record IsSpread (all_ids : List (List ℕ)) (all_letters : List (List Letter
   pub same : IsPermutation (joined lefts) ordered
   pub rising : IsStrictlyIncreasing (left_ids ordered)
 
--- the same, where each part has a vector of ids and one of letters
-abbrev pub AreSpread : List (Vec ℕ) → List (Vec Letter) → List (List VertexOutcome) → List VertexOutcome → Type 0
-AreSpread ids letters lefts ordered = IsSpread (map vec_items ids) (map vec_items letters) lefts ordered
+-- the same, where each part has a vector of ids
+abbrev pub AreSpread : List (Vec ℕ) → List (List Letter) → List (List VertexOutcome) → List VertexOutcome → Type 0
+AreSpread ids letters lefts ordered = IsSpread (map vec_items ids) letters lefts ordered
 
 abbrev pub with_inbox : VertexState × List ℤ → VertexState
 with_inbox given = record { id = given.0.id; value = given.0.value; active = given.0.active; inbox = given.1 }

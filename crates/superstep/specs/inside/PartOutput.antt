@@ -20,14 +20,14 @@ use Rattle.superstep.specs.inside.Barrier.{left_id}
 
 -- this is the output before the first call
 pub record IsNothing (left : PartOutput) : Type 0 where
-  pub letters : left.letters.items ≡ []
+  pub letters : left.letters ≡ []
   pub aggregators : left.aggregators ≡ aggregator_starts
   pub units : left.units ≡ 0
 
 -- The outcome of the vertex with this id is added to the output of others. If the total of their units was capped, the new
 -- total is capped too.
 pub record Adds (id : ℕ) (outcome : Outcome) (old new : PartOutput) : Type 0 where
-  pub letters : new.letters.items ≡ old.letters.items ++ letters_from id outcome
+  pub letters : new.letters ≡ old.letters ++ letters_from id outcome
   pub aggregators : new.aggregators ≡ fold give old.aggregators outcome.contributions
   pub units : (total : ℕ) → old.units ≡ capped total → new.units ≡ capped (total + outcome.units)
 
@@ -77,7 +77,7 @@ rows_of (entry ∷ entries) (vertex ∷ vertices) = row_of entry vertex ∷ rows
 -- the vertices of a part are called, or stay as they are, and this is their output
 pub record CallsPart (shared : Shared) (entries : List Entry) (before after : List VertexState) (all : PartOutput) : Type 0 where
   pub left : List VertexOutcome
-  pub comes : ComesBack left after all.letters.items all.aggregators all.units
+  pub comes : ComesBack left after all.letters all.aggregators all.units
   pub ids : map left_id left ≡ map state_id before
   pub is : (outcomes : Given → Outcome) → Tells shared.verified.now outcomes
       → left ≡ map (λ (row : Row). (row.id, left_in outcomes shared row)) (rows_of entries before)

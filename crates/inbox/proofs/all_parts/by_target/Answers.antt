@@ -1,7 +1,8 @@
 use Rattle.std.proofs.Common.{filter}
 use Rattle.std.specs.List.Sorted.{IsPermutation}
 use Rattle.std.proofs.lemmas.Map.Keys.{IsDistinct-IsPermutation}
-use Rattle.inbox.specs.Merging.{are_one, all_of}
+use Rattle.inbox.specs.Merging.{are_one}
+use Rattle.inbox.specs.inside.Mail.{letters_in}
 use Rattle.inbox.specs.inside.Shares.{goes_into}
 use Rattle.inbox.proofs.Order.{are_one-flips}
 use Rattle.inbox.proofs.ByTarget.{rises_by_target}
@@ -10,7 +11,7 @@ use Rattle.inbox.proofs.all_parts.by_target.Goals as goal
 
 pub returns : goal.returns
 returns c =
-    let letters = all_of c.args.lists.now in
+    let letters = letters_in c.args.mail in
     let within = goes_into c.args.targets in
     let sorted = c.sort.new.self.items in
     let same : IsPermutation (filter within letters) sorted = rw (← c.in_ok-letters.ensures) c.in_ok-sort.ensures.permutation in

@@ -7,8 +7,8 @@ use Rattle.inbox.proofs.all_parts.merge_parts.Goals as goal
 pub with_dropped-requires : goal.with_dropped-requires
 with_dropped-requires g c =
     let each = c.in_ok-delivered.ensures (all_of c.args.lists.now) c.args.ids.now c.in_ok-filed.ensures in
-    let all = delivered_or_lost c.args.lists.now c.args.ids.now c.in_ok-delivered.delivered.items c.requires.distinct c.requires.apart each in
-    omega (arith, all, c.letter_count.ensures)
+    let all = delivered_or_lost (all_of c.args.lists.now) c.args.ids.now c.in_ok-delivered.delivered.items c.requires.distinct c.requires.apart each in
+    omega (arith, all, c.count.ensures)
 
 pub returns-clause-inboxes : goal.returns-clause-inboxes
 returns-clause-inboxes g c =
@@ -21,5 +21,5 @@ returns-clause-inboxes g c =
 pub returns-clause-dropped : goal.returns-clause-dropped
 returns-clause-dropped g c =
     let each = c.in_ok-delivered.ensures (all_of c.args.lists.now) c.args.ids.now c.in_ok-filed.ensures in
-    let all = delivered_or_lost c.args.lists.now c.args.ids.now c.in_ok-delivered.delivered.items c.requires.distinct c.requires.apart each in
-    IfOk-weaker c.with_dropped.result _ _ (λ merged lost. omega (arith, lost, all, c.letter_count.ensures)) c.with_dropped.ensures.dropped
+    let all = delivered_or_lost (all_of c.args.lists.now) c.args.ids.now c.in_ok-delivered.delivered.items c.requires.distinct c.requires.apart each in
+    IfOk-weaker c.with_dropped.result _ _ (λ merged lost. omega (arith, lost, all, c.count.ensures)) c.with_dropped.ensures.dropped

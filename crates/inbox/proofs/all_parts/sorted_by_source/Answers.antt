@@ -2,7 +2,8 @@ use Rattle.std.proofs.Common.{filter, rules}
 use Rattle.std.proofs.lemmas.List.Sorted.{answers_always}
 use Rattle.std.proofs.lemmas.Map.Keys.{IsDistinct-IsPermutation}
 use Rattle.std.specs.List.Sorted.{IsPermutation}
-use Rattle.inbox.specs.Merging.{all_of, are_one}
+use Rattle.inbox.specs.Merging.{are_one}
+use Rattle.inbox.specs.inside.Mail.{letters_in}
 use Rattle.inbox.specs.inside.Shares.{goes_into}
 use Rattle.inbox.proofs.InShares.{distinct_filter}
 use Rattle.inbox.proofs.Order.{are_one-flips, rise}
@@ -10,7 +11,7 @@ use Rattle.inbox.proofs.all_parts.sorted_by_source.Goals as goal
 
 pub returns : goal.returns
 returns c =
-    let letters = all_of c.args.lists.now in
+    let letters = letters_in c.args.mail in
     let within = goes_into c.args.targets in
     let sorted = c.sort_by_key.new.self.items in
     let up = c.in_ok-sort_by_key.ensures.sorted (λ letter. (letter.from, letter.seq)) (answers_always _ _ _ (λ f a r g h. search rules)) in

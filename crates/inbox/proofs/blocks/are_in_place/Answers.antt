@@ -4,5 +4,5 @@ use Rattle.inbox.proofs.blocks.are_in_place.Goals as goal
 
 pub loop-index-preserved : goal.loop-index-preserved
 loop-index-preserved c =
-    let yes : c.is_in_place.result ≡ true = search rules in
-    places_more c.args.grid c.args.blocks.now c.loop-index.index c.index-blocks-index.result c.loop-index-test.true c.loop-index.invariant (c.is_in_place.ensures yes)
+    let yes : c.has_in_order.result ≡ true = search rules in
+    places_more c.args.grid c.args.blocks.now c.loop-index.index c.index-blocks-index.result c.loop-index-test.true c.loop-index.invariant (c.has_in_order.ensures yes)

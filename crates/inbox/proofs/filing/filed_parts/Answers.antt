@@ -1,8 +1,8 @@
 use Rattle.std.proofs.Common.{[], ◌∷◌, ◌++◌, take, ap, sym, ◌∙◌}
 use Rattle.rayon.proofs.ListFacts.{AllZip-append}
 use Rattle.std.proofs.lemmas.List.{take_all, take_more}
-use Rattle.inbox.specs.Merging.{all_of}
 use Rattle.inbox.specs.inside.Filing.{AreInBlocks}
+use Rattle.inbox.specs.inside.Mail.{letters_in}
 use Rattle.inbox.proofs.filing.filed_parts.Goals as goal
 
 pub loop-ids-preserved : goal.loop-ids-preserved
@@ -10,7 +10,7 @@ loop-ids-preserved c =
     let parts = c.args.parts.now in
     let ids = c.ids-item.result in
     let before = take c.loop-ids.ids-index parts in
-    let more = AllZip-append (AreInBlocks (all_of c.args.lists.now)) before (ids ∷ []) c.loop-ids.filed.items (c.in-Some.part ∷ []) c.loop-ids.invariant (rw c.in-Some.is at c.in_ok-part.ensures, tt) in
+    let more = AllZip-append (AreInBlocks (letters_in c.args.mail)) before (ids ∷ []) c.loop-ids.filed.items (c.in-Some.part ∷ []) c.loop-ids.invariant (rw c.in-Some.is at c.in_ok-part.ensures, tt) in
     let grown = take_more parts c.loop-ids.ids-index ids c.loop-ids-test.true ∙ ap (λ ids. before ++ ids ∷ []) (sym c.ids-item.is) in
     rw (grown, c.in_ok-push.ensures.items) more
 

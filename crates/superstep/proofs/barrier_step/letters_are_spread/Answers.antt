@@ -5,8 +5,7 @@ use Rattle.std.proofs.lemmas.List.Folds.{flat_map-map}
 use Rattle.std.proofs.lemmas.List.Sorted.{IsPermutation-map, IsPermutation-sym}
 use Rattle.std.proofs.lemmas.Map.Keys.{sorted_from_strictly_increasing}
 use Rattle.graph.specs.Partition.{joined}
-use Rattle.inbox.specs.declared.letters.Letter.{Letter}
-use Rattle.inbox.specs.Merging.{IsBySource, all_of, are_one, dropped_of}
+use Rattle.inbox.specs.Merging.{IsBySource, all_of, sent_in, are_one, dropped_of}
 use Rattle.inbox.specs.Merging.{inbox_of as letters_in}
 use Rattle.superstep.specs.Superstep.{dropped_by, messages_to}
 use Rattle.superstep.specs.Tasks.{VertexOutcome, outcomes_in}
@@ -16,12 +15,10 @@ use Rattle.superstep.proofs.Spreading.{distinct_ids, found_in_order}
 use Rattle.superstep.proofs.barrier_step.letters_are_spread.Goals as goal
 
 module _ (c : goal.After-drops_add_up_over_sources) (lefts : List (List VertexOutcome)) (ordered : List VertexOutcome)
-    (is : IsSpread (map vec_items c.args.ids.now) (map vec_items c.args.letters.now) lefts ordered) where
+    (is : IsSpread (map vec_items c.args.ids.now) c.args.letters.now lefts ordered) where
   -- what all sent, one part after another
-  all_letters : IsPermutation (flat_map (sent_by (joined lefts)) (left_ids (joined lefts))) (all_of c.args.letters.now)
-  all_letters =
-      subst (λ (xs : List Letter). IsPermutation (flat_map (sent_by (joined lefts)) (left_ids (joined lefts))) xs)
-      (flat_map-map (λ (list : List Letter). list) vec_items c.args.letters.now) (spread_letters _ _ lefts ordered is)
+  all_letters : IsPermutation (flat_map (sent_by (joined lefts)) (left_ids (joined lefts))) (sent_in c.args.letters.now)
+  all_letters = spread_letters _ _ lefts ordered is
 
   all_ids : all_of c.args.ids.now ≡ left_ids (joined lefts)
   all_ids = sym (flat_map-map (λ (list : List ℕ). list) vec_items c.args.ids.now) ∙ spread_ids _ _ lefts ordered is
@@ -29,7 +26,7 @@ module _ (c : goal.After-drops_add_up_over_sources) (lefts : List (List VertexOu
   moved : IsPermutation (left_ids ordered) (left_ids (joined lefts))
   moved = IsPermutation-map left_id ordered (joined lefts) (IsPermutation-sym _ _ is.same)
 
-  letters_apart : IsDistinct are_one (all_of c.args.letters.now)
+  letters_apart : IsDistinct are_one (sent_in c.args.letters.now)
   letters_apart =
       c.letters_keep_their_order_in_any_lists.ensures.distinct _ _ all_letters
       (c.sources_send_in_any_order.ensures.distinct (left_ids ordered) (left_ids (joined lefts)) (sent_by (joined lefts))
@@ -38,7 +35,7 @@ module _ (c : goal.After-drops_add_up_over_sources) (lefts : List (List VertexOu
   ids_apart : IsDistinct eqb (all_of c.args.ids.now)
   ids_apart = subst (λ xs. IsDistinct eqb xs) (sym all_ids) (distinct_ids (joined lefts) ordered is.rising is.same)
 
-  in_order : IsBySource (all_of c.args.letters.now) (flat_map (sent_by (joined lefts)) (left_ids ordered))
+  in_order : IsBySource (sent_in c.args.letters.now) (flat_map (sent_by (joined lefts)) (left_ids ordered))
   in_order =
       c.letters_keep_their_order_in_any_lists.ensures.order _ _ _ all_letters
       (c.sources_send_in_any_order.ensures.ordered (left_ids ordered) (left_ids (joined lefts)) (sent_by (joined lefts))
@@ -49,7 +46,7 @@ module _ (c : goal.After-drops_add_up_over_sources) (lefts : List (List VertexOu
       c.inboxes_are_concatenated_by_source.ensures.inbox (left_ids ordered) (sent_by (joined lefts)) id
       ∙ inbox_found (joined lefts) ordered id (found_in_order (joined lefts) ordered is.rising is.same)
 
-  all_dropped : dropped_of (all_of c.args.letters.now) (all_of c.args.ids.now) ≡ sum_by (dropped_by (left_ids ordered)) (outcomes_in ordered)
+  all_dropped : dropped_of (sent_in c.args.letters.now) (all_of c.args.ids.now) ≡ sum_by (dropped_by (left_ids ordered)) (outcomes_in ordered)
   all_dropped =
       sym (c.letters_drop_alike_in_any_order.ensures.letters _ _ (all_of c.args.ids.now) all_letters)
       ∙ ap (dropped_of (flat_map (sent_by (joined lefts)) (left_ids (joined lefts)))) all_ids

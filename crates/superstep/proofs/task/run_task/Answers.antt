@@ -74,7 +74,7 @@ invariant_of-result-2 g c =
     counted
     (λ outcomes are. subst (λ (m : Module). Tells m outcomes) (sym known) (c.calls_are_a_function.ensures.told work.«module» outcomes are)) in
     let whole = whole_slice c.part_states.inside.vertices.items after c.part_states.inside.vertices.len (c.run_part-ran.auto.vertices ∙ ap length c.deref_mut.ensures.value) (omega (arith, c.part_states.inside.vertices.ok.0)) in
-    subst (λ (states : List VertexState). IsDone work g.J.Origin.honest (record { epoch = c.task.inside.epoch; superstep = shared.superstep; part = part; units = left.units }) states left.letters.items left.aggregators)
+    subst (λ (states : List VertexState). IsDone work g.J.Origin.honest (record { epoch = c.task.inside.epoch; superstep = shared.superstep; part = part; units = left.units }) states left.letters left.aggregators)
     (sym whole) done
 
 pub returns-clause-units : goal.returns-clause-units

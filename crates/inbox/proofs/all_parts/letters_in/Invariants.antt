@@ -1,7 +1,0 @@
-use Rattle.std.proofs.Common.{◌≡◌, filter, take}
-use Rattle.inbox.specs.Merging.{all_of}
-use Rattle.inbox.specs.inside.Shares.{goes_into}
-use Rattle.inbox.proofs.all_parts.letters_in.Given as goal
-
-abbrev pub invariant-loop-list : goal.invariant-loop-list
-invariant-loop-list l = l.letters.items ≡ filter (goes_into l.targets) (all_of (take l.list-index l.lists))

@@ -1,5 +1,0 @@
-use Rattle.std.proofs.Common.{ℕ, ◌+◌, ◌<◌, slice_index}
-use Rattle.inbox.proofs.blocks.rise.Given as goal
-
-abbrev pub invariant-loop-index : goal.invariant-loop-index
-invariant-loop-index l = (k : ℕ) → k + 1 < l.index → slice_index l.ids k < slice_index l.ids (k + 1)

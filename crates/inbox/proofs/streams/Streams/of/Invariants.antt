@@ -1,7 +1,0 @@
-use Rattle.std.proofs.Common.{◌≡◌, take}
-use Rattle.std.specs.List.{flat_map}
-use Rattle.inbox.specs.Merging.{all_of}
-use Rattle.inbox.proofs.streams.Streams.of.Given as goal
-
-abbrev pub invariant-loop-list : goal.invariant-loop-list
-invariant-loop-list l = flat_map (λ rest. rest.now) l.rests.items ≡ all_of (take l.list-index l.lists)

@@ -1,0 +1,8 @@
+use Rattle.std.proofs.Common.{◌≡◌, take}
+use Rattle.std.specs.List.{flat_map}
+use Rattle.inbox.specs.Merging.{sent_in}
+use Rattle.inbox.specs.inside.Streams.{left_in}
+use Rattle.inbox.proofs.streams.rests_of_outboxes.Given as goal
+
+abbrev pub invariant-loop-outbox : goal.invariant-loop-outbox
+invariant-loop-outbox l = flat_map left_in l.rests.items ≡ sent_in (take l.outbox-index l.outboxes)

@@ -20,12 +20,22 @@ use std::{fs, io};
 /// Nothing is claimed of what files hold, so it is not honest. It remembers the length and the last 32 bytes of the
 /// save; a checkpoint ends with its digest. A file with another length or other last bytes counts as a failure of the
 /// device.
-#[derive(Drop)]
 pub struct FileKeep {
     alloc: Global,
     directory: String,
     saved: Option<Saved>,
     failures: u64,
+}
+
+impl Drop for FileKeep {
+    fn drop(self) {
+        let FileKeep {
+            alloc: _,
+            directory: _,
+            saved: _,
+            failures: _,
+        } = self;
+    }
 }
 
 // The superstep, the length and the last 32 bytes of the last good save.

@@ -14,10 +14,15 @@ struct Saved {
 }
 
 /// A Keep in memory, which has no device that fails.
-#[derive(Drop)]
 pub struct MemoryKeep {
     alloc: Global,
     last: Option<Saved>,
+}
+
+impl Drop for MemoryKeep {
+    fn drop(self) {
+        let MemoryKeep { alloc: _, last: _ } = self;
+    }
 }
 
 impl MemoryKeep {

@@ -4,6 +4,7 @@ ghost use Rattle.std.specs.Prelude.{◌≡◌, ◌<◌, true, false, length, map
 ghost use Rattle.superstep.specs.State.{state_id};
 ghost use Rattle.superstep.specs.declared.fault.JobFault.TheVariants.{OutOfMemory};
 ghost use Rattle.superstep.specs.declared.fault.Place.TheVariants.{Open, Report as Reporting};
+ghost use Rattle.rollback.specs.declared.control.Out.{Out};
 ghost use Rattle.rollback.specs.Book.{
   IsQuietAt,
   IsReport,
@@ -14,7 +15,7 @@ ghost use Rattle.rollback.specs.Book.{
   stamp_of,
   task_out,
 };
-ghost use Rattle.rollback.specs.Events.{accepted, done_step, on_event, shut};
+ghost use Rattle.rollback.specs.Events.{accepted, after_end, done_step, on_event, shut};
 ghost use Rattle.rollback.specs.Events.Stamp.{DoneBy, FailedBy, JoinedBy, LostBy, Ticked};
 ghost use Rattle.rollback.specs.Saving.{HasLeft, IsBegun, IsCaused, IsSavedOrLeft, KeepsFor, MayLoadAfter};
 ghost use Rattle.rollback.specs.Machine.{all_set, hand, handed, has_answer, is_running, opened, task_of};
@@ -23,10 +24,10 @@ ghost use Rattle.rollback.specs.inside.EventStep.{IsEventStep, IsSteady};
 
 use crate::control::{Control, Out};
 use crate::event::{Answer, Event};
-use crate::job_data::{JobData, bring_back, hand_out, parts_of};
+use crate::job_data::{JobData, bring_back, hand_out};
 use crate::recovery::{hold, hold_opened, put_back};
 use crate::replies::{advanced_reply, ended_reply, rolled_reply};
-use crate::report::{Report, Status, report_of, state_of};
+use crate::report::{Report, Status, report_of};
 use crate::saving::save_if_due;
 use checkpoint::Keep;
 use std::alloc::{AllocError, Global};
@@ -39,13 +40,24 @@ use superstep::{Done, Job, JobFault, Origin, Place, State, Task, VertexState};
 /// The book of a running job. It assigns the parts of a superstep to workers, takes their results, and closes the
 /// superstep when all are done. It saves states, and goes back to the last one when workers are lost. In contracts its
 /// model is the control model.
-#[derive(Drop)]
 pub struct Book<'a, J: Origin> {
     alloc: Global,
     job: &'a Job,
     ids: Vec<u64>,
     control: Control,
     job_data: JobData<J>,
+}
+
+impl<'a, J: Origin> Drop for Book<'a, J> {
+    fn drop(self) {
+        let Book {
+            alloc: _,
+            job: _job,
+            ids: _,
+            control: _,
+            job_data: _,
+        } = self;
+    }
 }
 
 impl<'a, J: Origin> Model for Book<'a, J> {
@@ -210,7 +222,7 @@ impl<'a, J: Origin> Book<'a, J> {
             control,
             job_data,
         } = self;
-        let state = state_of(job_data);
+        let state = job_data.into_state();
         match report_of(alloc, &state, control) {
             Ok(report) => Ok(report),
             Err(_) => Err(JobFault::OutOfMemory(Place::Report)),
@@ -259,7 +271,7 @@ impl<'a, J: Origin> Book<'a, J> {
             (K.saved keep.old) (K.saved keep.new) (K.may_load keep.old) (K.may_load keep.new)
             (K.faults keep.old) (K.faults keep.new) result }
     {
-        let parts = parts_of(mem::replace(&mut self.job_data, JobData::Nothing));
+        let parts = mem::replace(&mut self.job_data, JobData::Nothing).into_parts();
         let Ok(state) = parts.merge(rt, self.alloc, self.job) else {
             self.control.fail(Place::Merge);
             return Err(JobFault::OutOfMemory(Place::Merge));
@@ -427,14 +439,24 @@ impl<'a, J: Origin> Book<'a, J> {
         let Event::Done(worker, done) = event else {
             return ended_reply(&self.control);
         };
+        self.charge_late(worker, done.units());
+        ended_reply(&self.control)
+    }
+
+    // Adds the units of a result that comes after the end, if the job has an answer.
+    fn charge_late(&mut self, worker: u32, units: u128)
+        ensures machine { (task : Out) → self.new
+            ≡ after_end self.old (DoneBy worker task units) }
+        ensures superstep { self.new.superstep ≡ self.old.superstep }
+        ensures steady { IsSteady self.old self.new }
+    {
         if !self.control.has_answer() {
-            return ended_reply(&self.control);
+            return;
         }
         if worker as usize >= self.control.workers() {
-            return ended_reply(&self.control);
+            return;
         }
-        self.control.charge(worker as usize, done.units());
-        ended_reply(&self.control)
+        self.control.charge(worker as usize, units);
     }
 
     /// Takes an event, and answers it. The Keep has to have what the book counts as saved.

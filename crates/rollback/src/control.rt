@@ -51,7 +51,6 @@ pub struct Out {
 }
 
 /// The control of a book: worker, epoch and superstep numbers without data. In contracts its model is `Machine`.
-#[derive(Drop)]
 pub struct Control {
     settings: Settings,
     superstep: u32,
@@ -66,6 +65,26 @@ pub struct Control {
     missed: u64,
     restarts: u64,
     ending: JobStatus,
+}
+
+impl Drop for Control {
+    fn drop(self) {
+        let Control {
+            settings: _,
+            superstep: _,
+            epoch: _,
+            done: _,
+            alive: _,
+            waiting: _,
+            out: _,
+            age: _,
+            spent: _,
+            saved: _,
+            missed: _,
+            restarts: _,
+            ending: _,
+        } = self;
+    }
 }
 
 impl Model for Control {
@@ -184,7 +203,22 @@ impl Control {
     pub fn into_spent(self) -> Vec<u128>
         ensures { result.items ≡ self.spent }
     {
-        self.spent
+        let Control {
+            settings: _,
+            superstep: _,
+            epoch: _,
+            done: _,
+            alive: _,
+            waiting: _,
+            out: _,
+            age: _,
+            spent,
+            saved: _,
+            missed: _,
+            restarts: _,
+            ending: _,
+        } = self;
+        spent
     }
 
     pub fn is_alive(&self, worker: usize) -> bool

@@ -1,6 +1,7 @@
 //! The data of a job, as its book holds it.
 
 ghost use Rattle.std.specs.Prelude.{◌≡◌, ◌≤◌, ℕ};
+ghost use Rattle.rollback.specs.inside.Book.{HasWhole};
 ghost use Rattle.rollback.specs.inside.Parts.{Placement, moved, returned};
 ghost use Rattle.rollback.specs.inside.Parts.Spot.{Gone};
 ghost use Rattle.rollback.specs.inside.JobData.{HasHome, Runs, FitsPart};
@@ -9,7 +10,6 @@ use crate::parts::Parts;
 use superstep::{Done, Origin, State, Task};
 
 /// The data of a job, as its book holds it.
-#[derive(Drop)]
 pub enum JobData<J: Origin> {
     /// The parts, while the job runs.
     Parts(Parts<J>),
@@ -17,6 +17,38 @@ pub enum JobData<J: Origin> {
     Whole(State),
     /// Nothing, if the job has no answer.
     Nothing,
+}
+
+impl<J: Origin> Drop for JobData<J> {
+    fn drop(self) {
+        match self {
+            JobData::Parts(_) | JobData::Whole(_) | JobData::Nothing => {}
+        }
+    }
+}
+
+impl<J: Origin> JobData<J> {
+    /// Returns the parts of a running job.
+    pub fn into_parts(self) -> Parts<J>
+        requires { Runs self (λ _. Unit {0}) }
+        ensures { self ≡ JobData.Parts result }
+    {
+        match self {
+            JobData::Parts(parts) => parts,
+            JobData::Whole(_) | JobData::Nothing => unreachable!(),
+        }
+    }
+
+    /// Returns the state that a job ended with.
+    pub fn into_state(self) -> State
+        requires { HasWhole self }
+        ensures { self ≡ JobData.Whole result }
+    {
+        match self {
+            JobData::Whole(state) => state,
+            JobData::Parts(_) | JobData::Nothing => unreachable!(),
+        }
+    }
 }
 
 /// Takes the slice of a part that is here, as a task. It allocates nothing.
@@ -43,17 +75,6 @@ pub fn bring_back<J: Origin>(job_data: &mut JobData<J>, done: Done<J>)
 {
     match job_data {
         JobData::Parts(parts) => parts.bring_back(done),
-        _ => unreachable!(),
-    }
-}
-
-/// Returns the parts of a running job.
-pub fn parts_of<J: Origin>(job_data: JobData<J>) -> Parts<J>
-    requires { Runs job_data (λ _. Unit {0}) }
-    ensures { job_data ≡ JobData.Parts result }
-{
-    match job_data {
-        JobData::Parts(parts) => parts,
         _ => unreachable!(),
     }
 }

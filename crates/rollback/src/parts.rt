@@ -15,13 +15,23 @@ use superstep::{Apart, Done, Job, Origin, State, Task, Totals, barrier, take_apa
 
 /// The parts of a running job between two barriers. Slices are moved out with tasks, and none is copied. In contracts
 /// the model is the epoch, the superstep and where each part is.
-#[derive(Drop)]
 pub struct Parts<J: Origin> {
     // The last epoch of which something is here.
     epoch: u64,
     totals: Totals,
     aggregates: [i64; 8],
     part_slots: Vec<PartSlot<J>>,
+}
+
+impl<J: Origin> Drop for Parts<J> {
+    fn drop(self) {
+        let Parts {
+            epoch: _,
+            totals: _,
+            aggregates: _,
+            part_slots: _,
+        } = self;
+    }
 }
 
 impl<J: Origin> Model for Parts<J> {

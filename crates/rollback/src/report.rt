@@ -1,14 +1,12 @@
 //! The status and the report of a book.
 
-ghost use Rattle.std.specs.Prelude.{◌≡◌, IfOk};
-ghost use Rattle.rollback.specs.inside.Book.{HasWhole};
+ghost use Rattle.std.specs.Prelude.{IfOk};
 ghost use Rattle.rollback.specs.inside.Reporting.{IsReportIn};
 
 use crate::control::Control;
-use crate::job_data::JobData;
 use crate::job_status::JobStatus;
 use std::alloc::{AllocError, Global};
-use superstep::{JobEnd, Origin, State, tell_end};
+use superstep::{JobEnd, State, tell_end};
 
 /// The status of a book.
 #[derive(Clone, Copy)]
@@ -24,7 +22,6 @@ pub struct Status {
 }
 
 /// The end of a job, and the counts of its losses and its workers' units.
-#[derive(Drop)]
 pub struct Report {
     pub ended: JobEnd,
     /// It grew with each loss, and when waiting workers joined.
@@ -37,14 +34,15 @@ pub struct Report {
     pub spent: Vec<u128>,
 }
 
-/// Returns the state that a job ended with.
-pub fn state_of<J: Origin>(job_data: JobData<J>) -> State
-    requires { HasWhole job_data }
-    ensures { job_data ≡ JobData.Whole result }
-{
-    match job_data {
-        JobData::Whole(state) => state,
-        _ => unreachable!(),
+impl Drop for Report {
+    fn drop(self) {
+        let Report {
+            ended: _,
+            epoch: _,
+            missed: _,
+            restarts: _,
+            spent: _,
+        } = self;
     }
 }
 

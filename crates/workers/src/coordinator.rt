@@ -19,20 +19,36 @@ use std::thread::Threads;
 use superstep::{JobFault, Origin, Task};
 
 /// The receipts of all senders to the coordinator.
-#[derive(Drop)]
 pub struct Receipts<J: Origin> {
     pub(crate) ticker: TickReceipt<J>,
     pub(crate) workers: Vec<WorkerReceipt<J>>,
+}
+
+impl<J: Origin> Drop for Receipts<J> {
+    fn drop(self) {
+        let Receipts {
+            ticker: _,
+            workers: _,
+        } = self;
+    }
 }
 
 /// The coordinator of a job. It sends tasks to workers and receives messages.
 ///
 /// It has its channel ends, except while `run_job` lends them to its threads. After a job has run to its end, it has
 /// the receipts of all senders.
-#[derive(Drop)]
 pub struct Coordinator<J: Origin> {
     pub(crate) ends: Option<CoordinatorEnds<J>>,
     pub(crate) receipts: Option<Receipts<J>>,
+}
+
+impl<J: Origin> Drop for Coordinator<J> {
+    fn drop(self) {
+        let Coordinator {
+            ends: _,
+            receipts: _,
+        } = self;
+    }
 }
 
 impl<J: Origin> Coordinator<J> {

@@ -16,7 +16,6 @@ use std::sync::{Arc, Wait};
 use superstep::{Origin, Task};
 
 /// The coordinator's ends of all channels.
-#[derive(Drop)]
 pub struct CoordinatorEnds<J: Origin> {
     pub(crate) events: ReceivingEnd<Message<J>>,
     /// One for each worker.
@@ -30,6 +29,17 @@ pub struct CoordinatorEnds<J: Origin> {
     pub ghost gone_len: { vec_len gone ≡ vec_len task_channels + 1 },
     pub ghost gone_is: { (p : ℕ) → p < vec_len task_channels + 1 → slice_index_or gone.items p false
         ≡ has_bye closes (of sender_of p (received_by events)) },
+}
+
+impl<J: Origin> Drop for CoordinatorEnds<J> {
+    fn drop(self) {
+        let CoordinatorEnds {
+            events: _,
+            task_channels: _,
+            gone: _,
+            stopped: _,
+        } = self;
+    }
 }
 
 impl<J: Origin> CoordinatorEnds<J> {

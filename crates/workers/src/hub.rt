@@ -1,13 +1,12 @@
 //! A hub: the channels of a job, and all their ends.
 
-ghost use Rattle.std.specs.Prelude.{◌≡◌, ◌<◌, ◌≤◌, ◌+◌, ◌⊎◌, [], ℕ, true, false, map, replicate, vec_len, vec_capacity, IfOk, IfErr, OnOk};
+ghost use Rattle.std.specs.Prelude.{◌≡◌, ◌<◌, ◌≤◌, ◌+◌, ◌⊎◌, [], true, IfOk, IfErr, OnOk};
 ghost use Rattle.superstep.specs.declared.fault.JobFault.TheVariants.{OutOfMemory};
 ghost use Rattle.superstep.specs.declared.fault.Place.TheVariants.{Channel, Open};
 ghost use Rattle.workers.specs.Hub.{HasRooms as HasRoomsOf, IsNewHubOf, channels_of};
 ghost use Rattle.channels.specs.Channel.{room_of};
-ghost use Rattle.channels.specs.Orders.{at};
 ghost use Rattle.channels.specs.TaskChannels.{channel_on, sent_on};
-ghost use Rattle.channels.specs.ChannelEnds.{channel_of, received_by, senders_of, source_of};
+ghost use Rattle.channels.specs.ChannelEnds.{IsNewSender, channel_of, received_by, senders_of, source_of};
 
 use crate::coordinator::Coordinator;
 use crate::coordinator_ends::CoordinatorEnds;
@@ -34,10 +33,11 @@ fn new_rows<J: Origin>(alloc: Global, workers: usize) -> Result<Rows<J>, AllocEr
     requires { workers ≤ 64 }
     ensures { IfOk result (AreEmptyRows workers) }
 {
+    let gone = Vec::from_elem(alloc, false, workers + 1)?;
     Ok(Rows {
         task_channels: Vec::with_capacity(alloc, workers)?,
         passes: Vec::with_capacity(alloc, workers)?,
-        gone: Vec::from_elem(alloc, false, workers + 1)?,
+        gone,
     })
 }
 
@@ -95,8 +95,37 @@ fn open_task_channels<J: Origin>(
     Ok(())
 }
 
-// Opens the channels of this many workers and the ticker. The channel of events has room for two messages more than
-// there are workers.
+// Opens the channel of events, which has room for two messages more than there are workers, and the workers' task channels.
+// Returns the coordinator's end of the channel of events and the ticker's.
+fn open_channels<J: Origin>(
+    alloc: Global,
+    workers: u32,
+    rows: &mut Rows<J>,
+) -> Result<(ReceivingEnd<Message<J>>, SendingEnd<Message<J>>), AllocError>
+    requires few { workers ≤ 64 }
+    requires empty { AreEmptyRows workers rows.old }
+    ensures ticker { IfOk result (λ ends. IsNewSender (source_of ends.0) 0 ends.1) }
+    ensures senders { IfOk result (λ ends. senders_of ends.0 ≡ workers + 1) }
+    ensures received { IfOk result (λ ends. received_by ends.0 ≡ []) }
+    ensures room { IfOk result (λ ends. room_of (source_of ends.0) ≡ workers + 2) }
+    ensures filled { IfOk result (λ ends. AreFilledRows (source_of ends.0) workers rows.new) }
+    ensures gone { rows.new.gone.items ≡ rows.old.gone.items }
+{
+    let (mut events, ticks) = ReceivingEnd::open(alloc, workers as usize + 2)?;
+    open_task_channels(alloc, workers, &mut events, &ticks, rows)?;
+    Ok((events, ticks))
+}
+
+// Makes the flag that stops the ticker, for the coordinator and for the ticker.
+fn stop_flags(
+    alloc: Global,
+) -> Result<(Arc<AtomicBool, Global>, Arc<AtomicBool, Global>), AllocError> {
+    let stopped = Arc::new(alloc, AtomicBool::new(false))?;
+    let seen = Arc::try_clone(&stopped)?;
+    Ok((stopped, seen))
+}
+
+// Opens the channels of this many workers and the ticker.
 fn connect<J: Origin>(
     alloc: Global,
     workers: u32,
@@ -107,10 +136,8 @@ fn connect<J: Origin>(
     ensures hub { IfOk result (λ hub. IsNewHubOf workers hub.0 hub.1 hub.2) }
     ensures rooms { IfOk result (λ hub. HasRoomsOf workers (channels_of hub.0)) }
 {
-    let (mut events, ticks) = ReceivingEnd::open(alloc, workers as usize + 2)?;
-    let stopped = Arc::new(alloc, AtomicBool::new(false))?;
-    let seen = Arc::try_clone(&stopped)?;
-    open_task_channels(alloc, workers, &mut events, &ticks, &mut rows)?;
+    let (stopped, seen) = stop_flags(alloc)?;
+    let (events, ticks) = open_channels(alloc, workers, &mut rows)?;
     let Rows {
         task_channels,
         passes,

@@ -19,13 +19,22 @@ use std::sync::{Arc, Wait};
 use superstep::{JobFault, Origin, Task};
 
 /// The ends of a worker: with them it takes tasks and sends events.
-#[derive(Drop)]
 pub struct WorkerPass<J: Origin> {
     pub(crate) worker: u32,
     pub(crate) events: SendingEnd<Message<J>>,
     pub(crate) orders: ReceivingEnd<Order<J>>,
     pub ghost number: { number_of events ≡ worker + 1 },
     pub ghost open: { has_bye closes (sent_by events) ≡ false },
+}
+
+impl<J: Origin> Drop for WorkerPass<J> {
+    fn drop(self) {
+        let WorkerPass {
+            worker: _,
+            events: _,
+            orders: _,
+        } = self;
+    }
 }
 
 /// The receipt of a worker that has said bye: what it sent and what it took.
@@ -38,12 +47,20 @@ pub struct WorkerReceipt<J: Origin> {
 }
 
 /// The end of the ticker.
-#[derive(Drop)]
 pub struct TickPass<J: Origin> {
     pub(crate) events: SendingEnd<Message<J>>,
     pub(crate) stopped: Arc<AtomicBool, Global>,
     pub ghost number: { number_of events ≡ 0 },
     pub ghost open: { has_bye closes (sent_by events) ≡ false },
+}
+
+impl<J: Origin> Drop for TickPass<J> {
+    fn drop(self) {
+        let TickPass {
+            events: _,
+            stopped: _,
+        } = self;
+    }
 }
 
 /// The receipt of the ticker that has said bye: what it sent.

@@ -2,11 +2,12 @@
 
 ghost use Rattle.std.specs.Prelude.{◌≡◌, ◌+◌, ◌∷◌, [], false, true, IfErr, IfOk, IfSome, OnOk};
 ghost use Rattle.superstep.specs.Tasks.{AreUnitsAt};
+ghost use Rattle.superstep.specs.declared.fault.JobFault.TheVariants.{Closed};
 ghost use Rattle.superstep.specs.declared.fault.Place.TheVariants.{Call};
 ghost use Rattle.rollback.specs.declared.control.Out.{Out};
 ghost use Rattle.rollback.specs.Book.{stamp_of, task_out};
 ghost use Rattle.workers.specs.Messages.{AddsJoins, event_sender, is_joined, is_lost};
-ghost use Rattle.workers.specs.Passes.{IsReceipt, IsSamePass, IsTickReceipt, handed_in, taken, ticked, worker_of};
+ghost use Rattle.workers.specs.Passes.{IsReceipt, IsSamePass, IsTickReceipt, handed_in, taken, ticked};
 ghost use Rattle.workers.specs.Returns.{IsReturnOf};
 ghost use Rattle.workers.specs.Steps.{stamps_in};
 ghost use Rattle.workers.specs.Threads.{JoinsAfterLoss};
@@ -297,6 +298,7 @@ pub fn tick_all<J: Origin, G: Gate, R: Wait>(
     requires new { ticked pass ≡ [] }
     ensures whose { IfOk result (IsTickReceipt pass) }
     ensures steady { G.loses gate.now ≡ false → IfOk result IsSteadyTicker }
+    ensures refused { IfErr result (λ fault. fault ≡ Closed) }
 {
     for n in 1..u64::MAX {
         if pass.stopped() || !gate.tick(n) {

@@ -18,8 +18,8 @@ use Rattle.rollback.proofs.Keeps
 use Rattle.rollback.proofs.Kept
 use Rattle.rollback.proofs.book.Book.close.Goals as goal
 
-pub parts_of-parts-requires : goal.parts_of-parts-requires
-parts_of-parts-requires g c =
+pub into_parts-parts-requires : goal.into_parts-parts-requires
+into_parts-parts-requires g c =
     let i = c.self.inside in
     let r = Kept.runs g.J.Origin.work g.J.Origin.honest i.control i.job_data c.self.invariant.held (subst (λ (m : Machine). is_running m.ending ≡ true) (sym c.self.view_is) c.requires.running) in
     subst (λ h. Runs h (λ _. Unit {0})) (sym (c.replace.ensures.value ∙ r.1)) tt
@@ -27,14 +27,14 @@ parts_of-parts-requires g c =
 pub merge-requires-clause-all : goal.merge-requires-clause-all
 merge-requires-clause-all g c κs within =
     let i = c.self.inside in
-    let x : AreParts g.J.Origin.work i.control c.parts_of-parts.result = subst (λ h. HoldsData g.J.Origin.work g.J.Origin.honest i.control h) (sym c.replace.ensures.value ∙ c.parts_of-parts.ensures) c.self.invariant.held in
-    Kept.all_returned_is g.J.Origin.work i.control c.parts_of-parts.result x (subst (λ (m : Machine). all_set m.done ≡ true) (sym c.self.view_is) c.requires.done)
+    let x : AreParts g.J.Origin.work i.control c.into_parts-parts.result = subst (λ h. HoldsData g.J.Origin.work g.J.Origin.honest i.control h) (sym c.replace.ensures.value ∙ c.into_parts-parts.ensures) c.self.invariant.held in
+    Kept.all_returned_is g.J.Origin.work i.control c.into_parts-parts.result x (subst (λ (m : Machine). all_set m.done ≡ true) (sym c.self.view_is) c.requires.done)
     ∙ ap (λ (work : Work). replicate work.settings.parts Returned) (sym c.self.invariant.job)
 
 pub merge-requires-clause-early : goal.merge-requires-clause-early
 merge-requires-clause-early g c κs within =
     let i = c.self.inside in
-    let x : AreParts g.J.Origin.work i.control c.parts_of-parts.result = subst (λ h. HoldsData g.J.Origin.work g.J.Origin.honest i.control h) (sym c.replace.ensures.value ∙ c.parts_of-parts.ensures) c.self.invariant.held in
+    let x : AreParts g.J.Origin.work i.control c.into_parts-parts.result = subst (λ h. HoldsData g.J.Origin.work g.J.Origin.honest i.control h) (sym c.replace.ensures.value ∙ c.into_parts-parts.ensures) c.self.invariant.held in
     rw (c.self.invariant.job, x.superstep) x.early
 
 pub invariant_of-self : goal.invariant_of-self
@@ -63,9 +63,9 @@ pub hold-requires-clause-at : goal.hold-requires-clause-at
 hold-requires-clause-at g c = λ sure.
     let honest = g.J.Origin.honest in
     let i = c.self.inside in
-    let parts = c.parts_of-parts.result in
+    let parts = c.into_parts-parts.result in
     let told = c.save_if_due.ensures.told.0 in
-    let x : AreParts g.J.Origin.work i.control parts = subst (λ h. HoldsData g.J.Origin.work honest i.control h) (sym c.replace.ensures.value ∙ c.parts_of-parts.ensures) c.self.invariant.held in
+    let x : AreParts g.J.Origin.work i.control parts = subst (λ h. HoldsData g.J.Origin.work honest i.control h) (sym c.replace.ensures.value ∙ c.into_parts-parts.ensures) c.self.invariant.held in
     let same : c.save_if_due.new.control.epoch ≡ i.control.epoch =
     ap (λ (m : Machine). m.epoch) (c.save_if_due.ensures.told.1 ∙ ap (λ m. saving told m) c.close.ensures) ∙ Kept.epoch_saving (closed c.is_quiet.result i.control) told in
     let own = earlier honest g.J.Origin.lasts parts.epoch i.control.epoch x.epoch (subst (λ n. honest n ≡ true) same sure) in
@@ -79,14 +79,14 @@ invariant_of-self-2 g c =
     let b = c.self.invariant in
     let run = subst (λ (m : Machine). is_running m.ending ≡ true) (sym c.self.view_is) c.requires.running in
     let done = subst (λ (m : Machine). all_set m.done ≡ true) (sym c.self.view_is) c.requires.done in
-    let x : AreParts work i.control c.parts_of-parts.result = subst (λ h. HoldsData work honest i.control h) (sym c.replace.ensures.value ∙ c.parts_of-parts.ensures) b.held in
+    let x : AreParts work i.control c.into_parts-parts.result = subst (λ h. HoldsData work honest i.control h) (sym c.replace.ensures.value ∙ c.into_parts-parts.ensures) b.held in
     let state = c.in-Ok.state in
     let quiet = c.is_quiet.result in
     let told = c.save_if_due.ensures.told.0 in
     let sliced = has_room c.hold.result in
     let m1 = saving told (closed quiet i.control) in
     let later : state.superstep ≡ suc i.control.superstep = c.in-Ok.ensures.superstep ∙ ap (λ n. suc n) x.superstep in
-    let at = λ (sure : honest i.control.epoch ≡ true). subst (λ n. IsFullStateAt work n state) (sym c.in-Ok.ensures.superstep) (c.in-Ok.ensures.next (earlier honest g.J.Origin.lasts c.parts_of-parts.result.epoch i.control.epoch x.epoch sure)) in
+    let at = λ (sure : honest i.control.epoch ≡ true). subst (λ n. IsFullStateAt work n state) (sym c.in-Ok.ensures.superstep) (c.in-Ok.ensures.next (earlier honest g.J.Origin.lasts c.into_parts-parts.result.epoch i.control.epoch x.epoch sure)) in
     let at1 = λ (sure : honest m1.epoch ≡ true). at (subst (λ n. honest n ≡ true) (Kept.epoch_saving (closed quiet i.control) told) sure) in
     let e1 : c.save_if_due.new.control ≡ m1 = c.save_if_due.ensures.told.1 ∙ ap (λ m. saving told m) c.close.ensures in
     let e2 : c.hold.new.control ≡ slicing sliced m1 = c.hold.ensures.control ∙ ap (λ m. slicing sliced m) e1 in
@@ -104,7 +104,7 @@ returns g c =
     let honest = g.J.Origin.honest in
     let m = c.args.self.now in
     let i = c.self.inside in
-    let x : AreParts work i.control c.parts_of-parts.result = subst (λ h. HoldsData work honest i.control h) (sym c.replace.ensures.value ∙ c.parts_of-parts.ensures) c.self.invariant.held in
+    let x : AreParts work i.control c.into_parts-parts.result = subst (λ h. HoldsData work honest i.control h) (sym c.replace.ensures.value ∙ c.into_parts-parts.ensures) c.self.invariant.held in
     let state = c.in-Ok.state in
     let quiet = c.is_quiet.result in
     let told = c.save_if_due.ensures.told.0 in
@@ -114,8 +114,8 @@ returns g c =
     let m2 = slicing sliced m1 in
     let same_step : i.control.superstep ≡ m.superstep = ap (λ (y : Machine). y.superstep) c.self.view_is in
     let later : state.superstep ≡ suc m.superstep = c.in-Ok.ensures.superstep ∙ ap (λ n. suc n) (x.superstep ∙ same_step) in
-    let before : c.parts_of-parts.result.epoch ≤ m.epoch = subst (λ (y : Machine). c.parts_of-parts.result.epoch ≤ y.epoch) c.self.view_is x.epoch in
-    let at = λ (sure : honest m.epoch ≡ true). subst (λ n. IsFullStateAt work n state) (sym c.in-Ok.ensures.superstep) (c.in-Ok.ensures.next (earlier honest g.J.Origin.lasts c.parts_of-parts.result.epoch m.epoch before sure)) in
+    let before : c.into_parts-parts.result.epoch ≤ m.epoch = subst (λ (y : Machine). c.into_parts-parts.result.epoch ≤ y.epoch) c.self.view_is x.epoch in
+    let at = λ (sure : honest m.epoch ≡ true). subst (λ n. IsFullStateAt work n state) (sym c.in-Ok.ensures.superstep) (c.in-Ok.ensures.next (earlier honest g.J.Origin.lasts c.into_parts-parts.result.epoch m.epoch before sure)) in
     let loaded = λ (sure : honest 1 ≡ true). at (g.J.Origin.lasts 1 m.epoch (omega arith) sure) in
     let close : c.close.new.self ≡ mc = c.close.ensures ∙ ap (λ y. closed quiet y) c.self.view_is in
     let e1 : c.save_if_due.new.control ≡ m1 = c.save_if_due.ensures.told.1 ∙ ap (λ y. saving told y) close in

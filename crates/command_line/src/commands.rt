@@ -1,8 +1,8 @@
 //! The program's commands, with the arguments and the help of each.
 
-ghost use Rattle.std.specs.Prelude.{IfOk, map};
+ghost use Rattle.std.specs.Prelude.{◌≡◌, IfOk, map};
 ghost use Rattle.command_line.specs.CommandLine.{bound, console, flag, option, positional, pregel, setting};
-ghost use Rattle.command_line.specs.inside.Commands.{AddsCommands, AddsRules, IsArg, IsCommand, IsLeaf, rule_in, shape_in};
+ghost use Rattle.command_line.specs.inside.Commands.{AddsCommands, AddsRules, IsArg, IsCommand, IsLeaf, leaves, rule_in, shape_in};
 
 use crate::after_help;
 use clap::{Arg, ArgAction, Command, value_parser};
@@ -289,6 +289,13 @@ static COMMANDS: [Usage; 9] = [
     },
 ];
 
+// Returns the commands except `console`.
+fn usages() -> &'static [Usage]
+    ensures { map shape_in result.now ≡ leaves }
+{
+    COMMANDS.as_slice()
+}
+
 /// Makes the program's command, with its subcommands. Fails only if memory runs out.
 pub(crate) fn pregel<'a>(alloc: Global) -> Result<Command<'a>, AllocError>
     ensures { IfOk result (IsCommand pregel) }
@@ -300,7 +307,7 @@ pub(crate) fn pregel<'a>(alloc: Global) -> Result<Command<'a>, AllocError>
         .after_help(after_help::PREGEL)
         .subcommand_required(true)
         .arg_required_else_help(true);
-    let command = with_commands(alloc, command, COMMANDS.as_slice())?;
+    let command = with_commands(alloc, command, usages())?;
     command.subcommand(console(alloc))
 }
 

@@ -1,5 +1,5 @@
 -- The lines of what a job ended with.
-use Rattle.std.proofs.Common.{◌≡◌, ℕ, suc, ◌+◌, ◌-◌, ◌<◌, Bool, List, [], ◌∷◌, ◌++◌, length, get_or, map, take, refl, ap, sym, ◌∙◌, arith, append_assoc}
+use Rattle.std.proofs.Common.{◌≡◌, ℕ, suc, ◌+◌, ◌-◌, ◌<◌, Bool, List, [], ◌∷◌, ◌++◌, length, get_or, map, take, refl, ap, sym, ◌∙◌, arith, append_assoc, subst}
 use Rattle.std.specs.List.{range_with_len}
 use Rattle.std.proofs.lemmas.List.{append-nil, length-take-le, take_more}
 use Rattle.superstep.specs.declared.fault.JobFault.{JobFault}
@@ -10,11 +10,16 @@ use Rattle.superstep.specs.Ending.{Ends, IsEndOf, answer_of}
 use Rattle.superstep.specs.Job.{Meaning, Work}
 use Rattle.superstep.specs.PlainRun.{units_at}
 use Rattle.superstep.specs.Settings.{Refuses, first_bad}
-use Rattle.std.specs.Prelude.{Option, Some, None}
+use Rattle.std.specs.Prelude.{Err, IfErr, None, Ok, Option, Result, Some}
 use Rattle.sources.specs.OutputLines.{ended_lines, job_lines, numbered_line, numbered_lines}
 use Rattle.sources.specs.Jobs.{RefusesSettings}
-use Rattle.console.specs.Jobs.{AreJobLines}
-use Rattle.console.specs.inside.Answering.{opening_fault}
+use Rattle.rollback.specs.declared.report.Report.{Report}
+use Rattle.sources.specs.declared.fault.CommandFault.{CommandFault}
+use Rattle.workers.specs.JobAnswers.{IsRunFault}
+use Rattle.console.specs.Jobs.{AreEndLines, AreJobLines, IsFaultOfRun}
+use Rattle.console.specs.Notes.{HasNoted, NotesFault}
+use Rattle.console.specs.declared.noting.RunNotes.{RunNotes}
+use Rattle.console.specs.inside.Answering.{AreLinesOfAnswer, IsFaultOfAnswer, opening_fault}
 
 -- ---- numbered lines, one more at a time
 
@@ -76,3 +81,22 @@ refused_by None settings same fault told = rw told same
 
 pub settings_refused : (settings : Settings) (fault : JobFault) → Refuses (first_bad settings) fault → RefusesSettings settings (opening_fault fault)
 settings_refused settings fault told = refused_by (first_bad settings) settings refl fault told
+
+-- ---- what a run ended with
+
+-- lines are printed of an answer alone
+pub lines_report : (answer : Result Report JobFault) (tells_units : Bool) (lines : List ℕ) → AreLinesOfAnswer answer tells_units lines
+    → (report : Report) × (answer ≡ Ok report) × (lines ≡ ended_lines tells_units report.ended)
+lines_report (Ok report) tells_units lines told = (report, refl, told)
+lines_report (Err fault) tells_units lines told = absurd told
+
+pub lines_end : (answer : Result Report JobFault) (tells_units : Bool) (lines : List ℕ) → AreLinesOfAnswer answer tells_units lines → AreEndLines tells_units lines
+lines_end answer tells_units lines told = let r = lines_report answer tells_units lines told in (r.0.ended, r.2)
+
+pub fault_of_run : (answer : Result Report JobFault) (told : CommandFault) → IfErr answer IsRunFault → IsFaultOfAnswer answer told → IsFaultOfRun told
+fault_of_run (Ok report) told known is = subst (λ f. IsFaultOfRun f) (sym is) tt
+fault_of_run (Err fault) told known is = subst (λ f. IsFaultOfRun f) (sym is) known
+
+pub fault_noted : (job : Work) (notes : RunNotes) (answer : Result Report JobFault) (told : CommandFault) → HasNoted job answer notes → IsFaultOfAnswer answer told → NotesFault job notes told
+fault_noted job notes (Ok report) told noted is = subst (λ f. NotesFault job notes f) (sym is) tt
+fault_noted job notes (Err fault) told noted is = subst (λ f. NotesFault job notes f) (sym is) noted

@@ -7,8 +7,8 @@ ghost use Rattle.sources.specs.Disk.{Stays};
 ghost use Rattle.sources.specs.OutputLines.{Gains, IfText, end_line, ended_lines, numbered_line, numbered_lines};
 ghost use Rattle.sources.specs.Jobs.{IsJobOf, RefusesSettings};
 ghost use Rattle.console.specs.Jobs.{AreEndLines, AreJobLines, AreKeptLines, IsFaultOfRun};
-ghost use Rattle.console.specs.Notes.{NotesEnd, NotesFault, NotesOnly};
-ghost use Rattle.console.specs.inside.Answering.{opening_fault};
+ghost use Rattle.console.specs.Notes.{HasNoted, NotesEnd, NotesFault, NotesOnly};
+ghost use Rattle.console.specs.inside.Answering.{AreLinesOfAnswer, IsFaultOfAnswer, opening_fault};
 
 use crate::noting::RunNotes;
 use crate::view::{RunGate, View};
@@ -16,6 +16,7 @@ use crate::warnings::warn_of_missed;
 use bounded_profile::Verified;
 use checkpoint::Keep;
 use graph::Graph;
+use rollback::Report;
 use sources::{CommandFault, Files, end_word, push_values};
 use std::alloc::{AllocError, Global};
 use std::sync::Wait;
@@ -79,19 +80,17 @@ pub fn resume<'a, K: Keep + Drop, V: View + Sync, F: Files>(
     ensures refused { IfErr result IsFaultOfRun }
 {
     let answer = resume_in_threads(rt, alloc, job, keep, gate, superstep);
-    notes.note(rt, alloc, job, gate.watch(), &answer);
-    match answer {
-        Ok(report) => {
-            gate.finish(Some(&report.ended));
-            warn_of_missed(report.missed, warns, files);
-            let text = ended_text(alloc, &report.ended, tells_units)?;
-            Ok(text)
-        }
-        Err(fault) => {
-            gate.finish(None);
-            Err(CommandFault::Job(fault))
-        }
-    }
+    end_run(
+        rt,
+        alloc,
+        job,
+        &answer,
+        gate,
+        files,
+        notes,
+        tells_units,
+        warns,
+    )
 }
 
 /// What a job prints that is run in threads, its states kept here and its workers lost as the gate says: a line `v ID VALUE` for
@@ -127,7 +126,38 @@ pub fn run<'a, K: Keep + Drop, V: View + Sync, F: Files>(
     ensures refused { IfErr result IsFaultOfRun }
 {
     let answer = run_in_threads(rt, alloc, job, keep, gate);
-    notes.note(rt, alloc, job, gate.watch(), &answer);
+    end_run(
+        rt,
+        alloc,
+        job,
+        &answer,
+        gate,
+        files,
+        notes,
+        tells_units,
+        warns,
+    )
+}
+
+// Notes what a job was and ended with, where the gate watches it, shows that the run is over, and returns the lines of its end.
+fn end_run<'a, V: View, F: Files>(
+    rt: &impl Wait,
+    alloc: Global,
+    job: &Job,
+    answer: &Result<Report, JobFault>,
+    gate: &RunGate<'_, V>,
+    files: &mut F,
+    notes: &mut RunNotes,
+    tells_units: bool,
+    warns: bool,
+) -> Result<String, CommandFault<'a>>
+    ensures told { IfText result (AreLinesOfAnswer answer.now tells_units) }
+    ensures noted { IsSome gate.now.loss.watch → HasNoted job.now answer.now notes.new }
+    ensures only { NotesOnly job.now notes.old notes.new }
+    ensures kept { Stays (F.disk files.old) (F.disk files.new) }
+    ensures refused { IfErr result (IsFaultOfAnswer answer.now) }
+{
+    notes.note(rt, alloc, job, gate.watch(), answer);
     match answer {
         Ok(report) => {
             gate.finish(Some(&report.ended));
@@ -137,7 +167,7 @@ pub fn run<'a, K: Keep + Drop, V: View + Sync, F: Files>(
         }
         Err(fault) => {
             gate.finish(None);
-            Err(CommandFault::Job(fault))
+            Err(CommandFault::Job(*fault))
         }
     }
 }

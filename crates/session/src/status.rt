@@ -43,19 +43,16 @@ fn status_value(alloc: Global, name: &str, state: &RunState) -> Result<Value, Al
     ensures { IfOk result (λ status. view status ≡ status_data name.now state.now) }
 {
     let numbers = numbers_of(state);
-    let dropped = numbers.dropped.to_string(alloc)?;
-    let units = numbers.units.to_string(alloc)?;
-    let fault = fault_of(alloc, state)?;
     json!(in alloc; {
-        "dropped": dropped,
+        "dropped": numbers.dropped.to_string(alloc)?,
         "epoch": numbers.epoch,
-        "fault": fault,
+        "fault": fault_of(alloc, state)?,
         "missed": numbers.missed,
         "name": name,
         "restarts": numbers.restarts,
         "state": state_word(state),
         "superstep": numbers.superstep,
-        "units": units
+        "units": numbers.units.to_string(alloc)?
     })
 }
 

@@ -1,7 +1,6 @@
 //! The texts of replies.
 
 ghost use Rattle.std.specs.Prelude.{◌≡◌, ◌≤◌, IfOk, length, string_bytes};
-ghost use Rattle.bounded_profile.specs.Facts.{IsSizeOfCompute};
 ghost use Rattle.graph.specs.Entry.{edge_count, entries_of};
 ghost use Rattle.sources.specs.OutputLines.{IfText};
 ghost use Rattle.session.specs.Replies.{failed_line, graph_line, job_line, module_line, run_line, values_text};

@@ -1,6 +1,5 @@
 //! Serving a session whose jobs run in threads or on this machine.
 
-ghost use Rattle.std.specs.Prelude.{◌≡◌};
 ghost use Rattle.sources.specs.Disk.{Stays};
 ghost use Rattle.session.specs.Maps.{nothing};
 ghost use Rattle.session.specs.Runs.{IsPlainEnd, IsThreadedEnd, plain, threaded};

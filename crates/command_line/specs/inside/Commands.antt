@@ -7,7 +7,7 @@ use Rattle.clap.specs.declared.builder.command.Command.TheViews.{out-Command}
 use Rattle.clap.specs.declared.error.Error.{Error}
 use Rattle.clap.specs.declared.error.kind.ErrorKind.TheVariants.{MissingSubcommand, OutOfMemory, ValueValidation}
 use Rattle.clap.specs.declared.parser.matches.ArgMatches.{ArgMatches}
-use Rattle.command_line.specs.CommandLine.{AskedIn, bound, command, flag, has_plus_in, option, positional, setting}
+use Rattle.command_line.specs.CommandLine.{AskedIn, asm, bound, call, command, fit, flag, graph, has_plus_in, option, positional, print, replay, run, setting, upgrade, verify}
 use Rattle.command_line.specs.declared.commands.Argument.{Argument}
 use Rattle.command_line.specs.declared.commands.Argument.TheVariants as argument
 use Rattle.command_line.specs.declared.commands.Usage.{Usage}
@@ -55,6 +55,10 @@ rule_in (argument.Setting name otherwise help) = setting (name.now, otherwise.no
 -- the model of a command in the table
 abbrev pub shape_in : Usage → Shape
 shape_in usage = command usage.name.now (map rule_in usage.arguments.now)
+
+-- the models of all commands in the table
+abbrev pub leaves : List Shape
+leaves = call ∷ run ∷ replay ∷ upgrade ∷ asm ∷ fit ∷ print ∷ verify ∷ graph ∷ []
 
 -- the entries of a command's own arguments
 abbrev pub rows_in : ArgMatches → List Row

@@ -1,13 +1,14 @@
 -- The steps of answering a command.
-use Rattle.std.specs.Prelude.{◌≡◌, ◌⊎◌, ℕ, List, Option, Result}
+use Rattle.std.specs.Prelude.{◌≡◌, ◌⊎◌, ℕ, Bool, List, Option, Result, Ok, Err}
 use Rattle.wasm_ast.specs.declared.module.Module.{Module}
 use Rattle.host_calls.specs.declared.call.CallInput.{CallInput}
 use Rattle.host_calls.specs.declared.call.CallOutcome.{CallOutcome}
 use Rattle.superstep.specs.declared.fault.JobFault.{JobFault}
 use Rattle.superstep.specs.declared.fault.JobFault.TheVariants as job_fault
+use Rattle.rollback.specs.declared.report.Report.{Report}
 use Rattle.sources.specs.declared.fault.CommandFault.{CommandFault}
 use Rattle.sources.specs.declared.fault.CommandFault.TheVariants as command
-use Rattle.sources.specs.OutputLines.{line, outcome_lines}
+use Rattle.sources.specs.OutputLines.{ended_lines, line, outcome_lines}
 use Rattle.interp.specs.Call.{IsOutcome}
 use Rattle.sources.specs.Refusal.{fault_text, status_of}
 use Rattle.console.specs.FileCommands.{HasPrinted}
@@ -26,3 +27,13 @@ HasPrintedFault old new fault answer =
 abbrev pub opening_fault : JobFault → CommandFault
 opening_fault (job_fault.Settings setting) = command.Settings setting
 opening_fault fault = command.OutOfMemory
+
+-- the lines are those of what the job ended with
+abbrev pub AreLinesOfAnswer : Result Report JobFault → (tells_units : Bool) → (lines : List ℕ) → Type 0
+AreLinesOfAnswer (Ok report) tells_units lines = lines ≡ ended_lines tells_units report.ended
+AreLinesOfAnswer (Err fault) tells_units lines = ⊥
+
+-- the fault is the one that the job ended with; if it ended with none, there is no memory for its lines
+abbrev pub IsFaultOfAnswer : Result Report JobFault → CommandFault → Type 0
+IsFaultOfAnswer (Ok report) told = told ≡ command.OutOfMemory
+IsFaultOfAnswer (Err fault) told = told ≡ command.Job fault

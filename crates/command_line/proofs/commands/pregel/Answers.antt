@@ -1,12 +1,12 @@
-use Rattle.std.proofs.Common.{◌≡◌, ◌∙◌, ◌∷◌, [], Bool, List, ap, ap₂, false, map, rules, true}
+use Rattle.std.proofs.Common.{◌≡◌, ◌∙◌, [], Bool, ap, ap₂, false, true}
 use Rattle.std.proofs.lemmas.Result.{IfOk-weaker}
 use Rattle.clap.specs.Words.{App, Shape, app_of}
 use Rattle.clap.specs.Simple.{app_of_fields, on_top}
 use Rattle.clap.specs.declared.builder.command.Command.{Command}
 use Rattle.clap.specs.declared.builder.command.Command.TheOpen.{Command-F}
 use Rattle.clap.specs.declared.builder.command.Command.TheViews.{out-Command}
-use Rattle.command_line.specs.CommandLine.{asm, call, console, fit, graph, pregel, print, replay, run, upgrade, verify}
-use Rattle.command_line.specs.inside.Commands.{IsCommand, shape_in, with_shapes}
+use Rattle.command_line.specs.CommandLine.{console, pregel}
+use Rattle.command_line.specs.inside.Commands.{IsCommand, leaves, with_shapes}
 use Rattle.command_line.proofs.CommandRules.{one_below}
 use Rattle.command_line.proofs.commands.pregel.Goals as goal
 
@@ -21,10 +21,6 @@ wants_command = on_top (λ (s : Shape). record s { subcommand_required = true })
 
 abbrev shows_help : App → App
 shows_help = on_top (λ (s : Shape). record s { arg_required_else_help = true })
-
--- the commands of the table
-abbrev leaves : List Shape
-leaves = call ∷ run ∷ replay ∷ upgrade ∷ asm ∷ fit ∷ print ∷ verify ∷ graph ∷ []
 
 pub returns : goal.returns
 returns c =
@@ -43,7 +39,6 @@ returns c =
       helping ∙ ap shows_help (wanting ∙ ap wants_command (told ∙ ap shows_version c.new.ensures.app)),
       alone,
     ) in
-    let table : map shape_in c.as_slice.result.now ≡ leaves = search rules in
     let old = c.in_ok-command.ensures in
-    let below : app_of c.in_ok-command.command ≡ with_shapes bare leaves = old.0 ∙ ap₂ with_shapes top.0 table in
+    let below : app_of c.in_ok-command.command ≡ with_shapes bare leaves = old.0 ∙ ap₂ with_shapes top.0 c.usages.ensures in
     IfOk-weaker c.subcommand.result _ _ (λ new added. one_below _ _ _ _ console (below, old.1 ∙ top.1) c.console.ensures added) c.subcommand.ensures

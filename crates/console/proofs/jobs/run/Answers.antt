@@ -1,53 +1,63 @@
-use Rattle.std.proofs.Common.{◌≡◌, ◌∙◌, ap, is_some, true, refl, sym, subst, IfOk}
+use Rattle.std.proofs.Common.{◌≡◌, ap, is_some, true, refl, sym, subst, IfOk}
+use Rattle.std.proofs.lemmas.Result.{IfErr-weaker, IfOk-weaker}
 use Rattle.superstep.specs.Ending.{IsEndOf}
 use Rattle.superstep.specs.Tasks.{trusts}
 use Rattle.superstep.proofs.Trusting.{trusts_sure}
 use Rattle.console.specs.Notes.{HasNoted}
-use Rattle.console.proofs.JobLines.{answer_printed}
+use Rattle.console.proofs.JobLines.{answer_printed, fault_noted, fault_of_run, lines_end, lines_report}
 use Rattle.console.proofs.jobs.run.Goals as goal
 
-pub returns-in_ok-text-in-Ok-clause-answered : goal.returns-in_ok-text-in-Ok-clause-answered
-returns-in_ok-text-in-Ok-clause-answered g c = λ sure.
-    let job = c.args.job.now in
-    let report = c.in-Ok.report in
-    let honest = g.K.Keep.honest c.args.keep in
-    let trusted = trusts_sure honest report.epoch sure in
-    let ends = subst (λ r. IfOk r (λ report. trusts honest report.epoch ≡ true → IsEndOf job report.ended)) c.in-Ok.is c.run_in_threads-answer.ensures.answer in
-    let since = subst (λ r. IfOk r (λ report. trusts honest report.epoch ≡ true → report.ended.since ≡ 0)) c.in-Ok.is c.run_in_threads-answer.ensures.since in
-    answer_printed job c.args.tells_units report.ended _ (ends trusted) (since trusted) c.in_ok-text-in-Ok.ensures
+pub returns-clause-told : goal.returns-clause-told
+returns-clause-told g c = IfOk-weaker c.end_run.result _ _ (λ text told. lines_end c.run_in_threads-answer.result c.args.tells_units _ told) c.end_run.ensures.told
 
-pub returns-in_ok-text-in-Ok-clause-unloaded : goal.returns-in_ok-text-in-Ok-clause-unloaded
-returns-in_ok-text-in-Ok-clause-unloaded g c =
+pub returns-clause-answered : goal.returns-clause-answered
+returns-clause-answered g c = λ sure. IfOk-weaker c.end_run.result _ _ (λ text told.
     let job = c.args.job.now in
-    let report = c.in-Ok.report in
     let honest = g.K.Keep.honest c.args.keep in
-    let ends = subst (λ r. IfOk r (λ report. trusts honest report.epoch ≡ true → IsEndOf job report.ended)) c.in-Ok.is c.run_in_threads-answer.ensures.answer in
-    let since = subst (λ r. IfOk r (λ report. trusts honest report.epoch ≡ true → report.ended.since ≡ 0)) c.in-Ok.is c.run_in_threads-answer.ensures.since in
+    let r = lines_report c.run_in_threads-answer.result c.args.tells_units _ told in
+    let trusted = trusts_sure honest r.0.epoch sure in
+    let ends = subst (λ a. IfOk a (λ report. trusts honest report.epoch ≡ true → IsEndOf job report.ended)) r.1 c.run_in_threads-answer.ensures.answer in
+    let since = subst (λ a. IfOk a (λ report. trusts honest report.epoch ≡ true → report.ended.since ≡ 0)) r.1 c.run_in_threads-answer.ensures.since in
+    answer_printed job c.args.tells_units r.0.ended _ (ends trusted) (since trusted) r.2)
+    c.end_run.ensures.told
+
+pub returns-clause-unloaded : goal.returns-clause-unloaded
+returns-clause-unloaded g c = IfOk-weaker c.end_run.result _ _ (λ text told.
+    let job = c.args.job.now in
+    let honest = g.K.Keep.honest c.args.keep in
+    let r = lines_report c.run_in_threads-answer.result c.args.tells_units _ told in
+    let ends = subst (λ a. IfOk a (λ report. trusts honest report.epoch ≡ true → IsEndOf job report.ended)) r.1 c.run_in_threads-answer.ensures.answer in
+    let since = subst (λ a. IfOk a (λ report. trusts honest report.epoch ≡ true → report.ended.since ≡ 0)) r.1 c.run_in_threads-answer.ensures.since in
     record {
-      report = report;
-      printed = c.in_ok-text-in-Ok.ensures;
+      report = r.0;
+      printed = r.2;
       answer = λ first.
           let trusted = subst (λ n. trusts honest n ≡ true) (sym first) refl in
-          answer_printed job c.args.tells_units report.ended _ (ends trusted) (since trusted) c.in_ok-text-in-Ok.ensures;
-    }
+          answer_printed job c.args.tells_units r.0.ended _ (ends trusted) (since trusted) r.2;
+    })
+    c.end_run.ensures.told
 
-pub returns-in_ok-text-in-Ok-clause-unlost : goal.returns-in_ok-text-in-Ok-clause-unlost
-returns-in_ok-text-in-Ok-clause-unlost g c = λ none.
+pub returns-clause-unlost : goal.returns-clause-unlost
+returns-clause-unlost g c = λ none. IfOk-weaker c.end_run.result _ _ (λ text told.
     let job = c.args.job.now in
-    let report = c.in-Ok.report in
     let honest = g.K.Keep.honest c.args.keep in
-    let ends = subst (λ r. IfOk r (λ report. trusts honest report.epoch ≡ true → IsEndOf job report.ended)) c.in-Ok.is c.run_in_threads-answer.ensures.answer in
-    let since = subst (λ r. IfOk r (λ report. trusts honest report.epoch ≡ true → report.ended.since ≡ 0)) c.in-Ok.is c.run_in_threads-answer.ensures.since in
-    let first = subst (λ r. IfOk r (λ report. report.epoch ≡ 0)) c.in-Ok.is (c.run_in_threads-answer.ensures.epoch (ap is_some none)) in
+    let r = lines_report c.run_in_threads-answer.result c.args.tells_units _ told in
+    let ends = subst (λ a. IfOk a (λ report. trusts honest report.epoch ≡ true → IsEndOf job report.ended)) r.1 c.run_in_threads-answer.ensures.answer in
+    let since = subst (λ a. IfOk a (λ report. trusts honest report.epoch ≡ true → report.ended.since ≡ 0)) r.1 c.run_in_threads-answer.ensures.since in
+    let first = subst (λ a. IfOk a (λ report. report.epoch ≡ 0)) r.1 (c.run_in_threads-answer.ensures.epoch (ap is_some none)) in
     let trusted = subst (λ n. trusts honest n ≡ true) (sym first) refl in
-    answer_printed job c.args.tells_units report.ended _ (ends trusted) (since trusted) c.in_ok-text-in-Ok.ensures
+    answer_printed job c.args.tells_units r.0.ended _ (ends trusted) (since trusted) r.2)
+    c.end_run.ensures.told
 
-pub returns-in_ok-text-in-Ok-clause-noted : goal.returns-in_ok-text-in-Ok-clause-noted
-returns-in_ok-text-in-Ok-clause-noted g c = λ watched.
-    let job = c.args.job.now in
-    let noted = subst (λ r. HasNoted job r c.note.new.self) c.in-Ok.is (c.note.ensures.noted (c.watch.ensures ∙ watched)) in
-    (c.in-Ok.report, c.in_ok-text-in-Ok.ensures, noted)
+pub returns-clause-noted : goal.returns-clause-noted
+returns-clause-noted g c = λ watched. IfOk-weaker c.end_run.result _ _ (λ text told.
+    let r = lines_report c.run_in_threads-answer.result c.args.tells_units _ told in
+    (r.0, r.2, subst (λ a. HasNoted c.args.job.now a c.end_run.new.notes) r.1 (c.end_run.ensures.noted watched)))
+    c.end_run.ensures.told
 
-pub returns-in-Err-clause-fault_noted : goal.returns-in-Err-clause-fault_noted
-returns-in-Err-clause-fault_noted g c = λ watched.
-    subst (λ r. HasNoted c.args.job.now r c.note.new.self) c.in-Err.is (c.note.ensures.noted (c.watch.ensures ∙ watched))
+pub returns-clause-fault_noted : goal.returns-clause-fault_noted
+returns-clause-fault_noted g c = λ watched. IfErr-weaker c.end_run.result _ _ (λ told is. fault_noted c.args.job.now c.end_run.new.notes c.run_in_threads-answer.result told (c.end_run.ensures.noted watched) is)
+    c.end_run.ensures.refused
+
+pub returns-clause-refused : goal.returns-clause-refused
+returns-clause-refused g c = IfErr-weaker c.end_run.result _ _ (λ told is. fault_of_run c.run_in_threads-answer.result told c.run_in_threads-answer.ensures.refused is) c.end_run.ensures.refused

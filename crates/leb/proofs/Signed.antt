@@ -78,15 +78,30 @@ signed_fits bits (b ∷ bs) z (inr (inr h)) =
 pub signed_nonempty : (bits : ℕ) (z : ℤ) → IsSigned bits [] z → ⊥
 signed_nonempty bits z h = h
 
--- reading at a place: a byte below 64 that does not fit, one from 64 to 127, and one with more after it
+-- reading at a place: a byte below 64, one from 64 to 127, and one with more after it
+pub signed_at-low : (bits : ℕ) (bytes : List ℕ) (at : ℕ) (z : ℤ) → at < length bytes → get_or bytes at 0 < 64 → get_or bytes at 0 < 2 ^ (bits - 1)
+    → z ≡ pos (get_or bytes at 0) → signed_at bits (drop at bytes) ≡ Ok (z, drop (at + 1) bytes)
+signed_at-low bits bytes at z inside low fits is = rw (drop_more bytes at 0 inside, lt-ltb _ _ low, lt-ltb _ _ fits, is) refl
+
 pub signed_at-low_unused : (bits : ℕ) (bytes : List ℕ) (at : ℕ) → at < length bytes → get_or bytes at 0 < 64 → 2 ^ (bits - 1) ≤ get_or bytes at 0
     → signed_at bits (drop at bytes) ≡ Err UnusedBits
 signed_at-low_unused bits bytes at inside low unused = rw (drop_more bytes at 0 inside, lt-ltb _ _ low, le-ltb _ _ unused) refl
+
+pub signed_at-high : (bits : ℕ) (bytes : List ℕ) (at : ℕ) (z : ℤ) → at < length bytes → 64 ≤ get_or bytes at 0 → get_or bytes at 0 < 128
+    → 128 ≤ get_or bytes at 0 + 2 ^ (bits - 1) → z ≡ ((pos (get_or bytes at 0)) -ℤ (pos 128)) → signed_at bits (drop at bytes) ≡ Ok (z, drop (at + 1) bytes)
+signed_at-high bits bytes at z inside high last fits is =
+    rw (is, drop_more bytes at 0 inside, le-ltb _ _ high, lt-ltb _ _ last, le-leb _ _ fits) refl
 
 pub signed_at-high_unused : (bits : ℕ) (bytes : List ℕ) (at : ℕ) → at < length bytes → 64 ≤ get_or bytes at 0 → get_or bytes at 0 < 128
     → get_or bytes at 0 + 2 ^ (bits - 1) < 128 → signed_at bits (drop at bytes) ≡ Err UnusedBits
 signed_at-high_unused bits bytes at inside high last unused =
     rw (drop_more bytes at 0 inside, le-ltb _ _ high, lt-ltb _ _ last, lt-leb _ _ unused) refl
+
+pub signed_at-too_long : (bits : ℕ) (bytes : List ℕ) (at : ℕ) → at < length bytes → 128 ≤ get_or bytes at 0 → bits ≤ 7
+    → signed_at bits (drop at bytes) ≡ Err TooLong
+signed_at-too_long bits bytes at inside more few =
+    let not_64 : 64 ≤ get_or bytes at 0 = omega arith in
+    rw (drop_more bytes at 0 inside, le-ltb _ _ not_64, le-ltb _ _ more, le-leb _ _ few) refl
 
 pub signed_at-more : (bits : ℕ) (bytes : List ℕ) (at : ℕ) (high z : ℤ) (rest : List ℕ) → at < length bytes → 128 ≤ get_or bytes at 0 → 7 < bits
     → signed_at (bits - 7) (drop (at + 1) bytes) ≡ Ok (high, rest) → z ≡ ((high *ℤ (pos 128)) +ℤ (pos (get_or bytes at 0 - 128)))

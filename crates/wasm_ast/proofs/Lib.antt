@@ -1,2 +1,3 @@
 mod Rotations
+mod Divisions
 pub mod Codes

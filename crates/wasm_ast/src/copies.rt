@@ -28,6 +28,25 @@ fn duplicates<T: Duplicate>(items: &[T], alloc: Heap) -> Result<Vec<T>, AllocErr
     Ok(copies)
 }
 
+fn duplicate_pair<A: Duplicate, B: Duplicate>(
+    first: &A,
+    second: &B,
+    alloc: Heap,
+) -> Result<(A, B), AllocError>
+    ensures { IfOk result (λ copies. copies ≡ (first.now, second.now)) }
+{
+    let first = first.duplicate(alloc)?;
+    Ok((first, second.duplicate(alloc)?))
+}
+
+// Replaces a part of a copy by that of the original.
+fn duplicate_onto<T: Duplicate>(part: &T, alloc: Heap, copy: &mut T) -> Result<(), AllocError>
+    ensures { OnOk result (copy.new ≡ part.now) }
+{
+    *copy = part.duplicate(alloc)?;
+    Ok(())
+}
+
 impl<T: Duplicate> Duplicate for Sequence<T> {
     fn duplicate(&self, alloc: Heap) -> Result<Sequence<T>, AllocError> {
         Ok(Sequence::from(duplicates(self.as_slice(), alloc)?))
@@ -66,9 +85,10 @@ impl Duplicate for Name {
 
 impl Duplicate for FuncType {
     fn duplicate(&self, alloc: Heap) -> Result<FuncType, AllocError> {
+        let (parameters, results) = duplicate_pair(&self.parameters, &self.results, alloc)?;
         Ok(FuncType {
-            parameters: self.parameters.duplicate(alloc)?,
-            results: self.results.duplicate(alloc)?,
+            parameters,
+            results,
         })
     }
 }
@@ -88,9 +108,10 @@ impl Duplicate for Branch {
 
 impl Duplicate for Import {
     fn duplicate(&self, alloc: Heap) -> Result<Import, AllocError> {
+        let (module, name) = duplicate_pair(&self.module, &self.name, alloc)?;
         Ok(Import {
-            module: self.module.duplicate(alloc)?,
-            name: self.name.duplicate(alloc)?,
+            module,
+            name,
             description: self.description,
         })
     }
@@ -98,10 +119,11 @@ impl Duplicate for Import {
 
 impl Duplicate for Function {
     fn duplicate(&self, alloc: Heap) -> Result<Function, AllocError> {
+        let (locals, body) = duplicate_pair(&self.locals, &self.body, alloc)?;
         Ok(Function {
             type_number: self.type_number,
-            locals: self.locals.duplicate(alloc)?,
-            body: self.body.duplicate(alloc)?,
+            locals,
+            body,
         })
     }
 }
@@ -126,20 +148,22 @@ impl Duplicate for Export {
 
 impl Duplicate for Element {
     fn duplicate(&self, alloc: Heap) -> Result<Element, AllocError> {
+        let (offset, functions) = duplicate_pair(&self.offset, &self.functions, alloc)?;
         Ok(Element {
             table: self.table,
-            offset: self.offset.duplicate(alloc)?,
-            functions: self.functions.duplicate(alloc)?,
+            offset,
+            functions,
         })
     }
 }
 
 impl Duplicate for Data {
     fn duplicate(&self, alloc: Heap) -> Result<Data, AllocError> {
+        let (offset, bytes) = duplicate_pair(&self.offset, &self.bytes, alloc)?;
         Ok(Data {
             memory: self.memory,
-            offset: self.offset.duplicate(alloc)?,
-            bytes: self.bytes.duplicate(alloc)?,
+            offset,
+            bytes,
         })
     }
 }
@@ -159,30 +183,27 @@ impl Duplicate for Module {
 fn duplicate_functions(module: &Module, alloc: Heap, copy: &mut Module) -> Result<(), AllocError>
     ensures { OnOk result (copy.new ≡ with_functions_of copy.old «module».now) }
 {
-    copy.types = module.types.duplicate(alloc)?;
-    copy.imports = module.imports.duplicate(alloc)?;
-    copy.functions = module.functions.duplicate(alloc)?;
-    Ok(())
+    duplicate_onto(&module.types, alloc, &mut copy.types)?;
+    duplicate_onto(&module.imports, alloc, &mut copy.imports)?;
+    duplicate_onto(&module.functions, alloc, &mut copy.functions)
 }
 
 // Copies the tables, the memories, the globals and the exports.
 fn duplicate_spaces(module: &Module, alloc: Heap, copy: &mut Module) -> Result<(), AllocError>
     ensures { OnOk result (copy.new ≡ with_spaces_of copy.old «module».now) }
 {
-    copy.tables = module.tables.duplicate(alloc)?;
-    copy.memories = module.memories.duplicate(alloc)?;
-    copy.globals = module.globals.duplicate(alloc)?;
-    copy.exports = module.exports.duplicate(alloc)?;
-    Ok(())
+    duplicate_onto(&module.tables, alloc, &mut copy.tables)?;
+    duplicate_onto(&module.memories, alloc, &mut copy.memories)?;
+    duplicate_onto(&module.globals, alloc, &mut copy.globals)?;
+    duplicate_onto(&module.exports, alloc, &mut copy.exports)
 }
 
 // Copies the element and the data segments.
 fn duplicate_segments(module: &Module, alloc: Heap, copy: &mut Module) -> Result<(), AllocError>
     ensures { OnOk result (copy.new ≡ with_segments_of copy.old «module».now) }
 {
-    copy.elements = module.elements.duplicate(alloc)?;
-    copy.data = module.data.duplicate(alloc)?;
-    Ok(())
+    duplicate_onto(&module.elements, alloc, &mut copy.elements)?;
+    duplicate_onto(&module.data, alloc, &mut copy.data)
 }
 
 impl Duplicate for Body {

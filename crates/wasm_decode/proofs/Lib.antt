@@ -7,6 +7,7 @@ pub mod AgainSections
 pub mod Customs
 pub mod Headers
 pub mod Limited
+pub mod Listed
 pub mod Loops
 pub mod Nested
 pub mod Numbers

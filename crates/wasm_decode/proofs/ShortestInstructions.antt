@@ -19,10 +19,6 @@ use Rattle.wasm_decode.specs.Canonical.{vector, val_type_bytes, func_type_bytes,
 use Rattle.wasm_ast.specs.Representable.{IsU32, IsOptionalU32, AreLimitsHeld, IsVariableHeld, IsMemoryHeld, IsPlainHeld, IsBranchHeld, IsCodeHeld}
 use Rattle.wasm_decode.proofs.ShortestParts.{IsShortest, u32_is_shortest, i32_shortest, i64_shortest, Then_length, vector_is_shortest}
 
--- a byte is one byte
-byte_length : (b : ℕ) (bytes : List ℕ) → bytes ≡ b ∷ [] → length bytes ≡ 1
-byte_length b bytes e = ap length e
-
 -- a byte and what is behind it
 pub behind_byte : (b : ℕ) (Q : List ℕ → Type 0) (bytes : List ℕ) (h : Then (Byte b) Q bytes) → length bytes ≡ length h.back + 1
 behind_byte b Q bytes h = omega (arith, Then_length bytes h, ap length h.is_first)

@@ -1,5 +1,5 @@
 -- What is printed is read again: modules.
-use Rattle.std.proofs.Common.{◌≡◌, ℕ, ◌+◌, ◌-◌, ◌<◌, ◌≤◌, false, List, [], ◌∷◌, length, Option, Some, None, Result, refl, ap, subst, ◌∙◌, arith}
+use Rattle.std.proofs.Common.{◌≡◌, ℕ, ◌+◌, ◌-◌, ◌<◌, ◌≤◌, false, List, [], ◌∷◌, length, Option, Some, None, refl, ◌∙◌, arith}
 use Rattle.std.specs.List.{AllByRecursion}
 use Rattle.wasm_ast.specs.declared.types.FuncType.{FuncType}
 use Rattle.wasm_ast.specs.declared.types.Limits.{Limits}
@@ -14,12 +14,10 @@ use Rattle.wasm_ast.specs.Code.{size_of}
 use Rattle.wasm_ast.specs.Limits.{max_labels, max_locals, IsBodyWithin, IsTypeWithin, IsFunctionWithin, IsWithinLimits}
 use Rattle.wasm_ast.specs.Modules.{empty_module}
 use Rattle.wasm_ast.specs.Representable.{IsOptionalU32, AreLimitsHeld, IsImportHeld, IsFunctionHeld, IsGlobalHeld, IsExportHeld, IsElementHeld, IsDataHeld, IsRepresentable}
-use Rattle.wat_asm.specs.declared.fault.Failure.{Failure}
-use Rattle.wat_asm.specs.inside.Follows.{Follows, IsRead}
 use Rattle.wat_asm.specs.Pieces.{Piece, each}
 use Rattle.wat_asm.specs.Pieces as piece
 use Rattle.wat_asm.specs.Layout.{type_field, import_field, function_field, table_field, memory_field, global_field, export_field, start_field, element_field, data_field, uses, pieces}
-use Rattle.wat_asm.specs.inside.Tokens.{Tok, sorted}
+use Rattle.wat_asm.specs.inside.Tokens.{sorted}
 use Rattle.wat_asm.specs.inside.Tokens as tok
 use Rattle.wat_asm.specs.inside.Reading.{repeated, opened_at, closed_at}
 use Rattle.wat_asm.specs.inside.ReadingModule.{Making, field_at, field_first, field_step, fields_at, goes_on_with_type, module_open_at, whole_at, only_at, module_at}
@@ -274,10 +272,3 @@ module _ (n : ℕ) (m : Module) (fine : IsFine n m) where
 pub module_again : (m : Module) → IsRepresentable m → IsWithinLimits m → (n : ℕ) → steps_of m ≤ n → module_at n (sorted (pieces m [])) ≡ Some m
 unfolding module_at only_at
 module_again m h w n le = rw (whole_again n m (is_fine m n h w le)) refl
-
--- what follows the reader of these tokens answers that module, unless there was no memory
-pub read_again : (m : Module) → IsRepresentable m → IsWithinLimits m → (ts : List Tok) → ts ≡ sorted (pieces m []) → (result : Result Module Failure)
-    → ((n : ℕ) → Follows (λ (x : Module). x) result (module_at n ts)) → IsRead (λ (x : Module). x) result m
-read_again m h w ts same result follows =
-    let e : module_at (steps_of m) ts ≡ Some m = ap (module_at (steps_of m)) same ∙ module_again m h w (steps_of m) (omega arith) in
-    subst (λ (o : Option Module). Follows (λ (x : Module). x) result o) e (follows (steps_of m))

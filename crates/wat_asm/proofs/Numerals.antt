@@ -1,8 +1,7 @@
 -- Decimal digits, there and back.
-use Rattle.std.proofs.Common.{◌≡◌, ◌<◌, ◌≤◌, ◌^◌, ℕ, Bool, true, false, List, [], ◌∷◌, length, Some, Result, Ok, Err, refl, ap, ◌∙◌, arith}
+use Rattle.std.proofs.Common.{◌≡◌, ◌<◌, ◌≤◌, ◌^◌, ℕ, Bool, true, false, List, [], ◌∷◌, length, Some, Result, Ok, refl, ap, ◌∙◌, arith}
 use Rattle.std.specs.Prelude.{◌&&◌, nat_lt}
 use Rattle.std.specs.Char.{is_ascii_digit}
-use Rattle.std.specs.Result.{MatchResult}
 use Rattle.std.specs.Str.{all_ascii_digits, IsUtf8}
 use Rattle.std.specs.Str.Parse.{digits_value, ParsesUnsigned}
 use Rattle.std.specs.Fmt.{decimal}
@@ -43,10 +42,6 @@ numeral_ok w n r h e =
 
 pub numeral_utf8 : (w : List ℕ) (n : ℕ) → numeral_of w ≡ Some n → IsUtf8 w
 numeral_utf8 w n e = IsUtf8-from_ascii w (IsAscii-from_digits w (own.to w (numeral_parts w n e).digits))
-
-pub is_text : {X E : Type 0} (r : Result X E) (P : X → Type 0) (Q : E → Type 0) (U : Type 0) → MatchResult r P (λ e. (U → ⊥) × Q e) → ((x : X) → r ≡ Ok x → ⊥) → U → ⊥
-is_text (Ok x) P Q U h not u = not x refl
-is_text (Err e) P Q U h not u = h.0 u
 
 pub digits_begin : (w : List ℕ) → all_ascii_digits w ≡ true → 0 < length w → begins_with_digit w ≡ true
 digits_begin [] e some = absurd (omega arith)

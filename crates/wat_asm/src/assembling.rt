@@ -95,7 +95,7 @@ fn begins_character(b: u8) -> bool {
 fn position(text: &[u8], place: usize) -> Position {
     let mut line = 1usize;
     let mut column = 1usize;
-    for b in text.iter().take(place) {
+    for b in &text[..place.min(text.len())] {
         if *b == b'\n' {
             line = line.saturating_add(1);
             column = 1;

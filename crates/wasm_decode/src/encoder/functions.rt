@@ -5,7 +5,7 @@ ghost use Rattle.wasm_decode.specs.Canonical.{vector, vector_section, type_numbe
 
 use super::instructions::write_expression;
 use super::opcodes::val_type_byte;
-use super::parts::{Part, write_count, write_section, write_sized};
+use super::parts::{Part, write_byte, write_count, write_section, write_sized};
 use crate::sections::CODE;
 use leb::write_u32;
 use std::alloc::AllocError;
@@ -40,7 +40,6 @@ pub fn write_code_section(
     write_section(out, CODE, content)
 }
 
-#[tactic(auto, unfolding(crate::specs::Canonical::vector))]
 fn write_functions(
     out: &mut Vec<u8>,
     scratch: &mut Vec<u8>,
@@ -121,6 +120,5 @@ fn write_group(out: &mut Vec<u8>, count: usize, val_type: ValType) -> Result<(),
     ensures { OnOk result (out.new.items ≡ out.old.items ++ group_bytes (count, val_type)) }
 {
     write_count(out, count)?;
-    out.push(val_type_byte(val_type))?;
-    Ok(())
+    write_byte(out, val_type_byte(val_type))
 }

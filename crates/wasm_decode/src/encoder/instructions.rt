@@ -1,13 +1,13 @@
 //! Writers of instructions (Core 1.0, 5.4).
 
-ghost use Rattle.std.specs.Prelude.{◌≡◌, ◌++◌, ◌∷◌, [], OnOk};
+ghost use Rattle.std.specs.Prelude.{◌≡◌, ◌++◌, ◌∷◌, OnOk};
 ghost use Rattle.leb.specs.Spelling.{u32_spelling};
 ghost use Rattle.wasm_ast.specs.View.{code_of};
 ghost use Rattle.wasm_decode.specs.Canonical.{plain_bytes, const_bytes, variable_bytes, memory_bytes, branch_bytes, code_bytes, instr_bytes, block_type_byte, expression_bytes};
 ghost use Rattle.wasm_decode.specs.inside.Writing.{opening_bytes, block_bytes, arm_bytes, choice_bytes, call_indirect_bytes, access_bytes};
 
 use super::opcodes::{load_opcode, numeric_opcode, store_opcode, val_type_byte};
-use super::parts::write_vector;
+use super::parts::{write_byte, write_vector};
 use leb::{write_s32, write_s64, write_u32};
 use std::alloc::AllocError;
 use wasm_ast::{BlockType, Body, Branch, Instr, Memory, MemoryArgument, Plain, Value, Variable};
@@ -22,8 +22,7 @@ pub fn write_expression(out: &mut Vec<u8>, body: &Body) -> Result<(), AllocError
     ensures { OnOk result (out.new.items ≡ out.old.items ++ expression_bytes body.now) }
 {
     write_body(out, body)?;
-    out.push(END)?;
-    Ok(())
+    write_byte(out, END)
 }
 
 // Appends an instruction sequence, without its `end`.
@@ -66,8 +65,7 @@ fn write_block(
 {
     write_opening(out, opcode, block_type)?;
     write_body(out, body)?;
-    out.push(END)?;
-    Ok(())
+    write_byte(out, END)
 }
 
 // Appends an `if`, with both arms.
@@ -95,7 +93,7 @@ fn write_else(out: &mut Vec<u8>, arm: &Body) -> Result<(), AllocError>
     if arm.as_slice().is_empty() {
         return Ok(());
     }
-    out.push(ELSE)?;
+    write_byte(out, ELSE)?;
     write_body(out, arm)
 }
 
@@ -103,9 +101,8 @@ fn write_else(out: &mut Vec<u8>, arm: &Body) -> Result<(), AllocError>
 fn write_opening(out: &mut Vec<u8>, opcode: u8, block_type: BlockType) -> Result<(), AllocError>
     ensures { OnOk result (out.new.items ≡ out.old.items ++ opening_bytes opcode block_type) }
 {
-    out.push(opcode)?;
-    out.push(block_type_byte(block_type))?;
-    Ok(())
+    write_byte(out, opcode)?;
+    write_byte(out, block_type_byte(block_type))
 }
 
 fn block_type_byte(block_type: BlockType) -> u8
@@ -121,7 +118,7 @@ fn block_type_byte(block_type: BlockType) -> u8
 pub fn write_numbered(out: &mut Vec<u8>, opcode: u8, number: u32) -> Result<(), AllocError>
     ensures { OnOk result (out.new.items ≡ out.old.items ++ opcode ∷ u32_spelling number) }
 {
-    out.push(opcode)?;
+    write_byte(out, opcode)?;
     write_u32(out, number)
 }
 
@@ -146,23 +143,16 @@ fn write_plain(out: &mut Vec<u8>, plain: Plain) -> Result<(), AllocError>
     }
 }
 
-fn write_byte(out: &mut Vec<u8>, byte: u8) -> Result<(), AllocError>
-    ensures { OnOk result (out.new.items ≡ out.old.items ++ byte ∷ []) }
-{
-    out.push(byte)?;
-    Ok(())
-}
-
 fn write_const(out: &mut Vec<u8>, value: Value) -> Result<(), AllocError>
     ensures { OnOk result (out.new.items ≡ out.old.items ++ const_bytes value) }
 {
     match value {
         Value::I32(number) => {
-            out.push(0x41)?;
+            write_byte(out, 0x41)?;
             write_s32(out, number.cast_signed())
         }
         Value::I64(number) => {
-            out.push(0x42)?;
+            write_byte(out, 0x42)?;
             write_s64(out, number.cast_signed())
         }
     }
@@ -187,11 +177,11 @@ fn write_memory(out: &mut Vec<u8>, memory: Memory) -> Result<(), AllocError>
         Memory::Load(load, argument) => write_access(out, load_opcode(load), argument),
         Memory::Store(store, argument) => write_access(out, store_opcode(store), argument),
         Memory::Size => {
-            out.push(0x3F)?;
+            write_byte(out, 0x3F)?;
             write_byte(out, 0x00)
         }
         Memory::Grow => {
-            out.push(0x40)?;
+            write_byte(out, 0x40)?;
             write_byte(out, 0x00)
         }
     }
@@ -201,7 +191,7 @@ fn write_memory(out: &mut Vec<u8>, memory: Memory) -> Result<(), AllocError>
 fn write_access(out: &mut Vec<u8>, opcode: u8, argument: MemoryArgument) -> Result<(), AllocError>
     ensures { OnOk result (out.new.items ≡ out.old.items ++ access_bytes opcode argument) }
 {
-    out.push(opcode)?;
+    write_byte(out, opcode)?;
     write_u32(out, argument.align)?;
     write_u32(out, argument.offset)
 }
@@ -213,7 +203,7 @@ fn write_branch(out: &mut Vec<u8>, branch: &Branch) -> Result<(), AllocError>
         Branch::Br(label) => write_numbered(out, 0x0C, *label),
         Branch::BrIf(label) => write_numbered(out, 0x0D, *label),
         Branch::BrTable(labels, default) => {
-            out.push(0x0E)?;
+            write_byte(out, 0x0E)?;
             write_vector(out, labels.as_slice())?;
             write_u32(out, *default)
         }

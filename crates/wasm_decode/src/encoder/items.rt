@@ -4,7 +4,7 @@ ghost use Rattle.std.specs.Prelude.{◌≡◌, ◌++◌, OnOk};
 ghost use Rattle.wasm_decode.specs.Canonical.{import_bytes, import_description_bytes, global_bytes, export_bytes, export_description_bytes, element_bytes, data_bytes};
 
 use super::instructions::{write_expression, write_numbered};
-use super::parts::{Part, write_sized, write_vector};
+use super::parts::{Part, write_byte, write_sized, write_vector};
 use super::types::write_table_type;
 use leb::write_u32;
 use std::alloc::AllocError;
@@ -31,15 +31,15 @@ fn write_import_description(
     match description {
         ImportDescription::Function(type_number) => write_numbered(out, 0x00, type_number),
         ImportDescription::Table(limits) => {
-            out.push(0x01)?;
+            write_byte(out, 0x01)?;
             write_table_type(out, limits)
         }
         ImportDescription::Memory(limits) => {
-            out.push(0x02)?;
+            write_byte(out, 0x02)?;
             limits.write(out)
         }
         ImportDescription::Global(global_type) => {
-            out.push(0x03)?;
+            write_byte(out, 0x03)?;
             global_type.write(out)
         }
     }

@@ -118,7 +118,6 @@ fn write_table_section(
     write_section(out, TABLE, content)
 }
 
-#[tactic(auto, unfolding(crate::specs::Canonical::vector))]
 fn write_tables(out: &mut Vec<u8>, tables: &[Limits]) -> Result<(), AllocError>
     ensures { OnOk result (out.new.items ≡ out.old.items ++ vector table_bytes tables.now) }
 {

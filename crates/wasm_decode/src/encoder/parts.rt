@@ -1,6 +1,6 @@
 //! Writers of numbers, vectors and sections (Core 1.0, 5.1 and 5.2), in the fewest bytes.
 
-ghost use Rattle.std.specs.Prelude.{◌≡◌, ◌++◌, ℕ, List, [], OnOk};
+ghost use Rattle.std.specs.Prelude.{◌≡◌, ◌++◌, ◌∷◌, ℕ, List, [], OnOk};
 ghost use Rattle.leb.specs.Spelling.{u32_spelling};
 ghost use Rattle.wasm_decode.specs.Canonical.{sized, vector, section, vector_section};
 
@@ -22,6 +22,14 @@ impl Part for u32 {
     fn write(&self, out: &mut Vec<u8>) -> Result<(), AllocError> {
         leb::write_u32(out, *self)
     }
+}
+
+/// Appends a byte.
+pub fn write_byte(out: &mut Vec<u8>, byte: u8) -> Result<(), AllocError>
+    ensures { OnOk result (out.new.items ≡ out.old.items ++ byte ∷ []) }
+{
+    out.push(byte)?;
+    Ok(())
 }
 
 /// Appends a count or a size, in at most five bytes. One of more than 35 bits needs more, but its module is over the size
@@ -52,7 +60,6 @@ pub fn write_sized(out: &mut Vec<u8>, bytes: &[u8]) -> Result<(), AllocError>
 }
 
 /// Appends the number of the items, then the items (Core 1.0, 5.1.3).
-#[tactic(auto, unfolding(crate::specs::Canonical::vector))]
 pub fn write_vector<T: Part>(out: &mut Vec<u8>, items: &[T]) -> Result<(), AllocError>
     ensures { OnOk result (out.new.items ≡ out.old.items ++ vector T.spelling items.now) }
 {
@@ -68,7 +75,7 @@ pub fn write_vector<T: Part>(out: &mut Vec<u8>, items: &[T]) -> Result<(), Alloc
 pub fn write_section(out: &mut Vec<u8>, number: u8, content: &[u8]) -> Result<(), AllocError>
     ensures { OnOk result (out.new.items ≡ out.old.items ++ section number content.now) }
 {
-    out.push(number)?;
+    write_byte(out, number)?;
     write_sized(out, content)
 }
 

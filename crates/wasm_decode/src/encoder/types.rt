@@ -5,7 +5,7 @@ ghost use Rattle.wasm_decode.specs.Canonical.{val_type_bytes, func_type_bytes, l
 ghost use Rattle.wasm_decode.specs.Types.{mutability_byte};
 
 use super::opcodes::val_type_byte;
-use super::parts::{Part, write_vector};
+use super::parts::{Part, write_byte, write_vector};
 use leb::write_u32;
 use std::alloc::AllocError;
 use wasm_ast::{FuncType, GlobalType, Limits, Mutability, ValType};
@@ -15,8 +15,7 @@ impl Part for ValType {
     ghost spelling = { val_type_bytes };
 
     fn write(&self, out: &mut Vec<u8>) -> Result<(), AllocError> {
-        out.push(val_type_byte(*self))?;
-        Ok(())
+        write_byte(out, val_type_byte(*self))
     }
 }
 
@@ -26,7 +25,7 @@ impl Part for FuncType {
 
     #[tactic(auto, unfolding(crate::specs::Canonical::func_type_bytes))]
     fn write(&self, out: &mut Vec<u8>) -> Result<(), AllocError> {
-        out.push(0x60)?;
+        write_byte(out, 0x60)?;
         write_vector(out, self.parameters.as_slice())?;
         write_vector(out, self.results.as_slice())
     }
@@ -46,11 +45,11 @@ fn write_limits(out: &mut Vec<u8>, minimum: u32, maximum: Option<u32>) -> Result
 {
     match maximum {
         None => {
-            out.push(0x00)?;
+            write_byte(out, 0x00)?;
             write_u32(out, minimum)
         }
         Some(maximum) => {
-            out.push(0x01)?;
+            write_byte(out, 0x01)?;
             write_u32(out, minimum)?;
             write_u32(out, maximum)
         }
@@ -61,7 +60,7 @@ fn write_limits(out: &mut Vec<u8>, minimum: u32, maximum: Option<u32>) -> Result
 pub fn write_table_type(out: &mut Vec<u8>, limits: Limits) -> Result<(), AllocError>
     ensures { OnOk result (out.new.items ≡ out.old.items ++ table_bytes limits) }
 {
-    out.push(0x70)?;
+    write_byte(out, 0x70)?;
     limits.write(out)
 }
 
@@ -70,9 +69,8 @@ impl Part for GlobalType {
     ghost spelling = { global_type_bytes };
 
     fn write(&self, out: &mut Vec<u8>) -> Result<(), AllocError> {
-        out.push(val_type_byte(self.value))?;
-        out.push(mutability_byte(self.mutability))?;
-        Ok(())
+        write_byte(out, val_type_byte(self.value))?;
+        write_byte(out, mutability_byte(self.mutability))
     }
 }
 

@@ -33,21 +33,24 @@ impl<'a> Parser<'a> {
             Keyword::MemorySize => Ok(Instr::Plain(Plain::Memory(Memory::Size))),
             Keyword::MemoryGrow => Ok(Instr::Plain(Plain::Memory(Memory::Grow))),
             Keyword::Numeric(op) => Ok(Instr::Plain(Plain::Numeric(op))),
-            Keyword::Const(t) => self
-                .constant(t)
-                .map(|value| Instr::Plain(Plain::Const(value))),
+            Keyword::Const(t) => {
+                let value = self.constant(t)?;
+                Ok(Instr::Plain(Plain::Const(value)))
+            }
             Keyword::Load(load) => self.load(load),
             Keyword::Store(store) => self.store(store),
             Keyword::Call => self.index(Kind::Function).map(Instr::Call),
             Keyword::CallIndirect => self
                 .type_use(ParameterNames::Refused, parentheses)
                 .map(Instr::CallIndirect),
-            Keyword::Br => self
-                .index(Kind::Label)
-                .map(|n| Instr::Branch(Branch::Br(n))),
-            Keyword::BrIf => self
-                .index(Kind::Label)
-                .map(|n| Instr::Branch(Branch::BrIf(n))),
+            Keyword::Br => {
+                let label = self.index(Kind::Label)?;
+                Ok(Instr::Branch(Branch::Br(label)))
+            }
+            Keyword::BrIf => {
+                let label = self.index(Kind::Label)?;
+                Ok(Instr::Branch(Branch::BrIf(label)))
+            }
             Keyword::BrTable => self.branch_table(),
             _ => self.variable(keyword),
         }
@@ -57,8 +60,8 @@ impl<'a> Parser<'a> {
     fn variable(&mut self, keyword: Keyword) -> Result<Instr, Failure>
         ensures { GoesOn self.old self.new result (Gives (variable_at keyword)) }
     {
-        self.access(keyword)
-            .map(|access| Instr::Plain(Plain::Variable(access)))
+        let access = self.access(keyword)?;
+        Ok(Instr::Plain(Plain::Variable(access)))
     }
 
     #[tactic(auto, unfolding(crate::specs::inside::ReadingCode::variable_at))]
@@ -80,18 +83,16 @@ impl<'a> Parser<'a> {
     fn load(&mut self, load: Load) -> Result<Instr, Failure>
         ensures { GoesOn self.old self.new result (Gives (load_at load)) }
     {
-        self.memory_argument(load.width()).map(|argument| Instr::Plain(Plain::Memory(Memory::Load(
-            load, argument,
-        ))))
+        let argument = self.memory_argument(load.width())?;
+        Ok(Instr::Plain(Plain::Memory(Memory::Load(load, argument))))
     }
 
     #[tactic(auto, unfolding(crate::specs::inside::ReadingCode::store_at))]
     fn store(&mut self, store: Store) -> Result<Instr, Failure>
         ensures { GoesOn self.old self.new result (Gives (store_at store)) }
     {
-        self.memory_argument(store.width()).map(|argument| Instr::Plain(Plain::Memory(Memory::Store(
-            store, argument,
-        ))))
+        let argument = self.memory_argument(store.width())?;
+        Ok(Instr::Plain(Plain::Memory(Memory::Store(store, argument))))
     }
 
     // Reads the immediates of a load or a store of `width` bytes (Core 1.0, 6.5.5).

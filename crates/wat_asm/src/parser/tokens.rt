@@ -259,12 +259,11 @@ impl<'a> Parser<'a> {
 
 // Returns the index of the innermost label with this name.
 fn label(labels: &[Option<u32>], name: u32) -> Option<u32> {
-    let mut inside = 0u32;
-    for label in labels.iter().rev() {
-        if *label == Some(name) {
-            return Some(inside);
+    let count = labels.len();
+    for inside in 0..count {
+        if labels[count - 1 - inside] == Some(name) {
+            return u32::try_from(inside).ok();
         }
-        inside = inside.checked_add(1)?;
     }
     None
 }

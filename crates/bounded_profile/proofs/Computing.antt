@@ -10,9 +10,9 @@ use Rattle.wasm_ast.specs.declared.module.Export.{Export}
 use Rattle.wasm_ast.specs.declared.module.Function.{Function}
 use Rattle.wasm_ast.specs.declared.module.Module.{Module}
 use Rattle.wasm_ast.specs.Limits.{imported_functions}
-use Rattle.validate.specs.Modules.{name_of_export, AreDistinct}
-use Rattle.bounded_profile.specs.Compute.{has_its_name, exported_function, exported_compute, OfPlainType, IsDefinedPlain, IsComputeNumber}
-use Rattle.bounded_profile.specs.Profile.{HasCompute, compute_export, plain_type}
+use Rattle.valid.specs.Modules.{name_of_export, AreDistinct}
+use Rattle.verified.specs.Compute.{has_its_name, exported_function, exported_compute, OfPlainType, IsDefinedPlain, IsComputeNumber}
+use Rattle.verified.specs.Profile.{HasCompute, compute_export, plain_type}
 
 -- ---- what is found is there
 

@@ -11,11 +11,11 @@ use Rattle.wasm_ast.specs.Limits.{is_function}
 use Rattle.wasm_ast.specs.Code.{Code}
 use Rattle.wasm_ast.specs.Code as code
 use Rattle.host_calls.specs.declared.imports.HostCall.{HostCall}
-use Rattle.bounded_profile.specs.declared.shapes.Shape.TheVariants as shape
+use Rattle.verified.specs.declared.shape.Shape.TheVariants as shape
 use Rattle.host_calls.specs.Imports.{call_of}
-use Rattle.bounded_profile.specs.Hosts.{host_call_at, host_table, call_at}
-use Rattle.bounded_profile.specs.Profile.{EachBody, LoopsTakeItems}
-use Rattle.bounded_profile.specs.Shapes.{Everywhere, LoopTakes, TakesItems, TakesItem, Keeps}
+use Rattle.verified.specs.Hosts.{host_call_at, host_table, call_at}
+use Rattle.verified.specs.Profile.{EachBody, LoopsTakeItems}
+use Rattle.verified.specs.Shapes.{Everywhere, LoopTakes, TakesItems, TakesItem, Keeps}
 
 at_same : (m : Module) (f : ℕ) → call_at (host_table m) f ≡ host_call_at m f
 at_same m f = ap option_flatten (slice_get-map call_of (filter is_function m.imports) f) ∙ by_import (slice_get (filter is_function m.imports) f)

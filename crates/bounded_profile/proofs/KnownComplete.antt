@@ -20,19 +20,19 @@ use Rattle.wasm_ast.specs.Code.{Code}
 use Rattle.wasm_ast.specs.Code as code
 use Rattle.wasm_ast.specs.Numeric.{conversion_from, conversion_to}
 use Rattle.wasm_ast.specs.Widths.{load_type, load_width, store_type, store_width}
-use Rattle.validate.specs.Spaces.{first_type}
-use Rattle.bounded_profile.specs.declared.requirements.Premise.TheVariants.{Reaches, IsSlot}
-use Rattle.bounded_profile.specs.declared.requirements.Requirement.{Requirement}
-use Rattle.bounded_profile.specs.declared.requirements.Requirement.TheVariants as requirement
+use Rattle.valid.specs.Spaces.{first_type}
+use Rattle.verified.specs.declared.requirements.Premise.TheVariants.{Reaches, IsSlot}
+use Rattle.verified.specs.declared.requirements.Requirement.{Requirement}
+use Rattle.verified.specs.declared.requirements.Requirement.TheVariants as requirement
 use Rattle.bounded_profile.specs.declared.constants.demands.Demand.{Demand}
 use Rattle.bounded_profile.specs.declared.constants.demands.Demand.TheVariants as demand
-use Rattle.bounded_profile.specs.declared.constants.operands.Operand.{Operand}
-use Rattle.bounded_profile.specs.declared.constants.operands.Operand.TheVariants as operand
-use Rattle.bounded_profile.specs.Hosts.{host_call_at}
-use Rattle.bounded_profile.specs.Kinds.{Kind, Any, Is, Forgets, AllForget, Met, Meets, AllMeet, requirements, kinds}
-use Rattle.bounded_profile.specs.Known.{Context, known, Changes, division_premise, PlainKnown, VariableKnown, MemoryKnown, takes_slot, parameter_requirements, CallKnown, CallIndirectKnown, Forgetting, Known}
-use Rattle.bounded_profile.specs.Memory.{memory_bytes}
-use Rattle.bounded_profile.specs.Shapes.{Everywhere, NotUnreachable, LastIfBranch}
+use Rattle.verified.specs.declared.operand.Operand.{Operand}
+use Rattle.verified.specs.declared.operand.Operand.TheVariants as operand
+use Rattle.verified.specs.Hosts.{host_call_at}
+use Rattle.verified.specs.Kinds.{Kind, Any, Is, Forgets, AllForget, Met, Meets, AllMeet, requirements, kinds}
+use Rattle.verified.specs.Known.{Context, known, Changes, division_premise, PlainKnown, VariableKnown, MemoryKnown, takes_slot, parameter_requirements, CallKnown, CallIndirectKnown, Forgetting, Known}
+use Rattle.verified.specs.Memory.{memory_bytes}
+use Rattle.verified.specs.Shapes.{Everywhere, NotUnreachable, LastIfBranch}
 use Rattle.bounded_profile.specs.inside.Tracking.{asks_of, asked, setting_of, host_called, fits, below, take_one, take_each, change, forget_each, forget_result, unknowns, plain_step, branch_step, take_parameters, call_step, call_indirect_step, holds_then, check}
 use Rattle.bounded_profile.proofs.KnownKinds.{demand_of, if_demand, operand_of, kinds_unknown, both_from, met_from, values_taken, either_way}
 use Rattle.bounded_profile.proofs.KnownSound.{Where, context_of, same_host, slot_taken}

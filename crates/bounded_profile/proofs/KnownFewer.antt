@@ -17,17 +17,17 @@ use Rattle.wasm_ast.specs.declared.module.Module.{Module}
 use Rattle.wasm_ast.specs.Code.{Code}
 use Rattle.wasm_ast.specs.Code as code
 use Rattle.wasm_ast.specs.Widths.{load_width, store_width}
-use Rattle.validate.specs.Spaces.{first_type}
-use Rattle.bounded_profile.specs.declared.requirements.Premise.{Premise}
-use Rattle.bounded_profile.specs.declared.requirements.Premise.TheVariants.{Reaches, IsSlot}
+use Rattle.valid.specs.Spaces.{first_type}
+use Rattle.verified.specs.declared.requirements.Premise.{Premise}
+use Rattle.verified.specs.declared.requirements.Premise.TheVariants.{Reaches, IsSlot}
 use Rattle.bounded_profile.specs.declared.constants.asks.Asks.{Asks}
 use Rattle.bounded_profile.specs.declared.constants.asks.Asks.TheVariants.{All}
 use Rattle.bounded_profile.specs.declared.constants.demands.Demand.{Demand}
 use Rattle.bounded_profile.specs.declared.constants.demands.Demand.TheVariants.{Any, Constant}
-use Rattle.bounded_profile.specs.declared.constants.operands.Operand.{Operand}
-use Rattle.bounded_profile.specs.declared.constants.operands.Operand.TheVariants.{Unknown}
-use Rattle.bounded_profile.specs.Known.{division_premise, takes_slot}
-use Rattle.bounded_profile.specs.Memory.{memory_bytes}
+use Rattle.verified.specs.declared.operand.Operand.{Operand}
+use Rattle.verified.specs.declared.operand.Operand.TheVariants.{Unknown}
+use Rattle.verified.specs.Known.{division_premise, takes_slot}
+use Rattle.verified.specs.Memory.{memory_bytes}
 use Rattle.bounded_profile.specs.inside.Tracking.{asks_of, asked, setting_of, called, host_called, fits, top, below, take_one, take_each, change, forget_each, unknowns, memory_step, plain_step, branch_step, take_parameters, call_step, call_indirect_step, holds_then, check, Passes}
 use Rattle.bounded_profile.proofs.KnownKinds.{both_to, both_from}
 

@@ -4,15 +4,15 @@ use Rattle.std.specs.Prelude.{Option, Some, None, ◌&&◌, if◌then◌else◌}
 use Rattle.std.proofs.lemmas.Bool.Decides.{nat_tests}
 use Rattle.std.proofs.lemmas.List.{length-reverse}
 use Rattle.wasm_ast.specs.declared.types.ValType.{ValType}
-use Rattle.bounded_profile.specs.declared.requirements.Premise.{Premise}
-use Rattle.bounded_profile.specs.declared.requirements.Premise.TheVariants.{Reaches, Divides, DividesSigned, IsSlot}
-use Rattle.bounded_profile.specs.declared.requirements.Requirement.{Requirement}
-use Rattle.bounded_profile.specs.declared.requirements.Requirement.TheVariants as requirement
+use Rattle.verified.specs.declared.requirements.Premise.{Premise}
+use Rattle.verified.specs.declared.requirements.Premise.TheVariants.{Reaches, Divides, DividesSigned, IsSlot}
+use Rattle.verified.specs.declared.requirements.Requirement.{Requirement}
+use Rattle.verified.specs.declared.requirements.Requirement.TheVariants as requirement
 use Rattle.bounded_profile.specs.declared.constants.demands.Demand.{Demand}
 use Rattle.bounded_profile.specs.declared.constants.demands.Demand.TheVariants as demand
-use Rattle.bounded_profile.specs.declared.constants.operands.Operand.{Operand}
-use Rattle.bounded_profile.specs.declared.constants.operands.Operand.TheVariants as operand
-use Rattle.bounded_profile.specs.Kinds.{Kind, Any, Is, Forgets, AllForget, Met, requirements, kinds}
+use Rattle.verified.specs.declared.operand.Operand.{Operand}
+use Rattle.verified.specs.declared.operand.Operand.TheVariants as operand
+use Rattle.verified.specs.Kinds.{Kind, Any, Is, Forgets, AllForget, Met, requirements, kinds}
 use Rattle.bounded_profile.specs.inside.Tracking.{is_met, top, below, take_each, forget_each, unknowns}
 
 -- ---- requirements without types

@@ -28,23 +28,23 @@ use Rattle.wasm_ast.specs.Code as code
 use Rattle.wasm_ast.specs.Limits.{is_function, is_function_description}
 use Rattle.wasm_ast.specs.Numeric.{conversion_from, conversion_to}
 use Rattle.wasm_ast.specs.Widths.{load_type, load_width, store_type, store_width}
-use Rattle.validate.specs.Spaces.{spaces_of, first_type, function_import}
-use Rattle.validate.specs.Instructions as valid
+use Rattle.valid.specs.Spaces.{spaces_of, first_type, function_import}
+use Rattle.valid.specs.Instructions as valid
 use Rattle.host_calls.specs.declared.imports.HostCall.{HostCall}
 use Rattle.host_calls.specs.Imports.{call_named}
-use Rattle.bounded_profile.specs.declared.requirements.Premise.{Premise}
-use Rattle.bounded_profile.specs.declared.requirements.Premise.TheVariants.{Reaches, IsSlot}
-use Rattle.bounded_profile.specs.declared.requirements.Requirement.{Requirement}
-use Rattle.bounded_profile.specs.declared.requirements.Requirement.TheVariants as requirement
+use Rattle.verified.specs.declared.requirements.Premise.{Premise}
+use Rattle.verified.specs.declared.requirements.Premise.TheVariants.{Reaches, IsSlot}
+use Rattle.verified.specs.declared.requirements.Requirement.{Requirement}
+use Rattle.verified.specs.declared.requirements.Requirement.TheVariants as requirement
 use Rattle.bounded_profile.specs.declared.constants.asks.Asks.{Asks}
 use Rattle.bounded_profile.specs.declared.constants.demands.Demand.{Demand}
 use Rattle.bounded_profile.specs.declared.constants.demands.Demand.TheVariants as demand
-use Rattle.bounded_profile.specs.declared.constants.operands.Operand.{Operand}
-use Rattle.bounded_profile.specs.declared.constants.operands.Operand.TheVariants as operand
-use Rattle.bounded_profile.specs.Hosts.{host_call_at}
-use Rattle.bounded_profile.specs.Kinds.{Kind, Any, Is, AllForget, Meets, AllMeet, requirements, kinds}
-use Rattle.bounded_profile.specs.Known.{Context, known, Changes, Leaves, division_premise, PlainKnown, VariableKnown, MemoryKnown, LabelTakes, BranchKnown, takes_slot, parameter_requirements, CallKnown, CallIndirectKnown, Forgetting, Known}
-use Rattle.bounded_profile.specs.Memory.{memory_bytes}
+use Rattle.verified.specs.declared.operand.Operand.{Operand}
+use Rattle.verified.specs.declared.operand.Operand.TheVariants as operand
+use Rattle.verified.specs.Hosts.{host_call_at}
+use Rattle.verified.specs.Kinds.{Kind, Any, Is, AllForget, Meets, AllMeet, requirements, kinds}
+use Rattle.verified.specs.Known.{Context, known, Changes, Leaves, division_premise, PlainKnown, VariableKnown, MemoryKnown, LabelTakes, BranchKnown, takes_slot, parameter_requirements, CallKnown, CallIndirectKnown, Forgetting, Known}
+use Rattle.verified.specs.Memory.{memory_bytes}
 use Rattle.bounded_profile.specs.inside.Tracking.{asks_of, asked, setting_of, imported_call, host_called, is_met, fits, top, below, take_one, take_each, change, forget_each, forget_result, unknowns, plain_step, branch_step, take_parameters, call_step, call_indirect_step, holds_then, check}
 use Rattle.bounded_profile.proofs.KnownKinds.{requirement_type, demand_of, if_type, if_demand, value_types, kind_type, operand_of, kind_of, as_kinds, given_kinds, kinds_unknown, forget_none, forget_any, forget_one, forget_all, nothing_forgets, both_to, met_to, values_then, values_taken, either_way}
 

@@ -16,11 +16,11 @@ use Rattle.wasm_ast.specs.declared.module.Function.{Function}
 use Rattle.wasm_ast.specs.declared.module.Module.{Module}
 use Rattle.wasm_ast.specs.Code.{Code}
 use Rattle.wasm_ast.specs.Code as code
-use Rattle.validate.specs.Spaces.{first_type}
+use Rattle.valid.specs.Spaces.{first_type}
 use Rattle.bounded_profile.specs.declared.constants.asks.Asks.{Asks}
 use Rattle.bounded_profile.specs.declared.constants.asks.Asks.TheVariants.{Addresses, Divisors, Slots, All}
-use Rattle.bounded_profile.specs.declared.constants.operands.Operand.{Operand}
-use Rattle.bounded_profile.specs.Known.{takes_slot}
+use Rattle.verified.specs.declared.operand.Operand.{Operand}
+use Rattle.verified.specs.Known.{takes_slot}
 use Rattle.bounded_profile.specs.inside.Tracking.{setting_of, called, host_called, unknowns, below, plain_step, branch_step, take_parameters, call_step, call_indirect_step, holds_then, check, Passes}
 use Rattle.bounded_profile.proofs.KnownFewer.{FoundToo, plain_too, call_too}
 use Rattle.bounded_profile.proofs.KnownKinds.{both_to, both_from}

@@ -6,18 +6,18 @@ use Rattle.wasm_ast.specs.declared.types.ValType.{ValType}
 use Rattle.wasm_ast.specs.declared.types.FuncType.{FuncType}
 use Rattle.wasm_ast.specs.declared.module.Function.{Function}
 use Rattle.wasm_ast.specs.declared.module.Module.{Module}
-use Rattle.validate.specs.Spaces.{spaces_of, first_type}
-use Rattle.validate.specs.Instructions as valid
-use Rattle.validate.specs.Modules.{FunctionTyped}
+use Rattle.valid.specs.Spaces.{spaces_of, first_type}
+use Rattle.valid.specs.Instructions as valid
+use Rattle.valid.specs.Modules.{FunctionTyped}
 use Rattle.bounded_profile.specs.declared.constants.asks.Asks.{Asks}
 use Rattle.bounded_profile.specs.declared.constants.asks.Asks.TheVariants.{Addresses, Divisors, Slots, All}
 use Rattle.bounded_profile.specs.declared.constants.fault.ConstantsFault.{ConstantsFault}
 use Rattle.bounded_profile.specs.declared.constants.fault.ConstantsFault.TheVariants as fault
 use Rattle.bounded_profile.specs.inside.ConstantsFaults.{Says, SettlesConstants}
-use Rattle.bounded_profile.specs.Kinds.{kinds}
-use Rattle.bounded_profile.specs.Known.{FunctionKnown, ConstantsKnown}
-use Rattle.bounded_profile.specs.Profile.{NoUnreachable, NothingAfterBranches, asks_addresses, asks_divisors, asks_slots, asks_all}
-use Rattle.bounded_profile.specs.Shapes.{Everywhere, NotUnreachable, LastIfBranch}
+use Rattle.verified.specs.Kinds.{kinds}
+use Rattle.verified.specs.Known.{FunctionKnown, ConstantsKnown}
+use Rattle.verified.specs.Profile.{NoUnreachable, NothingAfterBranches, asks_addresses, asks_divisors, asks_slots, asks_all}
+use Rattle.verified.specs.Shapes.{Everywhere, NotUnreachable, LastIfBranch}
 use Rattle.bounded_profile.specs.inside.Tracking.{asks_of, Setting, setting_of, holds_then, check, Passes}
 use Rattle.bounded_profile.proofs.KnownSound.{Where, context_of, sound, inside_known}
 use Rattle.bounded_profile.proofs.KnownComplete.{complete}

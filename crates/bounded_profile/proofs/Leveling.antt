@@ -4,7 +4,7 @@ use Rattle.std.specs.Option.{option_map}
 use Rattle.std.proofs.lemmas.List.{get_or-replicate, get_or_past, length-append, length-map, length-replicate, map-append, take_all}
 use Rattle.std.proofs.lemmas.List.Recursion.{is_count_by}
 use Rattle.std.proofs.lemmas.Bool.Decides.{eqb_tells, leb_tells}
-use Rattle.std.proofs.lemmas.Option.{slice_get-map, slice_get_past, slice_get_read}
+use Rattle.std.proofs.lemmas.Option.{slice_get_past, slice_get_read}
 use Rattle.std.specs.List.{AllByRecursion, cons_option}
 use Rattle.wasm_ast.specs.declared.types.FuncType.{FuncType}
 use Rattle.wasm_ast.specs.declared.module.ImportDescription.{ImportDescription}
@@ -15,32 +15,30 @@ use Rattle.wasm_ast.specs.declared.module.Module.{Module}
 use Rattle.wasm_ast.specs.Limits.{is_function, is_function_description, imported_functions}
 use Rattle.wasm_ast.specs.Code.{Code}
 use Rattle.wasm_ast.specs.Code as code
-use Rattle.validate.specs.Spaces.{imported, function_import, spaces_of}
-use Rattle.validate.specs.Modules.{TypeHolds}
-use Rattle.cost.specs.Calls.{Calls, callees, body_of, calls_in, calls_of}
+use Rattle.valid.specs.Spaces.{imported, function_import, spaces_of}
+use Rattle.valid.specs.Modules.{TypeHolds}
+use Rattle.units.specs.Calls.{Calls, callees, body_of, calls_in, calls_of}
 use Rattle.cost.specs.declared.table.Mark.{Mark}
-use Rattle.cost.specs.Heights.{height}
+use Rattle.units.specs.Heights.{height}
 use Rattle.cost.specs.Marks.{rank_at}
 use Rattle.cost.specs.Ranks.{IsRanking}
-use Rattle.cost.specs.Sizes.{code_size, size_in, AreSizes, HasOneSizing, max_size}
-use Rattle.bounded_profile.specs.declared.arity.Arity.{Arity}
-use Rattle.bounded_profile.specs.Arities.{type_arity, known_arity, arity_table, call_arity, plain_arity, branch_arity, block_arity, test_arity}
-use Rattle.bounded_profile.specs.Facts.{IsHeightAt}
-use Rattle.bounded_profile.specs.Profile.{SizeWithin}
-use Rattle.bounded_profile.specs.Heights.{after, peak, peak_in, AreHeights}
+use Rattle.units.specs.Sizes.{code_size, size_in, AreSizes, HasOneSizing, max_size}
+use Rattle.verified.specs.declared.arity.Arity.{Arity}
+use Rattle.verified.specs.Arities.{type_arity, arity_table, call_arity, plain_arity, branch_arity, block_arity, test_arity}
+use Rattle.verified.specs.Facts.{IsHeightAt}
+use Rattle.verified.specs.Profile.{SizeWithin}
+use Rattle.verified.specs.Heights.{after, peak, peak_in, AreHeights}
 use Rattle.bounded_profile.specs.inside.Levels.{AreTold, AreToldBelow}
 use Rattle.bounded_profile.specs.inside.StackHeights.{ground_level, height_at, with_code}
-use Rattle.bounded_profile.proofs.StackHeights.{parts, weaker, bounded, IsKnown, exact_height}
+use Rattle.bounded_profile.proofs.StackHeights.{IsKnown, exact_height}
+use Rattle.verified.proofs.StackHeights.{parts, weaker, bounded}
+use Rattle.verified.proofs.Calling.{calls_small, narrow_calls}
 
 -- ---- lists of functions
 
 all_at : (P : ℕ → Type 0) (xs : List ℕ) → ((k : ℕ) → k < length xs → P (get_or xs k 0)) → AllByRecursion P xs
 all_at P [] h = tt
 all_at P (x ∷ xs) h = (h 0 (omega arith), all_at P xs (λ k g. h (suc k) (omega arith)))
-
-joined : (P : ℕ → Type 0) (xs ys : List ℕ) → AllByRecursion P xs → AllByRecursion P ys → AllByRecursion P (xs ++ ys)
-joined P [] ys h g = g
-joined P (x ∷ xs) ys h g = (h.0, joined P xs ys h.1 g)
 
 both : (P Q : ℕ → Type 0) (xs : List ℕ) → AllByRecursion P xs → AllByRecursion Q xs → AllByRecursion (λ f. P f × Q f) xs
 both P Q [] h g = tt
@@ -88,22 +86,6 @@ agree_in m s t (Some c) h = agree m s t c 0 h
 abbrev unfolded : Module → ℕ → ℕ → ℕ
 unfolded m zero f = 0
 unfolded m (suc n) f = peak_in m (unfolded m n) (body_of m f)
-
--- ---- each call is no larger than the code that makes it
-
-pub calls_small : (m : Module) (sizes : ℕ → ℕ) (n : ℕ) (c : Code) → code_size m sizes c ≤ n → AllByRecursion (λ f. sizes f ≤ n) (calls_of c)
-calls_small m sizes n code.end h = tt
-calls_small m sizes n (code.plain p rest) h = calls_small m sizes n rest (omega arith)
-calls_small m sizes n (code.branch b rest) h = calls_small m sizes n rest (omega arith)
-calls_small m sizes n (code.call f rest) h = (omega arith, calls_small m sizes n rest (omega arith))
-calls_small m sizes n (code.call_indirect t rest) h = calls_small m sizes n rest (omega arith)
-calls_small m sizes n (code.unreachable rest) h = calls_small m sizes n rest (omega arith)
-calls_small m sizes n (code.block t body rest) h =
-    joined (λ f. sizes f ≤ n) (calls_of body) (calls_of rest) (calls_small m sizes n body (omega arith)) (calls_small m sizes n rest (omega arith))
-calls_small m sizes n (code.loop t body rest) h =
-    joined (λ f. sizes f ≤ n) (calls_of body) (calls_of rest) (calls_small m sizes n body (omega arith)) (calls_small m sizes n rest (omega arith))
-calls_small m sizes n (code.choice t body other rest) h =
-    joined (λ f. sizes f ≤ n) (calls_of body) (calls_of other ++ calls_of rest) (calls_small m sizes n body (omega arith)) (joined (λ f. sizes f ≤ n) (calls_of other) (calls_of rest) (calls_small m sizes n other (omega arith)) (calls_small m sizes n rest (omega arith)))
 
 module _ (m : Module) (rank : ℕ → ℕ) (falls : (f g : ℕ) → Calls (callees m) f g → rank g < rank f) where
   below : (f : ℕ) → AllByRecursion (λ g. rank g < rank f) (callees m f)
@@ -239,25 +221,6 @@ module _ (m : Module) (ranks : List Mark) (ranked : IsRanking m ranks) where
             let n = s.1 in
             get_or-set_other told f g v 0 n
             ∙ t heights sizes high sized g h (λ q. let l = first q in omega (arith, l, n)) small
-
--- ---- what types say of calls
-
-type_at : (P : FuncType → Type 0) (ts : List FuncType) (n : ℕ) (t : FuncType) → AllByRecursion P ts → slice_get ts n ≡ Some t → P t
-type_at P [] n t h e = absurd cc
-type_at P (u ∷ ts) zero t h e = let same : u ≡ t = cc in subst P same h.0
-type_at P (u ∷ ts) (suc n) t h e = type_at P ts n t h.1 e
-
-pub narrow_calls : (m : Module) → AllByRecursion TypeHolds m.types → (f : ℕ) → (call_arity m f).gives ≤ 1
-narrow_calls m h f =
-    subst (λ o. (known_arity o).gives ≤ 1) (sym (slice_get-map (λ n. type_arity (slice_get m.types n)) (spaces_of m).functions f)) (by_number (slice_get (spaces_of m).functions f))
-  where
-    by_type : (o : Option FuncType) → ((t : FuncType) → o ≡ Some t → TypeHolds t) → (type_arity o).gives ≤ 1
-    by_type None g = omega arith
-    by_type (Some t) g = g t refl
-
-    by_number : (o : Option ℕ) → (known_arity (option_map (λ n. type_arity (slice_get m.types n)) o)).gives ≤ 1
-    by_number None = omega arith
-    by_number (Some n) = by_type (slice_get m.types n) (λ t e. type_at TypeHolds m.types n t h e)
 
 -- ---- the answer
 

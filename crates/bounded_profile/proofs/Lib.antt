@@ -7,10 +7,8 @@ pub mod KnownTogether
 pub mod KnownVerdict
 pub mod StackHeights
 pub mod Leveling
-pub mod Framing
 pub mod ReachedFootprint
 pub mod ReachedExtents
-pub mod SameTables
 pub mod Walking
 pub mod Refusals
 pub mod Computing

@@ -12,7 +12,7 @@ use Rattle.wasm_ast.specs.Code.{Code}
 use Rattle.wasm_ast.specs.Code as code
 use Rattle.wasm_ast.specs.View.{code_of, then_code}
 use Rattle.host_calls.specs.declared.imports.HostCall.{HostCall}
-use Rattle.bounded_profile.specs.Shapes.{followed, NamesNot, OpensWithItem, ClosesWithItem}
+use Rattle.verified.specs.Shapes.{followed, NamesNot, OpensWithItem, ClosesWithItem}
 use Rattle.bounded_profile.specs.inside.Closing.{GoesBackWithItem}
 
 -- ---- no loop opens with fewer than three instructions

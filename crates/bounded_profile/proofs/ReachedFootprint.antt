@@ -4,16 +4,14 @@ use Rattle.std.specs.Prelude.{◌||◌}
 use Rattle.std.proofs.lemmas.Bool.{le-leb, lt-leb}
 use Rattle.std.proofs.lemmas.Bool.Decides.{eqb_tells}
 use Rattle.std.proofs.lemmas.List.{at_drop_more, get_or-replicate, get_or_past, length-replicate, length-set}
-use Rattle.std.specs.List.{AllByRecursion}
-use Rattle.wasm_ast.specs.declared.types.Limits.{Limits}
 use Rattle.wasm_ast.specs.declared.module.Function.{Function}
 use Rattle.wasm_ast.specs.declared.module.Module.{Module}
 use Rattle.wasm_ast.specs.Code.{Code}
 use Rattle.wasm_ast.specs.Code as code
-use Rattle.bounded_profile.specs.declared.arity.Arity.{Arity}
-use Rattle.bounded_profile.specs.Arities.{branch_arity, arity_at, block_arity, test_arity}
-use Rattle.bounded_profile.specs.Memory.{memory_bytes, bytes_of, max_minimum, MinimumsWithin}
-use Rattle.bounded_profile.specs.Reached.{Access, known_after, known_behind, plain_accesses, accesses_along, accesses_in, accesses, covers, is_covered, is_reached, reached_below}
+use Rattle.verified.specs.declared.arity.Arity.{Arity}
+use Rattle.verified.specs.Arities.{branch_arity, arity_at, block_arity, test_arity}
+use Rattle.verified.specs.Memory.{memory_bytes}
+use Rattle.verified.specs.Reached.{Access, known_after, known_behind, plain_accesses, accesses_along, accesses_in, accesses, covers, is_covered, is_reached, reached_below}
 use Rattle.bounded_profile.specs.inside.Footprint.{marked_to, marked, marked_all, Trail, trail, passing, with_plain, trail_along, marked_below}
 use Rattle.bounded_profile.proofs.Leveling.{least_or_past}
 
@@ -188,12 +186,3 @@ next_function arities fs i f ms h e =
     at_drop_more (λ (gs : List Function). marked_all (accesses_in arities gs) ms) fs i f h
     ∙ ap (λ (g : Function). marked_all (accesses_along arities g.body [] ++ accesses_in arities (drop (i + 1) fs)) ms) (sym e)
     ∙ all_joined (accesses_along arities f.body []) (accesses_in arities (drop (i + 1) fs)) ms
-
--- ---- how large the memory is
-
-pub memory_small : (m : Module) → MinimumsWithin m → memory_bytes m ≤ 1048576
-memory_small m h = by_list m.memories h
-  where
-    by_list : (ls : List Limits) → AllByRecursion (λ (l : Limits). l.minimum ≤ max_minimum) ls → bytes_of ls ≤ 1048576
-    by_list [] g = omega arith
-    by_list (l ∷ ls) g = let few = g.0 in omega (arith, few)

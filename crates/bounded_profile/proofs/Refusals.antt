@@ -1,18 +1,18 @@
 -- What follows from an error, and from the lack of one.
 use Rattle.std.proofs.Common.{◌≡◌, ℕ, refl, sym, subst}
 use Rattle.wasm_ast.specs.declared.module.Module.{Module}
-use Rattle.validate.specs.Modules.{IsTyped}
-use Rattle.cost.specs.Calls.{callees}
+use Rattle.valid.specs.Modules.{IsTyped}
+use Rattle.units.specs.Calls.{callees}
 use Rattle.bounded_profile.specs.declared.fault.ProfileFault.{ProfileFault}
 use Rattle.bounded_profile.specs.declared.fault.ProfileFault.TheVariants as fault
-use Rattle.bounded_profile.specs.declared.facts.Facts.{Facts}
-use Rattle.bounded_profile.specs.Compute.{IsComputeNumber}
-use Rattle.bounded_profile.specs.Facts.{AreFacts, AreFactsAt}
+use Rattle.verified.specs.declared.facts.Facts.{Facts}
+use Rattle.verified.specs.Compute.{IsComputeNumber}
+use Rattle.verified.specs.Facts.{AreFacts, AreFactsAt}
 use Rattle.bounded_profile.specs.declared.fault.ProfileRule.{ProfileRule}
 use Rattle.bounded_profile.specs.declared.fault.ProfileRule.TheVariants as rule
 use Rattle.bounded_profile.specs.declared.constants.asks.Asks.TheVariants.{Addresses, Divisors, Slots}
 use Rattle.bounded_profile.specs.Faults.{Denies, KeepsRule, ShowsCycle, Refuses}
-use Rattle.bounded_profile.specs.Profile.{IsBounded, AddressesWithin, AllKnown, SizeWithin}
+use Rattle.verified.specs.Profile.{IsBounded, AddressesWithin, AllKnown, SizeWithin}
 use Rattle.bounded_profile.specs.inside.Stages.{PartsHold, ShapesHold, CallsHold}
 use Rattle.bounded_profile.proofs.Computing.{one_number}
 use Rattle.bounded_profile.proofs.KnownVerdict.{fewer}

@@ -5,7 +5,7 @@ use Rattle.wasm_ast.specs.Code.{Code}
 use Rattle.wasm_ast.specs.Code as code
 use Rattle.wasm_ast.specs.View.{code_of, then_code}
 use Rattle.wasm_ast.proofs.Codes.{code_step, code_done, code_over}
-use Rattle.bounded_profile.specs.Shapes.{Everywhere}
+use Rattle.verified.specs.Shapes.{Everywhere}
 
 -- the test whether an instruction is the last of its sequence
 pub last_or_not : (is : List Instr) (k : ℕ) (last : Bool) → k < length is → (last ≡ true → k + 1 ≡ length is) → (k + 1 ≡ length is → last ≡ true) → IsTrue last ↔ (code_of (drop (k + 1) is) ≡ code.end)

@@ -3,14 +3,14 @@ use Rattle.std.specs.Prelude.{◌≡◌, ℕ, List, Result, MatchResult}
 use Rattle.wasm_ast.specs.declared.module.Module.{Module}
 use Rattle.cost.specs.declared.fault.CostFault.{CostFault}
 use Rattle.cost.specs.declared.fault.CostFault.TheVariants as cost
-use Rattle.cost.specs.Calls.{callees}
-use Rattle.cost.specs.Cycles.{AreDistinct, IsCycle, LeastFirst}
+use Rattle.units.specs.Calls.{callees}
+use Rattle.units.specs.Cycles.{AreDistinct, IsCycle, LeastFirst}
 use Rattle.bounded_profile.specs.declared.fault.ProfileFault.{ProfileFault}
 use Rattle.bounded_profile.specs.declared.fault.ProfileFault.TheVariants as fault
 use Rattle.bounded_profile.specs.declared.fault.ProfileRule.{ProfileRule}
 use Rattle.bounded_profile.specs.declared.fault.ProfileRule.TheVariants as rule
-use Rattle.bounded_profile.specs.Known.{ConstantsKnown}
-use Rattle.bounded_profile.specs.Profile.{ImportsHostCalls, HasCompute, NoStart, NoElements, NoIndirectCalls, NoUnreachable, NoGrowth, NothingAfterBranches, LoopsTakeItems, AddressesWithin, NoCycles, SizeWithin, asks_addresses, asks_divisors, asks_slots}
+use Rattle.verified.specs.Known.{ConstantsKnown}
+use Rattle.verified.specs.Profile.{ImportsHostCalls, HasCompute, NoStart, NoElements, NoIndirectCalls, NoUnreachable, NoGrowth, NothingAfterBranches, LoopsTakeItems, AddressesWithin, NoCycles, SizeWithin, asks_addresses, asks_divisors, asks_slots}
 
 -- the module keeps this rule
 abbrev pub KeepsRule : ProfileRule → Module → Type 0

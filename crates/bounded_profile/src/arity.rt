@@ -1,19 +1,13 @@
 //! How many operands an instruction takes and gives (Core 1.0, 3.3).
 
 ghost use Rattle.std.specs.Prelude.{◌≡◌, IfOk, slice_get};
-ghost use Rattle.bounded_profile.specs.Arities.{plain_arity, variable_arity, memory_arity, numeric_arity, branch_arity, result_count, type_arity, arity_table, arity_at};
+ghost use Rattle.verified.specs.Arities.{plain_arity, variable_arity, memory_arity, numeric_arity, branch_arity, result_count, type_arity, arity_table, arity_at};
 
 use std::alloc::{AllocError, Global};
+use verified::Arity;
 use wasm_ast::{
     BlockType, Branch, FuncType, ImportDescription, Memory, Module, Numeric, Plain, Variable,
 };
-
-/// The number of operands that an instruction takes, and of those that it then gives.
-#[derive(Clone, Copy)]
-pub struct Arity {
-    pub takes: usize,
-    pub gives: usize,
-}
 
 /// No operands taken, and none given.
 pub const NOTHING: Arity = Arity { takes: 0, gives: 0 };

@@ -1,10 +1,10 @@
 //! Rules on calls: there is no recursion (P12), and `compute` with calls inlined is small (P14).
 
 ghost use Rattle.std.specs.Prelude.{IfOk, MatchResult};
-ghost use Rattle.cost.specs.Calls.{callees};
+ghost use Rattle.units.specs.Calls.{callees};
 ghost use Rattle.cost.specs.Ranks.{IsRanking};
 ghost use Rattle.bounded_profile.specs.Faults.{Denies, ShowsCycle};
-ghost use Rattle.bounded_profile.specs.Profile.{NoCycles, SizeWithin};
+ghost use Rattle.verified.specs.Profile.{NoCycles, SizeWithin};
 ghost use Rattle.bounded_profile.specs.declared.fault.ProfileRule.TheVariants.{P14};
 ghost use Rattle.bounded_profile.specs.inside.Stages.{SizeHolds};
 
@@ -12,7 +12,7 @@ use crate::fault::{ProfileFault, ProfileRule};
 use crate::module_rules::NOWHERE;
 use cost::{Ranks, has_one_sizing, inlined_size, ranks};
 use std::alloc::Global;
-use validate::Valid;
+use valid::Valid;
 
 /// P12: ranks the functions, where none calls itself. An error names a cycle, or says that an allocation failed.
 pub fn check_cycles(alloc: Global, valid: &Valid) -> Result<Ranks, ProfileFault>

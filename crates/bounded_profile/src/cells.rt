@@ -2,23 +2,15 @@
 
 ghost use Rattle.std.specs.Prelude.{◌≡◌, ◌+◌, ◌≤◌, [], length, IfOk};
 ghost use Rattle.wasm_ast.specs.Limits.{IsWithinLimits, max_locals, parameters_of};
-ghost use Rattle.bounded_profile.specs.Arities.{arity_table};
-ghost use Rattle.bounded_profile.specs.Cells.{cells_of, cells_table};
+ghost use Rattle.verified.specs.Arities.{arity_table};
+ghost use Rattle.verified.specs.Cells.{cells_of, cells_table};
 
-use crate::arity::{Arity, arity_table};
+use crate::arity::arity_table;
 use crate::height_table::HeightTable;
 use crate::stack_height::{Callees, StackHeight};
 use std::alloc::{AllocError, Global};
+use verified::{Arity, Cells};
 use wasm_ast::{Function, Module, parameter_count};
-
-/// The cells that the frame of a function needs.
-#[derive(Clone, Copy)]
-pub struct Cells {
-    /// The parameters and the locals.
-    pub locals: u32,
-    /// The greatest height of the function's own operand stack.
-    pub operands: u32,
-}
 
 /// Counts the cells of each function that the module defines. The only error is that an allocation fails.
 pub fn cells_table(alloc: Global, module: &Module) -> Result<Vec<Cells>, AllocError>

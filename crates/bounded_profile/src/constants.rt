@@ -9,8 +9,8 @@ mod operands;
 mod setting;
 
 ghost use Rattle.std.specs.Prelude.{OnOk, IsOkUnless};
-ghost use Rattle.bounded_profile.specs.Known.{ConstantsKnown};
-ghost use Rattle.bounded_profile.specs.Profile.{NoUnreachable, NothingAfterBranches};
+ghost use Rattle.verified.specs.Known.{ConstantsKnown};
+ghost use Rattle.verified.specs.Profile.{NoUnreachable, NothingAfterBranches};
 ghost use Rattle.bounded_profile.specs.inside.Tracking.{asks_of, AllPass};
 ghost use Rattle.bounded_profile.specs.inside.ConstantsFaults.{SettlesConstants};
 
@@ -18,9 +18,9 @@ use self::bodies::check_bodies;
 use self::setting::ModuleSetting;
 pub use asks::Asks;
 pub use fault::ConstantsFault;
-pub use operands::{Operand, Operands};
+pub use operands::Operands;
 use std::alloc::Global;
-use validate::Valid;
+use valid::Valid;
 use wasm_ast::Module;
 
 /// Checks that each constant that `asks` selects is known. The code has no `unreachable`, and nothing comes after a

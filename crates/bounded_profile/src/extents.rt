@@ -1,21 +1,14 @@
-//! Runs of adjacent bytes in a memory, and how many of their bytes are below a given byte.
+//! The extents of the bytes that loads and stores of a module reach.
 
-ghost use Rattle.std.specs.Prelude.{◌≡◌, ◌+◌, ◌≤◌, leb, length, IfOk, OnOk};
-ghost use Rattle.bounded_profile.specs.Memory.{MinimumsWithin};
-ghost use Rattle.bounded_profile.specs.inside.Footprint.{AreInOrder, AreExtents, IsUpTo, Adds, PartsAt, TellReached, in_extents};
+ghost use Rattle.std.specs.Prelude.{◌≤◌, length, IfOk, OnOk};
+ghost use Rattle.verified.specs.Memory.{MinimumsWithin};
+ghost use Rattle.bounded_profile.specs.inside.Footprint.{AreExtents, IsUpTo, Adds};
+ghost use Rattle.verified.specs.inside.Extents.{TellReached};
 
 use crate::footprint::footprint_marks;
 use std::alloc::{AllocError, Global};
+use verified::Extent;
 use wasm_ast::Module;
-
-/// Adjacent bytes: `from` is the first, `to` is one past the last. `below` counts the bytes of all extents before
-/// this one.
-#[derive(Clone, Copy)]
-pub struct Extent {
-    from: u32,
-    to: u32,
-    below: u32,
-}
 
 /// Finds the extents of the module's footprint, in order of address. The only error is that an allocation fails.
 pub fn footprint_extents(alloc: Global, module: &Module) -> Result<Vec<Extent>, AllocError>
@@ -59,29 +52,4 @@ fn add_extent(extents: &mut Vec<Extent>, extent: Extent) -> Result<(), AllocErro
         extents.push(extent)?;
     }
     Ok(())
-}
-
-/// Counts the bytes of the extents that are below this byte.
-pub fn bytes_below(extents: &[Extent], byte: u32) -> u32
-    requires { AreInOrder 0 0 extents.now }
-    ensures { result ≡ in_extents extents.now byte }
-{
-    let count = extents_up_to(extents, byte);
-    if count == 0 {
-        return 0;
-    }
-    let extent = extents[count - 1];
-    extent.below + (byte.min(extent.to) - extent.from)
-}
-
-// Counts the extents that begin at the byte or before it. It takes logarithmic time.
-fn extents_up_to(extents: &[Extent], byte: u32) -> usize
-    requires { AreInOrder 0 0 extents.now }
-    ensures { PartsAt extents.now byte result }
-{
-    extents.partition_point(
-        |extent: &Extent| -> bool
-            ensures { result ≡ leb extent.now.from byte }
-        { extent.from <= byte },
-    )
 }

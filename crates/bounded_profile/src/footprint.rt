@@ -1,16 +1,17 @@
 //! The footprint of a module: the bytes of its memory that loads and stores reach.
 
 ghost use Rattle.std.specs.Prelude.{◌≡◌, ◌+◌, [], false, replicate, IfOk, OnOk};
-ghost use Rattle.bounded_profile.specs.Arities.{block_arity};
-ghost use Rattle.bounded_profile.specs.Memory.{memory_bytes};
-ghost use Rattle.bounded_profile.specs.Reached.{access_at, accesses, accesses_along, memory_accesses};
+ghost use Rattle.verified.specs.Arities.{block_arity};
+ghost use Rattle.verified.specs.Memory.{memory_bytes};
+ghost use Rattle.verified.specs.Reached.{access_at, accesses, accesses_along, memory_accesses};
 ghost use Rattle.bounded_profile.specs.inside.Footprint.{marked_all, marked_to, marks_along, trail, trail_behind, with_plain};
 ghost use Rattle.bounded_profile.specs.inside.Tracking.{operands_of};
 
-use crate::arity::{Arity, TEST, arity_at, arity_table, branch_arity, plain_arity, result_count};
-use crate::constants::{Operand, Operands};
-use crate::memory_rules::{memory_bytes, number_of};
+use crate::arity::{TEST, arity_at, arity_table, branch_arity, plain_arity, result_count};
+use crate::constants::Operands;
+use crate::memory_rules::number_of;
 use std::alloc::{AllocError, Global};
+use verified::{Arity, Operand, memory_bytes};
 use wasm_ast::{BlockType, Body, Instr, Memory, Module, Plain};
 
 /// Decides for each byte of the memory whether some load or store of the module reaches it. Functions count whether

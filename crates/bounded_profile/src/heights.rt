@@ -2,18 +2,19 @@
 
 ghost use Rattle.std.specs.Prelude.{◌≡◌, ◌-◌, ◌≤◌, IfOk, length};
 ghost use Rattle.cost.specs.Ranks.{IsRanking};
-ghost use Rattle.bounded_profile.specs.Arities.{arity_table};
+ghost use Rattle.verified.specs.Arities.{arity_table};
 ghost use Rattle.bounded_profile.specs.inside.StackHeights.{most_along};
-ghost use Rattle.bounded_profile.specs.Facts.{IsHeightAt};
+ghost use Rattle.verified.specs.Facts.{IsHeightAt};
 ghost use Rattle.bounded_profile.specs.inside.Levels.{AreTold};
-ghost use Rattle.bounded_profile.specs.Profile.{SizeWithin};
+ghost use Rattle.verified.specs.Profile.{SizeWithin};
 
-use crate::arity::{Arity, arity_table};
+use crate::arity::arity_table;
 use crate::height_table::HeightTable;
 use crate::stack_height::{Callees, StackHeight};
 use cost::{Ranks, has_one_sizing};
 use std::alloc::{AllocError, Global};
-use validate::Valid;
+use valid::Valid;
+use verified::Arity;
 use wasm_ast::{Body, imported_function_count};
 
 /// Finds the greatest height of the operand stack in a call of the function. The only error is that an allocation

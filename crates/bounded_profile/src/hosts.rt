@@ -3,8 +3,8 @@
 ghost use Rattle.std.specs.Prelude.{◌≡◌, Some, IfOk};
 ghost use Rattle.wasm_ast.specs.Limits.{is_function};
 ghost use Rattle.host_calls.specs.Imports.{call_of};
-ghost use Rattle.bounded_profile.specs.Hosts.{host_table, call_at, AreHostCalls};
-ghost use Rattle.bounded_profile.specs.Profile.{ImportsHostCalls};
+ghost use Rattle.verified.specs.Hosts.{host_table, call_at, AreHostCalls};
+ghost use Rattle.verified.specs.Profile.{ImportsHostCalls};
 
 use host_calls::{HostCall, each_import_is_one_call};
 use std::alloc::{AllocError, Global};

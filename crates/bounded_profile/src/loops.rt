@@ -4,8 +4,8 @@ ghost use Rattle.std.specs.Prelude.{◌≢◌, ◌↔◌, IsTrue};
 ghost use Rattle.std.specs.List.{AllByRecursion};
 ghost use Rattle.wasm_ast.specs.Code.{end};
 ghost use Rattle.wasm_ast.specs.View.{code_of, then_code};
-ghost use Rattle.bounded_profile.specs.Hosts.{call_at};
-ghost use Rattle.bounded_profile.specs.Shapes.{BranchNamesNot, ClosesWithItem, NamesNot, OpensWithItem, TakesItem, TakesItems};
+ghost use Rattle.verified.specs.Hosts.{call_at};
+ghost use Rattle.verified.specs.Shapes.{BranchNamesNot, ClosesWithItem, NamesNot, OpensWithItem, TakesItem, TakesItems};
 ghost use Rattle.bounded_profile.specs.inside.Closing.{GoesBackWithItem, LabelFits};
 
 use crate::hosts::call_at;

@@ -1,19 +1,17 @@
 //! P10, except for the addresses of loads and stores: the initial memory, and the data segments in it.
 
-ghost use Rattle.std.specs.Prelude.{◌≡◌, ◌↔◌, ◌*◌, IsTrue};
+ghost use Rattle.std.specs.Prelude.{◌≡◌, ◌↔◌, IsTrue};
 ghost use Rattle.bounded_profile.specs.Faults.{Settles};
 ghost use Rattle.bounded_profile.specs.declared.fault.ProfileRule.TheVariants.{P10};
 ghost use Rattle.wasm_ast.specs.Code.{Code};
 ghost use Rattle.wasm_ast.specs.View.{then_code};
 ghost use Rattle.wasm_ast.specs.declared.plain.Variable.TheVariants.{GlobalGet};
-ghost use Rattle.bounded_profile.specs.Memory.{page, memory_bytes, number_of, initial_number, offset_number, plain_offset, variable_number, DataWithin, MinimumsWithin, SegmentsWithin};
+ghost use Rattle.verified.specs.Memory.{number_of, initial_number, offset_number, plain_offset, variable_number, DataWithin, MinimumsWithin, SegmentsWithin};
 
 use crate::fault::{ProfileFault, ProfileRule};
 use crate::module_rules::NOWHERE;
+use verified::memory_bytes;
 use wasm_ast::{Body, Data, Instr, Limits, Module, Plain, Value, Variable};
-
-/// The size of a page in bytes (Core 1.0, 4.2.8).
-const PAGE: u64 = 65_536;
 
 /// The greatest minimum of a memory, in pages.
 const MAX_MINIMUM: u32 = 16;
@@ -55,22 +53,6 @@ fn is_segment_within(module: &Module, segment: &Data) -> bool
         Some(offset) => length <= bytes && offset <= bytes - length,
         None => false,
     }
-}
-
-/// Counts the bytes of the initial memory.
-pub fn memory_bytes(module: &Module) -> u64
-    ensures { result ≡ memory_bytes «module».now }
-{
-    match module.memories.as_slice().first() {
-        Some(limits) => bytes_of(limits.minimum),
-        None => 0,
-    }
-}
-
-fn bytes_of(pages: u32) -> u64
-    ensures { result ≡ page * pages }
-{
-    PAGE * u64::from(pages)
 }
 
 // Returns the value of an offset: a constant, or the initial value of a global.

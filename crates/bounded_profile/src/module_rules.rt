@@ -1,12 +1,12 @@
 //! Rules on the parts of a module other than its code.
 
 ghost use Rattle.std.specs.Prelude.{◌≡◌, ◌↔◌, IfSome, IfNone, MatchResult, IsTrue};
-ghost use Rattle.validate.specs.Modules.{IsTyped};
-ghost use Rattle.bounded_profile.specs.Compute.{exported_compute, IsDefinedPlain, IsComputeNumber};
+ghost use Rattle.valid.specs.Modules.{IsTyped};
+ghost use Rattle.verified.specs.Compute.{exported_compute, IsDefinedPlain, IsComputeNumber};
 ghost use Rattle.bounded_profile.specs.Faults.{Denies, Settles};
-ghost use Rattle.bounded_profile.specs.Hosts.{IsHostImport};
+ghost use Rattle.verified.specs.Hosts.{IsHostImport};
 ghost use Rattle.bounded_profile.specs.declared.fault.ProfileRule.TheVariants.{P1, P2, P3, P4};
-ghost use Rattle.bounded_profile.specs.Profile.{ImportsHostCalls, HasCompute, HasPlainType, NoStart, NoElements, plain_type};
+ghost use Rattle.verified.specs.Profile.{ImportsHostCalls, HasCompute, HasPlainType, NoStart, NoElements, plain_type};
 
 use crate::fault::{ProfileFault, ProfileRule};
 use host_calls::HostCall;

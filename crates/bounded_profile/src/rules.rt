@@ -2,26 +2,26 @@
 
 ghost use Rattle.std.specs.Prelude.{IsOkUnless, MatchResult};
 ghost use Rattle.wasm_ast.specs.Limits.{IsWithinLimits};
-ghost use Rattle.validate.specs.Modules.{IsTyped};
-ghost use Rattle.bounded_profile.specs.Compute.{IsComputeNumber};
-ghost use Rattle.bounded_profile.specs.Facts.{AreFacts};
+ghost use Rattle.valid.specs.Modules.{IsTyped};
+ghost use Rattle.verified.specs.Compute.{IsComputeNumber};
+ghost use Rattle.verified.specs.Facts.{AreFacts};
 ghost use Rattle.bounded_profile.specs.Faults.{Refuses, Settles};
-ghost use Rattle.bounded_profile.specs.Known.{ConstantsKnown};
-ghost use Rattle.bounded_profile.specs.Profile.{IsBounded, AddressesWithin, NoUnreachable, NothingAfterBranches, asks_addresses, asks_slots};
+ghost use Rattle.verified.specs.Known.{ConstantsKnown};
+ghost use Rattle.verified.specs.Profile.{IsBounded, AddressesWithin, NoUnreachable, NothingAfterBranches, asks_addresses, asks_slots};
 ghost use Rattle.bounded_profile.specs.inside.Stages.{PartsHoldAt, ShapesHold, CallsHoldWith};
 ghost use Rattle.bounded_profile.specs.inside.Tracking.{asks_of};
 
 use crate::calls::{check_cycles, check_size};
 use crate::constants::{Asks, ConstantsFault, check_constants};
-use crate::facts::Facts;
 use crate::fault::{ProfileFault, ProfileRule};
 use crate::heights::operand_height;
 use crate::hosts::host_table;
 use crate::memory_rules::{check_minimums, check_segments};
 use crate::module_rules::{check_elements, check_imports, check_start, find_compute};
-use crate::shapes::{Shape, check_shape};
+use crate::shapes::check_shape;
 use std::alloc::Global;
-use validate::Valid;
+use valid::Valid;
+use verified::{Facts, Shape};
 use wasm_ast::Module;
 
 /// Checks all rules and returns the bounds on a call of `compute`. An error names the first rule that is broken, in

@@ -6,74 +6,58 @@ ghost use Rattle.wasm_ast.specs.Code.{Code, end};
 ghost use Rattle.wasm_ast.specs.Limits.{IsBodyWithin, IsWithinLimits};
 ghost use Rattle.wasm_ast.specs.View.{then_code};
 ghost use Rattle.bounded_profile.specs.Faults.{Settles};
-ghost use Rattle.bounded_profile.specs.Hosts.{call_at};
-ghost use Rattle.bounded_profile.specs.Profile.{EachBody};
-ghost use Rattle.bounded_profile.specs.Shapes.{Everywhere, Keeps, LastIfBranch};
+ghost use Rattle.verified.specs.Hosts.{call_at};
+ghost use Rattle.verified.specs.Profile.{EachBody};
+ghost use Rattle.verified.specs.Shapes.{Everywhere, Keeps, LastIfBranch};
 ghost use Rattle.bounded_profile.specs.inside.Stages.{rule_of};
 
 use crate::fault::{ProfileFault, ProfileRule};
 use crate::loops::takes_items;
 use host_calls::HostCall;
 use validate::Place;
+use verified::Shape;
 use wasm_ast::{Body, Branch, Instr, Memory, Module, Plain};
 
-/// A rule on the instructions of code.
-#[derive(Clone, Copy)]
-pub enum Shape {
-    /// P5: there is no `call_indirect`.
-    NoIndirectCalls,
-    /// P6: there is no `unreachable`.
-    NoUnreachable,
-    /// P7: there is no `memory.grow`.
-    NoGrowth,
-    /// P8: nothing comes after `br`, `br_table` or `return` in a sequence.
-    NothingAfterBranches,
-    /// P9: each loop takes an item each time round, at its beginning or at its end.
-    LoopsTakeItems,
+fn rule(shape: Shape) -> ProfileRule
+    ensures { result ≡ rule_of shape }
+{
+    match shape {
+        Shape::NoIndirectCalls => ProfileRule::P5,
+        Shape::NoUnreachable => ProfileRule::P6,
+        Shape::NoGrowth => ProfileRule::P7,
+        Shape::NothingAfterBranches => ProfileRule::P8,
+        Shape::LoopsTakeItems => ProfileRule::P9,
+    }
 }
 
-impl Shape {
-    fn rule(self) -> ProfileRule
-        ensures { result ≡ rule_of self }
-    {
-        match self {
-            Shape::NoIndirectCalls => ProfileRule::P5,
-            Shape::NoUnreachable => ProfileRule::P6,
-            Shape::NoGrowth => ProfileRule::P7,
-            Shape::NothingAfterBranches => ProfileRule::P8,
-            Shape::LoopsTakeItems => ProfileRule::P9,
-        }
+// Returns the place of a breach. For P8 that is the instruction after the branch, for the other rules the
+// instruction itself.
+fn place(shape: Shape, function: usize, instruction: u32) -> Place {
+    let instruction = match shape {
+        Shape::NothingAfterBranches => instruction.saturating_add(1),
+        _ => instruction,
+    };
+    Place {
+        function: u32::try_from(function).ok(),
+        instruction: Some(instruction),
     }
+}
 
-    // Returns the place of a breach. For P8 that is the instruction after the branch, for the other rules the
-    // instruction itself.
-    fn place(self, function: usize, instruction: u32) -> Place {
-        let instruction = match self {
-            Shape::NothingAfterBranches => instruction.saturating_add(1),
-            _ => instruction,
-        };
-        Place {
-            function: u32::try_from(function).ok(),
-            instruction: Some(instruction),
-        }
-    }
-
-    /// Decides whether the instruction keeps the rule. `is_last` says that nothing comes after it in its sequence.
-    fn is_kept(self, hosts: &[Option<HostCall>], instr: &Instr, is_last: bool) -> bool
-        requires { IsBodyWithin (then_code instr.now end) }
-        ensures { (rest : Code) → (IsTrue is_last ↔ (rest ≡ end))
-            → (IsTrue result ↔ Keeps (call_at hosts.now) self (then_code instr.now rest)) }
-    {
-        match self {
-            Shape::NoIndirectCalls => !matches!(instr, Instr::CallIndirect(_)),
-            Shape::NoUnreachable => !matches!(instr, Instr::Unreachable),
-            Shape::NoGrowth => !matches!(instr, Instr::Plain(Plain::Memory(Memory::Grow))),
-            Shape::NothingAfterBranches => is_last || !always_branches(instr),
-            Shape::LoopsTakeItems => match instr {
-                Instr::Loop(_, body) => takes_items(hosts, body),
-                _ => true,
-            },
-        }
+// Decides whether the instruction keeps the rule. `is_last` says that nothing comes after it in its sequence.
+fn is_kept(shape: Shape, hosts: &[Option<HostCall>], instr: &Instr, is_last: bool) -> bool
+    requires { IsBodyWithin (then_code instr.now end) }
+    ensures { (rest : Code) → (IsTrue is_last ↔ (rest ≡ end))
+        → (IsTrue result ↔ Keeps (call_at hosts.now) shape (then_code instr.now rest)) }
+{
+    match shape {
+        Shape::NoIndirectCalls => !matches!(instr, Instr::CallIndirect(_)),
+        Shape::NoUnreachable => !matches!(instr, Instr::Unreachable),
+        Shape::NoGrowth => !matches!(instr, Instr::Plain(Plain::Memory(Memory::Grow))),
+        Shape::NothingAfterBranches => is_last || !always_branches(instr),
+        Shape::LoopsTakeItems => match instr {
+            Instr::Loop(_, body) => takes_items(hosts, body),
+            _ => true,
+        },
     }
 }
 
@@ -120,7 +104,7 @@ fn is_kept_at(
         → ((IsTrue result × Everywhere (Keeps (call_at hosts.now) shape) rest)
         ↔ Everywhere (Keeps (call_at hosts.now) shape) (then_code instr.now rest)) }
 {
-    if !shape.is_kept(hosts, instr, is_last) {
+    if !is_kept(shape, hosts, instr, is_last) {
         return false;
     }
     *next = next.saturating_add(1);
@@ -155,7 +139,7 @@ pub fn check_shape(
         let mut next = 0;
         if !is_kept_in(shape, hosts, &function.body, &mut next) {
             let number = hosts.len().saturating_add(index);
-            return Err(ProfileFault::Breaks(shape.rule(), shape.place(number, next)));
+            return Err(ProfileFault::Breaks(rule(shape), place(shape, number, next)));
         }
     }
     Ok(())

@@ -1,11 +1,12 @@
 //! The height of the operand stack along code.
 
 ghost use Rattle.std.specs.Prelude.{◌≡◌};
-ghost use Rattle.bounded_profile.specs.Arities.{block_arity};
+ghost use Rattle.verified.specs.Arities.{block_arity};
 ghost use Rattle.bounded_profile.specs.inside.StackHeights.{reaching, stepping, with_call, most_along, with_instr};
 
-use crate::arity::{Arity, TEST, arity_at, branch_arity, plain_arity, result_count};
+use crate::arity::{TEST, arity_at, branch_arity, plain_arity, result_count};
 use crate::height_table::HeightTable;
+use verified::Arity;
 use wasm_ast::{BlockType, Body, Instr};
 
 /// For each function: the operands that a call takes and gives, and the greatest height of the stack in it.

@@ -17,7 +17,6 @@ use std::alloc::{AllocError, Global};
 use std::sync::Wait;
 
 /// The end of a sender.
-#[derive(Drop)]
 pub struct SendingEnd<M: Signed> {
     to: RuledSender<M, View<M>, InOrder>,
     pass: Pass<M, View<M>>,
@@ -25,8 +24,13 @@ pub struct SendingEnd<M: Signed> {
     pub ghost role: { view pass ≡ sender (view pass).from (view pass).sent },
 }
 
+impl<M: Signed> Drop for SendingEnd<M> {
+    fn drop(self) {
+        let SendingEnd { to: _, pass: _ } = self;
+    }
+}
+
 /// The end of the reader.
-#[derive(Drop)]
 pub struct ReceivingEnd<M: Signed> {
     from: RuledReceiver<M, View<M>, InOrder>,
     pass: Pass<M, View<M>>,
@@ -34,8 +38,23 @@ pub struct ReceivingEnd<M: Signed> {
     pub ghost role: { view pass ≡ reader (view pass).senders (view pass).received },
 }
 
+impl<M: Signed> Drop for ReceivingEnd<M> {
+    fn drop(self) {
+        let ReceivingEnd { from: _, pass: _ } = self;
+    }
+}
+
 impl<M: Signed> SendingEnd<M> {
     ghost use Rattle.channels.specs.ChannelEnds.{IsSameReader, IsSameSender, channel_of, number_of, received_by, sent_by, source_of};
+
+    // Returns the channel's sender, and the pass.
+    fn into_parts(self) -> (RuledSender<M, View<M>, InOrder>, Pass<M, View<M>>)
+        ensures to { result.0 ≡ self.to }
+        ensures pass { result.1 ≡ self.pass }
+    {
+        let SendingEnd { to, pass } = self;
+        (to, pass)
+    }
 
     /// Sends a message. It waits while the channel is full. A sender that has said bye must not send again.
     pub fn send<R: Wait>(&mut self, rt: &R, message: M) -> Result<(), Closed>
@@ -61,7 +80,7 @@ impl<M: Signed> SendingEnd<M> {
         ensures sent { sent_by self.new ≡ sent_by self.old }
         ensures same { IsSameSender self.old self.new }
     {
-        let ReceivingEnd { from, pass } = reader;
+        let (from, pass) = reader.into_parts();
         self.to.absorb::<WithReader>(&mut self.pass, pass);
         self.to.learn_as::<OnceInOrder>(&mut self.pass);
         let pass = self.to.another::<WithReader>(&mut self.pass);
@@ -71,6 +90,15 @@ impl<M: Signed> SendingEnd<M> {
 
 impl<M: Signed> ReceivingEnd<M> {
     ghost use Rattle.channels.specs.ChannelEnds.{IsNewSender, IsSameReader, IsSameSender, channel_of, number_of, received_by, senders_of, sent_by, source_of};
+
+    // Returns the channel's receiver, and the pass.
+    fn into_parts(self) -> (RuledReceiver<M, View<M>, InOrder>, Pass<M, View<M>>)
+        ensures from { result.0 ≡ self.from }
+        ensures pass { result.1 ≡ self.pass }
+    {
+        let ReceivingEnd { from, pass } = self;
+        (from, pass)
+    }
 
     /// Opens a channel with room for this many messages, and its first sender.
     pub fn open(
@@ -127,7 +155,7 @@ impl<M: Signed> ReceivingEnd<M> {
         ensures received { received_by self.new ≡ received_by self.old }
         ensures same { IsSameReader self.old self.new }
     {
-        let SendingEnd { to, pass } = sender;
+        let (to, pass) = sender.into_parts();
         to.absorb::<WithSender>(&mut self.pass, pass);
         to.learn_as::<OnceInOrder>(&mut self.pass);
         let pass = to.another::<WithSender>(&mut self.pass);

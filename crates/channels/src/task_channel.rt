@@ -15,13 +15,21 @@ use std::sync::Wait;
 use superstep::Origin;
 
 /// The coordinator's end of the channel of one worker's tasks.
-#[derive(Drop)]
 pub struct TaskChannel<J: Origin> {
     pub(crate) orders: SendingEnd<Order<J>>,
     /// Whether the worker was sent `Stop`.
     pub(crate) stopped: bool,
     pub ghost number: { number_of orders ≡ 0 },
     pub ghost stopped_is: { has_bye stops (sent_by orders) ≡ stopped },
+}
+
+impl<J: Origin> Drop for TaskChannel<J> {
+    fn drop(self) {
+        let TaskChannel {
+            orders: _,
+            stopped: _,
+        } = self;
+    }
 }
 
 impl<J: Origin> TaskChannel<J> {

@@ -9,8 +9,8 @@ use conformance_cases::show_texts;
 use cost::{CostFault, Ranks, inlined_size, ranks};
 use std::alloc::{AllocError, Global};
 use std::rt::Files;
-use validate::Valid;
-use wasm_ast::{ImportDescription, Module};
+use valid::Valid;
+use wasm_ast::{Module, imported_function_count};
 
 pub fn show(rt: &(impl Files + Print + AllocGlobal)) -> Result<()> {
     show_texts(rt, "cost/costs.txt", answer)?;
@@ -48,12 +48,7 @@ fn sizes_and_ranks(alloc: Global, valid: &Valid, ranks: &Ranks) -> Result<String
 }
 
 fn function_count(module: &Module) -> u32 {
-    let imported = module
-        .imports
-        .as_slice()
-        .iter()
-        .filter(|import| matches!(import.description, ImportDescription::Function(_)))
-        .count();
+    let imported = imported_function_count(module.imports.as_slice());
     let count = imported.saturating_add(module.functions.as_slice().len());
     u32::try_from(count).unwrap_or(0)
 }

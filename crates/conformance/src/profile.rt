@@ -1,17 +1,15 @@
 //! The bounded profile. It prints `ok` and the bounds of a call of `compute`, or `no profile` with the broken rule and its
 //! place, or with the cycle of functions that call each other. Other cases print the sizes of frames.
 
-ghost use Rattle.std.specs.Prelude.{◌≡◌};
-ghost use Rattle.wasm_ast.specs.Limits.{imported_functions};
-
 use crate::modules::{agreed, line_of, valid_of};
 use anyhow::Result;
-use bounded_profile::{ProfileFault, Verified, verify};
+use bounded_profile::{ProfileFault, verify};
 use conformance_cases::show_texts;
 use sources::CommandFault;
 use std::alloc::{AllocError, Global};
 use std::rt::Files;
-use wasm_ast::{Import, ImportDescription};
+use verified::Verified;
+use wasm_ast::imported_function_count;
 
 pub fn show(rt: &(impl Files + Print + AllocGlobal)) -> Result<()> {
     show_texts(rt, "bounded_profile/profile.txt", answer)?;
@@ -85,7 +83,7 @@ fn told(alloc: Global, fault: ProfileFault) -> Result<String, AllocError> {
 // Shows for each defined function the number of its parameters and locals, and its greatest stack height.
 fn cells_of_each(alloc: Global, verified: &Verified) -> Result<String, AllocError> {
     let module = verified.module();
-    let imported = imported_count(module.imports.as_slice());
+    let imported = imported_function_count(module.imports.as_slice());
     let mut text = String::from_str(alloc, "cells")?;
     for (index, _function) in module.functions.as_slice().iter().enumerate() {
         if let Ok(number) = u32::try_from(imported.saturating_add(index)) {
@@ -103,13 +101,4 @@ fn reach_and_places(alloc: Global, verified: &Verified) -> Result<String, AllocE
         write!(text, " {}", verified.place(byte))?;
     }
     Ok(text)
-}
-
-fn imported_count(imports: &[Import]) -> usize
-    ensures { result ≡ imported_functions imports.now }
-{
-    imports
-        .iter()
-        .filter(|import| matches!(import.description, ImportDescription::Function(_)))
-        .count()
 }

@@ -9,12 +9,12 @@ mod operands;
 mod plain;
 mod start;
 
-use cost::{branch_units, host_units, plain_units};
 use host::call_host;
 use host_calls::{CallInput, CallOutcome, CallState, HostCall};
 use plain::act_plain;
 use start::{begin, compute_function, defined_function};
 use std::alloc::{AllocError, AllocFailed, Global};
+use units::{branch_units, host_units, plain_units};
 use wasm_ast::{Instr, Module, Value};
 
 /// The reason why a call has no outcome.

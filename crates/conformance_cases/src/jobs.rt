@@ -2,7 +2,6 @@
 
 use crate::spelling::spelled;
 use anyhow::{Result, bail};
-use bounded_profile::Verified;
 use graph::Graph;
 use sources::{Source, load};
 use std::alloc::{AllocError, Global};
@@ -10,6 +9,7 @@ use std::fs;
 use std::num::ParseIntError;
 use std::rt::Files;
 use superstep::{Job, JobFault, Settings};
+use verified::Verified;
 
 /// Makes the job of `PARTS WORKERS EVERY LIMIT LEASE; MODULE; GRAPH`, or returns the setting that is out of its range.
 /// MODULE is a file. GRAPH is a file, or the text of a graph.

@@ -15,9 +15,10 @@ use anyhow::{Result, bail};
 use clap::error::ErrorKind;
 use command_line::{Options, options};
 use conformance_cases::{is_case, one_line};
-use console::{NoView, RunNotes, call, command, write_sheets};
+use console::{NoView, command};
 use lent_files::{LentFiles, lent_files};
-use session::{ServeFault, serve_in_threads};
+use plain_commands::{RunNotes, call, write_sheets};
+use session::ServeFault;
 use sources::{Source, refusal_line};
 use std::alloc::{AllocError, Global};
 use std::io::Write;
@@ -25,6 +26,7 @@ use std::rt::Files;
 use std::sync::Wait;
 use std::thread::Threads;
 use std::{fs, iter, str};
+use threaded_session::serve_in_threads;
 use workers::NoLoss;
 
 // So many processors has the machine of each command.

@@ -17,12 +17,13 @@ use anyhow::Result;
 use conformance_cases::{bytes, is_case, named, one_line, spelled};
 use console::{Loss, LossGate};
 use lines::{Given, Taken};
-use session::{ServeFault, serve_in_threads, serve_on_one_machine};
+use session::{ServeFault, serve_on_one_machine};
 use std::alloc::{AllocError, Global};
 use std::rt::Files;
 use std::sync::Wait;
 use std::thread::Threads;
 use std::{fs, str};
+use threaded_session::serve_in_threads;
 use workers::{Gate, NoLoss};
 
 pub fn show(rt: &(impl Files + Print + AllocGlobal + Wait + Threads + Sync)) -> Result<()> {

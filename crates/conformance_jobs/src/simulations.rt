@@ -20,9 +20,9 @@ pub mod sweeps;
 
 use anyhow::Result;
 use conformance_cases::{bytes, fault_told, job_in, named, one_line, show_cases, spelled};
-use console::{steps_of, trace_text};
 use doubles::doubled;
 use faulty_keep::{FaultyKeep, Wrong};
+use plain_commands::{steps_of, trace_text};
 use rollback::{Step, Trace, simulate};
 use std::alloc::{AllocError, Global};
 use std::num::ParseIntError;

@@ -15,11 +15,12 @@ use Rattle.sources.specs.Modules.{is_text_path}
 use Rattle.sources.specs.OutputLines.{IfText, line}
 use Rattle.sources.specs.Refusal.{fault_text, status_of}
 use Rattle.sources.specs.Source.{RefusesLoad, RefusesModule}
-use Rattle.console.specs.Jobs.{IsNoFolder}
-use Rattle.console.specs.Notes.{NotesEnd, NotesFault, NotesOnly}
-use Rattle.console.specs.Sizes.{IsNotAdmitted, RefusesSize}
-use Rattle.console.specs.declared.noting.RunNotes.{RunNotes}
-use Rattle.console.specs.FileCommands.{IsJobAt, IsNotReady, IsUnopened, NotesAnswer, NotesFailedRun, NotesOnlyRun, NotesPrinted, NotesRefusal, NotesRun}
+use Rattle.plain_commands.specs.Keeping.{IsNoFolder, IsNotReady}
+use Rattle.plain_commands.specs.Notes.{NotesEnd, NotesFault, NotesOnly}
+use Rattle.plain_commands.specs.Sizes.{IsNotAdmitted, RefusesSize}
+use Rattle.plain_commands.specs.declared.noting.RunNotes.{RunNotes}
+use Rattle.plain_commands.specs.Opening.{IsJobAt, IsUnopened}
+use Rattle.console.specs.FileCommands.{NotesAnswer, NotesFailedRun, NotesOnlyRun, NotesPrinted, NotesRefusal, NotesRun}
 
 -- ---- a job that did not begin came to no fault of its own
 

@@ -8,10 +8,12 @@ use Rattle.command_line.specs.declared.request.Request.TheVariants as request
 use Rattle.wasm_decode.specs.Canonical.{canonical}
 use Rattle.checkpoint.specs.Checkpoint.{checkpoint_bytes}
 use Rattle.sources.specs.Disk.{Disk, Stays, Tries}
-use Rattle.console.specs.Importing.{TriesAll, files_of}
+use Rattle.plain_commands.specs.Importing.{TriesAll, files_of}
 use Rattle.sources.specs.OutputLines.{line}
 use Rattle.sources.specs.Refusal.{fault_text, status_of}
-use Rattle.console.specs.FileCommands.{IsBeforeWriting, IsCause, HasPrinted, MayTry, MayPrint}
+use Rattle.plain_commands.specs.Causes.{IsBeforeWriting}
+use Rattle.console.specs.FileCommands.{IsCause, MayTry, MayPrint}
+use Rattle.plain_commands.specs.Outputs.{HasPrinted}
 use Rattle.sources.proofs.Disks.{stays_again}
 
 -- memory may run out at any command
@@ -48,12 +50,6 @@ refusal_told before after asked fault other cause unwritten tried (inr same) =
       status_of_fault = rw same refl;
       line_of_fault = rw same refl;
     })
-
--- the same answer of other words for the status and the text
-pub retold : {E : Type 0} (old new : Option (List ℕ)) (answer : Result ℕ E) (status other : ℕ) (told text : List ℕ) → status ≡ other
-    → told ≡ text → HasPrinted old new status told answer → HasPrinted old new other text answer
-retold old new answer status other told text same spelled is =
-    subst (λ n. HasPrinted old new n text answer) same (subst (λ t. HasPrinted old new status t answer) spelled is)
 
 -- what holds of the text that is printed with this status
 pub printed_with : {E : Type 0} (old new : Option (List ℕ)) (answer : Result ℕ E) (status : ℕ) (told : List ℕ) (P : ℕ → List ℕ → Type 0)

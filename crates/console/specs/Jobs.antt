@@ -11,6 +11,7 @@ use Rattle.console.specs.declared.loss.Loss.{Loss}
 use Rattle.sources.specs.OutputLines.{ended_lines, job_lines}
 use Rattle.sources.specs.declared.fault.CommandFault.{CommandFault}
 use Rattle.sources.specs.declared.fault.CommandFault.TheVariants as command
+use Rattle.plain_commands.specs.Keeping.{IsNoFolder}
 
 -- The lines are those of what the run on one machine ends with (Pregel 2010, 2).
 pub record AreLinesOf (job : Work) (meaning : Meaning job) (tells_units : Bool) (lines : List ℕ) : Type 0 where
@@ -50,12 +51,6 @@ abbrev pub IsFaultOfRun : CommandFault → Type 0
 IsFaultOfRun (command.Job fault) = IsRunFault fault
 IsFaultOfRun command.OutOfMemory = Unit {0}
 IsFaultOfRun _ = ⊥
-
--- no file can be made in the folder, or there is no memory to try it
-abbrev pub IsNoFolder : (folder : List ℕ) → CommandFault → Type 0
-IsNoFolder folder (command.Unwritable refused) = refused.now ≡ folder
-IsNoFolder folder command.OutOfMemory = Unit {0}
-IsNoFolder folder _ = ⊥
 
 -- the run ended with a fault, or no file can be made in the folder for its states
 abbrev pub IsFaultOfKept : (folder : Option (Bor (List ℕ))) → CommandFault → Type 0

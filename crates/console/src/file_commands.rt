@@ -1,54 +1,34 @@
 //! The commands over files: each prints an answer or, on one line, a refusal.
 
-ghost use Rattle.std.specs.Prelude.{◌≡◌, ◌⊎◌, List, ℕ, false, is_some, true, IfOk, IfErr, IsSome, MatchResult, OnErr, string_bytes};
+ghost use Rattle.std.specs.Prelude.{◌≡◌, List, ℕ, false, is_some, true, IfOk, IfErr, IsSome, OnErr};
 ghost use Rattle.std.specs.Io.KnownBytes.{Appends};
-ghost use Rattle.wasm_ast.specs.Limits.{IsWithinLimits};
-ghost use Rattle.wasm_decode.specs.Canonical.{canonical};
-ghost use Rattle.checkpoint.specs.Checkpoint.{checkpoint_bytes};
-ghost use Rattle.sources.specs.Disk.{Stays, Tries};
+ghost use Rattle.sources.specs.Disk.{Stays};
 ghost use Rattle.checkpoint.specs.Files.{superstep_on};
 ghost use Rattle.console.specs.Jobs.{AreEndLines, AreJobLines, AreKeptLines, AreRunLines, IsFaultOfRun};
 ghost use Rattle.sources.specs.OutputLines.{IfText};
 ghost use Rattle.console.specs.Loss.{NamesLoss, RefusesLoss};
-ghost use Rattle.sources.specs.Source.{RefusesModule};
-ghost use Rattle.sources.specs.Reading.{IsRefusedAt, IsUnwritable};
-ghost use Rattle.console.specs.FileCommands.{Answered, AreStepsAt, HasPrinted, IsBoundsLine, IsCause, IsFaultOfKeeping, IsJobAt, IsKeptAt, IsNoCheckpointAt, IsNoStepsAt, IsNotUpgraded, IsUnassembled, IsUncalled, IsUnfitted, IsUnopened, IsUnreplayed, IsUnrun, IsUnspelled, MayPrint, MayTry, NotesAnswer, NotesFailedRun, NotesOnlyAsked, NotesOnlyRun, NotesPrinted, NotesRefusal, NotesRun, PrintsBounds, PrintsLayout, PrintsLength, PrintsOutcome, PrintsReplay, PrintsRun, PrintsSpelling, PrintsUpgraded, PrintsWritten, RefusesFit, StaysBeforeWriting, PrintsFitted, PrintsFittedOf, TriesFitted, TriesFittedOf, TriesSpelling, TriesUpgraded, bounds_line, length_line, writes_file};
-ghost use Rattle.console.specs.Notes.{NotesEnd, NotesFault, NotesOnly};
-ghost use Rattle.console.specs.Sheets.{asks_of_run, asks_sheets};
-ghost use Rattle.console.specs.Sizes.{IsNotAdmitted};
-ghost use Rattle.console.specs.inside.Answering.{HasPrintedFault};
+ghost use Rattle.console.specs.FileCommands.{Answered, IsCause, IsFaultOfKeeping, IsUnrun, MayPrint, MayTry, NotesAnswer, NotesFailedRun, NotesOnlyAsked, NotesOnlyRun, NotesPrinted, NotesRefusal, NotesRun, PrintsRun, writes_file};
+ghost use Rattle.plain_commands.specs.Outputs.{HasPrinted};
+ghost use Rattle.plain_commands.specs.Causes.{StaysBeforeWriting};
+ghost use Rattle.plain_commands.specs.Notes.{NotesEnd, NotesFault, NotesOnly};
+ghost use Rattle.plain_commands.specs.Sheets.{asks_of_run, asks_sheets};
 
-use crate::compute_call::answer;
-use crate::importing::import_file;
-use crate::jobs::{open, resume, run};
-use crate::keeping::keep_in;
+use crate::jobs::{resume, run};
 use crate::loss::{Loss, LossGate};
-use crate::noting::RunNotes;
-use crate::replay::replay;
-use crate::sizes::load_within;
-use crate::steps::steps_of;
 use crate::view::{RunGate, View};
 use crate::warnings::warn_of_run;
-use crate::watching::Watch;
-use bounded_profile::Verified;
 use checkpoint::{FileKeep, MemoryKeep};
-use command_line::{JobRequest, ModuleRequest, Progress, Request, RunRequest};
-use explain::{explanation, is_explained};
-use fit::fit;
-use line_text::{Output, WriteFailure, write_all};
-use rollback::Step;
-use sources::{
-    CommandFault, Files, read_bytes, read_graph, read_module, read_source, read_text, refusal_line,
-    status_of, write,
+use command_line::{Progress, Request, RunRequest};
+use line_text::{Output, WriteFailure};
+use plain_commands::{
+    RunNotes, Watch, assemble_file, call_files, explain_refusal, fit_file, import_file, job_of,
+    keep_in, print_file, refuse, replay_files, tell, upgrade_file, verify_file,
 };
-use std::alloc::{AllocError, Global};
+use sources::{CommandFault, Files};
+use std::alloc::Global;
 use std::sync::Wait;
 use std::thread::Threads;
-use superstep::{Job, State};
-use validate::validate;
-use wasm_ast::Module;
-use wasm_decode::encode;
-use wat_asm::print;
+use superstep::Job;
 
 /// Executes a command, and writes the answer or, as one line, the refusal.
 ///
@@ -112,64 +92,6 @@ pub fn command<F: Files, O: Output, V: View + Sync>(
     }
 }
 
-// Shows why the module of a command is refused, if it is. If memory runs out, it shows nothing.
-fn explain_refusal<F: Files>(
-    alloc: Global,
-    request: Request<'_>,
-    fault: &CommandFault,
-    explains: bool,
-    files: &mut F,
-)
-    ensures { Stays (F.disk files.old) (F.disk files.new) }
-{
-    if !explains || !is_explained(fault) {
-        return;
-    }
-    if let Some(path) = module_path(request) {
-        show_explanation(alloc, path, fault, files);
-    }
-}
-
-// The file of the module of a command that may explain why it is refused.
-fn module_path<'a>(request: Request<'a>) -> Option<&'a str> {
-    match request {
-        Request::Call { module, .. } => Some(module.path),
-        Request::Run(asked) => Some(asked.job.module.path),
-        Request::Verify { module } => Some(module.path),
-        _ => None,
-    }
-}
-
-// Shows why the module in a file is refused. The file is read again; what cannot be read is explained without its place.
-fn show_explanation<F: Files>(alloc: Global, path: &str, fault: &CommandFault, files: &mut F)
-    ensures { Stays (F.disk files.old) (F.disk files.new) }
-{
-    let source = read_source(alloc, path, files).ok();
-    if let Ok(Some(text)) = explanation(alloc, source.as_ref(), fault) {
-        files.warn(text.as_str().trim_end());
-    }
-}
-
-// Writes the output, and returns the status.
-fn tell<O: Output>(status: u8, told: &[u8], out: &mut O) -> Result<u8, WriteFailure>
-    ensures told { HasPrinted (O.contents out.old) (O.contents out.new) status told.now result }
-    ensures failed { OnErr result (O.has_failed out.new) }
-{
-    write_all(told, out)?;
-    Ok(status)
-}
-
-// Prints the fault. If there is no memory for its line, prints that memory ran out.
-fn refuse<O: Output>(alloc: Global, fault: &CommandFault, out: &mut O) -> Result<u8, WriteFailure>
-    ensures told { HasPrintedFault (O.contents out.old) (O.contents out.new) fault.now result }
-    ensures failed { OnErr result (O.has_failed out.new) }
-{
-    match refusal_line(alloc, fault) {
-        Ok(text) => tell(status_of(fault), text.as_bytes(), out),
-        Err(_) => tell(1, b"no memory\n", out),
-    }
-}
-
 // What is told of a command.
 fn execute_request<'a, F: Files, V: View + Sync>(
     rt: &(impl Wait + Threads + Sync + std::rt::Files + AllocGlobal),
@@ -202,22 +124,6 @@ fn execute_request<'a, F: Files, V: View + Sync>(
         Request::Verify { module } => verify_file(alloc, module, files),
         Request::Import(asked) => import_file(alloc, asked, files),
     }
-}
-
-// Calls the module in one file with the input in another.
-fn call_files<'a, F: Files>(
-    alloc: Global,
-    module: ModuleRequest<'a>,
-    input: &'a str,
-    files: &mut F,
-) -> Result<String, CommandFault<'a>>
-    ensures answered { IfText result (PrintsOutcome (F.disk files.old) «module».entry input.now) }
-    ensures kept { Stays (F.disk files.old) (F.disk files.new) }
-    ensures refused { IfErr result (IsUncalled (F.disk files.old) «module».entry input.now) }
-{
-    let verified = load_within(alloc, module, files)?;
-    let text = read_text(alloc, input, files)?;
-    answer(alloc, &verified, text.as_str())
 }
 
 // Runs the job of the module in one file over the graph in another.
@@ -361,252 +267,4 @@ fn run_in_folder<'a, F: Files, V: View + Sync>(
         ),
         _ => run(rt, alloc, job, keep, gate, files, notes, tells_units, warns),
     }
-}
-
-// Replays the job of the module in one file over the graph in another, by the steps in a third.
-fn replay_files<'a, F: Files>(
-    rt: &(impl Threads + Sync + std::rt::Files + AllocGlobal),
-    alloc: Global,
-    asked: JobRequest<'a>,
-    steps: &'a str,
-    files: &mut F,
-) -> Result<String, CommandFault<'a>>
-    ensures answered { IfText result (PrintsReplay (F.disk files.old) asked.entry steps.now) }
-    ensures kept { Stays (F.disk files.old) (F.disk files.new) }
-    ensures refused { IfErr result (IsUnreplayed (F.disk files.old) asked.entry steps.now) }
-{
-    let job = job_of(rt, alloc, asked, files)?;
-    let steps = read_steps(alloc, steps, files)?;
-    replay(rt, alloc, &job, steps.as_slice(), asked.tells_units)
-}
-
-// The steps in a file.
-fn read_steps<'a, F: Files>(
-    alloc: Global,
-    path: &'a str,
-    files: &mut F,
-) -> Result<Vec<Step>, CommandFault<'a>>
-    ensures found { MatchResult result
-        (λ steps. AreStepsAt (F.disk files.old) path.now steps.items)
-        (IsNoStepsAt (F.disk files.old) path.now) }
-    ensures kept { Stays (F.disk files.old) (F.disk files.new) }
-{
-    let text = read_text(alloc, path, files)?;
-    let steps = steps_of(alloc, text.as_str())?;
-    Ok(steps)
-}
-
-// The job of the module in one file over the graph in another.
-fn job_of<'a, F: Files>(
-    rt: &(impl Threads + Sync),
-    alloc: Global,
-    asked: JobRequest<'a>,
-    files: &mut F,
-) -> Result<Job, CommandFault<'a>>
-    ensures found { MatchResult result (IsJobAt (F.disk files.old) asked.entry)
-        (IsUnopened (F.disk files.old) asked.entry) }
-    ensures kept { Stays (F.disk files.old) (F.disk files.new) }
-{
-    let verified = load_within(alloc, asked.module, files)?;
-    let graph = read_graph(rt, alloc, asked.graph, files)?;
-    open(alloc, verified, graph, asked.settings)
-}
-
-// Writes the module in one file to another, in the binary format.
-fn assemble_file<'a, F: Files>(
-    alloc: Global,
-    path: &'a str,
-    binary: &'a str,
-    files: &mut F,
-) -> Result<String, CommandFault<'a>>
-    ensures answered { IfText result
-        (PrintsLength (F.disk files.old) (F.disk files.new) path.now binary.now) }
-    ensures refused { IfErr result (IsUnassembled (F.disk files.old) path.now binary.now) }
-    ensures before { IfErr result (StaysBeforeWriting (F.disk files.old) (F.disk files.new)) }
-    ensures tried { OnErr result (Stays (F.disk files.old) (F.disk files.new)
-        ⊎ TriesSpelling (F.disk files.old) (F.disk files.new) path.now binary.now) }
-{
-    let module = read_module(alloc, path, files)?;
-    write_module(alloc, &module, binary, files)
-}
-
-// Writes a module to a file, in the binary format.
-fn write_module<'a, F: Files>(
-    alloc: Global,
-    module: &Module,
-    binary: &'a str,
-    files: &mut F,
-) -> Result<String, CommandFault<'a>>
-    requires { IsWithinLimits «module».now }
-    ensures answered { IfText result
-        (PrintsSpelling (F.disk files.old) (F.disk files.new) «module».now binary.now) }
-    ensures refused { IfErr result (IsUnspelled (F.disk files.old) binary.now «module».now) }
-    ensures before { IfErr result (StaysBeforeWriting (F.disk files.old) (F.disk files.new)) }
-    ensures tried { OnErr result
-        (Tries binary.now (canonical «module».now) (F.disk files.old) (F.disk files.new)) }
-{
-    let bytes = encode(alloc, module)?;
-    write_told(alloc, bytes.as_slice(), binary, files)
-}
-
-// Writes what the module in one file is rewritten to into another, in the binary format.
-fn fit_file<'a, F: Files>(
-    alloc: Global,
-    path: &'a str,
-    binary: &'a str,
-    files: &mut F,
-) -> Result<String, CommandFault<'a>>
-    ensures answered { IfText result
-        (PrintsFitted (F.disk files.old) (F.disk files.new) path.now binary.now) }
-    ensures refused { IfErr result (IsUnfitted (F.disk files.old) path.now binary.now) }
-    ensures before { IfErr result (StaysBeforeWriting (F.disk files.old) (F.disk files.new)) }
-    ensures tried { OnErr result (Stays (F.disk files.old) (F.disk files.new)
-        ⊎ TriesFitted (F.disk files.old) (F.disk files.new) path.now binary.now) }
-{
-    let module = read_module(alloc, path, files)?;
-    write_fitted(alloc, module, binary, files)
-}
-
-// Writes what a module is rewritten to into a file, in the binary format.
-fn write_fitted<'a, F: Files>(
-    alloc: Global,
-    module: Module,
-    binary: &'a str,
-    files: &mut F,
-) -> Result<String, CommandFault<'a>>
-    ensures answered { IfText result
-        (PrintsFittedOf (F.disk files.old) (F.disk files.new) «module» binary.now) }
-    ensures refused { IfErr result (RefusesFit (F.disk files.old) binary.now «module») }
-    ensures before { IfErr result (StaysBeforeWriting (F.disk files.old) (F.disk files.new)) }
-    ensures tried { OnErr result (Stays (F.disk files.old) (F.disk files.new)
-        ⊎ TriesFittedOf (F.disk files.old) (F.disk files.new) «module» binary.now) }
-{
-    let valid = validate(alloc, module)?;
-    let fitted = fit(alloc, valid)?;
-    write_module(alloc, fitted.module(), binary, files)
-}
-
-// Writes the checkpoint in one file to another, of the newest version.
-fn upgrade_file<'a, F: Files>(
-    alloc: Global,
-    path: &'a str,
-    newer: &'a str,
-    files: &mut F,
-) -> Result<String, CommandFault<'a>>
-    ensures answered { IfText result
-        (PrintsUpgraded (F.disk files.old) (F.disk files.new) path.now newer.now) }
-    ensures refused { IfErr result (IsNotUpgraded (F.disk files.old) path.now newer.now) }
-    ensures before { IfErr result (StaysBeforeWriting (F.disk files.old) (F.disk files.new)) }
-    ensures tried { OnErr result (Stays (F.disk files.old) (F.disk files.new)
-        ⊎ TriesUpgraded (F.disk files.old) (F.disk files.new) path.now newer.now) }
-{
-    let state = read_checkpoint(alloc, path, files)?;
-    write_checkpoint(alloc, &state, newer, files)
-}
-
-// The state whose checkpoint is in a file.
-fn read_checkpoint<'a, F: Files>(
-    alloc: Global,
-    path: &'a str,
-    files: &mut F,
-) -> Result<State, CommandFault<'a>>
-    ensures found { MatchResult result (IsKeptAt (F.disk files.old) path.now)
-        (IsNoCheckpointAt (F.disk files.old) path.now) }
-    ensures kept { Stays (F.disk files.old) (F.disk files.new) }
-{
-    let bytes = read_bytes(alloc, path, files)?;
-    let state = checkpoint::read(alloc, bytes.as_slice())?;
-    Ok(state)
-}
-
-// Writes the checkpoint of a state to a file.
-fn write_checkpoint<'a, F: Files>(
-    alloc: Global,
-    state: &State,
-    newer: &'a str,
-    files: &mut F,
-) -> Result<String, CommandFault<'a>>
-    ensures answered { IfText result
-        (PrintsWritten (F.disk files.old) (F.disk files.new)
-        (checkpoint_bytes state.now) newer.now) }
-    ensures refused { IfErr result (IsUnwritable (F.disk files.old) newer.now) }
-    ensures before { IfErr result (StaysBeforeWriting (F.disk files.old) (F.disk files.new)) }
-    ensures tried { OnErr result
-        (Tries newer.now (checkpoint_bytes state.now) (F.disk files.old) (F.disk files.new)) }
-{
-    let bytes = checkpoint::write(alloc, state)?;
-    write_told(alloc, bytes.as_slice(), newer, files)
-}
-
-// Writes bytes to a file, and returns the answer with their number. The answer is made first.
-fn write_told<'a, F: Files>(
-    alloc: Global,
-    bytes: &[u8],
-    path: &'a str,
-    files: &mut F,
-) -> Result<String, CommandFault<'a>>
-    ensures answered { IfText result
-        (PrintsWritten (F.disk files.old) (F.disk files.new) bytes.now path.now) }
-    ensures refused { IfErr result (IsUnwritable (F.disk files.old) path.now) }
-    ensures before { IfErr result (StaysBeforeWriting (F.disk files.old) (F.disk files.new)) }
-    ensures tried { OnErr result
-        (Tries path.now bytes.now (F.disk files.old) (F.disk files.new)) }
-{
-    let told = length_text(alloc, bytes.len())?;
-    write(path, bytes, files)?;
-    Ok(told)
-}
-
-fn length_text(alloc: Global, length: usize) -> Result<String, AllocError>
-    ensures { IfOk result (λ text. string_bytes text ≡ length_line length) }
-{
-    let mut text = String::new(alloc);
-    writeln!(text, "ok {length}")?;
-    Ok(text)
-}
-
-// Prints the module in a file.
-fn print_file<'a, F: Files>(
-    alloc: Global,
-    path: &'a str,
-    files: &mut F,
-) -> Result<String, CommandFault<'a>>
-    ensures answered { IfText result (PrintsLayout (F.disk files.old) path.now) }
-    ensures kept { Stays (F.disk files.old) (F.disk files.new) }
-    ensures refused { IfErr result (IsRefusedAt (F.disk files.old) path.now RefusesModule) }
-{
-    let module = read_module(alloc, path, files)?;
-    let text = print(alloc, &module)?;
-    Ok(text)
-}
-
-// Returns the bounds of the module in a file.
-fn verify_file<'a, F: Files>(
-    alloc: Global,
-    asked: ModuleRequest<'a>,
-    files: &mut F,
-) -> Result<String, CommandFault<'a>>
-    ensures answered { IfText result (PrintsBounds (F.disk files.old) asked.entry) }
-    ensures kept { Stays (F.disk files.old) (F.disk files.new) }
-    ensures refused { IfErr result (IsNotAdmitted (F.disk files.old) asked.entry) }
-{
-    let verified = load_within(alloc, asked, files)?;
-    let text = bounds_of(alloc, &verified)?;
-    Ok(text)
-}
-
-// A module's bounds.
-fn bounds_of(alloc: Global, verified: &Verified) -> Result<String, AllocError>
-    ensures { IfText result (IsBoundsLine verified.now) }
-{
-    let (size, operands) = (verified.size(), verified.max_operands());
-    bounds_text(alloc, size, operands, verified.max_frames())
-}
-
-fn bounds_text(alloc: Global, size: u32, operands: u32, frames: u32) -> Result<String, AllocError>
-    ensures { IfOk result (λ text. string_bytes text ≡ bounds_line size operands frames) }
-{
-    let mut text = String::new(alloc);
-    writeln!(text, "ok size {size} operands {operands} frames {frames}")?;
-    Ok(text)
 }

@@ -1,54 +1,24 @@
 //! A job, from a module and a graph to printed lines.
 
-ghost use Rattle.std.specs.Prelude.{◌≡◌, ◌<◌, true, IfOk, IfErr, IsSome, MatchResult, None, OnOk, Some, string_bytes};
-ghost use Rattle.rollback.specs.Saving.{HasLeft};
-ghost use Rattle.superstep.specs.Ending.{answer_of};
+ghost use Rattle.std.specs.Prelude.{◌≡◌, true, IfErr, IsSome, ◌<◌, None, Some};
 ghost use Rattle.sources.specs.Disk.{Stays};
-ghost use Rattle.sources.specs.OutputLines.{Gains, IfText, end_line, ended_lines, numbered_line, numbered_lines};
-ghost use Rattle.sources.specs.Jobs.{IsJobOf, RefusesSettings};
 ghost use Rattle.console.specs.Jobs.{AreEndLines, AreJobLines, AreKeptLines, IsFaultOfRun};
-ghost use Rattle.console.specs.Notes.{HasNoted, NotesEnd, NotesFault, NotesOnly};
-ghost use Rattle.console.specs.inside.Answering.{AreLinesOfAnswer, IsFaultOfAnswer, opening_fault};
+ghost use Rattle.sources.specs.OutputLines.{IfText};
+ghost use Rattle.plain_commands.specs.Notes.{NotesEnd, NotesFault, NotesOnly, HasNoted};
+ghost use Rattle.rollback.specs.Saving.{HasLeft};
+ghost use Rattle.console.specs.inside.Answering.{AreLinesOfAnswer, IsFaultOfAnswer};
 
-use crate::noting::RunNotes;
 use crate::view::{RunGate, View};
 use crate::warnings::warn_of_missed;
-use bounded_profile::Verified;
 use checkpoint::Keep;
-use graph::Graph;
+use plain_commands::{RunNotes, ended_text};
 use rollback::Report;
-use sources::{CommandFault, Files, end_word, push_values};
-use std::alloc::{AllocError, Global};
+use sources::{CommandFault, Files};
+use std::alloc::Global;
 use std::sync::Wait;
 use std::thread::Threads;
-use superstep::{Job, JobEnd, JobFault, Settings};
+use superstep::{Job, JobFault};
 use workers::{resume_in_threads, run_in_threads};
-
-/// The job of a module over a graph. `Settings` names the first setting that is out of its range.
-pub fn open<'a>(
-    alloc: Global,
-    verified: Verified,
-    graph: Graph,
-    settings: Settings,
-) -> Result<Job, CommandFault<'a>>
-    ensures opened { MatchResult result (IsJobOf verified graph settings)
-        (RefusesSettings settings) }
-{
-    match Job::new(alloc, verified, graph, settings) {
-        Ok(job) => Ok(job),
-        Err(fault) => Err(opening_fault(fault)),
-    }
-}
-
-// A job that was not opened has a setting out of its range, or no memory.
-fn opening_fault<'a>(fault: JobFault) -> CommandFault<'a>
-    ensures { result ≡ opening_fault fault }
-{
-    match fault {
-        JobFault::Settings(setting) => CommandFault::Settings(setting),
-        _ => CommandFault::OutOfMemory,
-    }
-}
 
 /// What a job prints that goes on where an earlier run of it has left off, before this superstep of the Keep's last save: the lines
 /// that `run` prints.
@@ -170,57 +140,4 @@ fn end_run<'a, V: View, F: Files>(
             Err(CommandFault::Job(*fault))
         }
     }
-}
-
-// The lines of what a job ended with.
-fn ended_text(alloc: Global, ended: &JobEnd, tells_units: bool) -> Result<String, AllocError>
-    ensures { IfOk result (λ text. string_bytes text ≡ ended_lines tells_units ended.now) }
-{
-    let mut text = String::new(alloc);
-    push_ended(&mut text, ended, tells_units)?;
-    Ok(text)
-}
-
-/// Puts the lines of what a job ended with behind a text.
-pub fn push_ended(text: &mut String, ended: &JobEnd, tells_units: bool) -> Result<(), AllocError>
-    ensures { OnOk result (Gains text.old text.new (ended_lines tells_units ended.now)) }
-{
-    push_values(text, &ended.values)?;
-    push_end(text, ended)?;
-    if tells_units {
-        push_numbered(text, "units", ended.since, &ended.by_superstep)?;
-    }
-    Ok(())
-}
-
-fn push_end(text: &mut String, ended: &JobEnd) -> Result<(), AllocError>
-    ensures { OnOk result (Gains text.old text.new (end_line (answer_of ended.now))) }
-{
-    let how = end_word(ended.how);
-    let (superstep, units, dropped) = (ended.superstep, ended.units, ended.dropped);
-    writeln!(
-        text,
-        "end {how} supersteps {superstep} units {units} dropped {dropped}"
-    )
-}
-
-/// Puts a line `WORD N UNITS` behind a text for each of these units, N being this number at the first and one more at each.
-pub fn push_numbered(
-    text: &mut String,
-    word: &str,
-    first: u32,
-    units: &[u128],
-) -> Result<(), AllocError>
-    ensures { OnOk result (Gains text.old text.new (numbered_lines word.now first units.now)) }
-{
-    for (index, units) in units.iter().enumerate() {
-        push_number(text, word, u64::from(first) + index as u64, *units)?;
-    }
-    Ok(())
-}
-
-fn push_number(text: &mut String, word: &str, number: u64, units: u128) -> Result<(), AllocError>
-    ensures { OnOk result (Gains text.old text.new (numbered_line word.now number units)) }
-{
-    writeln!(text, "{word} {number} {units}")
 }

@@ -3,7 +3,8 @@
 ghost use Rattle.std.specs.Prelude.{◌≡◌};
 ghost use Rattle.console.specs.Loss.{is_due, loss_of};
 
-use crate::watching::Watch;
+use plain_commands::Watch;
+use run_report::{Tallied, capped};
 use sources::u32_of;
 use std::sync::Wait;
 use std::sync::atomic::{AtomicBool, Ordering};
@@ -113,7 +114,23 @@ impl Gate for LossGate {
 
     fn worked<R: Wait>(&self, rt: &R, _worker: u32, work: Worked) {
         if let Some(watch) = &self.watch {
-            watch.add(rt, work);
+            count(rt, work, watch);
         }
     }
+}
+
+// Counts what a worker did.
+fn count<R: Wait>(rt: &R, work: Worked, watch: &Watch) {
+    let Some(found) = work.found else {
+        return;
+    };
+    let task = Tallied {
+        epoch: work.epoch,
+        tasks: 1,
+        units: capped(work.units),
+        called: found.called,
+        received: found.received,
+        sent: work.sent as u64,
+    };
+    watch.add(rt, work.superstep, task);
 }

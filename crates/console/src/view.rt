@@ -3,7 +3,7 @@
 ghost use Rattle.std.specs.Prelude.{◌≡◌, is_some};
 
 use crate::loss::LossGate;
-use crate::watching::Watch;
+use plain_commands::Watch;
 use std::sync::Wait;
 use superstep::JobEnd;
 use workers::{Gate, Turn, Worked};

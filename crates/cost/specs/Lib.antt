@@ -1,16 +1,7 @@
--- The definitions that a reader has to believe, in reading order: the weights of instructions, the calls of functions,
--- cycles of calls, and the size of code with calls inlined.
-pub mod Weights
-pub mod Calls
-pub mod Cycles
-pub mod Sizes
--- the heights of functions above those that call nothing, and the ranks and sizes that are computed
-pub mod Heights
+-- The definitions that a reader has to believe, after those of `units`: the ranks and sizes that are computed.
 pub mod Marks
 pub mod Ranks
 -- what the faults say
 pub mod Faults
--- each instruction costs at least 1 unit: for the proofs of every crate
-pub mod LeastUnits
 -- definitions that only mirror the code, for its proofs
 pub mod inside

@@ -1,10 +1,10 @@
 //! The size of a function with calls inlined.
 
 ghost use Rattle.cost.specs.Ranks.{IsRanking};
-ghost use Rattle.cost.specs.Sizes.{IsReportedSize};
+ghost use Rattle.units.specs.Sizes.{IsReportedSize};
 
 use crate::table::Ranks;
-use validate::Valid;
+use valid::Valid;
 
 /// The largest size that is reported, in units.
 pub const MAX_SIZE: u32 = 8_388_608;

@@ -1,48 +1,14 @@
-//! The table of weights: the units that each instruction costs.
+//! The units of a module's instructions.
 
 ghost use Rattle.std.specs.Prelude.{◌≡◌, ◌≤◌, IfOk};
 ghost use Rattle.wasm_ast.specs.Limits.{is_function};
-ghost use Rattle.cost.specs.Weights.{plain_units, branch_units, host_units, call_units, units_of, imported_units, units_at};
+ghost use Rattle.units.specs.Weights.{plain_units, branch_units, host_units, call_units, units_of, imported_units, units_at};
 
 use host_calls::HostCall;
 use std::alloc::{AllocError, Global};
 use std::marker::Model;
-use wasm_ast::{Binary, Branch, Import, ImportDescription, Instr, Memory, Module, Numeric, Plain};
-
-/// Returns the units of an instruction that neither branches nor calls: 1, 2, 3 or 6.
-#[inline]
-pub fn plain_units(plain: Plain) -> u32
-    ensures { result ≡ plain_units plain }
-{
-    match plain {
-        Plain::Numeric(Numeric::Division(_, _)) => 6,
-        Plain::Numeric(Numeric::Binary(_, Binary::Mul)) => 3,
-        Plain::Memory(Memory::Load(_, _) | Memory::Store(_, _)) => 2,
-        _ => 1,
-    }
-}
-
-/// Returns the units of a branch: 2 for `br_table`, else 1.
-#[inline]
-pub fn branch_units(branch: &Branch) -> u32
-    ensures { result ≡ branch_units branch.now }
-{
-    match branch {
-        Branch::BrTable(_, _) => 2,
-        _ => 1,
-    }
-}
-
-/// Returns the units of a call of this host function: 8 for `send` and `aggregate`, else 2. `None` is any other function.
-#[inline]
-pub fn host_units(call: Option<HostCall>) -> u32
-    ensures { result ≡ host_units call }
-{
-    match call {
-        Some(HostCall::Send | HostCall::Aggregate) => 8,
-        _ => 2,
-    }
-}
+use units::{branch_units, host_units, plain_units};
+use wasm_ast::{Import, ImportDescription, Instr, Module};
 
 /// The units of a module's instructions. Its model is the module.
 #[derive(Drop)]
@@ -56,7 +22,7 @@ impl<'a> Model for Weights<'a> {
     ghost use Rattle.std.specs.Prelude.{◌≡◌};
     ghost use Rattle.wasm_ast.specs.declared.module.Module.{Module as AnyModule};
     ghost use Rattle.wasm_ast.specs.contracts.module.Module as module_type;
-    ghost use Rattle.cost.specs.Weights.{imported_units};
+    ghost use Rattle.units.specs.Weights.{imported_units};
 
     ghost Value = { AnyModule };
 

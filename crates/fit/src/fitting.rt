@@ -1,7 +1,7 @@
 //! Modules that are rewritten.
 
 ghost use Rattle.std.specs.Prelude.{◌≡◌, IfOk, true};
-ghost use Rattle.bounded_profile.specs.Profile.{IsBounded};
+ghost use Rattle.verified.specs.Profile.{IsBounded};
 ghost use Rattle.fit.specs.Fit.{KeepsModule, SameOutside};
 
 use crate::items::takers;

@@ -9,8 +9,8 @@ use Rattle.wasm_ast.specs.declared.plain.Plain.TheVariants as plain
 use Rattle.wasm_ast.specs.declared.module.Module.{Module}
 use Rattle.wasm_ast.specs.Code as code
 use Rattle.wasm_ast.specs.Widths.{load_width, store_width}
-use Rattle.bounded_profile.specs.Memory.{memory_bytes}
-use Rattle.bounded_profile.specs.Reached.{Access, is_reached}
+use Rattle.verified.specs.Memory.{memory_bytes}
+use Rattle.verified.specs.Reached.{Access, is_reached}
 use Rattle.interp.specs.Accesses.{memory_access, plain_access, next_access, CallsTouchReached}
 use Rattle.interp.specs.Machine.{Machine, Running, run}
 use Rattle.interp.specs.inside.Kept.{AreMarked, MemoryTouches, PlainTouches, Touches, marks, marks_from}

@@ -19,7 +19,7 @@ use Rattle.wasm_ast.specs.declared.plain.Plain.TheVariants as plain
 use Rattle.wasm_ast.specs.declared.module.Function.{Function}
 use Rattle.wasm_ast.specs.Code.{Code}
 use Rattle.wasm_ast.specs.declared.plain.MemoryArgument.{MemoryArgument}
-use Rattle.bounded_profile.specs.Memory.{number_of}
+use Rattle.verified.specs.Memory.{number_of}
 use Rattle.wasm_ast.specs.Numeric.{conversion_from, division_traps}
 use Rattle.wasm_ast.specs.NumericTypes.{numeric_takes}
 use Rattle.wasm_ast.specs.Widths.{load_width, store_type, store_width}

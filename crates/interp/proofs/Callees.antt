@@ -15,10 +15,10 @@ use Rattle.wasm_ast.specs.Limits.{is_function, is_function_description, imported
 use Rattle.host_calls.specs.declared.imports.HostCall.{HostCall}
 use Rattle.host_calls.specs.declared.imports.HostCall.TheVariants.{VertexId, Superstep, NumVertices, GetValue, SetValue, NextMessage, MessageValue, NextEdge, EdgeTarget, EdgeValue, Send, Aggregate, Aggregated, VoteToHalt}
 use Rattle.host_calls.specs.Imports.{module_name, name_of, type_of_call, call_named}
-use Rattle.validate.specs.Spaces.{function_type, spaces_of, imported}
-use Rattle.validate.specs.Spaces as spaces
-use Rattle.cost.specs.Calls.{body_of}
-use Rattle.bounded_profile.specs.Hosts.{IsHostImport, host_call_at}
+use Rattle.valid.specs.Spaces.{function_type, spaces_of, imported}
+use Rattle.valid.specs.Spaces as spaces
+use Rattle.units.specs.Calls.{body_of}
+use Rattle.verified.specs.Hosts.{IsHostImport, host_call_at}
 use Rattle.interp.specs.Machine.{Callee, host, defined, functions_of}
 use Rattle.interp.specs.Machine as machine
 use Rattle.interp.proofs.Values.{some_is, none_some}

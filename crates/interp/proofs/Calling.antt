@@ -5,8 +5,8 @@ use Rattle.wasm_ast.specs.declared.types.Value.{Value}
 use Rattle.wasm_ast.specs.declared.module.Module.{Module}
 use Rattle.wasm_ast.specs.Code.{Code}
 use Rattle.wasm_ast.specs.Code as code
-use Rattle.bounded_profile.specs.Kinds.{Kind, kinds}
-use Rattle.bounded_profile.specs.Known.{Context}
+use Rattle.verified.specs.Kinds.{Kind, kinds}
+use Rattle.verified.specs.Known.{Context}
 use Rattle.interp.specs.Configuration.{State, with_locals, tick}
 use Rattle.interp.specs.Machine.{ControlEntry, Frame, Machine, Running, landed, carry, has_result, advance}
 use Rattle.interp.specs.Heights.{beneath, callers}

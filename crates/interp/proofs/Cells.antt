@@ -38,7 +38,7 @@ use Rattle.host_calls.specs.Effects.{HostEffect}
 use Rattle.host_calls.specs.Effects as host
 use Rattle.host_calls.specs.Host.{Host, aggregator_value}
 use Rattle.host_calls.specs.Operands.{pop}
-use Rattle.bounded_profile.specs.Memory.{page}
+use Rattle.verified.specs.Memory.{page}
 use Rattle.interp.specs.Configuration.{State, Effect, Gives, Traps, Misses, with_locals, with_globals, tick}
 use Rattle.interp.specs.Memory.{read, write}
 use Rattle.interp.specs.Effects.{value, popped, numeric_effect, select, pushed, local_set, global_set, variable_effect, load_effect, store_effect, memory_effect, effect, lifted, call_effect}

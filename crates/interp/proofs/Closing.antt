@@ -10,12 +10,12 @@ use Rattle.wasm_ast.specs.Code as code
 use Rattle.host_calls.specs.declared.imports.HostCall.{HostCall}
 use Rattle.host_calls.specs.declared.imports.HostCall.TheVariants.{NextMessage, NextEdge}
 use Rattle.host_calls.specs.Imports.{type_of_call}
-use Rattle.cost.specs.Weights.{branch_units, call_units}
-use Rattle.cost.specs.LeastUnits.{branch_least, call_least}
-use Rattle.validate.specs.Spaces.{first_type}
-use Rattle.bounded_profile.specs.Kinds.{Kind, kinds}
-use Rattle.bounded_profile.specs.Known.{Context, Changes, call_requirements}
-use Rattle.bounded_profile.specs.Shapes.{TakesItem}
+use Rattle.units.specs.Weights.{branch_units, call_units}
+use Rattle.units.specs.LeastUnits.{branch_least, call_least}
+use Rattle.valid.specs.Spaces.{first_type}
+use Rattle.verified.specs.Kinds.{Kind, kinds}
+use Rattle.verified.specs.Known.{Context, Changes, call_requirements}
+use Rattle.verified.specs.Shapes.{TakesItem}
 use Rattle.interp.specs.Configuration.{State, tick, Effect, Gives}
 use Rattle.interp.specs.Effects.{call_effect}
 use Rattle.interp.specs.Machine.{Callee, host, functions_of, ControlEntry, Machine, Running, first, jump, advance, take_call, after_effect}

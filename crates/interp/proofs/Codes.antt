@@ -10,12 +10,12 @@ use Rattle.wasm_ast.specs.declared.module.Module.{Module}
 use Rattle.wasm_ast.specs.declared.body.Instr.TheVariants as instr
 use Rattle.wasm_ast.specs.Code.{Code}
 use Rattle.wasm_ast.specs.Code as code
-use Rattle.cost.specs.Weights.{branch_units, units_of}
-use Rattle.cost.specs.LeastUnits.{branch_least, units_least}
-use Rattle.bounded_profile.specs.declared.requirements.Requirement.TheVariants as requirement
-use Rattle.bounded_profile.specs.Kinds.{Kind, kinds, requirements, AllForget}
-use Rattle.bounded_profile.specs.Memory.{memory_bytes, number_of}
-use Rattle.bounded_profile.specs.Known.{Context, LabelTakes, BranchKnown, Changes}
+use Rattle.units.specs.Weights.{branch_units, units_of}
+use Rattle.units.specs.LeastUnits.{branch_least, units_least}
+use Rattle.verified.specs.declared.requirements.Requirement.TheVariants as requirement
+use Rattle.verified.specs.Kinds.{Kind, kinds, requirements, AllForget}
+use Rattle.verified.specs.Memory.{memory_bytes, number_of}
+use Rattle.verified.specs.Known.{Context, LabelTakes, BranchKnown, Changes}
 use Rattle.interp.specs.Configuration.{State, tick, Effect}
 use Rattle.interp.specs.Machine.{ControlEntry, Label, Machine, Running, Stuck, jump, first, label_of, branch_unless_zero, has_result, arm, after_effect, advance}
 use Rattle.interp.specs.Heights.{beneath, callers}

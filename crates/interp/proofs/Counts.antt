@@ -24,7 +24,7 @@ use Rattle.wasm_ast.specs.Code as code
 use Rattle.wasm_ast.specs.Numeric.{bits_of, conversion_from, division_traps, division_value}
 use Rattle.wasm_ast.specs.Values.{zero_of}
 use Rattle.wasm_ast.specs.Widths.{store_type}
-use Rattle.cost.specs.LeastUnits.{units_least}
+use Rattle.units.specs.LeastUnits.{units_least}
 use Rattle.host_calls.specs.declared.imports.HostCall.{HostCall}
 use Rattle.host_calls.specs.Effects.{HostEffect, host_effect}
 use Rattle.host_calls.specs.Effects as host

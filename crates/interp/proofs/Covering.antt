@@ -21,20 +21,20 @@ use Rattle.wasm_ast.specs.Code as code
 use Rattle.wasm_ast.specs.NumericTypes.{numeric_gives}
 use Rattle.wasm_ast.specs.Widths.{load_type, load_width, store_type, store_width}
 use Rattle.host_calls.specs.declared.imports.HostCall.{HostCall}
-use Rattle.validate.specs.Spaces.{first_type}
-use Rattle.validate.specs.Modules.{TypeHolds}
-use Rattle.bounded_profile.specs.declared.arity.Arity.{Arity}
-use Rattle.bounded_profile.specs.declared.constants.operands.Operand.{Operand}
-use Rattle.bounded_profile.specs.declared.constants.operands.Operand.TheVariants.{Unknown, Known as KnownOperand}
-use Rattle.bounded_profile.specs.declared.requirements.Premise.TheVariants as premise
-use Rattle.bounded_profile.specs.declared.requirements.Requirement.{Requirement}
-use Rattle.bounded_profile.specs.declared.requirements.Requirement.TheVariants as requirement
-use Rattle.bounded_profile.specs.Arities.{arity_table, arity_at, block_arity, plain_arity, result_count, test_arity}
-use Rattle.bounded_profile.specs.Hosts.{host_call_at}
-use Rattle.bounded_profile.specs.Kinds.{Kind, Any, Is, Forgets, AllForget, Meets, AllMeet, kinds, requirements}
-use Rattle.bounded_profile.specs.Known.{Context, Changes, Known, PlainKnown, call_requirements, constant_kind, known, numeric_requirements, parameter_requirements, takes_slot, with_label}
-use Rattle.bounded_profile.specs.Memory.{memory_bytes, number_of}
-use Rattle.bounded_profile.specs.Reached.{Access, access_at, accesses, accesses_along, accesses_in, covers, is_covered, is_reached, known_after, known_behind, plain_accesses}
+use Rattle.valid.specs.Spaces.{first_type}
+use Rattle.valid.specs.Modules.{TypeHolds}
+use Rattle.verified.specs.declared.arity.Arity.{Arity}
+use Rattle.verified.specs.declared.operand.Operand.{Operand}
+use Rattle.verified.specs.declared.operand.Operand.TheVariants.{Unknown, Known as KnownOperand}
+use Rattle.verified.specs.declared.requirements.Premise.TheVariants as premise
+use Rattle.verified.specs.declared.requirements.Requirement.{Requirement}
+use Rattle.verified.specs.declared.requirements.Requirement.TheVariants as requirement
+use Rattle.verified.specs.Arities.{arity_table, arity_at, block_arity, plain_arity, result_count, test_arity}
+use Rattle.verified.specs.Hosts.{host_call_at}
+use Rattle.verified.specs.Kinds.{Kind, Any, Is, Forgets, AllForget, Meets, AllMeet, kinds, requirements}
+use Rattle.verified.specs.Known.{Context, Changes, Known, PlainKnown, call_requirements, constant_kind, known, numeric_requirements, parameter_requirements, takes_slot, with_label}
+use Rattle.verified.specs.Memory.{memory_bytes, number_of}
+use Rattle.verified.specs.Reached.{Access, access_at, accesses, accesses_along, accesses_in, covers, is_covered, is_reached, known_after, known_behind, plain_accesses}
 use Rattle.interp.specs.Configuration.{State}
 use Rattle.interp.specs.Effects.{value}
 use Rattle.interp.specs.Machine.{ControlEntry, Machine, Running, Done, Trapped, Stuck}

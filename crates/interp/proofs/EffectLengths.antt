@@ -22,8 +22,8 @@ use Rattle.host_calls.specs.Effects as host
 use Rattle.host_calls.specs.Host.{Host}
 use Rattle.host_calls.specs.Imports.{type_of_call}
 use Rattle.host_calls.specs.Operands.{number, with_number, pop}
-use Rattle.bounded_profile.specs.Arities.{plain_arity}
-use Rattle.bounded_profile.specs.Heights.{after}
+use Rattle.verified.specs.Arities.{plain_arity}
+use Rattle.verified.specs.Heights.{after}
 use Rattle.interp.specs.Configuration.{State, with_globals, with_locals, Effect, Gives, Traps, Misses}
 use Rattle.interp.specs.Effects.{value, popped, numeric_effect, discard, select, pushed, variable_effect, load_effect, store_effect, memory_effect, effect, lifted}
 use Rattle.interp.specs.Machine as machine

@@ -11,19 +11,19 @@ use Rattle.wasm_ast.specs.Code.{Code}
 use Rattle.wasm_ast.specs.Code as code
 use Rattle.wasm_ast.specs.Values.{zero_of}
 use Rattle.host_calls.specs.declared.imports.HostCall.{HostCall}
-use Rattle.cost.specs.Weights.{call_units}
-use Rattle.cost.specs.LeastUnits.{call_least}
+use Rattle.units.specs.Weights.{call_units}
+use Rattle.units.specs.LeastUnits.{call_least}
 use Rattle.host_calls.specs.Imports.{type_of_call}
-use Rattle.bounded_profile.specs.declared.requirements.Requirement.TheVariants as requirement
-use Rattle.validate.specs.Spaces.{first_type}
-use Rattle.bounded_profile.specs.Kinds.{Kind, kinds}
-use Rattle.bounded_profile.specs.Hosts.{host_call_at}
-use Rattle.bounded_profile.specs.Memory.{memory_bytes}
-use Rattle.bounded_profile.specs.Known.{Changes, call_requirements}
+use Rattle.verified.specs.declared.requirements.Requirement.TheVariants as requirement
+use Rattle.valid.specs.Spaces.{first_type}
+use Rattle.verified.specs.Kinds.{Kind, kinds}
+use Rattle.verified.specs.Hosts.{host_call_at}
+use Rattle.verified.specs.Memory.{memory_bytes}
+use Rattle.verified.specs.Known.{Changes, call_requirements}
 use Rattle.interp.specs.Configuration.{State, with_locals, tick}
 use Rattle.interp.specs.Effects.{call_effect}
 use Rattle.interp.specs.Machine.{Callee, ControlEntry, Frame, Machine, Running, Stuck, gives_one, has_result, enter, take_call, advance}
-use Rattle.bounded_profile.specs.Arities.{result_count}
+use Rattle.verified.specs.Arities.{result_count}
 use Rattle.interp.specs.Heights.{beneath, callers}
 use Rattle.interp.proofs.Values.{HasKinds, HasTypes, Takes, takes, kinds_length, types-append, zeros_typed}
 use Rattle.interp.proofs.Sound.{Sound, Given, ticked}

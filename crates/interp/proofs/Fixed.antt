@@ -11,13 +11,13 @@ use Rattle.wasm_ast.specs.declared.module.Module.{Module}
 use Rattle.wasm_ast.specs.Code.{Code}
 use Rattle.wasm_ast.specs.Code as code
 use Rattle.wasm_ast.specs.Limits.{imported_functions}
-use Rattle.cost.specs.Calls.{Calls, callees, body_of, calls_in, calls_of}
-use Rattle.cost.specs.Cycles.{Leads, Acyclic}
-use Rattle.cost.specs.Heights.{most, height}
-use Rattle.cost.specs.Sizes.{AreSizes, code_size, size_in}
-use Rattle.bounded_profile.specs.Arities.{plain_arity, branch_arity, call_arity, block_arity, test_arity}
-use Rattle.bounded_profile.specs.Heights.{after, peak, peak_in, AreHeights}
-use Rattle.bounded_profile.specs.Facts.{AreDepths}
+use Rattle.units.specs.Calls.{Calls, callees, body_of, calls_in, calls_of}
+use Rattle.units.specs.Cycles.{Leads, Acyclic}
+use Rattle.units.specs.Heights.{most, height}
+use Rattle.units.specs.Sizes.{AreSizes, code_size, size_in}
+use Rattle.verified.specs.Arities.{plain_arity, branch_arity, call_arity, block_arity, test_arity}
+use Rattle.verified.specs.Heights.{after, peak, peak_in, AreHeights}
+use Rattle.verified.specs.Facts.{AreDepths}
 
 leads_join : (cs : ℕ → List ℕ) (f : ℕ) (xs ys : List ℕ) (m g : ℕ) → Leads cs f xs m → Leads cs m ys g → Leads cs f (xs ++ ys) g
 leads_join cs f [] ys m g h i = subst (λ (x : ℕ). Leads cs x ys g) (sym h) i

@@ -8,7 +8,7 @@ use Rattle.wasm_ast.specs.declared.module.Module.{Module}
 use Rattle.wasm_ast.specs.Code.{Code}
 use Rattle.wasm_ast.specs.Code as code
 use Rattle.wasm_ast.specs.Values.{type_of}
-use Rattle.bounded_profile.specs.Kinds.{Kind}
+use Rattle.verified.specs.Kinds.{Kind}
 use Rattle.interp.specs.Configuration.{State, with_locals}
 use Rattle.interp.specs.Machine.{Machine, Running, Done, Trapped, Stuck, ControlEntry, Label, Frame, landed, jump, back, has_result, carry, advance, run}
 use Rattle.interp.specs.Sequences.{CountsWithin, IsIn, IsLeft}

@@ -14,13 +14,13 @@ use Rattle.host_calls.specs.Operands.{pop}
 use Rattle.host_calls.specs.Host.{Host, with_value, take_message, take_edge, with_send, with_contribution, with_halt, aggregator_value}
 use Rattle.host_calls.specs.Effects.{HostEffect, host_effect, signed, answer, at_slot}
 use Rattle.host_calls.specs.Effects as host
-use Rattle.bounded_profile.specs.declared.requirements.Premise.TheVariants as premise
-use Rattle.bounded_profile.specs.declared.requirements.Requirement.{Requirement}
-use Rattle.bounded_profile.specs.declared.requirements.Requirement.TheVariants as requirement
-use Rattle.validate.specs.Spaces.{first_type}
-use Rattle.bounded_profile.specs.Kinds.{Kind, Any, kinds}
-use Rattle.bounded_profile.specs.Memory.{memory_bytes, number_of}
-use Rattle.bounded_profile.specs.Known.{call_requirements}
+use Rattle.verified.specs.declared.requirements.Premise.TheVariants as premise
+use Rattle.verified.specs.declared.requirements.Requirement.{Requirement}
+use Rattle.verified.specs.declared.requirements.Requirement.TheVariants as requirement
+use Rattle.valid.specs.Spaces.{first_type}
+use Rattle.verified.specs.Kinds.{Kind, Any, kinds}
+use Rattle.verified.specs.Memory.{memory_bytes, number_of}
+use Rattle.verified.specs.Known.{call_requirements}
 use Rattle.interp.specs.Configuration.{State, with_host}
 use Rattle.interp.specs.Effects.{lifted}
 use Rattle.interp.proofs.Values.{HasKinds, Takes, kept, popped_any, popped_known}

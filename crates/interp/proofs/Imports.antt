@@ -8,7 +8,7 @@ use Rattle.wasm_ast.specs.declared.module.Module.{Module}
 use Rattle.wasm_ast.specs.Limits.{is_function, is_function_description}
 use Rattle.host_calls.specs.declared.imports.HostCall.{HostCall}
 use Rattle.host_calls.specs.Imports.{call_of}
-use Rattle.bounded_profile.specs.Hosts.{AreHostCalls}
+use Rattle.verified.specs.Hosts.{AreHostCalls}
 use Rattle.interp.specs.Machine.{Callee, host, function_import, imported_functions}
 use Rattle.interp.specs.inside.Meaning.{AreImports, host_callee}
 

@@ -14,22 +14,22 @@ use Rattle.wasm_ast.specs.declared.module.Module.{Module}
 use Rattle.wasm_ast.specs.declared.body.Instr.TheVariants as instr
 use Rattle.wasm_ast.specs.Code.{Code}
 use Rattle.wasm_ast.specs.Code as code
-use Rattle.validate.specs.Spaces.{first_type}
-use Rattle.cost.specs.Weights.{plain_units, branch_units, call_units, units_of}
-use Rattle.cost.specs.LeastUnits.{plain_least, units_least}
-use Rattle.cost.specs.Sizes.{code_size}
-use Rattle.bounded_profile.specs.declared.requirements.Requirement.TheVariants as requirement
-use Rattle.bounded_profile.specs.Kinds.{Kind, kinds, requirements}
-use Rattle.bounded_profile.specs.Memory.{memory_bytes}
+use Rattle.valid.specs.Spaces.{first_type}
+use Rattle.units.specs.Weights.{plain_units, branch_units, call_units, units_of}
+use Rattle.units.specs.LeastUnits.{plain_least, units_least}
+use Rattle.units.specs.Sizes.{code_size}
+use Rattle.verified.specs.declared.requirements.Requirement.TheVariants as requirement
+use Rattle.verified.specs.Kinds.{Kind, kinds, requirements}
+use Rattle.verified.specs.Memory.{memory_bytes}
 use Rattle.interp.specs.Effects.{effect}
-use Rattle.bounded_profile.specs.Hosts.{IsHostImport, host_call_at}
-use Rattle.bounded_profile.specs.Known.{Known, Forgetting, PlainKnown, BranchKnown, CallKnown, Changes}
-use Rattle.bounded_profile.specs.Shapes.{NotGrow, TakesItem, BranchNamesNot, NamesNot}
+use Rattle.verified.specs.Hosts.{IsHostImport, host_call_at}
+use Rattle.verified.specs.Known.{Known, Forgetting, PlainKnown, BranchKnown, CallKnown, Changes}
+use Rattle.verified.specs.Shapes.{NotGrow, TakesItem, BranchNamesNot, NamesNot}
 use Rattle.interp.specs.Configuration.{tick}
 use Rattle.interp.specs.Machine.{Label, Running, has_result}
-use Rattle.validate.specs.Modules.{TypeHolds}
-use Rattle.bounded_profile.specs.Arities.{plain_arity, call_arity, result_count}
-use Rattle.bounded_profile.specs.Heights.{peak}
+use Rattle.valid.specs.Modules.{TypeHolds}
+use Rattle.verified.specs.Arities.{plain_arity, call_arity, result_count}
+use Rattle.verified.specs.Heights.{peak}
 use Rattle.interp.proofs.Values.{HasKinds, kinds_length, forget_all, forget_length, meet_length}
 use Rattle.interp.proofs.Sound.{ticked, given_forget, items_left}
 use Rattle.interp.proofs.Plains.{context, plain_given}

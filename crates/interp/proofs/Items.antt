@@ -5,7 +5,7 @@ use Rattle.wasm_ast.specs.declared.plain.Branch.TheVariants as branch
 use Rattle.wasm_ast.specs.declared.module.Module.{Module}
 use Rattle.wasm_ast.specs.Code.{Code}
 use Rattle.wasm_ast.specs.Code as code
-use Rattle.cost.specs.Weights.{host_units}
+use Rattle.units.specs.Weights.{host_units}
 use Rattle.flat_code.specs.declared.body.FlatInstr.TheVariants as flat
 use Rattle.host_calls.specs.Host.{Host}
 use Rattle.host_calls.specs.declared.imports.HostCall.{HostCall}

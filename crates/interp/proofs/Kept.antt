@@ -3,12 +3,12 @@ use Rattle.std.proofs.Common.{◌≡◌, ℕ, zero, suc, ◌+◌, ◌*◌, ◌<�
 use Rattle.std.proofs.lemmas.Bool.{and_from, and_parts, le-leb, leb-true}
 use Rattle.std.proofs.lemmas.List.{get_or-drop, length-drop, length-replicate, take-append-drop}
 use Rattle.wasm_ast.specs.declared.module.Module.{Module}
-use Rattle.bounded_profile.specs.Memory.{max_minimum, memory_bytes, page}
-use Rattle.bounded_profile.specs.Profile.{IsBounded}
-use Rattle.bounded_profile.specs.Reached.{is_reached, reached_below, reached_bytes}
+use Rattle.verified.specs.Memory.{max_minimum, memory_bytes, page}
+use Rattle.verified.specs.Profile.{IsBounded}
+use Rattle.verified.specs.Reached.{is_reached, reached_below, reached_bytes}
 use Rattle.interp.specs.Memory.{bytes_of_number, number_of_bytes, read, write}
 use Rattle.interp.specs.inside.Kept.{AreMarked, are_kept, byte_of, count_kept, is_kept, kept_read, kept_write, laid_over, marked_before, marks, marks_from, masked, over, spread}
-use Rattle.bounded_profile.proofs.ReachedFootprint.{memory_small}
+use Rattle.verified.proofs.MemorySize.{memory_small}
 use Rattle.interp.proofs.Plains.{bytes_length}
 
 drop_none : {A : Type 0} (n : ℕ) → drop {A = A} n [] ≡ []
@@ -311,12 +311,6 @@ kept-masked ms [] = refl
 kept-masked [] (b ∷ bs) = kept-masked [] bs ∙ none_before (length bs)
 kept-masked (true ∷ ms) (b ∷ bs) = ap suc (kept-masked ms bs)
 kept-masked (false ∷ ms) (b ∷ bs) = kept-masked ms bs
-
--- where there are no bytes, none are kept
-pub kept-none : (ms : List Bool) → count_kept (spread ms []) ≡ 0
-kept-none [] = refl
-kept-none (false ∷ ms) = kept-none ms
-kept-none (true ∷ ms) = kept-none ms
 
 module _ (m : Module) where
   length-marks_from : (byte count : ℕ) → length (marks_from m byte count) ≡ count

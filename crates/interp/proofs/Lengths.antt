@@ -22,17 +22,17 @@ use Rattle.wasm_ast.specs.Code as code
 use Rattle.host_calls.specs.declared.imports.HostCall.{HostCall}
 use Rattle.host_calls.specs.declared.imports.HostCall.TheVariants.{VertexId, Superstep, NumVertices, GetValue, SetValue, NextMessage, MessageValue, NextEdge, EdgeTarget, EdgeValue, Send, Aggregate, Aggregated, VoteToHalt}
 use Rattle.host_calls.specs.Imports.{type_of_call}
-use Rattle.bounded_profile.specs.declared.requirements.Premise.TheVariants as premise
-use Rattle.bounded_profile.specs.declared.requirements.Requirement.{Requirement}
-use Rattle.bounded_profile.specs.declared.requirements.Requirement.TheVariants as requirement
-use Rattle.bounded_profile.specs.Kinds.{Kind, Any, kinds, requirements}
-use Rattle.bounded_profile.specs.Memory.{memory_bytes}
-use Rattle.bounded_profile.specs.Known.{Changes, PlainKnown, numeric_requirements, constant_kind, call_requirements}
-use Rattle.validate.specs.Spaces.{first_type, function_type, spaces_of}
-use Rattle.validate.specs.Modules.{TypeHolds}
-use Rattle.bounded_profile.specs.declared.arity.Arity.{Arity}
-use Rattle.bounded_profile.specs.Arities.{plain_arity, result_count, type_arity, known_arity, call_arity}
-use Rattle.bounded_profile.specs.Heights.{peak}
+use Rattle.verified.specs.declared.requirements.Premise.TheVariants as premise
+use Rattle.verified.specs.declared.requirements.Requirement.{Requirement}
+use Rattle.verified.specs.declared.requirements.Requirement.TheVariants as requirement
+use Rattle.verified.specs.Kinds.{Kind, Any, kinds, requirements}
+use Rattle.verified.specs.Memory.{memory_bytes}
+use Rattle.verified.specs.Known.{Changes, PlainKnown, numeric_requirements, constant_kind, call_requirements}
+use Rattle.valid.specs.Spaces.{first_type, function_type, spaces_of}
+use Rattle.valid.specs.Modules.{TypeHolds}
+use Rattle.verified.specs.declared.arity.Arity.{Arity}
+use Rattle.verified.specs.Arities.{plain_arity, result_count, type_arity, known_arity, call_arity}
+use Rattle.verified.specs.Heights.{peak}
 use Rattle.interp.proofs.Values.{meet_length, none_some, some_is}
 use Rattle.interp.proofs.Plains.{context}
 

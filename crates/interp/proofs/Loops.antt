@@ -6,10 +6,10 @@ use Rattle.wasm_ast.specs.declared.module.Module.{Module}
 use Rattle.wasm_ast.specs.declared.body.Instr.TheVariants as instr
 use Rattle.wasm_ast.specs.Code.{Code}
 use Rattle.wasm_ast.specs.Code as code
-use Rattle.cost.specs.Weights.{units_of}
-use Rattle.cost.specs.LeastUnits.{units_least}
-use Rattle.bounded_profile.specs.Kinds.{Kind, kinds}
-use Rattle.bounded_profile.specs.Known.{Context, with_label}
+use Rattle.units.specs.Weights.{units_of}
+use Rattle.units.specs.LeastUnits.{units_least}
+use Rattle.verified.specs.Kinds.{Kind, kinds}
+use Rattle.verified.specs.Known.{Context, with_label}
 use Rattle.interp.specs.Configuration.{State, tick}
 use Rattle.interp.specs.Machine.{ControlEntry, Label, Machine, Running, advance}
 use Rattle.interp.specs.Heights.{beneath, callers}

@@ -15,14 +15,14 @@ use Rattle.host_calls.specs.declared.imports.HostCall.TheVariants.{NextMessage, 
 use Rattle.host_calls.specs.Imports.{type_of_call}
 use Rattle.host_calls.specs.Host.{take_message, take_edge}
 use Rattle.host_calls.specs.Effects.{answer}
-use Rattle.cost.specs.Weights.{plain_units, branch_units, call_units}
-use Rattle.cost.specs.LeastUnits.{plain_least, branch_least, call_least}
-use Rattle.bounded_profile.specs.declared.requirements.Requirement.TheVariants as requirement
-use Rattle.validate.specs.Spaces.{first_type}
-use Rattle.bounded_profile.specs.Kinds.{Kind, Any, kinds, requirements}
-use Rattle.bounded_profile.specs.Memory.{memory_bytes}
-use Rattle.bounded_profile.specs.Known.{Context, Changes, call_requirements}
-use Rattle.bounded_profile.specs.Shapes.{TakesItem}
+use Rattle.units.specs.Weights.{plain_units, branch_units, call_units}
+use Rattle.units.specs.LeastUnits.{plain_least, branch_least, call_least}
+use Rattle.verified.specs.declared.requirements.Requirement.TheVariants as requirement
+use Rattle.valid.specs.Spaces.{first_type}
+use Rattle.verified.specs.Kinds.{Kind, Any, kinds, requirements}
+use Rattle.verified.specs.Memory.{memory_bytes}
+use Rattle.verified.specs.Known.{Context, Changes, call_requirements}
+use Rattle.verified.specs.Shapes.{TakesItem}
 use Rattle.interp.specs.Configuration.{State, tick, with_host, Effect, Gives}
 use Rattle.interp.specs.Effects.{call_effect, lifted}
 use Rattle.interp.specs.Machine.{Callee, host, functions_of, ControlEntry, Machine, Running, jump, advance, take_call, after_effect}

@@ -4,8 +4,8 @@ use Rattle.wasm_ast.specs.declared.module.Module.{Module}
 use Rattle.host_calls.specs.declared.call.CallInput.{CallInput}
 use Rattle.host_calls.specs.declared.call.CallOutcome.{CallOutcome}
 use Rattle.host_calls.specs.Host.{Host, host_of}
-use Rattle.validate.specs.Modules.{IsTyped}
-use Rattle.bounded_profile.specs.Profile.{IsBounded}
+use Rattle.valid.specs.Modules.{IsTyped}
+use Rattle.verified.specs.Profile.{IsBounded}
 use Rattle.interp.specs.Call.{ComesTo, IsOutcome, Outcome, outcome_of, shown}
 use Rattle.interp.specs.Configuration.{State}
 use Rattle.interp.specs.Machine.{Machine, Running, Done, Trapped, Stuck, advance, run}

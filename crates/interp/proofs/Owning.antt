@@ -20,18 +20,18 @@ use Rattle.host_calls.specs.Operands.{number, with_number}
 use Rattle.host_calls.specs.declared.call.CallInput.{CallInput}
 use Rattle.host_calls.specs.declared.imports.HostCall.{HostCall}
 use Rattle.host_calls.specs.declared.imports.HostCall.TheVariants.{VertexId, Superstep, NumVertices, GetValue, SetValue, NextMessage, MessageValue, NextEdge, EdgeTarget, EdgeValue, Send, Aggregate, Aggregated, VoteToHalt}
-use Rattle.validate.specs.Modules.{IsTyped}
-use Rattle.validate.specs.Spaces.{first_type, function_type, spaces_of}
-use Rattle.cost.specs.Calls.{Calls, body_of, callees, calls_in, calls_of}
-use Rattle.cost.specs.Cycles.{Leads}
-use Rattle.bounded_profile.specs.Arities.{block_arity, branch_arity, call_arity, plain_arity, result_count, test_arity}
-use Rattle.bounded_profile.specs.Cells.{IsDefined, MayRun, no_heights, own_height}
-use Rattle.bounded_profile.specs.Heights.{after, peak, peak_in}
-use Rattle.bounded_profile.specs.Kinds.{Kind, kinds, requirements}
-use Rattle.bounded_profile.specs.Known.{FunctionKnown, Known}
-use Rattle.bounded_profile.specs.Memory.{memory_bytes}
-use Rattle.bounded_profile.specs.Profile.{IsBounded, asks_all, plain_type}
-use Rattle.bounded_profile.specs.declared.requirements.Requirement.TheVariants as requirement
+use Rattle.valid.specs.Modules.{IsTyped}
+use Rattle.valid.specs.Spaces.{first_type, function_type, spaces_of}
+use Rattle.units.specs.Calls.{Calls, body_of, callees, calls_in, calls_of}
+use Rattle.units.specs.Cycles.{Leads}
+use Rattle.verified.specs.Arities.{block_arity, branch_arity, call_arity, plain_arity, result_count, test_arity}
+use Rattle.verified.specs.Cells.{IsDefined, MayRun, no_heights, own_height}
+use Rattle.verified.specs.Heights.{after, peak, peak_in}
+use Rattle.verified.specs.Kinds.{Kind, kinds, requirements}
+use Rattle.verified.specs.Known.{FunctionKnown, Known}
+use Rattle.verified.specs.Memory.{memory_bytes}
+use Rattle.verified.specs.Profile.{IsBounded, asks_all, plain_type}
+use Rattle.verified.specs.declared.requirements.Requirement.TheVariants as requirement
 use Rattle.interp.specs.Configuration.{State, with_locals, tick, Effect, Gives, Traps, Misses}
 use Rattle.interp.specs.Effects.{effect}
 use Rattle.interp.specs.Heights.{callers, frames}

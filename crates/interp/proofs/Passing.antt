@@ -13,7 +13,7 @@ use Rattle.flat_code.specs.declared.body.FlatInstr.{FlatInstr}
 use Rattle.flat_code.specs.declared.body.FlatInstr.TheVariants as flat
 use Rattle.flat_code.specs.Plains.{plain_of}
 use Rattle.flat_code.specs.View.{code_of, then_code, then_control, then_plain}
-use Rattle.cost.specs.Weights.{call_units, host_units, plain_units}
+use Rattle.units.specs.Weights.{call_units, host_units, plain_units}
 use Rattle.host_calls.specs.Host.{Host}
 use Rattle.host_calls.specs.declared.imports.HostCall.{HostCall}
 use Rattle.interp.specs.Configuration.{State, Effect, Gives, tick}

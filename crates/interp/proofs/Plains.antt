@@ -27,15 +27,15 @@ use Rattle.wasm_ast.specs.Numeric.{bits_of, truth, eqz_value, comparison_holds, 
 use Rattle.wasm_ast.specs.NumericTypes.{numeric_gives}
 use Rattle.wasm_ast.specs.Widths.{load_width, load_type, store_width, store_type}
 use Rattle.wasm_ast.specs.Values.{type_of}
-use Rattle.bounded_profile.specs.declared.requirements.Premise.TheVariants as premise
-use Rattle.bounded_profile.specs.declared.requirements.Requirement.{Requirement}
-use Rattle.bounded_profile.specs.declared.requirements.Requirement.TheVariants as requirement
-use Rattle.validate.specs.Spaces.{spaces_of}
-use Rattle.bounded_profile.specs.Kinds.{Kind, Any, Met, AllMeet}
-use Rattle.bounded_profile.specs.Memory.{page, number_of, memory_bytes}
-use Rattle.bounded_profile.specs.Known.{Context, division_premise, numeric_requirements, constant_kind, PlainKnown}
-use Rattle.bounded_profile.specs.Shapes.{NotGrow}
-use Rattle.bounded_profile.specs.Profile.{asks_all}
+use Rattle.verified.specs.declared.requirements.Premise.TheVariants as premise
+use Rattle.verified.specs.declared.requirements.Requirement.{Requirement}
+use Rattle.verified.specs.declared.requirements.Requirement.TheVariants as requirement
+use Rattle.valid.specs.Spaces.{spaces_of}
+use Rattle.verified.specs.Kinds.{Kind, Any, Met, AllMeet}
+use Rattle.verified.specs.Memory.{page, number_of, memory_bytes}
+use Rattle.verified.specs.Known.{Context, division_premise, numeric_requirements, constant_kind, PlainKnown}
+use Rattle.verified.specs.Shapes.{NotGrow}
+use Rattle.verified.specs.Profile.{asks_all}
 use Rattle.interp.specs.Configuration.{State, with_locals, with_globals, with_memory, Effect, Gives, Traps, Misses}
 use Rattle.interp.specs.Memory.{read, write, laid, bytes_of_number, number_of_bytes, loaded}
 use Rattle.interp.specs.Effects.{value, popped, effect, numeric_effect, division_effect, discard, select, pushed, local_set, global_set, variable_effect, load_effect, store_effect, memory_effect}

@@ -6,9 +6,9 @@ use Rattle.wasm_ast.specs.declared.types.Value.{Value}
 use Rattle.wasm_ast.specs.declared.module.Module.{Module}
 use Rattle.wasm_ast.specs.Code.{Code}
 use Rattle.wasm_ast.specs.Code as code
-use Rattle.bounded_profile.specs.Kinds.{Kind, kinds}
-use Rattle.bounded_profile.specs.Known.{Context, with_label}
-use Rattle.bounded_profile.specs.Shapes.{NamesNot}
+use Rattle.verified.specs.Kinds.{Kind, kinds}
+use Rattle.verified.specs.Known.{Context, with_label}
+use Rattle.verified.specs.Shapes.{NamesNot}
 use Rattle.interp.specs.Configuration.{State, tick}
 use Rattle.interp.specs.Machine.{ControlEntry, Label, Machine, Running, jump, back, landed, has_result, advance, run}
 use Rattle.interp.specs.Heights.{beneath, operands, callers, frames}

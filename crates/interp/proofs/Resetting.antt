@@ -1,10 +1,10 @@
 -- What a call begins with, as cells.
-use Rattle.std.proofs.Common.{◌≡◌, ◌+◌, ◌^◌, ◌<◌, ℕ, zero, suc, List, [], ◌∷◌, ◌++◌, Bool, true, false, Option, Some, None, Result, Ok, Err, IsSome, option_map, length, map, take, drop, nat_le, replicate, slice_get, if◌then◌else◌, refl, sym, ap, ◌∙◌, subst, arith}
+use Rattle.std.proofs.Common.{◌≡◌, ◌+◌, ◌^◌, ◌<◌, ℕ, zero, suc, List, [], ◌∷◌, ◌++◌, Bool, true, false, Option, Some, None, IsSome, option_map, length, map, take, drop, nat_le, replicate, slice_get, if◌then◌else◌, refl, sym, ap, ◌∙◌, subst, arith}
 use Rattle.std.proofs.lemmas.Bool.{leb-true, ltb-true}
 use Rattle.std.proofs.lemmas.List.{map-append}
 use Rattle.std.proofs.lemmas.Option.{slice_get-map}
 use Rattle.std.specs.Option.{option_and_then}
-use Rattle.std.specs.Prelude.{OnErr, OnOk, slice_set}
+use Rattle.std.specs.Prelude.{slice_set}
 use Rattle.wasm_ast.specs.declared.types.Value.{Value}
 use Rattle.wasm_ast.specs.declared.types.Value.TheVariants.{I32, I64}
 use Rattle.wasm_ast.specs.declared.plain.Plain.{Plain}
@@ -19,7 +19,7 @@ use Rattle.wasm_ast.specs.Code as code
 use Rattle.wasm_ast.specs.Values.{zero_of}
 use Rattle.host_calls.specs.declared.call.CallInput.{CallInput}
 use Rattle.host_calls.specs.Host.{Host, host_of}
-use Rattle.bounded_profile.specs.Memory.{memory_bytes}
+use Rattle.verified.specs.Memory.{memory_bytes}
 use Rattle.interp.specs.Machine.{ControlEntry}
 use Rattle.interp.specs.Memory.{laid}
 use Rattle.interp.specs.Start.{Starts, before, constant_plain, constant_value, initial_globals, initial_memory, laid_at, laid_in, segment_laid, start_state}
@@ -34,17 +34,6 @@ use Rattle.interp.proofs.Ending.{comes_here}
 use Rattle.interp.proofs.Fits.{fit-append, zeros_fit}
 use Rattle.interp.proofs.Kept.{laid_masked, length-masked}
 use Rattle.interp.proofs.Values.{some_is}
-
--- ---- answers
-
-pub on_ok : {T E : Type 0} {P Q : Type 0} (r : Result T E) → OnOk r P → (P → Q) → OnOk r Q
-on_ok (Ok x) p f = f p
-on_ok (Err e) p f = p
-
--- a fact that holds at either answer
-pub at_either : {T E : Type 0} {P Q R : Type 0} (r : Result T E) → OnOk r P → OnErr r Q → (P → R) → (Q → R) → R
-at_either (Ok x) p q f g = f p
-at_either (Err e) p q f g = g q
 
 -- ---- globals
 

@@ -8,10 +8,10 @@ use Rattle.wasm_ast.specs.Limits.{IsFunctionWithin, IsWithinLimits, max_locals, 
 use Rattle.host_calls.specs.declared.call.CallInput.{CallInput}
 use Rattle.host_calls.specs.declared.call.CallOutcome.{CallOutcome}
 use Rattle.host_calls.specs.Host.{Leaves}
-use Rattle.validate.specs.Modules.{IsTyped}
-use Rattle.bounded_profile.specs.Compute.{IsComputeNumber}
-use Rattle.bounded_profile.specs.Facts.{IsSizeOfCompute}
-use Rattle.bounded_profile.specs.Profile.{IsBounded}
+use Rattle.valid.specs.Modules.{IsTyped}
+use Rattle.verified.specs.Compute.{IsComputeNumber}
+use Rattle.verified.specs.Facts.{IsSizeOfCompute}
+use Rattle.verified.specs.Profile.{IsBounded}
 use Rattle.interp.specs.inside.Cells.{cells_state}
 use Rattle.interp.specs.inside.Begun.{BeginsAt, BeginsWith, EndsFrom, EndsInRoom, EndsWith, IsBeginning, IsDefinedAt}
 use Rattle.interp.specs.Bounded.{Ends, IsWithinBound, NeverFails, items_of}

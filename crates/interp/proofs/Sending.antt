@@ -14,9 +14,9 @@ use Rattle.host_calls.specs.declared.imports.HostCall.TheVariants.{VertexId, Sup
 use Rattle.host_calls.specs.Effects.{HostEffect, Gives, Traps, Misses, answer}
 use Rattle.host_calls.specs.Host.{Host, host_of, take_edge, take_message}
 use Rattle.host_calls.specs.Operands.{number, with_number, pop}
-use Rattle.validate.specs.Modules.{IsTyped}
-use Rattle.bounded_profile.specs.Memory.{number_of}
-use Rattle.bounded_profile.specs.Profile.{IsBounded}
+use Rattle.valid.specs.Modules.{IsTyped}
+use Rattle.verified.specs.Memory.{number_of}
+use Rattle.verified.specs.Profile.{IsBounded}
 use Rattle.interp.specs.Call.{outcome_of}
 use Rattle.interp.specs.Configuration.{State}
 use Rattle.interp.specs.Effects.{lifted}

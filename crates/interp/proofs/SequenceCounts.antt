@@ -5,13 +5,13 @@ use Rattle.wasm_ast.specs.declared.types.Value.{Value}
 use Rattle.wasm_ast.specs.declared.module.Module.{Module}
 use Rattle.wasm_ast.specs.Code.{Code}
 use Rattle.wasm_ast.specs.Code as code
-use Rattle.cost.specs.Calls.{calls_of}
-use Rattle.cost.specs.Heights.{most}
-use Rattle.cost.specs.Sizes.{code_size}
-use Rattle.bounded_profile.specs.Arities.{arity_table}
-use Rattle.bounded_profile.specs.Heights.{peak}
-use Rattle.bounded_profile.specs.Kinds.{Kind}
-use Rattle.bounded_profile.specs.Reached.{accesses, accesses_along}
+use Rattle.units.specs.Calls.{calls_of}
+use Rattle.units.specs.Heights.{most}
+use Rattle.units.specs.Sizes.{code_size}
+use Rattle.verified.specs.Arities.{arity_table}
+use Rattle.verified.specs.Heights.{peak}
+use Rattle.verified.specs.Kinds.{Kind}
+use Rattle.verified.specs.Reached.{accesses, accesses_along}
 use Rattle.interp.specs.Configuration.{State}
 use Rattle.interp.specs.Heights.{beneath, operands, callers, frames}
 use Rattle.interp.specs.Machine.{ControlEntry, Label, Frame, Running, landed, carry, arrive, jump, back}

@@ -3,7 +3,7 @@ use Rattle.std.proofs.Common.{◌≡◌, ℕ, ◌+◌, List, refl, arith}
 use Rattle.wasm_ast.specs.declared.types.ValType.{ValType}
 use Rattle.wasm_ast.specs.declared.types.Value.{Value}
 use Rattle.wasm_ast.specs.declared.module.Module.{Module}
-use Rattle.bounded_profile.specs.Kinds.{Kind, AllForget}
+use Rattle.verified.specs.Kinds.{Kind, AllForget}
 use Rattle.interp.specs.Configuration.{State, tick, Effect, Gives}
 pub use Rattle.interp.specs.Typed.{Sound, global_types, items_left}
 use Rattle.interp.proofs.Values.{HasKinds, forget_all}

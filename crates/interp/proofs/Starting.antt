@@ -24,14 +24,14 @@ use Rattle.wasm_ast.specs.declared.module.Data.{Data}
 use Rattle.wasm_ast.specs.declared.module.Module.{Module}
 use Rattle.wasm_ast.specs.Code.{Code}
 use Rattle.wasm_ast.specs.Values.{type_of}
-use Rattle.validate.specs.Spaces.{Spaces, outer_spaces_of, spaces_of, imported}
-use Rattle.validate.specs.Spaces as spaces
-use Rattle.validate.specs.Constants.{PlainConstant}
-use Rattle.validate.specs.Modules.{IsTyped, GlobalTyped, DataTyped, AreDistinct, name_of_export}
-use Rattle.bounded_profile.specs.Hosts.{IsHostImport}
-use Rattle.bounded_profile.specs.Memory.{number_of, memory_bytes, bytes_of, DataWithin, initial_number, plain_number, plain_offset, offset_number}
-use Rattle.bounded_profile.specs.Compute.{has_its_name, exported_function, exported_compute}
-use Rattle.bounded_profile.specs.Profile.{IsBounded, HasCompute, compute_export, plain_type}
+use Rattle.valid.specs.Spaces.{Spaces, outer_spaces_of, spaces_of, imported}
+use Rattle.valid.specs.Spaces as spaces
+use Rattle.valid.specs.Constants.{PlainConstant}
+use Rattle.valid.specs.Modules.{IsTyped, GlobalTyped, DataTyped, AreDistinct, name_of_export}
+use Rattle.verified.specs.Hosts.{IsHostImport}
+use Rattle.verified.specs.Memory.{number_of, memory_bytes, bytes_of, DataWithin, initial_number, plain_number, plain_offset, offset_number}
+use Rattle.verified.specs.Compute.{has_its_name, exported_function, exported_compute}
+use Rattle.verified.specs.Profile.{IsBounded, HasCompute, compute_export, plain_type}
 use Rattle.interp.specs.Machine.{defined}
 use Rattle.interp.specs.inside.Begun.{HasInitial}
 use Rattle.interp.specs.Start.{Begins, constant_value, constant_plain, initial_globals, before, laid_at, laid_in}

@@ -8,8 +8,8 @@ use Rattle.wasm_ast.specs.Values.{zero_of}
 use Rattle.host_calls.specs.Effects.{HostEffect, Gives, Traps, Misses, host_effect}
 use Rattle.host_calls.specs.Host.{Host, host_of}
 use Rattle.host_calls.specs.declared.call.CallInput.{CallInput}
-use Rattle.validate.specs.Modules.{IsTyped}
-use Rattle.bounded_profile.specs.Profile.{IsBounded}
+use Rattle.valid.specs.Modules.{IsTyped}
+use Rattle.verified.specs.Profile.{IsBounded}
 use Rattle.interp.specs.Heights.{frames, entries, locals, operands}
 use Rattle.interp.specs.Machine.{Machine, Running, Done, Trapped, Stuck, run}
 use Rattle.interp.specs.Room.{CallsStayWithin, most_entries, most_locals}

@@ -2,8 +2,8 @@
 use Rattle.std.proofs.Common.{ℕ, ◌+◌, ◌*◌, subst}
 use Rattle.wasm_ast.specs.declared.module.Module.{Module}
 use Rattle.host_calls.specs.declared.call.CallInput.{CallInput}
-use Rattle.validate.specs.Modules.{IsTyped}
-use Rattle.bounded_profile.specs.Profile.{IsBounded}
+use Rattle.valid.specs.Modules.{IsTyped}
+use Rattle.verified.specs.Profile.{IsBounded}
 use Rattle.interp.specs.Bounded.{Ends, FactsHold, ComesToItsEnd, items_of}
 use Rattle.interp.proofs.Whole.{calls_end}
 use Rattle.interp.proofs.Fixed.{depths_there, sizes_there, heights_there}

@@ -7,10 +7,10 @@ use Rattle.wasm_ast.specs.declared.types.Value.{Value}
 use Rattle.wasm_ast.specs.declared.types.Value.TheVariants.{I32, I64}
 use Rattle.wasm_ast.specs.Values.{type_of, zero_of}
 use Rattle.host_calls.specs.Operands.{number, with_number, pop}
-use Rattle.bounded_profile.specs.declared.requirements.Requirement.{Requirement}
-use Rattle.bounded_profile.specs.declared.requirements.Requirement.TheVariants as requirement
-use Rattle.bounded_profile.specs.Kinds.{Kind, Any, Is, Forgets, AllForget, Met, Meets, AllMeet, requirements, kinds}
-use Rattle.bounded_profile.specs.Memory.{number_of}
+use Rattle.verified.specs.declared.requirements.Requirement.{Requirement}
+use Rattle.verified.specs.declared.requirements.Requirement.TheVariants as requirement
+use Rattle.verified.specs.Kinds.{Kind, Any, Is, Forgets, AllForget, Met, Meets, AllMeet, requirements, kinds}
+use Rattle.verified.specs.Memory.{number_of}
 use Rattle.interp.specs.Effects.{value}
 pub use Rattle.interp.specs.Typed.{HasKind, HasKinds, HasTypes, IsTop}
 use Rattle.interp.specs.Machine.{carry, first, has_result}

@@ -11,23 +11,23 @@ use Rattle.wasm_ast.specs.Code as code
 use Rattle.wasm_ast.specs.Limits.{imported_functions}
 use Rattle.host_calls.specs.declared.call.CallInput.{CallInput}
 use Rattle.host_calls.specs.Host.{seen_edge}
-use Rattle.validate.specs.Spaces.{first_type}
-use Rattle.validate.specs.Modules.{IsTyped}
-use Rattle.cost.specs.Calls.{calls_of}
-use Rattle.cost.specs.Heights.{most, height}
-use Rattle.cost.specs.Sizes.{AreSizes, code_size, size_in}
-use Rattle.bounded_profile.specs.Kinds.{kinds}
-use Rattle.bounded_profile.specs.Known.{Known, FunctionKnown}
-use Rattle.bounded_profile.specs.Profile.{IsBounded, asks_all, plain_type}
-use Rattle.bounded_profile.specs.Shapes.{Everywhere, NotIndirect, NotUnreachable, NotGrow, LoopTakes}
-use Rattle.bounded_profile.specs.Hosts.{host_call_at}
-use Rattle.bounded_profile.specs.Heights.{peak, peak_in, AreHeights}
-use Rattle.bounded_profile.specs.Facts.{AreDepths}
+use Rattle.valid.specs.Spaces.{first_type}
+use Rattle.valid.specs.Modules.{IsTyped}
+use Rattle.units.specs.Calls.{calls_of}
+use Rattle.units.specs.Heights.{most, height}
+use Rattle.units.specs.Sizes.{AreSizes, code_size, size_in}
+use Rattle.verified.specs.Kinds.{kinds}
+use Rattle.verified.specs.Known.{Known, FunctionKnown}
+use Rattle.verified.specs.Profile.{IsBounded, asks_all, plain_type}
+use Rattle.verified.specs.Shapes.{Everywhere, NotIndirect, NotUnreachable, NotGrow, LoopTakes}
+use Rattle.verified.specs.Hosts.{host_call_at}
+use Rattle.verified.specs.Heights.{peak, peak_in, AreHeights}
+use Rattle.verified.specs.Facts.{AreDepths}
 use Rattle.interp.specs.Configuration.{State}
 use Rattle.interp.specs.Machine.{defined, Machine, Running, Done, Trapped, Stuck, advance, run}
 use Rattle.interp.specs.Start.{Starts, start_state}
 use Rattle.interp.specs.Bounded.{Ends, CallsEnd, items_of}
-use Rattle.bounded_profile.specs.Reached.{accesses}
+use Rattle.verified.specs.Reached.{accesses}
 use Rattle.interp.specs.inside.Kept.{AreMarked, Touches, marks}
 use Rattle.interp.proofs.Values.{kinds_length, none_some, some_is, zeros_typed}
 use Rattle.interp.proofs.Sound.{Sound, items_left}

@@ -10,9 +10,9 @@ use Rattle.wasm_ast.specs.declared.module.Module.{Module}
 use Rattle.wasm_ast.specs.Code as code
 use Rattle.wasm_ast.specs.Widths.{load_width, store_width}
 use Rattle.host_calls.specs.declared.call.CallInput.{CallInput}
-use Rattle.validate.specs.Modules.{IsTyped}
-use Rattle.bounded_profile.specs.Profile.{IsBounded}
-use Rattle.bounded_profile.specs.Reached.{Access, is_reached}
+use Rattle.valid.specs.Modules.{IsTyped}
+use Rattle.verified.specs.Profile.{IsBounded}
+use Rattle.verified.specs.Reached.{Access, is_reached}
 use Rattle.interp.specs.Machine.{Machine, Running, run}
 use Rattle.interp.specs.Start.{Starts}
 

@@ -4,17 +4,17 @@ use Rattle.std.specs.List.{AllByRecursion}
 use Rattle.wasm_ast.specs.declared.module.Module.{Module}
 use Rattle.host_calls.specs.declared.call.CallInput.{CallInput}
 use Rattle.host_calls.specs.declared.call.CallOutcome.{CallOutcome}
-use Rattle.validate.specs.Modules.{IsTyped}
-use Rattle.cost.specs.Sizes.{AreSizes}
-use Rattle.bounded_profile.specs.Profile.{IsBounded}
+use Rattle.valid.specs.Modules.{IsTyped}
+use Rattle.units.specs.Sizes.{AreSizes}
+use Rattle.verified.specs.Profile.{IsBounded}
 use Rattle.interp.specs.Configuration.{State}
 use Rattle.interp.specs.Instructions.{instructions}
 use Rattle.interp.specs.Machine.{Machine, Done, Trapped, Stuck, run}
 use Rattle.interp.specs.Start.{Starts}
 use Rattle.interp.specs.Call.{IsOutcome, IsTrapped, IsStuck}
-use Rattle.bounded_profile.specs.Heights.{AreHeights}
-use Rattle.bounded_profile.specs.declared.facts.Facts.{Facts}
-use Rattle.bounded_profile.specs.Facts.{AreDepths, AreFacts, IsSizeOfCompute}
+use Rattle.verified.specs.Heights.{AreHeights}
+use Rattle.verified.specs.declared.facts.Facts.{Facts}
+use Rattle.verified.specs.Facts.{AreDepths, AreFacts, IsSizeOfCompute}
 use Rattle.interp.specs.Heights.{operands, frames}
 
 -- The call begins and ends, within this many units, and executes no more instructions. It never traps, and there is a

@@ -20,7 +20,7 @@ use Rattle.host_calls.specs.declared.imports.HostCall.{HostCall}
 use Rattle.host_calls.specs.Effects.{HostEffect, host_effect}
 use Rattle.host_calls.specs.Effects as host
 use Rattle.host_calls.specs.Operands.{pop}
-use Rattle.bounded_profile.specs.Memory.{page}
+use Rattle.verified.specs.Memory.{page}
 use Rattle.interp.specs.Configuration.{State, with_locals, with_globals, with_memory, with_host, Effect, Gives, Traps, Misses}
 use Rattle.interp.specs.Memory.{loaded, read, write}
 

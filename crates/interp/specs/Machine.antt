@@ -14,7 +14,7 @@ use Rattle.wasm_ast.specs.declared.module.Function.{Function}
 use Rattle.wasm_ast.specs.declared.module.Module.{Module}
 use Rattle.wasm_ast.specs.Code.{Code}
 use Rattle.wasm_ast.specs.Code as code
-use Rattle.cost.specs.Weights.{units_of}
+use Rattle.units.specs.Weights.{units_of}
 use Rattle.wasm_ast.specs.Values.{zero_of}
 use Rattle.host_calls.specs.declared.imports.HostCall.{HostCall}
 use Rattle.host_calls.specs.Imports.{call_named}

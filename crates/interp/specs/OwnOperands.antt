@@ -4,9 +4,9 @@ use Rattle.std.specs.Prelude.{ℕ, zero, suc, ◌+◌, ◌-◌, ◌≤◌, List,
 use Rattle.wasm_ast.specs.declared.module.Module.{Module}
 use Rattle.wasm_ast.specs.Code as code
 use Rattle.host_calls.specs.declared.call.CallInput.{CallInput}
-use Rattle.validate.specs.Modules.{IsTyped}
-use Rattle.bounded_profile.specs.Cells.{IsDefined, MayRun, own_height}
-use Rattle.bounded_profile.specs.Profile.{IsBounded}
+use Rattle.valid.specs.Modules.{IsTyped}
+use Rattle.verified.specs.Cells.{IsDefined, MayRun, own_height}
+use Rattle.verified.specs.Profile.{IsBounded}
 use Rattle.interp.specs.Heights.{frames}
 use Rattle.interp.specs.Machine.{ControlEntry, Label, Frame, Machine, Running, Done, Trapped, Stuck, advance, run}
 use Rattle.interp.specs.Start.{Starts}

@@ -5,10 +5,10 @@ use Rattle.wasm_ast.specs.declared.module.Module.{Module}
 use Rattle.wasm_ast.specs.Limits.{IsWithinLimits, max_locals, max_nesting}
 use Rattle.host_calls.specs.declared.call.CallInput.{CallInput}
 use Rattle.host_calls.specs.Host.{host_of}
-use Rattle.validate.specs.Modules.{IsTyped}
-use Rattle.bounded_profile.specs.Profile.{IsBounded}
-use Rattle.bounded_profile.specs.Facts.{AreFacts}
-use Rattle.bounded_profile.specs.declared.facts.Facts.{Facts}
+use Rattle.valid.specs.Modules.{IsTyped}
+use Rattle.verified.specs.Profile.{IsBounded}
+use Rattle.verified.specs.Facts.{AreFacts}
+use Rattle.verified.specs.declared.facts.Facts.{Facts}
 use Rattle.interp.specs.Call.{ComesTo, Outcome}
 use Rattle.interp.specs.Heights.{entries, locals}
 use Rattle.interp.specs.Machine.{Machine, run}

@@ -5,13 +5,13 @@ use Rattle.wasm_ast.specs.declared.types.Value.{Value}
 use Rattle.wasm_ast.specs.declared.module.Module.{Module}
 use Rattle.wasm_ast.specs.Code.{Code}
 use Rattle.wasm_ast.specs.Code as code
-use Rattle.validate.specs.Modules.{IsTyped}
-use Rattle.cost.specs.Sizes.{AreSizes, code_size}
-use Rattle.bounded_profile.specs.Hosts.{host_call_at}
-use Rattle.bounded_profile.specs.Kinds.{Kind}
-use Rattle.bounded_profile.specs.Known.{Known}
-use Rattle.bounded_profile.specs.Profile.{IsBounded, asks_all}
-use Rattle.bounded_profile.specs.Shapes.{Everywhere, NotIndirect, NotUnreachable, NotGrow, LoopTakes}
+use Rattle.valid.specs.Modules.{IsTyped}
+use Rattle.units.specs.Sizes.{AreSizes, code_size}
+use Rattle.verified.specs.Hosts.{host_call_at}
+use Rattle.verified.specs.Kinds.{Kind}
+use Rattle.verified.specs.Known.{Known}
+use Rattle.verified.specs.Profile.{IsBounded, asks_all}
+use Rattle.verified.specs.Shapes.{Everywhere, NotIndirect, NotUnreachable, NotGrow, LoopTakes}
 use Rattle.interp.specs.Configuration.{State}
 use Rattle.interp.specs.Machine.{ControlEntry, Machine, Running, Done, Trapped, Stuck, jump, back, run}
 use Rattle.interp.specs.Typed.{HasKinds, IsTop, Sound, items_left}

@@ -16,9 +16,9 @@ use Rattle.wasm_ast.specs.Code as code
 use Rattle.wasm_ast.specs.Values.{zero_of}
 use Rattle.host_calls.specs.declared.call.CallInput.{CallInput}
 use Rattle.host_calls.specs.Host.{Host, host_of}
-use Rattle.bounded_profile.specs.Compute.{exported_compute}
-use Rattle.bounded_profile.specs.Memory.{memory_bytes}
-use Rattle.bounded_profile.specs.Profile.{ImportsHostCalls, NoStart, NoElements, plain_type}
+use Rattle.verified.specs.Compute.{exported_compute}
+use Rattle.verified.specs.Memory.{memory_bytes}
+use Rattle.verified.specs.Profile.{ImportsHostCalls, NoStart, NoElements, plain_type}
 use Rattle.interp.specs.Configuration.{State}
 use Rattle.interp.specs.Memory.{laid}
 use Rattle.interp.specs.Machine.{Machine, Running, defined, functions_of}

@@ -1,6 +1,6 @@
 //! The globals of a call, which are renewed before the next one.
 
-ghost use Rattle.std.specs.Prelude.{◌≡◌, ◌<◌, [], Some, length, slice_get, slice_set, IfOk, IsSome, OnOk};
+ghost use Rattle.std.specs.Prelude.{◌≡◌, ◌<◌, Some, length, slice_get, slice_set, IfOk, IsSome};
 ghost use Rattle.wasm_ast.specs.declared.types.Value.TheVariants.{I64};
 ghost use Rattle.interp.specs.inside.Renewed.{put_back, put_one};
 
@@ -30,31 +30,12 @@ impl Model for CallGlobals {
 }
 
 impl CallGlobals {
-    /// Makes an empty list. It allocates nothing.
-    pub fn new(alloc: Global) -> CallGlobals
-        ensures { result ≡ record { here = []; initial = [] } }
-    {
-        CallGlobals {
-            here: Globals::new(alloc),
-            initial: Globals::new(alloc),
-            numbers: Vec::new(alloc),
-        }
-    }
-
-    /// Replaces the globals and their initial values. The only error is that an allocation fails.
-    pub fn begin_with(&mut self, alloc: Global, initial: &Globals) -> Result<(), AllocError>
-        ensures { OnOk result (self.new.initial ≡ initial.now) }
-    {
-        *self = CallGlobals::of(alloc, initial)?;
-        Ok(())
-    }
-
-    /// Makes the globals with these initial values, with room to note as many numbers.
-    fn of(alloc: Global, initial: &Globals) -> Result<CallGlobals, AllocError>
+    /// Makes the globals with these initial values, with room to note as many numbers. The only error is that an
+    /// allocation fails.
+    pub fn of(alloc: Global, initial: &Globals) -> Result<CallGlobals, AllocError>
         ensures { IfOk result (λ globals. globals.initial ≡ initial.now) }
     {
-        let mut numbers = Vec::new(alloc);
-        numbers.reserve(initial.len())?;
+        let numbers = Vec::with_capacity(alloc, initial.len())?;
         let here = Globals::copy_of(alloc, initial)?;
         let initial = Globals::copy_of(alloc, initial)?;
         Ok(CallGlobals {

@@ -3,7 +3,7 @@
 ghost use Rattle.std.specs.Prelude.{◌≡◌, true};
 ghost use Rattle.wasm_ast.specs.declared.types.ValType.TheVariants.{I32 as i32_type};
 ghost use Rattle.wasm_ast.specs.declared.types.Value.TheVariants.{I32, I64};
-ghost use Rattle.bounded_profile.specs.Memory.{number_of};
+ghost use Rattle.verified.specs.Memory.{number_of};
 ghost use Rattle.interp.specs.inside.Cells.{cell_of, in_width, narrowed};
 
 use wasm_ast::{ValType, Value};

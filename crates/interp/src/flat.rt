@@ -23,10 +23,10 @@ use crate::numeric::act_numeric;
 use crate::operand_stack::pop;
 use crate::plain::{Acted, act_plain};
 use crate::program::Program;
-use cost::host_units;
 use flat_code::FlatInstr;
 use host_calls::CallState;
 use std::alloc::AllocError;
+use units::host_units;
 use wasm_ast::{Binary, Comparison, Conversion, Numeric, Plain, ValType};
 
 /// Executes an instruction that is straight: one that neither branches nor calls, a call of the host, or one that only

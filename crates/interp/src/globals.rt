@@ -1,6 +1,6 @@
 //! Globals in one list.
 
-ghost use Rattle.std.specs.Prelude.{◌≡◌, ◌<◌, [], Some, length, map, option_map, slice_get, slice_set, IfOk, IsSome, OnOk};
+ghost use Rattle.std.specs.Prelude.{◌≡◌, ◌<◌, [], Some, length, map, option_map, slice_get, slice_set, IfOk, IsSome};
 ghost use Rattle.wasm_ast.specs.declared.types.Value.TheVariants.{I64};
 
 use std::alloc::{AllocError, Global};
@@ -32,22 +32,20 @@ impl Globals {
         }
     }
 
-    /// Changes the number of globals; new ones are 0.
-    pub fn extend(&mut self, count: usize) -> Result<(), AllocError>
-        ensures { OnOk result (length self.new ≡ count) }
+    /// Makes this many globals, each 0. The only error is that an allocation fails.
+    pub fn zeros(alloc: Global, count: usize) -> Result<Globals, AllocError>
+        ensures { IfOk result (λ globals. length globals ≡ count) }
     {
-        self.cells.resize(count, 0)?;
-        Ok(())
+        let cells = vec![in alloc; 0; count]?;
+        Ok(Globals { cells })
     }
 
     /// Copies these globals. The only error is that an allocation fails.
     pub fn copy_of(alloc: Global, others: &Globals) -> Result<Globals, AllocError>
         ensures { IfOk result (λ globals. globals ≡ others.now) }
     {
-        let mut globals = Globals::new(alloc);
-        globals.extend(others.len())?;
-        globals.copy_from(others);
-        Ok(globals)
+        let cells = Vec::from_slice(alloc, others.cells.as_slice())?;
+        Ok(Globals { cells })
     }
 
     /// Counts the globals.

@@ -1,7 +1,6 @@
 //! Compute calls: the reduction of WebAssembly (Core 1.0, section 4) over modules in the bounded profile.
 #![tactic(auto)]
 
-mod buffers;
 mod call_globals;
 mod cell;
 mod control_entry;

@@ -1,6 +1,6 @@
 //! The locals of all frames in one list. The last ones are those of the innermost frame.
 
-ghost use Rattle.std.specs.Prelude.{◌≡◌, ◌+◌, ◌++◌, ◌<◌, ◌≤◌, [], Some, length, take, drop, map, slice_get, slice_set, vec_capacity, vec_len, IsSome, OnOk};
+ghost use Rattle.std.specs.Prelude.{◌≡◌, ◌+◌, ◌++◌, ◌<◌, ◌≤◌, [], Some, length, take, drop, map, slice_get, slice_set, vec_capacity, vec_len, IfOk, IsSome};
 ghost use Rattle.wasm_ast.specs.declared.types.Value.TheVariants.{I64};
 ghost use Rattle.interp.specs.inside.Cells.{zero_cells};
 ghost use Rattle.interp.specs.inside.Split.{all_of};
@@ -34,25 +34,17 @@ impl Model for Locals {
 }
 
 impl Locals {
-    /// Makes an empty list. It allocates nothing.
-    pub fn new(alloc: Global) -> Locals
-        ensures here { result.here ≡ [] }
-        ensures below { result.below ≡ record { values = []; room = 0 } }
+    /// Makes an empty list with room for this many locals. The only error is that the allocation fails.
+    pub fn with_room(alloc: Global, room: usize) -> Result<Locals, AllocError>
+        ensures { IfOk result (λ locals. locals
+            ≡ record { here = []; below = record { values = []; room = room } }) }
     {
-        Locals {
-            cells: Vec::new(alloc),
+        let cells = Vec::with_capacity(alloc, room)?;
+        Ok(Locals {
+            cells,
             base: 0,
-            room: 0,
-        }
-    }
-
-    /// Reserves room for this many locals.
-    pub fn reserve(&mut self, room: usize) -> Result<(), AllocError>
-        ensures { OnOk result (self.new.below.room ≡ room) }
-    {
-        self.cells.reserve(room)?;
-        self.room = room;
-        Ok(())
+            room,
+        })
     }
 
     /// Removes all locals and keeps their room.

@@ -1,17 +1,17 @@
 //! The memory of a call (Core 1.0, 4.2.8).
 
-ghost use Rattle.std.specs.Prelude.{◌≡◌, ◌++◌, ◌+◌, ◌*◌, ◌/◌, ◌<◌, ◌≤◌, [], Some, length, replicate, option_map, take, drop, true, OnErr, OnOk};
+ghost use Rattle.std.specs.Prelude.{◌≡◌, ◌++◌, ◌+◌, ◌*◌, ◌/◌, ◌<◌, ◌≤◌, Some, length, replicate, option_map, take, drop, true, IfOk};
 ghost use Rattle.wasm_ast.specs.Widths.{load_type, load_width, store_width};
-ghost use Rattle.bounded_profile.specs.Memory.{bytes_of, max_minimum, memory_bytes, page};
+ghost use Rattle.verified.specs.Memory.{bytes_of, max_minimum, memory_bytes, page};
 ghost use Rattle.interp.specs.Effects.{value};
 ghost use Rattle.interp.specs.Memory.{number_of_bytes, sign_extended, loaded};
 ghost use Rattle.interp.specs.inside.Cells.{in_width};
 ghost use Rattle.interp.specs.inside.Kept.{count_kept, is_kept, kept_laid, kept_read, kept_write, laid_over, marked_before, marks, masked};
 
 use crate::cell::of_i32;
-use bounded_profile::Verified;
 use std::alloc::{AllocError, Global};
 use std::marker::Model;
+use verified::Verified;
 use wasm_ast::{Limits, Load, Store, i64_extend_i32_s};
 
 /// The bytes of the memory that loads and stores of the module reach, and the place of each. Its model is a list of
@@ -36,23 +36,15 @@ impl<'a> Model for Memory<'a> {
 }
 
 impl<'a> Memory<'a> {
-    /// Makes a memory that keeps nothing. It allocates nothing.
-    pub fn new(alloc: Global, verified: &'a Verified) -> Memory<'a> {
-        Memory {
-            verified,
-            bytes: Vec::new(alloc),
-        }
-    }
-
-    /// Keeps a 0 for each byte that the module reaches. The only error is that an allocation fails.
-    pub fn extend(&mut self, verified: &'a Verified) -> Result<(), AllocError>
-        ensures zeros { OnOk result (self.new
+    /// Makes a memory that keeps a 0 for each byte that the module reaches. The only error is that the allocation fails.
+    pub fn zeros(alloc: Global, verified: &'a Verified) -> Result<Memory<'a>, AllocError>
+        ensures zeros { IfOk result (λ memory. memory
             ≡ masked (marks verified.now) (replicate (memory_bytes verified.now) 0)) }
-        ensures kept { OnOk result (count_kept self.new
+        ensures kept { IfOk result (λ memory. count_kept memory
             ≡ marked_before (marks verified.now) (memory_bytes verified.now)) }
     {
-        self.verified = verified;
-        clear_to_zeros(&mut self.bytes, verified.reach() as usize)
+        let bytes = zero_bytes(alloc, verified.reach() as usize)?;
+        Ok(Memory { verified, bytes })
     }
 
     /// Copies another memory of as many kept bytes.
@@ -191,13 +183,13 @@ fn kept_place(verified: &Verified, byte: u64) -> usize
     verified.place(byte as u32) as usize
 }
 
-// Replaces all bytes by this many zeros; by none where the allocation fails.
-fn clear_to_zeros(bytes: &mut Vec<u8>, count: usize) -> Result<(), AllocError>
-    ensures zeros { OnOk result (bytes.new.items ≡ replicate count 0) }
-    ensures none { OnErr result (bytes.new.items ≡ []) }
+// Makes this many zeros.
+fn zero_bytes(alloc: Global, count: usize) -> Result<Vec<u8>, AllocError>
+    ensures { IfOk result (λ bytes. bytes.items ≡ replicate count 0) }
 {
-    bytes.clear();
-    bytes.resize(count, 0)
+    let mut bytes = Vec::new(alloc);
+    bytes.resize(count, 0)?;
+    Ok(bytes)
 }
 
 // Replaces the bytes from an index on.

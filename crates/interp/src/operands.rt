@@ -1,6 +1,6 @@
 //! The operands of all control entries in one list. The topmost ones are those of the innermost entry.
 
-ghost use Rattle.std.specs.Prelude.{◌≡◌, ◌∷◌, ◌++◌, ◌-◌, ◌≤◌, [], Some, length, map, take, drop, reverse, option_map, IsSome, OnOk};
+ghost use Rattle.std.specs.Prelude.{◌≡◌, ◌∷◌, ◌++◌, ◌-◌, ◌≤◌, [], Some, length, map, take, drop, reverse, option_map, IfOk, IsSome};
 ghost use Rattle.wasm_ast.specs.declared.types.Value.TheVariants.{I64};
 ghost use Rattle.interp.specs.Machine.{first, carry};
 ghost use Rattle.interp.specs.inside.Split.{HasSpare};
@@ -37,26 +37,17 @@ impl Model for Operands {
 }
 
 impl Operands {
-    /// Makes an empty stack without room. It allocates nothing.
-    pub fn new(alloc: Global) -> Operands
-        ensures here { result.here ≡ [] }
-        ensures below { result.below ≡ record { values = []; room = 0 } }
+    /// Makes an empty stack with room for this many operands. The only error is that the allocation fails.
+    pub fn with_room(alloc: Global, room: usize) -> Result<Operands, AllocError>
+        ensures { IfOk result (λ operands. operands
+            ≡ record { here = []; below = record { values = []; room = room } }) }
     {
-        Operands {
-            cells: Vec::new(alloc),
+        let cells = vec![in alloc; 0; room]?;
+        Ok(Operands {
+            cells,
             top: 0,
             floor: 0,
-        }
-    }
-
-    /// Removes all operands and reserves room for this many.
-    pub fn reserve(&mut self, room: usize) -> Result<(), AllocError>
-        ensures { OnOk result (self.new.below.room ≡ room) }
-    {
-        self.top = 0;
-        self.floor = 0;
-        self.cells.resize(room, 0)?;
-        Ok(())
+        })
     }
 
     /// Removes all operands and keeps their room.

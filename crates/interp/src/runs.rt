@@ -14,9 +14,9 @@ use crate::program::{Definition, Program};
 use crate::scratch::Scratch;
 use crate::start::image::Image;
 use crate::walk::Walk;
-use bounded_profile::Verified;
 use host_calls::{CallInput, CallOutcome, CallState};
 use std::alloc::{AllocError, Global};
+use verified::Verified;
 
 /// The greatest id of a vertex.
 const MAX_ID: u64 = 9_223_372_036_854_775_807;

@@ -1,27 +1,29 @@
 //! What the calls of a module share.
 
-ghost use Rattle.std.specs.Prelude.{◌≡◌, ◌+◌, ◌*◌, ◌^◌, ◌≤◌, ◌↔◌, length, IfOk, IsTrue, OnErr, OnOk};
+ghost use Rattle.std.specs.Prelude.{◌≡◌, ◌+◌, ◌*◌, ◌^◌, ◌≤◌, ◌↔◌, length, IfOk, IsTrue, OnErr};
 ghost use Rattle.wasm_ast.specs.Limits.{IsWithinLimits, max_locals};
-ghost use Rattle.validate.specs.Modules.{IsTyped};
-ghost use Rattle.bounded_profile.specs.Profile.{IsBounded};
+ghost use Rattle.valid.specs.Modules.{IsTyped};
+ghost use Rattle.verified.specs.Profile.{IsBounded};
 ghost use Rattle.flat_code.specs.Bodies.{bodies_of};
 ghost use Rattle.interp.specs.Call.{IsOutcome};
 ghost use Rattle.interp.specs.Room.{most_entries, most_locals};
-ghost use Rattle.interp.specs.inside.Begun.{BeginsWith, EndsEachWithin, HasRoom, Sends, room_in};
+ghost use Rattle.interp.specs.inside.Begun.{BeginsWith, EndsEachWithin, HasRoom, Sends};
 ghost use Rattle.interp.specs.inside.Meaning.{AreImports};
 ghost use Rattle.interp.specs.inside.Walk.{max_count};
 
-use crate::buffers::Buffers;
+use crate::call_globals::CallGlobals;
+use crate::locals::Locals;
+use crate::memory::Memory;
+use crate::operands::Operands;
 use crate::program::{Definition, Program};
 use crate::runs::call_in;
-use crate::start::begin;
 use crate::start::image::Image;
 use crate::walk::Walk;
-use bounded_profile::Verified;
 use host_calls::{CallInput, CallOutcome};
 use std::alloc::{AllocError, Global};
 use std::marker::Model;
 use std::mem::replace;
+use verified::Verified;
 use wasm_ast::{MAX_LOCALS, MAX_NESTING};
 
 /// The state that the calls of one module share: what each call begins with, and buffers that one call leaves to the
@@ -73,16 +75,7 @@ impl<'a> Scratch<'a> {
     pub fn new(alloc: Global, verified: &'a Verified) -> Result<Scratch<'a>, AllocError>
         ensures { IfOk result (λ scratch. scratch ≡ verified.now) }
     {
-        let image = Image::new(alloc, verified)?;
-        let mut buffers = Buffers::new(alloc, verified);
-        make_room(alloc, verified, &image, &mut buffers)?;
-        let walk = begin(buffers);
-        let lists = Lists {
-            image,
-            walk,
-            sends: Vec::new(alloc),
-            contributions: Vec::new(alloc),
-        };
+        let lists = make_lists(alloc, verified)?;
         let lists = Box::new(alloc, lists)?;
         Ok(Scratch { verified, lists })
     }
@@ -155,24 +148,43 @@ impl<'a> Scratch<'a> {
     }
 }
 
-// Reserves room in the buffers for the most that a call has at a time.
-fn make_room<'a>(
+// Makes what the first call begins with, and a walk with room for it.
+fn make_lists<'a>(alloc: Global, verified: &'a Verified) -> Result<Lists<'a>, AllocError>
+    ensures image { IfOk result (λ lists. lists.image ≡ verified.now) }
+    ensures room { IfOk result (λ lists. HasRoom verified.now lists.walk.room) }
+{
+    let image = Image::new(alloc, verified)?;
+    let walk = make_walk(alloc, verified, &image)?;
+    Ok(Lists {
+        image,
+        walk,
+        sends: Vec::new(alloc),
+        contributions: Vec::new(alloc),
+    })
+}
+
+// Makes a walk with room for the most that a call has at a time.
+fn make_walk<'a>(
     alloc: Global,
     verified: &'a Verified,
     image: &Image<'a>,
-    buffers: &mut Buffers<'a>,
-) -> Result<(), AllocError>
+) -> Result<Walk<'a>, AllocError>
     requires { image.now ≡ verified.now }
-    ensures { OnOk result (HasRoom verified.now (room_in buffers.new)) }
+    ensures { IfOk result (λ walk. HasRoom verified.now walk.room) }
 {
     let frames = verified.max_frames() as usize;
-    buffers.entries.reserve(most_entries(frames) + 1)?;
-    buffers
-        .operands
-        .reserve(verified.max_operands() as usize + 1)?;
-    buffers.locals.reserve(most_locals(frames + 1))?;
-    buffers.globals.begin_with(alloc, image.globals())?;
-    buffers.memory.extend(verified)
+    let entries = Vec::with_capacity(alloc, most_entries(frames) + 1)?;
+    let operands = Operands::with_room(alloc, verified.max_operands() as usize + 1)?;
+    let locals = Locals::with_room(alloc, most_locals(frames + 1))?;
+    let memory = Memory::zeros(alloc, verified)?;
+    let globals = CallGlobals::of(alloc, image.globals())?;
+    Ok(Walk {
+        entries,
+        operands,
+        locals,
+        globals,
+        memory,
+    })
 }
 
 // Returns the most control entries that this many frames have.

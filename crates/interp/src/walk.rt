@@ -23,11 +23,11 @@ use crate::memory::Memory;
 use crate::operands::Operands;
 use crate::program::Program;
 use crate::straight::{Stop, go_straight};
-use cost::branch_units;
 use flat_code::{FlatBody, FlatInstr};
 use host_calls::CallState;
 use std::alloc::AllocError;
 use std::marker::Model;
+use units::branch_units;
 
 /// Where the run goes on, or that it is done, with the units so far.
 #[derive(Clone, Copy)]

@@ -4,9 +4,9 @@ use Rattle.command_line.specs.declared.request.Request.{Request}
 use Rattle.command_line.specs.declared.request.Request.TheVariants as request
 use Rattle.sources.specs.Disk.{Disk, Stays}
 use Rattle.console.specs.FileCommands.{MayPrint, writes_file}
-use Rattle.console.specs.Sheets.{MayWriteSheets, asks_sheets}
-use Rattle.console.specs.declared.noting.RunNotes.{RunNotes}
-use Rattle.console.proofs.SheetFiles.{may_write_later}
+use Rattle.plain_commands.specs.Sheets.{MayWriteSheets, asks_sheets}
+use Rattle.plain_commands.specs.declared.noting.RunNotes.{RunNotes}
+use Rattle.plain_commands.proofs.SheetFiles.{may_write_later}
 use Rattle.pregel.specs.Program.{CommandTold, IsToldOf}
 
 -- of a command that asks for a report or a chart, which is a run

@@ -7,7 +7,7 @@ use Rattle.command_line.specs.declared.request.Request.TheVariants as request
 use Rattle.command_line.specs.Machine.{options_on, request_on}
 use Rattle.sources.specs.Disk.{Disk, Stays}
 use Rattle.console.specs.FileCommands.{writes_file}
-use Rattle.console.specs.Sheets.{asks_sheets}
+use Rattle.plain_commands.specs.Sheets.{asks_sheets}
 use Rattle.session.specs.declared.serving.ServeFault.{ServeFault}
 use Rattle.session.specs.declared.serving.ServeFault.TheVariants as fault
 use Rattle.pregel.specs.Program.{CommandTold, Does, IsCommandTold, may_write}

@@ -10,13 +10,13 @@ use Rattle.sources.specs.OutputLines.{line}
 use Rattle.sources.specs.Refusal.{fault_text, status_of}
 use Rattle.sources.specs.declared.fault.CommandFault.{CommandFault}
 use Rattle.console.specs.FileCommands.{Answered, IsCause, MayPrint, writes_file}
-use Rattle.console.specs.Sheets.{IsStatusOf, MayWriteSheets, asks_sheets}
-use Rattle.console.specs.declared.noting.RunNotes.{RunNotes}
+use Rattle.plain_commands.specs.Sheets.{IsStatusOf, MayWriteSheets, asks_sheets}
+use Rattle.plain_commands.specs.declared.noting.RunNotes.{RunNotes}
 use Rattle.session.specs.declared.serving.ServeFault.{ServeFault}
 use Rattle.session.specs.declared.serving.ServeFault.TheVariants as fault
 use Rattle.session.specs.Maps.{nothing}
-use Rattle.session.specs.Runs.{threaded}
 use Rattle.session.specs.Serving.{Serves}
+use Rattle.threaded_session.specs.Runs.{threaded}
 
 -- An answer is told with status 0, or a fault for which there is a cause.
 abbrev pub IsToldOf : Disk → Request → ℕ → List ℕ → Type 0

@@ -4,18 +4,20 @@ ghost use Rattle.std.specs.Prelude.{◌≡◌, ℕ, List, false};
 ghost use Rattle.command_line.specs.Machine.{options_on};
 ghost use Rattle.sources.specs.Disk.{Stays};
 ghost use Rattle.console.specs.FileCommands.{writes_file};
-ghost use Rattle.console.specs.Sheets.{asks_sheets};
+ghost use Rattle.plain_commands.specs.Sheets.{asks_sheets};
 ghost use Rattle.pregel.specs.Program.{CommandTold, Does, IsCommandTold, may_write};
 
 use command_line::{Options, Request};
-use console::{RunNotes, View, command, write_sheets};
+use console::{View, command};
 use line_text::WriteFailure;
-use session::{ServeFault, serve_in_threads};
+use plain_commands::{RunNotes, write_sheets};
+use session::ServeFault;
 use sources::Files;
 use std::alloc::Global;
 use std::io::{Read, Write};
 use std::sync::Wait;
 use std::thread::Threads;
+use threaded_session::serve_in_threads;
 use workers::NoLoss;
 
 /// Does what the options ask for on a machine that has so many processors, and answers the status for the process: it serves a

@@ -2,10 +2,10 @@
 use Rattle.std.proofs.Common.{◌≡◌, ℕ, List, Bool, true, Option, Some, refl, sym, ap, ◌∙◌, subst}
 use Rattle.superstep.specs.declared.settings.Settings.{Settings}
 use Rattle.superstep.specs.Job.{Work}
-use Rattle.rollback.specs.declared.job_status.DeviceResult.{DeviceResult}
-use Rattle.rollback.specs.declared.job_status.DeviceResult.TheVariants.{Good}
-use Rattle.rollback.specs.Machine.{Machine, resumed}
-use Rattle.rollback.specs.Events.{Heard, loading, slicing}
+use Rattle.control.specs.declared.job_status.DeviceResult.{DeviceResult}
+use Rattle.control.specs.declared.job_status.DeviceResult.TheVariants.{Good}
+use Rattle.control.specs.Machine.{Machine, resumed}
+use Rattle.control.specs.Events.{Heard, loading, slicing}
 use Rattle.rollback.specs.Saving.{HasLeft, IsBegun, IsLoadResult, IsSavedAt, KeepsFor}
 use Rattle.rollback.proofs.Keeps.{AreSame, loads, loads_same, slicing_same}
 

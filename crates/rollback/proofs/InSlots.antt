@@ -12,7 +12,7 @@ use Rattle.rollback.specs.declared.part_slots.PartSlot.TheVariants.{Away, Back, 
 use Rattle.rollback.specs.inside.Parts.{Placement, Spot}
 use Rattle.rollback.specs.inside.Parts.Spot.{Gone, Home, Returned}
 use Rattle.rollback.specs.inside.PartSlots.{AreBack, AreInSlots, IsInSlot, is_back, is_here, spot_of, spots_of}
-use Rattle.rollback.proofs.Sound.{same_or_not}
+use Rattle.control.proofs.Sound.{same_or_not}
 
 abbrev stamp_at : ℕ → ℕ → ℕ → SliceStamp
 stamp_at e s part = record { epoch = e; superstep = s; part = part }

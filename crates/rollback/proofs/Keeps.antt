@@ -7,10 +7,10 @@ use Rattle.superstep.specs.declared.fault.JobFault.TheVariants.{OutOfMemory}
 use Rattle.superstep.specs.declared.fault.Place.TheVariants.{Slice}
 use Rattle.superstep.specs.Job.{Work}
 use Rattle.superstep.specs.State.{HasIdsOf, Standing}
-use Rattle.rollback.specs.declared.job_status.DeviceResult.{DeviceResult}
-use Rattle.rollback.specs.declared.job_status.DeviceResult.TheVariants.{Failed, Good, NoMemory}
-use Rattle.rollback.specs.Machine.{Machine, count_set, ended_by, is_running, is_saved_now, joined, saved_or_first, welcomed}
-use Rattle.rollback.specs.Events.{after_load, after_save, loading, saving, slicing}
+use Rattle.control.specs.declared.job_status.DeviceResult.{DeviceResult}
+use Rattle.control.specs.declared.job_status.DeviceResult.TheVariants.{Failed, Good, NoMemory}
+use Rattle.control.specs.Machine.{Machine, count_set, ended_by, is_running, is_saved_now, joined, saved_or_first, welcomed}
+use Rattle.control.specs.Events.{after_load, after_save, loading, saving, slicing}
 use Rattle.rollback.specs.Saving.{IsFullStateAt, IsLoadResult, IsSavedOrLeft, KeepsFor, LoadsNoMore, MayLoadAfter, MayLoadMade, MayLoadOther}
 use Rattle.rollback.specs.inside.DeviceResults.{IsSaveResult}
 

@@ -16,15 +16,15 @@ use Rattle.std.specs.List.{list_any}
 use Rattle.superstep.specs.State.{HasIdsOf, Standing, bare, is_due, is_settled}
 use Rattle.superstep.specs.Ending.{WasBusy}
 use Rattle.superstep.proofs.Trusting.{Lasts}
-use Rattle.rollback.specs.declared.control.Out.{Out}
-use Rattle.rollback.specs.declared.job_status.JobStatus.{JobStatus}
-use Rattle.rollback.specs.declared.job_status.JobStatus.TheVariants.{Fault, Finished, Limit, Running}
-use Rattle.rollback.specs.declared.job_status.DeviceResult.{DeviceResult}
-use Rattle.rollback.specs.declared.job_status.DeviceResult.TheVariants.{Failed, Good, NoMemory}
+use Rattle.control.specs.declared.control.Out.{Out}
+use Rattle.control.specs.declared.job_status.JobStatus.{JobStatus}
+use Rattle.control.specs.declared.job_status.JobStatus.TheVariants.{Fault, Finished, Limit, Running}
+use Rattle.control.specs.declared.job_status.DeviceResult.{DeviceResult}
+use Rattle.control.specs.declared.job_status.DeviceResult.TheVariants.{Failed, Good, NoMemory}
 use Rattle.rollback.specs.declared.job_data.JobData.{JobData}
 use Rattle.rollback.specs.declared.job_data.JobData.TheVariants.{Nothing, Parts, Whole}
-use Rattle.rollback.specs.Machine.{Machine, all_set, begun_anew, closed, count_set, counts, either, ended_by, ending_at, finished, freed, hand, handed, has_answer, is_running, is_saved_now, joined, none_set, one_more, opened, restarted, resumed, saved_or_first, task_of, waits, welcomed}
-use Rattle.rollback.specs.Events.{after_save, loading, saving, slicing}
+use Rattle.control.specs.Machine.{Machine, all_set, begun_anew, closed, count_set, counts, either, ended_by, ending_at, finished, freed, hand, handed, has_answer, is_running, is_saved_now, joined, none_set, one_more, opened, restarted, resumed, saved_or_first, task_of, waits, welcomed}
+use Rattle.control.specs.Events.{after_save, loading, saving, slicing}
 use Rattle.rollback.specs.inside.Parts.{IsHome, Placement, Spot, all_home, is_returned, moved, returned}
 use Rattle.rollback.specs.inside.Parts.Spot.{Gone, Home, Returned}
 use Rattle.rollback.specs.Saving.{IsFullStateAt}
@@ -32,9 +32,9 @@ use Rattle.rollback.specs.Book.{IsQuietAt, done_out, has_finished}
 use Rattle.rollback.specs.inside.Book.{AreIdsOf, AreParts, IsBacked, IsBook, HoldsData, IsReached, StandsAt, WasBusyTo, is_fault}
 use Rattle.rollback.specs.inside.JobData.{HasHome, Runs, FitsPart}
 use Rattle.rollback.specs.inside.Recovery.{IsFirst, IsHeldOf, StandsBack}
-use Rattle.rollback.specs.inside.Sound.{IsOpen, IsSound}
-use Rattle.rollback.proofs.ByPlace.{length-by_place}
-use Rattle.rollback.proofs.Sound.{HasNone, apart, counted_part, counts_is, hand_free, hand_is, same_or_not, sound_anew, sound_closed, sound_ending, sound_freed, sound_handed, sound_opened, sound_rest, sound_restarted, sound_resumed, sound_taken, with_rest}
+use Rattle.control.specs.inside.Sound.{IsOpen, IsSound}
+use Rattle.control.proofs.ByPlace.{length-by_place}
+use Rattle.control.proofs.Sound.{HasNone, apart, counted_part, counts_is, hand_free, hand_is, same_or_not, sound_anew, sound_closed, sound_ending, sound_freed, sound_handed, sound_opened, sound_rest, sound_restarted, sound_resumed, sound_taken, with_rest}
 
 -- ---- ends
 

@@ -1,13 +1,10 @@
 pub mod Beginning
-pub mod ByPlace
 pub mod Keeps
 pub mod Kept
-pub mod Least
 pub mod Opening
 pub mod Reports
 pub mod InSlots
 pub mod Simulated
 pub mod Slices
-pub mod Sound
 pub mod Steps
 pub mod Taking

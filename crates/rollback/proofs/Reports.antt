@@ -4,12 +4,12 @@ use Rattle.superstep.specs.Ending.{HasStopped}
 use Rattle.superstep.specs.Job.{Work}
 use Rattle.superstep.specs.State.{Standing}
 use Rattle.superstep.specs.Ending.{WasBusy}
-use Rattle.rollback.specs.declared.job_status.JobStatus.{JobStatus}
-use Rattle.rollback.specs.declared.job_status.JobStatus.TheVariants.{Fault, Finished, Limit, Running}
+use Rattle.control.specs.declared.job_status.JobStatus.{JobStatus}
+use Rattle.control.specs.declared.job_status.JobStatus.TheVariants.{Fault, Finished, Limit, Running}
 use Rattle.rollback.specs.declared.job_data.JobData.{JobData}
 use Rattle.rollback.specs.declared.job_data.JobData.TheVariants.{Nothing, Parts, Whole}
 use Rattle.rollback.specs.declared.report.Report.{Report}
-use Rattle.rollback.specs.Machine.{Machine, has_answer, is_running}
+use Rattle.control.specs.Machine.{Machine, has_answer, is_running}
 use Rattle.rollback.specs.Book.{IsReport, has_finished}
 use Rattle.rollback.specs.inside.Book.{HasWhole, HoldsData, IsReached, IsWhole, StandsAt, is_fault}
 use Rattle.rollback.specs.inside.Reporting.{IsReportIn}

@@ -10,24 +10,24 @@ use Rattle.superstep.specs.declared.fault.JobFault.TheVariants.{OutOfMemory}
 use Rattle.superstep.specs.declared.fault.Place.TheVariants.{Report as Reporting}
 use Rattle.superstep.specs.Job.{Work as AnyWork}
 use Rattle.superstep.specs.Tasks.{AreUnitsAt, DoneStamp, TaskStamp}
-use Rattle.rollback.specs.declared.control.Out.{Out}
-use Rattle.rollback.specs.declared.event.Answer.{Answer}
-use Rattle.rollback.specs.declared.event.Answer.TheVariants.{Ended, Stale}
-use Rattle.rollback.specs.declared.job_status.DeviceResult.TheVariants.{Good}
+use Rattle.control.specs.declared.control.Out.{Out}
+use Rattle.control.specs.declared.event.Answer.{Answer}
+use Rattle.control.specs.declared.event.Answer.TheVariants.{Ended, Stale}
+use Rattle.control.specs.declared.job_status.DeviceResult.TheVariants.{Good}
 use Rattle.rollback.specs.declared.simulation.Step.{Step}
 use Rattle.rollback.specs.declared.simulation.Step.TheVariants.{Join, Lose, Take, Tick, Work}
 use Rattle.rollback.specs.declared.simulation.StepAnswer.{StepAnswer}
 use Rattle.rollback.specs.declared.simulation.StepAnswer.TheVariants.{Handed, Idle, Said}
-use Rattle.rollback.specs.declared.job_status.JobStatus.{JobStatus}
-use Rattle.rollback.specs.declared.job_status.JobStatus.TheVariants.{Fault, Finished, Limit, Running}
+use Rattle.control.specs.declared.job_status.JobStatus.{JobStatus}
+use Rattle.control.specs.declared.job_status.JobStatus.TheVariants.{Fault, Finished, Limit, Running}
 use Rattle.rollback.specs.declared.report.Report.{Report}
 use Rattle.rollback.specs.declared.simulation.Outcome.{Outcome}
 use Rattle.rollback.specs.declared.simulation.Outcome.TheVariants.{Ended as Over, Open}
 use Rattle.rollback.specs.declared.simulation.Trace.{Trace}
 use Rattle.rollback.specs.Saving.{IsCaused, IsKeptStep, IsMadeAt, KeepsFor, MayLoadOther}
-use Rattle.rollback.specs.Machine.{Machine, hand, handed, has_answer, is_free, is_running, opened, task_of}
-use Rattle.rollback.specs.Events.{Heard, Stamp, accepted, reply_of}
-use Rattle.rollback.specs.Events.Stamp.{JoinedBy, LostBy, Ticked}
+use Rattle.control.specs.Machine.{Machine, hand, handed, has_answer, is_free, is_running, opened, task_of}
+use Rattle.control.specs.Events.{Heard, Stamp, accepted, reply_of}
+use Rattle.control.specs.Events.Stamp.{JoinedBy, LostBy, Ticked}
 use Rattle.rollback.specs.Book.{IsQuietAt, IsReport, IsStep, done_out, task_out}
 use Rattle.rollback.proofs.Keeps.{keeps_same}
 use Rattle.rollback.specs.Simulation.{IsCalm, IsCalmAt, IsEnded, IsOutcomeAt, IsSimStep, IsSimulated, IsSimulatedOver, IsTrace, NeverFails, Ran, RanOver, Sim, StepInput, brought, does, without_task, emptied, held_or_new, holds, while_running, new_task, said, sim_opened, sim_step, taken, takes, work_on, worked}

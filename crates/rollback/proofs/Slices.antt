@@ -8,8 +8,8 @@ use Rattle.superstep.specs.Job.{Work}
 use Rattle.superstep.specs.State.{Standing}
 use Rattle.rollback.specs.declared.job_data.JobData.{JobData}
 use Rattle.rollback.specs.declared.job_data.JobData.TheVariants.{Nothing, Parts, Whole}
-use Rattle.rollback.specs.Machine.{Machine, ended_by, is_running}
-use Rattle.rollback.specs.Events.{slicing}
+use Rattle.control.specs.Machine.{Machine, ended_by, is_running}
+use Rattle.control.specs.Events.{slicing}
 use Rattle.rollback.specs.inside.Parts.{all_home}
 use Rattle.rollback.specs.Saving.{IsOther, MayLoadOther}
 use Rattle.rollback.specs.inside.Book.{AreIdsOf}

@@ -5,20 +5,20 @@ use Rattle.superstep.specs.declared.fault.JobFault.{JobFault}
 use Rattle.superstep.specs.declared.fault.JobFault.TheVariants.{NoWorkers, OutOfMemory}
 use Rattle.superstep.specs.declared.fault.Place.TheVariants.{Slice}
 use Rattle.superstep.specs.Job.{Work}
-use Rattle.rollback.specs.declared.control.Out.{Out}
-use Rattle.rollback.specs.declared.job_status.JobStatus.{JobStatus}
-use Rattle.rollback.specs.declared.job_status.JobStatus.TheVariants.{Fault, Finished, Limit, Running}
-use Rattle.rollback.specs.declared.job_status.DeviceResult.{DeviceResult}
-use Rattle.rollback.specs.declared.job_status.DeviceResult.TheVariants.{Failed, Good, NoMemory}
-use Rattle.rollback.specs.declared.event.Answer.{Answer}
-use Rattle.rollback.specs.declared.event.Answer.TheVariants.{Ended, Stale}
-use Rattle.rollback.specs.Machine.{Machine, all_set, begun_anew, charged, count_set, counts, ended_by, finished, freed, is_alive, is_running, joined, may_join, saved_or_first}
-use Rattle.rollback.specs.Events.{Heard, Stamp, accepted, after_end, after_loss, done_step, on_event, is_known, loading, loss, reply_by, reply_of, rolled, rolling, shut, slicing, step}
-use Rattle.rollback.specs.Events.Stamp.{DoneBy}
+use Rattle.control.specs.declared.control.Out.{Out}
+use Rattle.control.specs.declared.job_status.JobStatus.{JobStatus}
+use Rattle.control.specs.declared.job_status.JobStatus.TheVariants.{Fault, Finished, Limit, Running}
+use Rattle.control.specs.declared.job_status.DeviceResult.{DeviceResult}
+use Rattle.control.specs.declared.job_status.DeviceResult.TheVariants.{Failed, Good, NoMemory}
+use Rattle.control.specs.declared.event.Answer.{Answer}
+use Rattle.control.specs.declared.event.Answer.TheVariants.{Ended, Stale}
+use Rattle.control.specs.Machine.{Machine, all_set, begun_anew, charged, count_set, counts, ended_by, finished, freed, is_alive, is_running, joined, may_join, saved_or_first}
+use Rattle.control.specs.Events.{Heard, Stamp, accepted, after_end, after_loss, done_step, on_event, is_known, loading, loss, reply_by, reply_of, rolled, rolling, shut, slicing, step}
+use Rattle.control.specs.Events.Stamp.{DoneBy}
 use Rattle.rollback.specs.Saving.{IsLoadResult, KeepsFor}
 use Rattle.rollback.specs.Book.{IsStep}
 use Rattle.rollback.specs.inside.EventStep.{IsEventStep, IsSteady}
-use Rattle.rollback.proofs.Sound.{shut_is}
+use Rattle.control.proofs.Sound.{shut_is}
 use Rattle.rollback.proofs.Keeps.{AreSame, keeps_same, loads, loads_same, slicing_same}
 
 pub below_is : (w n : ℕ) → w < n → nat_lt w n ≡ true

@@ -1,15 +1,15 @@
 -- Results that are not taken.
 use Rattle.std.proofs.Common.{◌≡◌, ℕ, ◌<◌, List, length, Bool, true, false, cond, refl}
 use Rattle.superstep.specs.Job.{Work}
-use Rattle.rollback.specs.declared.control.Out.{Out}
+use Rattle.control.specs.declared.control.Out.{Out}
 use Rattle.rollback.specs.declared.job_data.JobData.{JobData}
-use Rattle.rollback.specs.Machine.{Machine, counts, freed, is_out}
-use Rattle.rollback.specs.Events.{stale_done}
+use Rattle.control.specs.Machine.{Machine, counts, freed, is_out}
+use Rattle.control.specs.Events.{stale_done}
 use Rattle.rollback.specs.inside.Book.{IsBook}
-use Rattle.rollback.specs.inside.Sound.{IsSound}
+use Rattle.control.specs.inside.Sound.{IsSound}
 use Rattle.rollback.proofs.Kept.{book_freed}
 use Rattle.rollback.proofs.Keeps.{AreSame}
-use Rattle.rollback.proofs.Sound.{HasNone, stale_none}
+use Rattle.control.proofs.Sound.{HasNone, stale_none}
 
 book_stale_if : (work : Work) (honest : ℕ → Bool) (own : Work) (m : Machine) (ids : List ℕ) {J : _} (job_data : JobData J) (w : ℕ) (c : Bool) → w < length m.out → (c ≡ true → HasNone m w) → IsBook work honest own m ids job_data → IsBook work honest own (cond c (freed m w) m) ids job_data
 book_stale_if work honest own m ids job_data w true lt never b = book_freed work honest own m ids job_data w lt (never refl) b

@@ -8,15 +8,15 @@ use Rattle.superstep.specs.Tasks.{DoneStamp, TaskStamp}
 use Rattle.superstep.specs.Ending.{IsEndOf, is_finished}
 use Rattle.rollback.specs.declared.report.Report.{Report}
 use Rattle.rollback.specs.declared.report.Status.{Status}
-use Rattle.rollback.specs.declared.control.Out.{Out}
-use Rattle.rollback.specs.declared.event.Answer.{Answer}
-use Rattle.rollback.specs.declared.job_status.JobStatus.{JobStatus}
-use Rattle.rollback.specs.declared.job_status.JobStatus.TheVariants.{Fault, Finished, Limit, Running}
-use Rattle.rollback.specs.declared.event.Event.{Event}
-use Rattle.rollback.specs.declared.event.Event.TheVariants as event
-use Rattle.rollback.specs.Machine.{Machine, is_alive, is_waiting}
-use Rattle.rollback.specs.Events.{Heard, Stamp, reply_of}
-use Rattle.rollback.specs.Events.Stamp.{DoneBy, FailedBy, JoinedBy, LostBy, Ticked}
+use Rattle.control.specs.declared.control.Out.{Out}
+use Rattle.control.specs.declared.event.Answer.{Answer}
+use Rattle.control.specs.declared.job_status.JobStatus.{JobStatus}
+use Rattle.control.specs.declared.job_status.JobStatus.TheVariants.{Fault, Finished, Limit, Running}
+use Rattle.control.specs.declared.event.Event.{Event}
+use Rattle.control.specs.declared.event.Event.TheVariants as event
+use Rattle.control.specs.Machine.{Machine, is_alive, is_waiting}
+use Rattle.control.specs.Events.{Heard, Stamp, reply_of}
+use Rattle.control.specs.Events.Stamp.{DoneBy, FailedBy, JoinedBy, LostBy, Ticked}
 
 -- ---- tasks and results, in numbers
 

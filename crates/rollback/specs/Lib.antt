@@ -1,7 +1,4 @@
--- What a reader has to believe, in this order: the control model, and what it does on events.
-pub mod Machine
-pub mod Events
--- the states that a Keep has
+-- What a reader has to believe, in this order, after the control model of `control`: the states that a Keep has
 pub mod Saving
 -- a book between two events
 pub mod Book

@@ -5,10 +5,10 @@ use Rattle.checkpoint.specs.Keep.{HasFailed}
 use Rattle.superstep.specs.Ending.{WasBusy}
 use Rattle.superstep.specs.Job.{Work}
 use Rattle.superstep.specs.State.{HasIdsOf, IsStateAt, Standing}
-use Rattle.rollback.specs.declared.job_status.DeviceResult.{DeviceResult}
-use Rattle.rollback.specs.declared.job_status.DeviceResult.TheVariants.{Failed}
-use Rattle.rollback.specs.Machine.{Machine}
-use Rattle.rollback.specs.Events.{Heard, begun}
+use Rattle.control.specs.declared.job_status.DeviceResult.{DeviceResult}
+use Rattle.control.specs.declared.job_status.DeviceResult.TheVariants.{Failed}
+use Rattle.control.specs.Machine.{Machine}
+use Rattle.control.specs.Events.{Heard, begun}
 
 -- It is the job's state before this superstep, with the units of each superstep before it.
 pub record IsFullStateAt (work : Work) (s : ℕ) (state : Standing) : Type 0 where

@@ -2,9 +2,9 @@
 use Rattle.std.specs.Prelude.{◌≡◌, ◌⊎◌, ◌+◌, ◌*◌, ℕ, suc, List, [], ◌∷◌, length, replicate, slice_index_or, slice_set, Bool, true, Option, Some, None, Result, Ok, Err, nat_lt, if◌then◌else◌}
 use Rattle.wasm_ast.specs.declared.module.Module.{Module}
 use Rattle.host_calls.specs.declared.call.CallInput.{CallInput}
-use Rattle.bounded_profile.specs.declared.facts.Facts.{Facts}
-use Rattle.bounded_profile.specs.Facts.{AreFactsAt}
-use Rattle.bounded_profile.specs.Profile.{HasCompute}
+use Rattle.verified.specs.declared.facts.Facts.{Facts}
+use Rattle.verified.specs.Facts.{AreFactsAt}
+use Rattle.verified.specs.Profile.{HasCompute}
 use Rattle.interp.specs.Bounded.{Ends, items_of}
 use Rattle.checkpoint.specs.Keep.{LoadsNothingElse}
 use Rattle.superstep.specs.declared.fault.JobFault.{JobFault}
@@ -12,11 +12,11 @@ use Rattle.superstep.specs.declared.fault.JobFault.TheVariants.{OutOfMemory}
 use Rattle.superstep.specs.declared.fault.Place.TheVariants.{Call, Open, Report as Reporting}
 use Rattle.superstep.specs.Job.{Work}
 use Rattle.superstep.specs.Tasks.{AreUnitsAt}
-use Rattle.rollback.specs.declared.control.Out.{Out}
-use Rattle.rollback.specs.declared.job_status.JobStatus.{JobStatus}
-use Rattle.rollback.specs.declared.job_status.JobStatus.TheVariants.{Fault, Finished, Limit, Running}
-use Rattle.rollback.specs.declared.event.Answer.{Answer}
-use Rattle.rollback.specs.declared.event.Answer.TheVariants.{Ended, Stale}
+use Rattle.control.specs.declared.control.Out.{Out}
+use Rattle.control.specs.declared.job_status.JobStatus.{JobStatus}
+use Rattle.control.specs.declared.job_status.JobStatus.TheVariants.{Fault, Finished, Limit, Running}
+use Rattle.control.specs.declared.event.Answer.{Answer}
+use Rattle.control.specs.declared.event.Answer.TheVariants.{Ended, Stale}
 use Rattle.rollback.specs.declared.simulation.Outcome.{Outcome}
 use Rattle.rollback.specs.declared.simulation.Outcome.TheVariants as outcome
 use Rattle.rollback.specs.declared.simulation.Step.{Step}
@@ -24,9 +24,9 @@ use Rattle.rollback.specs.declared.simulation.Step.TheVariants.{Join, Lose, Take
 use Rattle.rollback.specs.declared.simulation.StepAnswer.{StepAnswer}
 use Rattle.rollback.specs.declared.simulation.StepAnswer.TheVariants.{Handed, Idle, Said}
 use Rattle.rollback.specs.declared.simulation.Trace.{Trace}
-use Rattle.rollback.specs.Machine.{Machine, hand, handed, is_free, is_running, opened, task_of}
-use Rattle.rollback.specs.Events.{Heard, Stamp, accepted, reply_of}
-use Rattle.rollback.specs.Events.Stamp.{DoneBy, FailedBy, JoinedBy, LostBy, Ticked}
+use Rattle.control.specs.Machine.{Machine, hand, handed, is_free, is_running, opened, task_of}
+use Rattle.control.specs.Events.{Heard, Stamp, accepted, reply_of}
+use Rattle.control.specs.Events.Stamp.{DoneBy, FailedBy, JoinedBy, LostBy, Ticked}
 use Rattle.rollback.specs.Book.{IsQuietAt, IsReport, is_gone}
 use Rattle.rollback.specs.Saving.{IsKeptStep, KeepsFor}
 

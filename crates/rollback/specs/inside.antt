@@ -1,5 +1,4 @@
 pub mod Book
-pub mod Control
 pub mod DeviceResults
 pub mod EventStep
 pub mod JobData
@@ -9,4 +8,3 @@ pub mod PartSlots
 pub mod Recovery
 pub mod Reporting
 pub mod Simulating
-pub mod Sound

@@ -4,7 +4,7 @@ ghost use Rattle.std.specs.Prelude.{◌≡◌, ◌<◌, true, false, length, map
 ghost use Rattle.superstep.specs.State.{state_id};
 ghost use Rattle.superstep.specs.declared.fault.JobFault.TheVariants.{OutOfMemory};
 ghost use Rattle.superstep.specs.declared.fault.Place.TheVariants.{Open, Report as Reporting};
-ghost use Rattle.rollback.specs.declared.control.Out.{Out};
+ghost use Rattle.control.specs.declared.control.Out.{Out};
 ghost use Rattle.rollback.specs.Book.{
   IsQuietAt,
   IsReport,
@@ -15,21 +15,20 @@ ghost use Rattle.rollback.specs.Book.{
   stamp_of,
   task_out,
 };
-ghost use Rattle.rollback.specs.Events.{accepted, after_end, done_step, on_event, shut};
-ghost use Rattle.rollback.specs.Events.Stamp.{DoneBy, FailedBy, JoinedBy, LostBy, Ticked};
+ghost use Rattle.control.specs.Events.{accepted, after_end, done_step, on_event, shut};
+ghost use Rattle.control.specs.Events.Stamp.{DoneBy, FailedBy, JoinedBy, LostBy, Ticked};
 ghost use Rattle.rollback.specs.Saving.{HasLeft, IsBegun, IsCaused, IsSavedOrLeft, KeepsFor, MayLoadAfter};
-ghost use Rattle.rollback.specs.Machine.{all_set, hand, handed, has_answer, is_running, opened, task_of};
+ghost use Rattle.control.specs.Machine.{all_set, hand, handed, has_answer, is_running, opened, task_of};
 ghost use Rattle.rollback.specs.inside.Book.{AreIdsOf};
 ghost use Rattle.rollback.specs.inside.EventStep.{IsEventStep, IsSteady};
 
-use crate::control::{Control, Out};
-use crate::event::{Answer, Event};
 use crate::job_data::{JobData, bring_back, hand_out};
 use crate::recovery::{hold, hold_opened, put_back};
 use crate::replies::{advanced_reply, ended_reply, rolled_reply};
 use crate::report::{Report, Status, report_of};
 use crate::saving::save_if_due;
 use checkpoint::Keep;
+use control::{Answer, Control, Event, Out};
 use std::alloc::{AllocError, Global};
 use std::marker::Model;
 use std::mem;
@@ -61,7 +60,7 @@ impl<'a, J: Origin> Drop for Book<'a, J> {
 }
 
 impl<'a, J: Origin> Model for Book<'a, J> {
-    ghost use Rattle.rollback.specs.Machine.{Machine};
+    ghost use Rattle.control.specs.Machine.{Machine};
     ghost use Rattle.rollback.specs.inside.Book.{IsBook};
 
     ghost Value = { Machine };

@@ -2,12 +2,7 @@
 #![tactic(auto)]
 
 mod book;
-mod control;
-mod event;
-mod flags;
 mod job_data;
-mod job_status;
-mod leases;
 mod part_slots;
 mod parts;
 mod recovery;
@@ -17,7 +12,6 @@ mod saving;
 mod simulation;
 
 pub use book::Book;
-pub use event::{Answer, Event};
-pub use job_status::JobStatus;
+pub use control::{Answer, Event, JobStatus};
 pub use report::{Report, Status};
 pub use simulation::{Outcome, Step, StepAnswer, Trace, simulate};

@@ -2,19 +2,18 @@
 
 ghost use Rattle.std.specs.Prelude.{◌≡◌, true, IfOk};
 ghost use Rattle.superstep.specs.State.{HasIdsOf};
-ghost use Rattle.rollback.specs.Events.{loading, slicing};
+ghost use Rattle.control.specs.Events.{loading, slicing};
 ghost use Rattle.rollback.specs.Saving.{IsFullStateAt, IsLoadResult, KeepsFor};
-ghost use Rattle.rollback.specs.Machine.{is_running, saved_or_first};
-ghost use Rattle.rollback.specs.declared.job_status.DeviceResult.{DeviceResult};
+ghost use Rattle.control.specs.Machine.{is_running, saved_or_first};
+ghost use Rattle.control.specs.declared.job_status.DeviceResult.{DeviceResult};
 ghost use Rattle.rollback.specs.inside.Book.{AreIdsOf};
 ghost use Rattle.rollback.specs.inside.Recovery.{IsFirst, IsHeldOf, StandsBack, has_room};
 
-use crate::control::Control;
 use crate::job_data::JobData;
-use crate::job_status::JobStatus;
 use crate::parts::Parts;
 use crate::saving::load;
 use checkpoint::{Keep, a_checkpoint_is_of_one_state};
+use control::{Control, JobStatus};
 use std::alloc::{AllocError, Global};
 use std::rt::Files;
 use superstep::{Job, Origin, Place, State};

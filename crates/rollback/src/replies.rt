@@ -1,12 +1,10 @@
 //! The answers to events.
 
 ghost use Rattle.std.specs.Prelude.{◌≡◌};
-ghost use Rattle.rollback.specs.Events.{advanced, reply_of, rolled};
-ghost use Rattle.rollback.specs.declared.event.Answer.TheVariants.{Ended};
+ghost use Rattle.control.specs.Events.{advanced, reply_of, rolled};
+ghost use Rattle.control.specs.declared.event.Answer.TheVariants.{Ended};
 
-use crate::control::Control;
-use crate::event::Answer;
-use crate::job_status::JobStatus;
+use control::{Answer, Control, JobStatus};
 use superstep::JobFault;
 
 /// Answers an event that closed a superstep.

@@ -3,8 +3,7 @@
 ghost use Rattle.std.specs.Prelude.{IfOk};
 ghost use Rattle.rollback.specs.inside.Reporting.{IsReportIn};
 
-use crate::control::Control;
-use crate::job_status::JobStatus;
+use control::{Control, JobStatus};
 use std::alloc::{AllocError, Global};
 use superstep::{JobEnd, State, tell_end};
 

@@ -2,15 +2,14 @@
 
 ghost use Rattle.std.specs.Prelude.{◌≡◌, ◌⊎◌, ℕ, List, map, true, false, Some, IfOk, MatchOption};
 ghost use Rattle.checkpoint.specs.Keep.{HasFailed};
-ghost use Rattle.rollback.specs.Events.{saving};
+ghost use Rattle.control.specs.Events.{saving};
 ghost use Rattle.rollback.specs.inside.DeviceResults.{IsSaveResult};
-ghost use Rattle.rollback.specs.Machine.{is_saved_now};
-ghost use Rattle.rollback.specs.declared.job_status.DeviceResult.{DeviceResult};
+ghost use Rattle.control.specs.Machine.{is_saved_now};
+ghost use Rattle.control.specs.declared.job_status.DeviceResult.{DeviceResult};
 ghost use Rattle.rollback.specs.inside.Loading.{HasIds, IsLoaded, IsNotOf};
 
-use crate::control::Control;
-use crate::job_status::DeviceResult;
 use checkpoint::{CheckpointFault, Keep, KeepFault, read, write};
+use control::{Control, DeviceResult};
 use std::alloc::{AllocError, Global};
 use std::rt::Files;
 use superstep::{State, VertexState};

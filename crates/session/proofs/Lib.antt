@@ -10,4 +10,3 @@ pub mod Telling
 pub mod Loops
 pub mod Proper
 pub mod Ends
-pub mod Threaded

@@ -6,7 +6,6 @@ use Rattle.superstep.specs.declared.fault.JobFault.{JobFault}
 use Rattle.superstep.specs.declared.fault.JobFault.TheVariants as job_fault
 use Rattle.superstep.specs.Ending.{IsEndOf}
 use Rattle.superstep.specs.Job.{Work}
-use Rattle.workers.specs.JobAnswers.{IsCalmReport, IsRunFault}
 use Rattle.rollback.specs.declared.report.Report.{Report}
 
 -- the possible ends of a job's run
@@ -36,14 +35,3 @@ IsPlainEnd work (Err fault) = ⊥
 
 abbrev pub plain : Runs
 plain = record { may_end = IsPlainEnd }
-
--- ---- runs in threads
-
--- A run in threads ends with the end of the plain run and the units of each superstep from the first on, with no save missed and
--- no restart, or with a fault of a run in threads.
-abbrev pub IsThreadedEnd : Work → Result Report JobFault → Type 0
-IsThreadedEnd work (Ok report) = IsEndOf work report.ended × (report.ended.since ≡ 0) × IsCalmReport report
-IsThreadedEnd work (Err fault) = IsRunFault fault
-
-abbrev pub threaded : Runs
-threaded = record { may_end = IsThreadedEnd }

@@ -1,7 +1,7 @@
 -- The replies of a session to its lines. They depend on what files may hold and on how runs may end.
 use Rattle.std.specs.Prelude.{◌≡◌, ◌≢◌, ◌⊎◌, ℕ, Bool, true, false, List, [], ◌∷◌, ◌++◌, length, Option, Some, None, Ok, Err, is_some, MatchBool}
 use Rattle.wasm_ast.specs.declared.module.Module.{Module}
-use Rattle.bounded_profile.specs.Facts.{IsSizeOfCompute}
+use Rattle.verified.specs.Facts.{IsSizeOfCompute}
 use Rattle.graph.specs.Entry.{Entry, edge_count}
 use Rattle.superstep.specs.declared.settings.Settings.{Settings}
 use Rattle.superstep.specs.declared.fault.JobFault.{JobFault}

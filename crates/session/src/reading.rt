@@ -8,11 +8,11 @@ ghost use Rattle.session.specs.inside.Seen.{IsToldOf, reply_text};
 
 use crate::refusals::refusal;
 use crate::reply::Reply;
-use bounded_profile::Verified;
 use graph::Graph;
 use sources::{Files, load_file, read_graph};
 use std::alloc::Global;
 use std::thread::Threads;
+use verified::Verified;
 
 /// Loads the module in a file, or returns the reply that refuses it. If the path ends in `.wat`, the file is text; any
 /// other file is binary.

@@ -2,7 +2,7 @@
 
 ghost use Rattle.std.specs.Prelude.{◌≡◌, IfOk};
 ghost use Rattle.superstep.specs.Ending.{IsEndOf};
-ghost use Rattle.session.specs.Runs.{Runs, EndsAs, plain, threaded};
+ghost use Rattle.session.specs.Runs.{Runs, EndsAs, plain};
 
 use rollback::Report;
 use superstep::{Job, JobFault};
@@ -20,32 +20,6 @@ pub trait Runner {
         requires { can_run self.now }
         ensures end { (runs self.now).may_end job.now result }
         ensures answer { IfOk result (λ report. IsEndOf job.now report.ended) };
-}
-
-/// The runner of jobs in threads, by a function that runs a job so.
-#[derive(Drop)]
-pub struct JobRunner<F> {
-    run_job: F,
-}
-
-impl<F> JobRunner<F> {
-    /// Makes a runner of a function that runs a job in threads.
-    pub fn new(run_job: F) -> JobRunner<F>
-        ensures { result.run_job ≡ run_job }
-    {
-        JobRunner { run_job }
-    }
-}
-
-// It waits where the function does.
-impl<F: Fn(&Job) -> Result<Report, JobFault>> Runner for JobRunner<F> {
-    ghost runs = { λ _. threaded };
-
-    ghost can_run = { λ runner. EndsAs threaded F.Fn runner.run_job };
-
-    fn run(&self, job: &Job) -> Result<Report, JobFault> {
-        (self.run_job)(job)
-    }
 }
 
 /// The runner of jobs on this machine, by a function that runs a job so. No worker is lost, and no state is saved.

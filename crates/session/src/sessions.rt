@@ -21,7 +21,6 @@ use crate::reply::Reply;
 use crate::runner::Runner;
 use crate::status::status_text;
 use crate::texts::{end_text, graph_text, job_text, module_text, values_text};
-use bounded_profile::Verified;
 use graph::Graph;
 use rollback::Report;
 use sources::{CommandFault, Files};
@@ -29,6 +28,7 @@ use std::alloc::{AllocError, Global};
 use std::collections::BTreeMap;
 use std::thread::Threads;
 use superstep::{Job, JobFault, Settings};
+use verified::Verified;
 
 /// The modules, graphs and jobs of a session, by name.
 #[derive(Drop)]

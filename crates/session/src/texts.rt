@@ -6,12 +6,12 @@ ghost use Rattle.sources.specs.OutputLines.{IfText};
 ghost use Rattle.session.specs.Replies.{failed_line, graph_line, job_line, module_line, run_line, values_text};
 ghost use Rattle.session.specs.inside.Seen.{IsModuleLine, run_end_line};
 
-use bounded_profile::Verified;
 use graph::{Graph, MAX_EDGES, Vertex};
 use rollback::Report;
 use sources::{end_word, push_values};
 use std::alloc::{AllocError, Global};
 use superstep::{JobEnd, JobFault};
+use verified::Verified;
 
 /// Writes `ok module NAME S`, with the size of the module.
 pub fn module_text(alloc: Global, name: &str, verified: &Verified) -> Result<String, AllocError>

@@ -6,8 +6,8 @@ use Rattle.wasm_ast.specs.Limits.{IsWithinLimits}
 use Rattle.wasm_ast.specs.Representable.{IsRepresentable}
 use Rattle.wasm_decode.specs.Grammar.{Spells}
 use Rattle.wat_asm.specs.Layout.{layout}
-use Rattle.validate.specs.Modules.{IsTyped}
-use Rattle.bounded_profile.specs.Profile.{IsBounded}
+use Rattle.valid.specs.Modules.{IsTyped}
+use Rattle.verified.specs.Profile.{IsBounded}
 use Rattle.sources.specs.Disk.{Disk, HoldsAt}
 
 -- if the path of a module's file ends in `.wat`, it is text; any other file is binary

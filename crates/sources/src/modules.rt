@@ -7,9 +7,10 @@ ghost use Rattle.sources.specs.Source.{IsWant, RefusesLoad, RefusesModule, conte
 
 use crate::fault::CommandFault;
 use crate::file_contents::Source;
-use bounded_profile::{Verified, verify};
+use bounded_profile::verify;
 use std::alloc::Global;
 use validate::validate;
+use verified::Verified;
 use wasm_ast::Module;
 use wasm_decode::decode;
 use wat_asm::assemble;

@@ -10,10 +10,10 @@ use crate::fault::CommandFault;
 use crate::file_contents::{read_source, read_text};
 use crate::files::Files;
 use crate::modules::{load, module_of};
-use bounded_profile::Verified;
 use graph::Graph;
 use std::alloc::Global;
 use std::thread::Threads;
+use verified::Verified;
 use wasm_ast::Module;
 
 /// Reads the module in a file.

@@ -98,13 +98,7 @@ impl Gathered {
         ensures { OnOk result ((dones : List DoneStamp) → IsGathered J.work J.honest dones self.old
             → IsGathered J.work J.honest (dones ++ done ∷ []) self.new) }
     {
-        let Done {
-            units,
-            vertices,
-            letters,
-            aggregators,
-            ..
-        } = done;
+        let (vertices, letters, aggregators, units) = done.into_parts();
         self.vertices.push(vertices)?;
         self.letters.push(letters)?;
         unite(&mut self.aggregators, &aggregators);

@@ -11,11 +11,11 @@ ghost use Rattle.superstep.specs.inside.Opening.{IsOpen, edges_at};
 
 use crate::fault::{JobFault, Place};
 use crate::settings::Settings;
-use bounded_profile::Verified;
 use graph::{Graph, Part, Vertex, split};
 use interp::calls_are_a_function;
 use std::alloc::{AllocError, Global};
 use std::marker::Model;
+use verified::Verified;
 
 /// A module's calls over a graph, superstep after superstep (Pregel 2010, 2).
 ///

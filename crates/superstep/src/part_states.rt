@@ -20,11 +20,19 @@ use std::marker::Model;
 /// model is the list of the vertices.
 ///
 /// So a superstep goes over the vertices that are due, and not over all.
-#[derive(Drop)]
 pub struct PartStates {
     pub vertices: Vec<VertexState>,
     /// The places of the due vertices, counted from 0 and rising.
     pub due: Vec<usize>,
+}
+
+impl Drop for PartStates {
+    fn drop(self) {
+        let PartStates {
+            vertices: _,
+            due: _,
+        } = self;
+    }
 }
 
 impl Model for PartStates {
@@ -61,6 +69,15 @@ impl PartStates {
     {
         let PartStates { vertices, due: _ } = self;
         vertices
+    }
+
+    /// Returns the vertices, and the rows of those that are due.
+    pub fn into_parts(self) -> (Vec<VertexState>, Vec<usize>)
+        ensures vertices { result.0.items ≡ self }
+        ensures due { result.1.items ≡ due_rows 0 self }
+    {
+        let PartStates { vertices, due } = self;
+        (vertices, due)
     }
 
     /// Checks that none of the vertices is due.

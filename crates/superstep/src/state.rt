@@ -147,9 +147,8 @@ impl State {
         requires { IsState (standing_of totals aggregates vertices.items) }
         ensures { IfOk result (λ state. state ≡ standing_of totals aggregates vertices.items) }
     {
-        let mut parts = Vec::with_capacity(alloc, 1)?;
         let states = PartStates::of(alloc, vertices)?;
-        parts.push(states)?;
+        let parts = vec![in alloc; states]?;
         Ok(State::of_parts(totals, aggregates, parts))
     }
 

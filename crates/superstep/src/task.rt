@@ -4,7 +4,7 @@ ghost use Rattle.std.specs.Prelude.{◌≡◌, All, true, map, IfOk, IfErr, OnOk
 ghost use Rattle.graph.specs.Entry.{entries_of, entry_of, ids};
 ghost use Rattle.superstep.specs.Found.{IsFoundAt};
 ghost use Rattle.superstep.specs.State.{state_id};
-ghost use Rattle.superstep.specs.Tasks.{AreAggregatesAt, AreUnitsAt, IsSentAt};
+ghost use Rattle.superstep.specs.Tasks.{AreAggregatesAt, AreUnitsAt, IsDone, IsSentAt};
 ghost use Rattle.superstep.specs.declared.fault.Place.TheVariants.{Call};
 ghost use Rattle.superstep.specs.inside.DueRows.{due_rows};
 ghost use Rattle.superstep.specs.inside.PartOutput.{CallsPart, CallsVertex, HasProperIds};
@@ -16,13 +16,13 @@ use crate::part_output::PartOutput;
 use crate::part_states::PartStates;
 use crate::slice::{Origin, Slice};
 use crate::state::VertexState;
-use bounded_profile::Verified;
 use graph::Vertex;
 use host_calls::CallInput;
 use inbox::{Inbox, Outbox};
 use interp::{Scratch, calls_are_a_function, run};
 use std::alloc::{AllocError, Global};
 use std::marker::{Model, PhantomData};
+use verified::Verified;
 
 /// A superstep on one part, for a worker. In contracts its model is the epoch, the superstep and the part.
 #[derive(Drop)]
@@ -96,16 +96,30 @@ impl<J: Origin> Task<J> {
 }
 
 /// The result of a task. In contracts its model is the epoch, the superstep, the part and the units.
-#[derive(Drop)]
 pub struct Done<J: Origin> {
-    pub(crate) epoch: u64,
-    pub(crate) superstep: u32,
-    pub(crate) part: u32,
-    pub(crate) units: u128,
-    pub(crate) vertices: PartStates,
-    pub(crate) letters: Outbox,
-    pub(crate) aggregators: [i64; 8],
-    pub(crate) origin: PhantomData<J>,
+    epoch: u64,
+    superstep: u32,
+    part: u32,
+    units: u128,
+    vertices: PartStates,
+    letters: Outbox,
+    aggregators: [i64; 8],
+    origin: PhantomData<J>,
+}
+
+impl<J: Origin> Drop for Done<J> {
+    fn drop(self) {
+        let Done {
+            epoch: _,
+            superstep: _,
+            part: _,
+            units: _,
+            vertices: _,
+            letters: _,
+            aggregators: _,
+            origin: _,
+        } = self;
+    }
 }
 
 impl<J: Origin> Model for Done<J> {
@@ -167,6 +181,24 @@ impl<J: Origin> Done<J> {
         self.letters.len()
     }
 
+    // Returns the vertices after their calls, the letters, the aggregators and the units.
+    pub(crate) fn into_parts(self) -> (PartStates, Outbox, [i64; 8], u128)
+        ensures is { IsDone J.work J.honest self result.0 result.1 result.2 }
+        ensures units { result.3 ≡ self.units }
+    {
+        let Done {
+            epoch: _,
+            superstep: _,
+            part: _,
+            units,
+            vertices,
+            letters,
+            aggregators,
+            origin: _,
+        } = self;
+        (vertices, letters, aggregators, units)
+    }
+
     /// Copies the result, as if it had arrived twice. It fails only where memory runs out.
     pub fn copy(&self, alloc: Global) -> Result<Done<J>, AllocError>
         ensures { IfOk result (λ copy. copy ≡ self.now) }
@@ -223,7 +255,7 @@ pub fn run_task<J: Origin>(
         vertices: part_states,
         origin,
     } = slice;
-    let PartStates { mut vertices, due } = part_states;
+    let (mut vertices, due) = part_states.into_parts();
     let shared = Shared {
         verified: job.verified(),
         superstep,

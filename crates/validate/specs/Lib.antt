@@ -1,10 +1,4 @@
--- The definitions that a reader has to believe, in reading order: the index spaces of a module, the typing of code,
--- constant expressions, and by these the typing of modules.
-pub mod Spaces
-pub mod Instructions
-pub mod Constants
-pub mod Modules
--- how a fault is printed
+-- how a fault is printed (the rules themselves are in `valid`)
 pub mod Faults
 -- definitions that only mirror the code, for its proofs
 pub mod inside

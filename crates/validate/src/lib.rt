@@ -13,9 +13,10 @@ mod operands;
 mod segments;
 mod spaces;
 mod types;
-mod valid;
+mod validation;
 
 pub use fault::{Place, Rule, ValidFault};
 pub use labels::Labels;
 pub use operands::first_of;
-pub use valid::{Valid, validate};
+pub use valid::Valid;
+pub use validation::validate;

@@ -1,10 +1,10 @@
 -- What a list of hands and events leaves: its end, and the account of each worker.
 use Rattle.std.proofs.Common.{◌≡◌, ◌<◌, ◌+◌, ◌-◌, ◌≤◌, ◌^◌, ℕ, zero, suc, Bool, true, false, true≢false, List, [], ◌∷◌, ◌++◌, length, replicate, slice_index_or, sym, refl, ap, ◌∙◌, subst, arith}
 use Rattle.superstep.specs.Job.{Work}
-use Rattle.rollback.specs.declared.job_status.JobStatus.{JobStatus}
-use Rattle.rollback.specs.declared.job_status.JobStatus.TheVariants.{Fault, Finished, Limit, Running}
-use Rattle.rollback.specs.Events.{Heard, begun}
-use Rattle.rollback.specs.Machine.{Machine, has_answer, is_running, opened, resumed}
+use Rattle.control.specs.declared.job_status.JobStatus.{JobStatus}
+use Rattle.control.specs.declared.job_status.JobStatus.TheVariants.{Fault, Finished, Limit, Running}
+use Rattle.control.specs.Events.{Heard, begun}
+use Rattle.control.specs.Machine.{Machine, has_answer, is_running, opened, resumed}
 use Rattle.workers.specs.Steps.{Move, Steps, after, events, moved, stamps_in}
 use Rattle.workers.specs.Steps.Move.{Hand, Take}
 use Rattle.workers.specs.Units.{cut, units_by}

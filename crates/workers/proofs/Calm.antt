@@ -3,10 +3,10 @@ use Rattle.std.proofs.Common.{◌≡◌, ℕ, List, [], ◌∷◌, Bool, Option,
 use Rattle.checkpoint.specs.Keep.{LoadsNothingElse}
 use Rattle.superstep.specs.Job.{Work}
 use Rattle.superstep.specs.declared.settings.Settings.{Settings}
-use Rattle.rollback.specs.declared.job_status.DeviceResult.{DeviceResult}
-use Rattle.rollback.specs.declared.job_status.DeviceResult.TheVariants.{Failed, Good, NoMemory}
-use Rattle.rollback.specs.Events.{Heard, after_load, begun}
-use Rattle.rollback.specs.Machine.{Machine, opened, resumed}
+use Rattle.control.specs.declared.job_status.DeviceResult.{DeviceResult}
+use Rattle.control.specs.declared.job_status.DeviceResult.TheVariants.{Failed, Good, NoMemory}
+use Rattle.control.specs.Events.{Heard, after_load, begun}
+use Rattle.control.specs.Machine.{Machine, opened, resumed}
 use Rattle.rollback.specs.Saving.{IsKeptStep, IsLoadResult, IsMadeAt, MayLoadOther}
 use Rattle.rollback.specs.Simulation.{IsCalmAt, NeverFails}
 use Rattle.rollback.specs.inside.Simulating.{HasSameCounts, LoadsMade}

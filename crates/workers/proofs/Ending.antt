@@ -5,15 +5,15 @@ use Rattle.superstep.specs.declared.fault.JobFault.{JobFault}
 use Rattle.superstep.specs.declared.fault.JobFault.TheVariants.{Closed, NoWorkers, OutOfMemory, Settings, ThreadRefused}
 use Rattle.superstep.specs.declared.fault.Place.{Place}
 use Rattle.superstep.specs.declared.fault.Place.TheVariants as place
-use Rattle.rollback.specs.declared.job_status.JobStatus.{JobStatus}
-use Rattle.rollback.specs.declared.job_status.JobStatus.TheVariants.{Fault, Finished, Limit, Running}
+use Rattle.control.specs.declared.job_status.JobStatus.{JobStatus}
+use Rattle.control.specs.declared.job_status.JobStatus.TheVariants.{Fault, Finished, Limit, Running}
 use Rattle.rollback.specs.declared.report.Report.{Report}
 use Rattle.rollback.specs.Book.{IsQuietAt, IsReport}
 use Rattle.checkpoint.specs.Keep.{LoadsNothingElse}
 use Rattle.rollback.specs.Saving.{IsKeptStep, IsLoadResult, KeepsFor}
 use Rattle.rollback.specs.Simulation.{NeverFails}
-use Rattle.rollback.specs.Events.{Heard, begun}
-use Rattle.rollback.specs.Machine.{Machine, has_answer, opened}
+use Rattle.control.specs.Events.{Heard, begun}
+use Rattle.control.specs.Machine.{Machine, has_answer, opened}
 use Rattle.workers.specs.JobAnswers.{HasSpent, IsAnswerAt, IsCalmReport, IsDriveFault, IsOpened, IsRunFault, IsTold, EndedOver, EndedOverKeep, EndedOverOwn, LoadsMadeAt, RanFrom, RanFromKeep, RanFromOver, RanOn, RanOnOver, RanOnOwn, WhereEnded, WhereOpened, WhereRefused, WhereRun, has_ended}
 use Rattle.channels.specs.Orders.{at}
 use Rattle.workers.specs.Joining.{JoinedFrom, JoinedOn, JoinedOver}

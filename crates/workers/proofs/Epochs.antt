@@ -7,17 +7,17 @@ use Rattle.superstep.specs.Job.{Work}
 use Rattle.superstep.specs.declared.fault.JobFault.{JobFault}
 use Rattle.channels.specs.Protocol.{of}
 use Rattle.channels.specs.declared.order.Order.{Order}
-use Rattle.rollback.specs.declared.control.Out.{Out}
-use Rattle.rollback.specs.declared.event.Answer.{Answer}
-use Rattle.rollback.specs.declared.event.Answer.TheVariants.{Ended, Stale}
-use Rattle.rollback.specs.declared.event.Event.{Event}
-use Rattle.rollback.specs.declared.job_status.DeviceResult.{DeviceResult}
-use Rattle.rollback.specs.declared.job_status.DeviceResult.TheVariants.{Failed, Good, NoMemory}
+use Rattle.control.specs.declared.control.Out.{Out}
+use Rattle.control.specs.declared.event.Answer.{Answer}
+use Rattle.control.specs.declared.event.Answer.TheVariants.{Ended, Stale}
+use Rattle.control.specs.declared.event.Event.{Event}
+use Rattle.control.specs.declared.job_status.DeviceResult.{DeviceResult}
+use Rattle.control.specs.declared.job_status.DeviceResult.TheVariants.{Failed, Good, NoMemory}
 use Rattle.rollback.specs.declared.report.Report.{Report}
 use Rattle.rollback.specs.Book.{stamp_of}
-use Rattle.rollback.specs.Events.{Heard, Stamp, accepted, after_end, after_save, closing, done_step, is_known, on_event, saving, shut, slicing, stale_done, step}
-use Rattle.rollback.specs.Events.Stamp.{DoneBy, FailedBy, JoinedBy, LostBy, Ticked}
-use Rattle.rollback.specs.Machine.{Machine, all_set, charged, closed, count_set, counts, finished, freed, has_answer, handed, is_busy, is_out, is_running, is_saved_now, joined, welcomed}
+use Rattle.control.specs.Events.{Heard, Stamp, accepted, after_end, after_save, closing, done_step, is_known, on_event, saving, shut, slicing, stale_done, step}
+use Rattle.control.specs.Events.Stamp.{DoneBy, FailedBy, JoinedBy, LostBy, Ticked}
+use Rattle.control.specs.Machine.{Machine, all_set, charged, closed, count_set, counts, finished, freed, has_answer, handed, is_busy, is_out, is_running, is_saved_now, joined, welcomed}
 use Rattle.workers.specs.Hub.{HasByes, received, staff}
 use Rattle.workers.specs.JobAnswers.{WhereEnded}
 use Rattle.workers.specs.Returns.{stamp_sender}

@@ -5,15 +5,15 @@ use Rattle.superstep.specs.declared.fault.JobFault.TheVariants.{NoWorkers}
 use Rattle.superstep.specs.declared.fault.Place.{Place}
 use Rattle.superstep.specs.declared.settings.Settings as settings
 use Rattle.superstep.specs.Job.{Work}
-use Rattle.rollback.specs.declared.control.Out.{Out}
-use Rattle.rollback.specs.declared.job_status.JobStatus.TheVariants.{Finished, Limit, Running}
-use Rattle.rollback.specs.declared.job_status.DeviceResult.{DeviceResult}
-use Rattle.rollback.specs.declared.job_status.DeviceResult.TheVariants.{Failed, Good, NoMemory}
-use Rattle.rollback.specs.declared.event.Answer.{Answer}
-use Rattle.rollback.specs.declared.event.Answer.TheVariants.{Ended, Stale, Taken}
-use Rattle.rollback.specs.Machine.{Machine, aged, all_set, begun_anew, charged, closed, count_set, counts, ended_by, expired, finished, freed, has_answer, is_alive, is_busy, is_out, is_running, is_saved_now, joined, lost, may_join, opened, resumed, welcomed}
-use Rattle.rollback.specs.Events.{Heard, Stamp, after_end, after_load, after_loss, after_save, begun, closing, done_step, failed_step, on_event, joined_step, loading, loss, lost_step, rolling, saving, shut, slicing, stale_done, tick_step}
-use Rattle.rollback.specs.Events.Stamp.{DoneBy, FailedBy, JoinedBy, LostBy, Ticked}
+use Rattle.control.specs.declared.control.Out.{Out}
+use Rattle.control.specs.declared.job_status.JobStatus.TheVariants.{Finished, Limit, Running}
+use Rattle.control.specs.declared.job_status.DeviceResult.{DeviceResult}
+use Rattle.control.specs.declared.job_status.DeviceResult.TheVariants.{Failed, Good, NoMemory}
+use Rattle.control.specs.declared.event.Answer.{Answer}
+use Rattle.control.specs.declared.event.Answer.TheVariants.{Ended, Stale, Taken}
+use Rattle.control.specs.Machine.{Machine, aged, all_set, begun_anew, charged, closed, count_set, counts, ended_by, expired, finished, freed, has_answer, is_alive, is_busy, is_out, is_running, is_saved_now, joined, lost, may_join, opened, resumed, welcomed}
+use Rattle.control.specs.Events.{Heard, Stamp, after_end, after_load, after_loss, after_save, begun, closing, done_step, failed_step, on_event, joined_step, loading, loss, lost_step, rolling, saving, shut, slicing, stale_done, tick_step}
+use Rattle.control.specs.Events.Stamp.{DoneBy, FailedBy, JoinedBy, LostBy, Ticked}
 use Rattle.workers.specs.Steps.{Move, Steps, after, moved}
 use Rattle.workers.specs.inside.EventLoop.{is_own}
 use Rattle.workers.specs.Steps.Move.{Hand, Take}

@@ -2,8 +2,8 @@
 use Rattle.std.proofs.lemmas.Bool.Decides.{eqb_tells}
 use Rattle.std.proofs.Common.{◌≡◌, ◌≢◌, ℕ, ◌+◌, ◌<◌, List, [], ◌∷◌, Result, Ok, Err, IfOk, Option, Some, None, cond, eq-eqb, ne_eqb, refl, sym, ap, ◌∙◌, arith, ◌⊎◌, ⊎_elim, inl, inr, length}
 use Rattle.superstep.specs.declared.fault.JobFault.{JobFault}
-use Rattle.rollback.specs.declared.event.Event.{Event}
-use Rattle.rollback.specs.declared.event.Event.TheVariants as event
+use Rattle.control.specs.declared.event.Event.{Event}
+use Rattle.control.specs.declared.event.Event.TheVariants as event
 use Rattle.rollback.specs.declared.report.Report.{Report}
 use Rattle.rollback.specs.Book.{stamp_of}
 use Rattle.workers.specs.JobAnswers.{HasSpent, WhereEnded}

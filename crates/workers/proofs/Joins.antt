@@ -1,18 +1,19 @@
 -- What workers hear of their losses, and that they join only after those that were counted.
+use Rattle.std.proofs.lemmas.Bool.{and_from, and_parts}
 use Rattle.std.proofs.lemmas.Bool.Decides.{eqb_tells}
 use Rattle.std.proofs.Common.{◌≡◌, ◌≢◌, ◌∙◌, ℕ, ◌+◌, ◌<◌, ◌≤◌, Bool, true, false, cond, List, [], ◌∷◌, ◌++◌, map, length, set, slice_get, Some, None, Result, Ok, Err, OnOk, eq-eqb, ne_eqb, append_assoc, ap, refl, sym, subst, arith, ◌⊎◌, ⊎_elim, inl, inr}
-use Rattle.std.specs.Prelude.{◌&&◌, ◌==◌}
+use Rattle.std.specs.Prelude.{◌==◌}
 use Rattle.std.specs.declared.thread.PromisedHandle.{PromisedHandle}
 use mathlib.Core.List.{IsPrefix, append-nil, map-append}
 use Rattle.superstep.specs.Job.{Work}
 use Rattle.superstep.specs.declared.fault.JobFault.{JobFault}
-use Rattle.rollback.specs.declared.event.Event.{Event}
-use Rattle.rollback.specs.declared.event.Event.TheVariants as happened
+use Rattle.control.specs.declared.event.Event.{Event}
+use Rattle.control.specs.declared.event.Event.TheVariants as happened
 use Rattle.rollback.specs.declared.report.Report.{Report}
 use Rattle.rollback.specs.Book.{stamp_of}
-use Rattle.rollback.specs.Events.{Stamp}
-use Rattle.rollback.specs.Events.Stamp.{DoneBy, FailedBy, JoinedBy, LostBy, Ticked}
-use Rattle.rollback.specs.Machine.{Machine}
+use Rattle.control.specs.Events.{Stamp}
+use Rattle.control.specs.Events.Stamp.{DoneBy, FailedBy, JoinedBy, LostBy, Ticked}
+use Rattle.control.specs.Machine.{Machine}
 use Rattle.channels.specs.Channel.{Channel}
 use Rattle.channels.specs.Orders.{at}
 use Rattle.channels.specs.Protocol.{has_bye, of}
@@ -63,13 +64,6 @@ verdict_prefix n sent got e p =
 
 -- ---- joins of one worker
 
-and_parts : (a b : Bool) → (a && b) ≡ true → (a ≡ true) × (b ≡ true)
-and_parts true b h = (refl, h)
-and_parts false b h = absurd (cc)
-
-and_both : (a b : Bool) → a ≡ true → b ≡ true → (a && b) ≡ true
-and_both a b h k = rw (h, k) refl
-
 -- also after a loss that was counted
 joins_sure : (counted : Bool) (ls : List Bool) (xs : List Stamp) → joins_counted false ls xs ≡ true → joins_counted counted ls xs ≡ true
 joins_sure counted ls [] h = refl
@@ -88,7 +82,7 @@ joins_unheard counted [] more (LostBy w ∷ xs) h = joins_sure (first_of more) (
 joins_unheard counted (l ∷ ls) more (LostBy w ∷ xs) h = joins_unheard l ls more xs h
 joins_unheard counted ls more (JoinedBy w ∷ xs) h =
     let both = and_parts counted (joins_counted false ls xs) h in
-    and_both counted (joins_counted false (ls ++ more) xs) both.0 (joins_unheard false ls more xs both.1)
+    and_from counted (joins_counted false (ls ++ more) xs) both.0 (joins_unheard false ls more xs both.1)
 joins_unheard counted ls more (Ticked ∷ xs) h = joins_unheard false ls more xs h
 
 pub joins_told : (told heard : List Bool) (xs : List Stamp) → IsPrefix heard told → joins_counted false heard xs ≡ true → joins_counted false told xs ≡ true
@@ -159,7 +153,7 @@ module _ {J : Type 0} where
         ∙ append_assoc (stamps_in xs) (LostBy w ∷ []) (JoinedBy w ∷ []);
     told = v ∷ [];
     heard_is = heard;
-    joins = λ counted others later h. and_both v (joins_counted false others later) sure h;
+    joins = λ counted others later h. and_from v (joins_counted false others later) sure h;
   }
 
   -- all that was sent, with the bye

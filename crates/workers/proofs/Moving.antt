@@ -5,13 +5,13 @@ use mathlib.Core.List.{append-nil, map-append}
 use Rattle.superstep.specs.Job.{Work}
 use Rattle.superstep.specs.declared.fault.JobFault.{JobFault}
 use Rattle.superstep.specs.declared.task.Task.{Task}
-use Rattle.rollback.specs.declared.control.Out.{Out}
-use Rattle.rollback.specs.declared.event.Answer.{Answer}
-use Rattle.rollback.specs.declared.event.Event.{Event}
-use Rattle.rollback.specs.declared.event.Event.TheVariants as happened
-use Rattle.rollback.specs.Machine.{Machine, hand, handed, task_of}
-use Rattle.rollback.specs.Events.{Heard, accepted, reply_of}
-use Rattle.rollback.specs.Events.Stamp.{LostBy}
+use Rattle.control.specs.declared.control.Out.{Out}
+use Rattle.control.specs.declared.event.Answer.{Answer}
+use Rattle.control.specs.declared.event.Event.{Event}
+use Rattle.control.specs.declared.event.Event.TheVariants as happened
+use Rattle.control.specs.Machine.{Machine, hand, handed, task_of}
+use Rattle.control.specs.Events.{Heard, accepted, reply_of}
+use Rattle.control.specs.Events.Stamp.{LostBy}
 use Rattle.rollback.specs.Book.{stamp_of, task_out}
 use Rattle.rollback.specs.Saving.{IsKeptStep, KeepsFor}
 use Rattle.rollback.proofs.Keeps.{keeps_same}

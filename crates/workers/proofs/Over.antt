@@ -1,7 +1,7 @@
 -- A job that has ended, with all workers stopped, stays so.
 use Rattle.std.proofs.Common.{◌≡◌, ◌<◌, ◌∙◌, ℕ, Bool, List, ap, subst}
 use Rattle.superstep.specs.Job.{Work}
-use Rattle.rollback.specs.Machine.{Machine}
+use Rattle.control.specs.Machine.{Machine}
 use Rattle.channels.specs.Orders.{at, stops, tasks_in}
 use Rattle.channels.specs.Protocol.{has_bye}
 use Rattle.workers.specs.Hub.{IsSameHub, handed, received}

@@ -1,9 +1,10 @@
 -- Passes that are used one after another.
+use Rattle.std.proofs.lemmas.Bool.{and_from, and_parts}
 use Rattle.std.proofs.Common.{◌≡◌, ◌∙◌, Bool, true, false, List, [], ◌∷◌, ◌++◌, append_assoc, ap, refl, sym, Result, Ok, Err, IfOk}
 use Rattle.superstep.specs.declared.fault.JobFault.{JobFault}
 use mathlib.Core.List.{append-nil}
-use Rattle.std.specs.Prelude.{◌&&◌, ◌||◌, not}
-use Rattle.rollback.specs.declared.event.Event.{Event}
+use Rattle.std.specs.Prelude.{◌||◌, not}
+use Rattle.control.specs.declared.event.Event.{Event}
 use Rattle.workers.specs.Messages.{AddsJoins, is_joined, is_lost, joins_follow}
 use Rattle.workers.specs.declared.message.Message.{Message}
 use Rattle.workers.specs.declared.message.Message.TheVariants as message
@@ -48,19 +49,12 @@ module _ {J : Type 0} where
 
 -- ---- what comes after a loss
 
-both_of : (a b : Bool) → (a && b) ≡ true → (a ≡ true) × (b ≡ true)
-both_of true b h = (refl, h)
-both_of false b h = absurd (cc)
-
-and_both : (a b : Bool) → a ≡ true → b ≡ true → (a && b) ≡ true
-and_both a b h k = rw (h, k) refl
-
 module _ {J : Type 0} where
   follow_then : (lost : Bool) (xs ys : List (Message J)) → joins_follow lost xs ≡ true → ((b : Bool) → joins_follow b ys ≡ true) → joins_follow lost (xs ++ ys) ≡ true
   follow_then lost [] ys h k = k lost
   follow_then lost (message.Event event ∷ xs) ys h k =
-      let both = both_of (not (is_joined event) || lost) (joins_follow (is_lost event) xs) h in
-      and_both (not (is_joined event) || lost) (joins_follow (is_lost event) (xs ++ ys)) both.0 (follow_then (is_lost event) xs ys both.1 k)
+      let both = and_parts (not (is_joined event) || lost) (joins_follow (is_lost event) xs) h in
+      and_from (not (is_joined event) || lost) (joins_follow (is_lost event) (xs ++ ys)) both.0 (follow_then (is_lost event) xs ys both.1 k)
   follow_then lost (message.Bye sender ∷ xs) ys h k = follow_then false xs ys h k
 
   pub joins_none : (xs : List (Message J)) → AddsJoins xs xs

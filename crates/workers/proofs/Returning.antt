@@ -4,12 +4,12 @@ use mathlib.Core.List.{IsPrefix, append-nil, map-append}
 use Rattle.superstep.specs.Job.{Work}
 use Rattle.superstep.specs.Tasks.{AreUnitsAt, DoneStamp, TaskStamp}
 use Rattle.superstep.specs.declared.task.Task.{Task}
-use Rattle.rollback.specs.declared.control.Out.{Out}
-use Rattle.rollback.specs.declared.event.Event.{Event}
-use Rattle.rollback.specs.declared.event.Event.TheVariants as happened
+use Rattle.control.specs.declared.control.Out.{Out}
+use Rattle.control.specs.declared.event.Event.{Event}
+use Rattle.control.specs.declared.event.Event.TheVariants as happened
 use Rattle.rollback.specs.Book.{done_out, stamp_of, task_out}
-use Rattle.rollback.specs.Events.{Stamp}
-use Rattle.rollback.specs.Events.Stamp.{DoneBy, JoinedBy, LostBy}
+use Rattle.control.specs.Events.{Stamp}
+use Rattle.control.specs.Events.Stamp.{DoneBy, JoinedBy, LostBy}
 use Rattle.channels.specs.Orders.{coordinator, order_of, tasks_in}
 use Rattle.channels.specs.Protocol.{of}
 use Rattle.channels.specs.declared.order.Order.{Order}
@@ -23,16 +23,14 @@ use Rattle.workers.specs.declared.message.Message.{Message}
 use Rattle.workers.specs.declared.message.Message.TheVariants as message
 use Rattle.workers.specs.declared.message.Sender.{Sender}
 use Rattle.workers.specs.declared.pass.WorkerReceipt.{WorkerReceipt}
+use Rattle.rollback.proofs.Simulated.{done_same}
 use Rattle.workers.proofs.Moving.{outs_task, stamps_bye, stamps_event}
-
-pub same_out : (done : DoneStamp) (task : TaskStamp) → done.epoch ≡ task.epoch → done.superstep ≡ task.superstep → done.part ≡ task.part → done_out done ≡ task_out task
-same_out done task a b c = rw (a, b, c) refl
 
 module _ (work : Work) (honest : ℕ → Bool) where
   -- its result
   pub return_done : (w : ℕ) (task : TaskStamp) (done : DoneStamp) → done.epoch ≡ task.epoch → done.superstep ≡ task.superstep → done.part ≡ task.part
       → (honest task.epoch ≡ true → AreUnitsAt work task.superstep task.part done.units) → IsReturnOf work honest (task_out task) (DoneBy w (done_out done) done.units ∷ [])
-  return_done w task done a b c units = (same_out done task a b c, units, refl)
+  return_done w task done a b c units = (done_same done task a b c, units, refl)
 
   returns_more : (tasks : List Out) (stamps : List Stamp) (task : Out) (mine : List Stamp) → AreReturnsOf work honest tasks stamps → IsReturnOf work honest task mine
       → AreReturnsOf work honest (tasks ++ task ∷ []) (stamps ++ mine)

@@ -7,7 +7,7 @@ use Rattle.superstep.specs.declared.fault.JobFault.TheVariants.{Closed, NoWorker
 use Rattle.superstep.specs.declared.fault.Place.{Place}
 use Rattle.superstep.specs.declared.fault.Place.TheVariants as place
 use Rattle.rollback.specs.declared.report.Report.{Report}
-use Rattle.rollback.specs.Machine.{Machine}
+use Rattle.control.specs.Machine.{Machine}
 use Rattle.workers.specs.JobAnswers.{EndedOver, EndedOverOwn, IsKeptRun, IsKeptRunOn, RanOn, RanOnOwn, WhereBegun, WhereConnected, WhereOpened, WhereRun}
 use Rattle.workers.specs.Joining.{JoinedFrom, JoinedOn, JoinedOver}
 use Rattle.workers.specs.Returns.{IsWorkOn, events_by}

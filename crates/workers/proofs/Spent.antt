@@ -3,16 +3,17 @@ use Rattle.std.proofs.lemmas.Bool.Decides.{eqb_tells, nat_tests}
 use Rattle.std.specs.Prelude.{nat_lt}
 use Rattle.std.proofs.Common.{◌≡◌, ◌≢◌, ℕ, zero, suc, ◌+◌, ◌-◌, ◌<◌, ◌≤◌, ◌^◌, min, Bool, true, false, ◌&&◌, not, cond, eqb, true≢false, Option, Some, None, List, [], ◌∷◌, length, set, slice_index_or, sym, refl, ap, ◌∙◌, subst, arith, eq-eqb, ne_eqb, ◌⊎◌, ⊎_elim, inl, inr}
 use Rattle.superstep.specs.declared.fault.Place.{Place}
-use Rattle.rollback.specs.declared.control.Out.{Out}
-use Rattle.rollback.specs.declared.job_status.JobStatus.{JobStatus}
-use Rattle.rollback.specs.declared.job_status.JobStatus.TheVariants.{Fault, Finished, Limit, Running}
-use Rattle.rollback.specs.declared.job_status.DeviceResult.{DeviceResult}
-use Rattle.rollback.specs.declared.job_status.DeviceResult.TheVariants.{Failed, Good, NoMemory}
-use Rattle.rollback.specs.declared.event.Answer.{Answer}
-use Rattle.rollback.specs.declared.event.Answer.TheVariants.{Ended, Stale}
-use Rattle.rollback.specs.Machine.{Machine, aged, all_set, by_place, charged, closed, counts, expired, finished, freed, has_answer, is_alive, is_busy, is_out, is_running, is_saved_now, joined, lost, may_join, welcomed}
-use Rattle.rollback.specs.Events.{Heard, Stamp, accepted, after_end, after_load, after_loss, after_save, closing, done_step, failed_step, on_event, joined_step, loading, loss, lost_step, rolling, saving, shut, slicing, stale_done, tick_step}
-use Rattle.rollback.specs.Events.Stamp.{DoneBy, FailedBy, JoinedBy, LostBy, Ticked}
+use Rattle.control.specs.declared.control.Out.{Out}
+use Rattle.control.specs.declared.job_status.JobStatus.{JobStatus}
+use Rattle.control.specs.declared.job_status.JobStatus.TheVariants.{Fault, Finished, Limit, Running}
+use Rattle.control.specs.declared.job_status.DeviceResult.{DeviceResult}
+use Rattle.control.specs.declared.job_status.DeviceResult.TheVariants.{Failed, Good, NoMemory}
+use Rattle.control.specs.declared.event.Answer.{Answer}
+use Rattle.control.specs.declared.event.Answer.TheVariants.{Ended, Stale}
+use Rattle.control.specs.Machine.{Machine, aged, all_set, charged, closed, counts, expired, finished, freed, has_answer, is_alive, is_busy, is_out, is_running, is_saved_now, joined, lost, may_join, welcomed}
+use Rattle.control.specs.Events.{Heard, Stamp, accepted, after_end, after_load, after_loss, after_save, closing, done_step, failed_step, on_event, joined_step, loading, loss, lost_step, rolling, saving, shut, slicing, stale_done, tick_step}
+use Rattle.control.specs.Events.Stamp.{DoneBy, FailedBy, JoinedBy, LostBy, Ticked}
+use Rattle.control.proofs.ByPlace.{length-by_place}
 use Rattle.workers.specs.Units.{cut, units_by, units_of}
 
 -- the accounts, and how many workers there are
@@ -29,18 +30,14 @@ length_set [] w x = refl
 length_set (y ∷ ys) zero x = refl
 length_set (y ∷ ys) (suc w) x = ap suc (length_set ys w x)
 
-length_by_place : {A : Type 0} (f : ℕ → A → A) (base : ℕ) (xs : List A) → length (by_place f base xs) ≡ length xs
-length_by_place f base [] = refl
-length_by_place f base (x ∷ xs) = ap suc (length_by_place f (suc base) xs)
-
 as_long : (m : Machine) (n : ℕ) → n ≡ length m.alive → (m.spent, n) ≡ account m
 as_long m n e = ap (λ (k : ℕ). (m.spent, k)) e
 
 joined_account : (m : Machine) → account (joined m) ≡ account m
-joined_account m = as_long m (length (joined m).alive) (length_by_place _ 0 m.alive)
+joined_account m = as_long m (length (joined m).alive) (length-by_place _ 0 m.alive)
 
 expired_account : (m : Machine) → account (expired m) ≡ account m
-expired_account m = as_long m (length (expired m).alive) (length_by_place _ 0 m.alive)
+expired_account m = as_long m (length (expired m).alive) (length-by_place _ 0 m.alive)
 
 lost_account : (m : Machine) (w : ℕ) → account (lost m w) ≡ account m
 lost_account m w = as_long m (length (lost m w).alive) (length_set m.alive w false)

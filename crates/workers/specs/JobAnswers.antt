@@ -6,12 +6,12 @@ use Rattle.superstep.specs.declared.fault.JobFault.{JobFault}
 use Rattle.superstep.specs.declared.fault.JobFault.TheVariants.{Closed, NoWorkers, OutOfMemory, Settings, ThreadRefused}
 use Rattle.superstep.specs.declared.fault.Place.{Place}
 use Rattle.superstep.specs.declared.fault.Place.TheVariants as place
-use Rattle.rollback.specs.declared.job_status.JobStatus.{JobStatus}
-use Rattle.rollback.specs.declared.job_status.JobStatus.TheVariants.{Fault, Finished, Limit, Running}
+use Rattle.control.specs.declared.job_status.JobStatus.{JobStatus}
+use Rattle.control.specs.declared.job_status.JobStatus.TheVariants.{Fault, Finished, Limit, Running}
 use Rattle.rollback.specs.declared.report.Report.{Report}
 use Rattle.rollback.specs.Book.{IsQuietAt, IsReport}
-use Rattle.rollback.specs.Events.{Heard, begun}
-use Rattle.rollback.specs.Machine.{Machine, opened}
+use Rattle.control.specs.Events.{Heard, begun}
+use Rattle.control.specs.Machine.{Machine, opened}
 use Rattle.rollback.specs.Saving.{IsKeptStep, IsLoadResult, IsMadeAt, KeepsFor}
 use Rattle.rollback.specs.Simulation.{IsCalmAt, NeverFails}
 use Rattle.channels.specs.Orders.{at}

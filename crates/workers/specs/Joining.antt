@@ -3,13 +3,13 @@ use Rattle.std.specs.Prelude.{◌≡◌, ◌<◌, ◌==◌, ◌&&◌, ℕ, Bool,
 use Rattle.superstep.specs.Job.{Work}
 use Rattle.superstep.specs.declared.fault.JobFault.{JobFault}
 use Rattle.channels.specs.declared.order.Order.{Order}
-use Rattle.rollback.specs.declared.event.Answer.{Answer}
-use Rattle.rollback.specs.declared.event.Answer.TheVariants.{Advanced, Ended, RolledBack, Stale, Taken}
+use Rattle.control.specs.declared.event.Answer.{Answer}
+use Rattle.control.specs.declared.event.Answer.TheVariants.{Advanced, Ended, RolledBack, Stale, Taken}
 use Rattle.rollback.specs.declared.report.Report.{Report}
 use Rattle.rollback.specs.Book.{IsQuietAt}
-use Rattle.rollback.specs.Events.{Heard, Stamp, accepted, begun, reply_of}
-use Rattle.rollback.specs.Events.Stamp.{DoneBy, FailedBy, JoinedBy, LostBy, Ticked}
-use Rattle.rollback.specs.Machine.{Machine, opened}
+use Rattle.control.specs.Events.{Heard, Stamp, accepted, begun, reply_of}
+use Rattle.control.specs.Events.Stamp.{DoneBy, FailedBy, JoinedBy, LostBy, Ticked}
+use Rattle.control.specs.Machine.{Machine, opened}
 use Rattle.workers.specs.JobAnswers.{RanFrom}
 use Rattle.workers.specs.Returns.{IsWorkOn, events_by}
 use Rattle.workers.specs.Steps.{Move, events, hands, moved}

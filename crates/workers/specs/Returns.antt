@@ -5,9 +5,9 @@ use Rattle.superstep.specs.Job.{Work}
 use Rattle.superstep.specs.Tasks.{AreUnitsAt}
 use Rattle.superstep.specs.declared.fault.Place.TheVariants.{Call}
 use Rattle.channels.specs.Protocol.{of}
-use Rattle.rollback.specs.declared.control.Out.{Out}
-use Rattle.rollback.specs.Events.{Stamp}
-use Rattle.rollback.specs.Events.Stamp.{DoneBy, FailedBy, JoinedBy, LostBy, Ticked}
+use Rattle.control.specs.declared.control.Out.{Out}
+use Rattle.control.specs.Events.{Stamp}
+use Rattle.control.specs.Events.Stamp.{DoneBy, FailedBy, JoinedBy, LostBy, Ticked}
 
 -- ---- the events of one worker
 

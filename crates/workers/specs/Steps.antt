@@ -1,9 +1,9 @@
 -- How the book, the received messages, the sent orders and the Keep follow one list of assignments and events.
 use Rattle.std.specs.Prelude.{◌≡◌, ◌<◌, ◌==◌, ℕ, suc, Bool, true, List, [], ◌∷◌, ◌++◌, length, map, Some, if◌then◌else◌}
 use Rattle.superstep.specs.Job.{Work}
-use Rattle.rollback.specs.declared.control.Out.{Out}
-use Rattle.rollback.specs.Machine.{Machine, hand, handed, task_of}
-use Rattle.rollback.specs.Events.{Heard, Stamp, accepted}
+use Rattle.control.specs.declared.control.Out.{Out}
+use Rattle.control.specs.Machine.{Machine, hand, handed, task_of}
+use Rattle.control.specs.Events.{Heard, Stamp, accepted}
 use Rattle.rollback.specs.Book.{IsQuietAt, stamp_of, task_out}
 use Rattle.channels.specs.Orders.{at, tasks_in}
 use Rattle.workers.specs.Hub.{events_in}

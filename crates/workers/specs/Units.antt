@@ -1,7 +1,7 @@
 -- The units that workers report.
 use Rattle.std.specs.Prelude.{ℕ, ◌+◌, ◌-◌, ◌^◌, ◌==◌, min, List, [], ◌∷◌, if◌then◌else◌}
-use Rattle.rollback.specs.Events.{Stamp}
-use Rattle.rollback.specs.Events.Stamp.{DoneBy, FailedBy, JoinedBy, LostBy, Ticked}
+use Rattle.control.specs.Events.{Stamp}
+use Rattle.control.specs.Events.Stamp.{DoneBy, FailedBy, JoinedBy, LostBy, Ticked}
 
 -- the units of worker w in this event
 abbrev pub units_of : ℕ → Stamp → ℕ

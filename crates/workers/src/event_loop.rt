@@ -2,7 +2,7 @@
 
 ghost use Rattle.std.specs.Prelude.{◌≡◌, ◌<◌, ◌+◌, ◌∷◌, false, true, map, vec_len, ℕ, IfErr, IfOk, OnErr, OnOk};
 ghost use Rattle.rollback.specs.Saving.{IsKeptStep, KeepsFor};
-ghost use Rattle.rollback.specs.Machine.{is_running};
+ghost use Rattle.control.specs.Machine.{is_running};
 ghost use Rattle.workers.specs.JobAnswers.{HasSpent, IsAnswerAt, IsDriveFault, IsLeftBy, RanFromOver, WhereEnded};
 ghost use Rattle.workers.specs.Steps.{Steps};
 ghost use Rattle.workers.specs.Verdicts.{sends_on, told_on};

@@ -2,7 +2,7 @@
 
 ghost use Rattle.std.specs.Prelude.{◌≡◌, ◌+◌, ◌++◌, ◌∷◌, [], false, IfOk, IfErr, OnOk, OnErr};
 ghost use Rattle.superstep.specs.declared.fault.JobFault.TheVariants.{Closed};
-ghost use Rattle.rollback.specs.declared.event.Event.TheVariants.{Tick};
+ghost use Rattle.control.specs.declared.event.Event.TheVariants.{Tick};
 ghost use Rattle.channels.specs.ChannelEnds.{number_of, sent_by};
 ghost use Rattle.workers.specs.Messages.{closes, event_sender};
 ghost use Rattle.channels.specs.Orders.{order_of};

@@ -2,7 +2,7 @@
 
 ghost use Rattle.std.specs.Thread.{IsSync};
 ghost use Rattle.std.specs.Prelude.{◌≡◌, ◌<◌, false, true, map, vec_len, IfErr, IfOk, Some};
-ghost use Rattle.rollback.specs.Machine.{count_set};
+ghost use Rattle.control.specs.Machine.{count_set};
 ghost use Rattle.rollback.specs.Saving.{HasLeft, KeepsFor};
 ghost use Rattle.checkpoint.specs.Keep.{LoadsNothingElse};
 ghost use Rattle.rollback.specs.Simulation.{NeverFails};

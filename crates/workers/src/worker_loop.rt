@@ -4,7 +4,7 @@ ghost use Rattle.std.specs.Prelude.{◌≡◌, ◌+◌, ◌∷◌, [], false, tr
 ghost use Rattle.superstep.specs.Tasks.{AreUnitsAt};
 ghost use Rattle.superstep.specs.declared.fault.JobFault.TheVariants.{Closed};
 ghost use Rattle.superstep.specs.declared.fault.Place.TheVariants.{Call};
-ghost use Rattle.rollback.specs.declared.control.Out.{Out};
+ghost use Rattle.control.specs.declared.control.Out.{Out};
 ghost use Rattle.rollback.specs.Book.{stamp_of, task_out};
 ghost use Rattle.workers.specs.Messages.{AddsJoins, event_sender, is_joined, is_lost};
 ghost use Rattle.workers.specs.Passes.{IsReceipt, IsSamePass, IsTickReceipt, handed_in, taken, ticked};

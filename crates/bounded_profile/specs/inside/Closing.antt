@@ -6,7 +6,7 @@ use Rattle.wasm_ast.specs.declared.body.Instr.TheVariants as instr
 use Rattle.wasm_ast.specs.Code.{Code}
 use Rattle.wasm_ast.specs.Limits.{IsCodeWithin}
 use Rattle.host_calls.specs.declared.imports.HostCall.{HostCall}
-use Rattle.bounded_profile.specs.Shapes.{TakesItem}
+use Rattle.verified.specs.Shapes.{TakesItem}
 
 -- the first instruction takes an item, and the second goes back to the loop where there was one
 pub record GoesBackWithItem (calls : ℕ → Option HostCall) (first second : Instr) : Type 0 where

@@ -1,16 +1,16 @@
 -- How the reached bytes are found: marks of bytes, what is known along code, and extents of adjacent bytes.
-use Rattle.std.specs.Prelude.{◌≡◌, ℕ, zero, suc, ◌+◌, ◌-◌, ◌<◌, ◌≤◌, min, List, [], ◌∷◌, length, get_or, set, Bool, true, false, cond}
+use Rattle.std.specs.Prelude.{◌≡◌, ℕ, zero, suc, ◌+◌, ◌-◌, ◌≤◌, List, [], ◌∷◌, get_or, set, Bool, true, false, cond}
 use Rattle.wasm_ast.specs.declared.body.Instr.{Instr}
 use Rattle.wasm_ast.specs.declared.plain.Plain.{Plain}
-use Rattle.wasm_ast.specs.declared.module.Module.{Module}
 use Rattle.wasm_ast.specs.Code.{Code}
 use Rattle.wasm_ast.specs.Code as code
 use Rattle.wasm_ast.specs.View.{then_code}
-use Rattle.bounded_profile.specs.declared.arity.Arity.{Arity}
-use Rattle.bounded_profile.specs.declared.constants.operands.Operand.{Operand}
-use Rattle.bounded_profile.specs.declared.extents.Extent.{Extent}
-use Rattle.bounded_profile.specs.Arities.{branch_arity, arity_at, block_arity, test_arity}
-use Rattle.bounded_profile.specs.Reached.{Access, known_after, known_behind, plain_accesses, reached_below}
+use Rattle.verified.specs.declared.arity.Arity.{Arity}
+use Rattle.verified.specs.declared.operand.Operand.{Operand}
+use Rattle.verified.specs.declared.extents.Extent.{Extent}
+use Rattle.verified.specs.Arities.{branch_arity, arity_at, block_arity, test_arity}
+use Rattle.verified.specs.Reached.{Access, known_after, known_behind, plain_accesses}
+use Rattle.verified.specs.inside.Extents.{AreInOrder, in_extent, in_extents}
 
 -- ---- marks, one for each byte of the memory
 
@@ -69,21 +69,6 @@ marked_below marks (suc byte) = marked_below marks byte + cond (get_or marks byt
 
 -- ---- extents
 
--- the number of bytes of the extent below this byte
-abbrev pub in_extent : Extent → ℕ → ℕ
-in_extent s byte = min byte s.to - min byte s.from
-
-abbrev pub in_extents : List Extent → ℕ → ℕ
-in_extents [] byte = 0
-in_extents (s ∷ ss) byte = in_extent s byte + in_extents ss byte
-
--- the extents are in order, from `low` on; `below` of each is the number of bytes in those before it, and `below` at
--- first
-abbrev pub AreInOrder : ℕ → ℕ → List Extent → Type 0
-AreInOrder low below [] = Unit {0}
-AreInOrder low below (s ∷ ss) =
-    (low ≤ s.from) × (s.from ≤ s.to) × (s.below ≡ below) × AreInOrder s.to (below + (s.to - s.from)) ss
-
 -- the end of the last one
 abbrev pub end_of : ℕ → List Extent → ℕ
 end_of low [] = low
@@ -109,14 +94,3 @@ pub record IsUpTo (extents : List Extent) (byte below : ℕ) : Type 0 where
 pub record Adds (s : Extent) (old new : List Extent) : Type 0 where
   pub up_to : IsUpTo new s.to (s.below + (s.to - s.from))
   pub sum : (byte : ℕ) → in_extents new byte ≡ in_extents old byte + in_extent s byte
-
--- the extents have the number of reached bytes below each byte
-pub record TellReached (m : Module) (extents : List Extent) : Type 0 where
-  pub order : AreInOrder 0 0 extents
-  pub count : (byte : ℕ) → in_extents extents byte ≡ reached_below m byte
-
--- `count` extents begin at the byte or before it, and the others after it
-pub record PartsAt (extents : List Extent) (byte count : ℕ) : Type 0 where
-  pub bound : count ≤ length extents
-  pub before : (k : ℕ) (d : Extent) → k < count → (get_or extents k d).from ≤ byte
-  pub behind : (k : ℕ) (d : Extent) → count ≤ k → k < length extents → byte < (get_or extents k d).from

@@ -3,9 +3,9 @@ use Rattle.std.specs.Prelude.{◌≡◌, ℕ, ◌<◌, ◌≤◌, List}
 use Rattle.wasm_ast.specs.declared.module.Module.{Module}
 use Rattle.cost.specs.declared.table.Mark.{Mark}
 use Rattle.cost.specs.Marks.{rank_at}
-use Rattle.cost.specs.Sizes.{AreSizes, max_size}
+use Rattle.units.specs.Sizes.{AreSizes, max_size}
 use Rattle.bounded_profile.specs.inside.StackHeights.{height_at}
-use Rattle.bounded_profile.specs.Heights.{AreHeights}
+use Rattle.verified.specs.Heights.{AreHeights}
 
 -- the table has the heights of the functions of lower ranks, and of those of this rank with numbers below `next`; of
 -- functions that are too large it says nothing

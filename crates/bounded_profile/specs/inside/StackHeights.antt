@@ -4,9 +4,9 @@ use Rattle.wasm_ast.specs.declared.body.Instr.{Instr}
 use Rattle.wasm_ast.specs.Code.{Code}
 use Rattle.wasm_ast.specs.Code as code
 use Rattle.wasm_ast.specs.View.{then_code}
-use Rattle.bounded_profile.specs.declared.arity.Arity.{Arity}
+use Rattle.verified.specs.declared.arity.Arity.{Arity}
 use Rattle.bounded_profile.specs.declared.stack_height.StackHeight.{StackHeight}
-use Rattle.bounded_profile.specs.Arities.{arity_at, plain_arity, branch_arity, block_arity, test_arity}
+use Rattle.verified.specs.Arities.{arity_at, plain_arity, branch_arity, block_arity, test_arity}
 
 abbrev pub greatest : ℕ
 greatest = 18446744073709551615

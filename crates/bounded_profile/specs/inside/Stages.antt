@@ -1,14 +1,14 @@
 -- What holds of a module once its rules are checked up to one of them.
 use Rattle.std.specs.Prelude.{ℕ}
 use Rattle.wasm_ast.specs.declared.module.Module.{Module}
-use Rattle.bounded_profile.specs.declared.facts.Facts.{Facts}
+use Rattle.verified.specs.declared.facts.Facts.{Facts}
 use Rattle.bounded_profile.specs.declared.fault.ProfileRule.{ProfileRule}
 use Rattle.bounded_profile.specs.declared.fault.ProfileRule.TheVariants.{P5, P6, P7, P8, P9}
-use Rattle.bounded_profile.specs.declared.shapes.Shape.{Shape}
-use Rattle.bounded_profile.specs.declared.shapes.Shape.TheVariants as shape
-use Rattle.bounded_profile.specs.Compute.{IsComputeNumber}
-use Rattle.bounded_profile.specs.Facts.{IsSizeAt, AreFactsAt}
-use Rattle.bounded_profile.specs.Profile.{ImportsHostCalls, NoStart, NoElements, NoIndirectCalls, NoUnreachable, NoGrowth, NothingAfterBranches, LoopsTakeItems, NoCycles, SizeWithin}
+use Rattle.verified.specs.declared.shape.Shape.{Shape}
+use Rattle.verified.specs.declared.shape.Shape.TheVariants as shape
+use Rattle.verified.specs.Compute.{IsComputeNumber}
+use Rattle.verified.specs.Facts.{IsSizeAt, AreFactsAt}
+use Rattle.verified.specs.Profile.{ImportsHostCalls, NoStart, NoElements, NoIndirectCalls, NoUnreachable, NoGrowth, NothingAfterBranches, LoopsTakeItems, NoCycles, SizeWithin}
 
 -- P1, P3 and P4
 pub record PartsHold (m : Module) : Type 0 where

@@ -25,26 +25,26 @@ use Rattle.wasm_ast.specs.Code as code
 use Rattle.wasm_ast.specs.View.{then_code}
 use Rattle.wasm_ast.specs.NumericTypes.{numeric_takes}
 use Rattle.wasm_ast.specs.Widths.{load_width, store_width}
-use Rattle.validate.specs.Spaces.{function_import, imported, first_type, spaces_of}
+use Rattle.valid.specs.Spaces.{function_import, imported, first_type, spaces_of}
 use Rattle.host_calls.specs.declared.call.TheConstants.{AGGREGATORS}
 use Rattle.host_calls.specs.declared.imports.HostCall.{HostCall}
 use Rattle.host_calls.specs.Imports.{call_named}
-use Rattle.bounded_profile.specs.declared.requirements.Premise.{Premise}
-use Rattle.bounded_profile.specs.declared.requirements.Premise.TheVariants.{Reaches, Divides, DividesSigned, IsSlot}
+use Rattle.verified.specs.declared.requirements.Premise.{Premise}
+use Rattle.verified.specs.declared.requirements.Premise.TheVariants.{Reaches, Divides, DividesSigned, IsSlot}
 use Rattle.bounded_profile.specs.declared.constants.asks.Asks.{Asks}
 use Rattle.bounded_profile.specs.declared.constants.asks.Asks.TheVariants.{Addresses, Divisors, Slots, All}
 use Rattle.bounded_profile.specs.declared.constants.demands.Demand.{Demand}
 use Rattle.bounded_profile.specs.declared.constants.demands.Demand.TheVariants.{Any, Constant}
 use Rattle.bounded_profile.specs.declared.constants.fault.ConstantsFault.{ConstantsFault}
 use Rattle.validate.specs.declared.labels.Labels.{Labels}
-use Rattle.bounded_profile.specs.declared.constants.operands.Operand.{Operand}
-use Rattle.bounded_profile.specs.declared.constants.operands.Operand.TheVariants.{Unknown, Known}
+use Rattle.verified.specs.declared.operand.Operand.{Operand}
+use Rattle.verified.specs.declared.operand.Operand.TheVariants.{Unknown, Known}
 use Rattle.bounded_profile.specs.declared.constants.operands.Operands.{Operands}
-use Rattle.bounded_profile.specs.Kinds.{minus_one}
+use Rattle.verified.specs.Kinds.{minus_one}
 use Rattle.bounded_profile.specs.inside.ConstantsFaults.{Finds, FalseBut}
-use Rattle.bounded_profile.specs.Known.{division_premise, takes_slot}
-use Rattle.bounded_profile.specs.Memory.{memory_bytes, number_of}
-use Rattle.bounded_profile.specs.Profile.{asks_addresses, asks_divisors, asks_slots, asks_all}
+use Rattle.verified.specs.Known.{division_premise, takes_slot}
+use Rattle.verified.specs.Memory.{memory_bytes, number_of}
+use Rattle.verified.specs.Profile.{asks_addresses, asks_divisors, asks_slots, asks_all}
 
 -- the premises that are selected
 abbrev pub asks_of : Asks → Premise → Bool

@@ -1,11 +1,11 @@
 //! Which constants have to be known.
 
 ghost use Rattle.std.specs.Prelude.{◌≡◌};
-ghost use Rattle.bounded_profile.specs.Known.{division_premise};
+ghost use Rattle.verified.specs.Known.{division_premise};
 ghost use Rattle.bounded_profile.specs.inside.Tracking.{asks_of, asked};
 
 use crate::constants::demands::Demand;
-use crate::requirements::Premise;
+use verified::Premise;
 use wasm_ast::{Division, ValType};
 
 /// The constants that have to be known.

@@ -3,8 +3,8 @@
 ghost use Rattle.std.specs.Prelude.{◌≡◌};
 ghost use Rattle.bounded_profile.specs.inside.Tracking.{is_met};
 
-use crate::requirements::Premise;
 use host_calls::AGGREGATORS;
+use verified::Premise;
 use wasm_ast::ValType;
 
 /// The demand on an operand.
@@ -31,7 +31,7 @@ pub fn is_met(bytes: u64, of: ValType, premise: Premise, constant: u64) -> bool
     }
 }
 
-ghost use Rattle.bounded_profile.specs.Kinds.{minus_one};
+ghost use Rattle.verified.specs.Kinds.{minus_one};
 
 /// Returns -1 of the type, read unsigned.
 fn minus_one(of: ValType) -> u64

@@ -7,12 +7,12 @@ ghost use Rattle.bounded_profile.specs.inside.Tracking.{Goes, operands_of, label
 use crate::constants::asks::division_premise;
 use crate::constants::demands::Demand;
 use crate::constants::fault::ConstantsFault;
-use crate::constants::operands::{Operand, Operands};
+use crate::constants::operands::Operands;
 use crate::constants::setting::ModuleSetting;
 use crate::memory_rules::number_of;
-use crate::requirements::Premise;
 use std::alloc::AllocError;
 use validate::{Labels, Place, first_of};
+use verified::{Operand, Premise};
 use wasm_ast::{Branch, Memory, Numeric, Plain, ValType, Variable};
 
 /// Checks a plain instruction (Core 1.0, 3.3.1 to 3.3.4, and `nop` of 3.3.5).

@@ -1,24 +1,16 @@
 //! What is known of the operands at a place of a body.
 
 ghost use Rattle.std.specs.Prelude.{◌≡◌, [], ◌∷◌, ◌++◌, get_or, OnOk};
-ghost use Rattle.bounded_profile.specs.declared.constants.operands.Operand.TheVariants.{Unknown};
-ghost use Rattle.bounded_profile.specs.Reached.{known_after};
+ghost use Rattle.verified.specs.declared.operand.Operand.TheVariants.{Unknown};
+ghost use Rattle.verified.specs.Reached.{known_after};
 ghost use Rattle.bounded_profile.specs.inside.Tracking.{Goes, operands_of, fits, top, below, take_one, take_each, change, forget_each, forget_result, unknowns, given_of};
 
-use crate::arity::Arity;
 use crate::constants::demands::{Demand, is_met};
 use crate::constants::fault::ConstantsFault;
 use std::alloc::{AllocError, Global};
 use validate::Place;
+use verified::{Arity, Operand};
 use wasm_ast::{BlockType, ValType};
-
-/// What is known of one operand.
-#[derive(Clone, Copy)]
-pub enum Operand {
-    Unknown,
-    /// This constant, read unsigned.
-    Known(u64),
-}
 
 /// The operands; the last is the topmost.
 #[derive(Drop)]

@@ -5,13 +5,14 @@ use super::forms::{fast_answer, slow_answer};
 use super::tell;
 use crate::modules::valid_of;
 use anyhow::Result;
-use bounded_profile::{Verified, verify};
+use bounded_profile::verify;
 use conformance_cases::{is_case, named, spelled};
 use host_calls::CallInput;
 use sources::{CommandFault, Input};
 use std::alloc::{AllocError, Global};
 use std::fs;
 use std::rt::Files;
+use verified::Verified;
 
 const ENOUGH: u128 = 1_000_000;
 

@@ -5,13 +5,14 @@ ghost use Rattle.std.specs.Prelude.{◌≡◌};
 ghost use Rattle.interp.specs.Bounded.{HasIds};
 
 use crate::reference_call;
-use bounded_profile::{Verified, verify};
+use bounded_profile::verify;
 use host_calls::{CallInput, CallOutcome};
 use interp::{Scratch, has_ids, run};
 use sources::outcome_text;
 use std::alloc::{AllocError, Global};
 use std::fmt::Debug;
-use validate::Valid;
+use valid::Valid;
+use verified::Verified;
 use wasm_ast::Module;
 
 /// Returns the answer of both forms if the module is in the bounded profile. Otherwise it returns that of the reference

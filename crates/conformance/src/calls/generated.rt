@@ -12,7 +12,6 @@ mod writer;
 use super::alike::{read_input, shortened, verified_of};
 use super::forms::{second_answer, slow_answer};
 use anyhow::Result;
-use bounded_profile::Verified;
 use conformance_cases::is_case;
 use host_calls::CallInput;
 use interp::Scratch;
@@ -20,6 +19,7 @@ use modules::module_text;
 use std::alloc::{AllocError, Global};
 use std::fs;
 use std::rt::Files;
+use verified::Verified;
 
 // The numbers of messages and of edges of each input.
 const INPUTS: [(usize, usize); 4] = [(0, 0), (1, 2), (2, 0), (4, 4)];

@@ -5,8 +5,8 @@ ghost use Rattle.rollback.specs.Saving.{KeepsFor};
 
 use anyhow::{Result, bail};
 use checkpoint::{Keep, MemoryKeep};
-use console::trace_text;
 use interp::Scratch;
+use plain_commands::trace_text;
 use rollback::{Answer, Book, Event, JobStatus, Outcome, Report, Step, StepAnswer, Trace};
 use std::alloc::{AllocError, Global};
 use std::marker::Brand;

@@ -8,19 +8,17 @@ use Rattle.wasm_ast.specs.declared.module.Data.{Data}
 use Rattle.wasm_ast.specs.declared.module.Global.{Global}
 use Rattle.wasm_ast.specs.Code.{Code}
 use Rattle.wasm_ast.specs.Limits.{max_locals}
-use Rattle.bounded_profile.specs.Facts.{IsDepthAt, IsHeightAt}
-use Rattle.bounded_profile.specs.Memory.{memory_bytes, number_of}
-use Rattle.bounded_profile.specs.Profile.{HasCompute}
+use Rattle.verified.specs.Facts.{IsDepthAt, IsHeightAt}
+use Rattle.verified.specs.Memory.{memory_bytes, number_of}
+use Rattle.verified.specs.Profile.{HasCompute}
 use Rattle.host_calls.specs.declared.call.CallInput.{CallInput}
 use Rattle.host_calls.specs.declared.call.CallOutcome.{CallOutcome}
 use Rattle.host_calls.specs.Host.{Leaves}
 use Rattle.interp.specs.Configuration.{State}
 use Rattle.interp.specs.Machine.{Machine, defined, functions_of, run}
-use Rattle.interp.specs.inside.Meaning.{room_of}
 use Rattle.interp.specs.inside.Place.{Place, Room, Standing, at}
 use Rattle.interp.specs.Room.{most_entries, most_locals}
 use Rattle.interp.specs.Start.{Begins, Starts, constant_value, initial_globals, initial_memory}
-use Rattle.interp.specs.declared.buffers.Buffers.{Buffers}
 use Rattle.interp.specs.inside.Cells.{cell_of, zero_cells}
 use Rattle.interp.specs.inside.Given.{HasGiven}
 use Rattle.interp.specs.inside.Fits.{AreFit}
@@ -111,10 +109,6 @@ EndsEachWithin m input most = (from : Machine) → Starts m input from → EndsW
 abbrev pub EndsInRoom : Module → CallInput → (most : ℕ) → Room → Type 0
 EndsInRoom m input most room =
     (from : Machine) → Starts m input from → EndsWithin m from most × ((n : ℕ) → IsWithinRoom room (run m n from))
-
--- the room of the buffers
-abbrev pub room_in : Buffers → Room
-room_in buffers = room_of buffers.entries buffers.operands buffers.locals buffers.globals buffers.memory
 
 -- the initial globals are those of the module, it reaches as many bytes, and there is room for the locals of a
 -- function

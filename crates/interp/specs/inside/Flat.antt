@@ -7,7 +7,7 @@ use Rattle.wasm_ast.specs.declared.plain.Plain.{Plain}
 use Rattle.wasm_ast.specs.Code.{Code}
 use Rattle.flat_code.specs.declared.body.FlatInstr.{FlatInstr}
 use Rattle.flat_code.specs.View.{then_code}
-use Rattle.cost.specs.Weights.{plain_units}
+use Rattle.units.specs.Weights.{plain_units}
 use Rattle.host_calls.specs.Host.{Host}
 use Rattle.host_calls.specs.declared.imports.HostCall.{HostCall}
 use Rattle.interp.specs.declared.plain.Acted.{Acted}

@@ -19,7 +19,7 @@ use Rattle.wasm_ast.specs.Widths.{load_width, store_width}
 use Rattle.host_calls.specs.declared.call.TheConstants.{AGGREGATORS}
 use Rattle.host_calls.specs.declared.imports.HostCall.{HostCall}
 use Rattle.host_calls.specs.declared.imports.HostCall.TheVariants as call
-use Rattle.bounded_profile.specs.Memory.{number_of}
+use Rattle.verified.specs.Memory.{number_of}
 use Rattle.interp.specs.Configuration.{State}
 use Rattle.interp.specs.Machine.{Machine, Running, Done, Trapped, Stuck, ControlEntry, Label, Frame}
 use Rattle.interp.specs.inside.Cells.{narrowed}

@@ -14,7 +14,7 @@ use Rattle.wasm_ast.specs.Code as code
 use Rattle.flat_code.specs.declared.body.FlatInstr.{FlatInstr}
 use Rattle.flat_code.specs.declared.body.FlatInstr.TheVariants as flat
 use Rattle.flat_code.specs.View.{then_code}
-use Rattle.cost.specs.Weights.{host_units}
+use Rattle.units.specs.Weights.{host_units}
 use Rattle.host_calls.specs.Host.{Host}
 use Rattle.host_calls.specs.declared.imports.HostCall.{HostCall}
 use Rattle.interp.specs.Configuration.{State}

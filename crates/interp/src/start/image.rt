@@ -7,9 +7,9 @@ use crate::globals::Globals;
 use crate::memory::Memory;
 use crate::start::initial::{initial_cells, write_memory};
 use crate::walk::Walk;
-use bounded_profile::Verified;
 use std::alloc::{AllocError, Global};
 use std::marker::Model;
+use verified::Verified;
 use wasm_ast::Function;
 
 /// The globals and the kept bytes that each call of the module begins with. Its model is the module.
@@ -42,8 +42,7 @@ impl<'a> Image<'a> {
     {
         let module = verified.module();
         let globals = initial_cells(alloc, module.globals.as_slice())?;
-        let mut memory = Memory::new(alloc, verified);
-        memory.extend(verified)?;
+        let mut memory = Memory::zeros(alloc, verified)?;
         write_memory(module, &globals, &mut memory);
         Ok(Image {
             verified,

@@ -1,7 +1,7 @@
 //! Globals and memory as each call begins (Core 1.0, 4.5.4).
 
 ghost use Rattle.std.specs.Prelude.{◌≡◌, Some, length, replicate, IfOk, IsSome};
-ghost use Rattle.bounded_profile.specs.Memory.{memory_bytes};
+ghost use Rattle.verified.specs.Memory.{memory_bytes};
 ghost use Rattle.interp.specs.Start.{constant_value, constant_plain, initial_globals};
 ghost use Rattle.interp.specs.inside.Begun.{AreInitial, cells_laid_in, cell_memory_laid, cell_segment_laid};
 ghost use Rattle.interp.specs.inside.Kept.{count_kept, marks, masked};
@@ -18,8 +18,7 @@ pub fn initial_cells(alloc: Global, definitions: &[GlobalDefinition]) -> Result<
     ensures initial { IfOk result (AreInitial definitions.now) }
     ensures long { IfOk result (λ cells. length cells ≡ length definitions.now) }
 {
-    let mut globals = Globals::new(alloc);
-    globals.extend(definitions.len())?;
+    let mut globals = Globals::zeros(alloc, definitions.len())?;
     write_globals(alloc, definitions, &mut globals);
     Ok(globals)
 }

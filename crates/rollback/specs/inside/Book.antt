@@ -3,17 +3,17 @@ use Rattle.std.specs.Prelude.{◌≡◌, ◌<◌, ◌≤◌, ℕ, suc, Bool, tru
 use Rattle.superstep.specs.Job.{Work}
 use Rattle.superstep.specs.State.{HasIdsOf, Standing, is_settled, state_id}
 use Rattle.superstep.specs.Ending.{WasBusy}
-use Rattle.rollback.specs.declared.control.Out.{Out}
-use Rattle.rollback.specs.declared.job_status.JobStatus.{JobStatus}
-use Rattle.rollback.specs.declared.job_status.JobStatus.TheVariants.{Fault, Finished, Limit, Running}
+use Rattle.control.specs.declared.control.Out.{Out}
+use Rattle.control.specs.declared.job_status.JobStatus.{JobStatus}
+use Rattle.control.specs.declared.job_status.JobStatus.TheVariants.{Fault, Finished, Limit, Running}
 use Rattle.rollback.specs.declared.job_data.JobData.{JobData}
 use Rattle.rollback.specs.declared.job_data.JobData.TheVariants.{Nothing, Parts, Whole}
-use Rattle.rollback.specs.Machine.{Machine, has_answer, is_running, saved_or_first}
+use Rattle.control.specs.Machine.{Machine, has_answer, is_running, saved_or_first}
 use Rattle.rollback.specs.inside.Parts.{Placement, Spot, is_returned}
 use Rattle.rollback.specs.inside.Parts.Spot.{Gone, Home}
 use Rattle.rollback.specs.Saving.{IsFullStateAt}
 use Rattle.rollback.specs.Book.{IsQuietAt, has_finished}
-use Rattle.rollback.specs.inside.Sound.{IsSound}
+use Rattle.control.specs.inside.Sound.{IsSound}
 
 -- they are the ids of the job's graph
 pub record AreIdsOf (work : Work) (own : List ℕ) : Type 0 where

@@ -3,8 +3,8 @@ use Rattle.std.specs.Prelude.{◌≡◌, ℕ, List, Bool, true, Option, Some}
 use Rattle.checkpoint.specs.Checkpoint.{IsCheckpointOf, checkpoint_bytes}
 use Rattle.checkpoint.specs.Keep.{HasFailed, IsKeptOrNone}
 use Rattle.superstep.specs.State.{Standing}
-use Rattle.rollback.specs.declared.job_status.DeviceResult.{DeviceResult}
-use Rattle.rollback.specs.declared.job_status.DeviceResult.TheVariants.{Failed, Good}
+use Rattle.control.specs.declared.job_status.DeviceResult.{DeviceResult}
+use Rattle.control.specs.declared.job_status.DeviceResult.TheVariants.{Failed, Good}
 
 -- the save of this state
 pub record IsSaveResult (state : Standing) (honest honest' : Bool) (kept kept' : Option ℕ) (may_load may_load' : List ℕ → Type 0) (faults faults' : ℕ) (told : DeviceResult) : Type 0 where

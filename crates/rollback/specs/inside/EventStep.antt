@@ -2,9 +2,9 @@
 use Rattle.std.specs.Prelude.{◌≡◌, ℕ, Bool, List, Option, Result}
 use Rattle.superstep.specs.declared.fault.JobFault.{JobFault}
 use Rattle.superstep.specs.Job.{Work}
-use Rattle.rollback.specs.declared.event.Answer.{Answer}
-use Rattle.rollback.specs.Machine.{Machine}
-use Rattle.rollback.specs.Events.{Heard}
+use Rattle.control.specs.declared.event.Answer.{Answer}
+use Rattle.control.specs.Machine.{Machine}
+use Rattle.control.specs.Events.{Heard}
 use Rattle.rollback.specs.Saving.{IsCaused, IsSavedOrLeft, KeepsFor, MayLoadAfter}
 use Rattle.rollback.specs.Book.{IsStep}
 

@@ -3,7 +3,7 @@ use Rattle.std.specs.Prelude.{◌≡◌, ℕ, Bool, true, false}
 use Rattle.superstep.specs.State.{Standing}
 use Rattle.rollback.specs.declared.job_data.JobData.{JobData}
 use Rattle.rollback.specs.declared.job_data.JobData.TheVariants.{Nothing, Parts, Whole}
-use Rattle.rollback.specs.Machine.{Machine, has_answer, is_running}
+use Rattle.control.specs.Machine.{Machine, has_answer, is_running}
 use Rattle.rollback.specs.inside.Parts.{all_home}
 use Rattle.rollback.specs.inside.Book.{is_fault}
 

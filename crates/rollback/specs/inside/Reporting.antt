@@ -4,7 +4,7 @@ use Rattle.superstep.specs.Ending.{HasStopped, IsEndIn, IsEndOf}
 use Rattle.superstep.specs.Job.{Work}
 use Rattle.superstep.specs.State.{Standing}
 use Rattle.rollback.specs.declared.report.Report.{Report}
-use Rattle.rollback.specs.Machine.{Machine}
+use Rattle.control.specs.Machine.{Machine}
 
 pub record IsReportIn (state : Standing) (m : Machine) (report : Report) : Type 0 where
   pub state_is : IsEndIn state report.ended

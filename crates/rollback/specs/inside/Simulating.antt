@@ -2,12 +2,12 @@
 use Rattle.std.specs.Prelude.{◌≡◌, ℕ, Bool, List, map, Option, Some, None, option_map, replicate}
 use Rattle.superstep.specs.Job.{Work}
 use Rattle.superstep.specs.Tasks.{TaskStamp}
-use Rattle.rollback.specs.declared.control.Out.{Out}
+use Rattle.control.specs.declared.control.Out.{Out}
 use Rattle.rollback.specs.declared.simulation.Step.{Step}
 use Rattle.rollback.specs.declared.simulation.StepAnswer.{StepAnswer}
 use Rattle.rollback.specs.declared.simulation.TaskRunner.{TaskRunner}
 use Rattle.rollback.specs.Book.{task_out}
-use Rattle.rollback.specs.Machine.{Machine}
+use Rattle.control.specs.Machine.{Machine}
 use Rattle.rollback.specs.Saving.{IsMadeAt}
 use Rattle.rollback.specs.Simulation.{RanOver, Sim}
 

@@ -2,7 +2,7 @@
 use Rattle.std.specs.Prelude.{◌≡◌, ◌⊎◌, ℕ, List, Result, Ok, Err, String, string_bytes}
 use Rattle.std.specs.BTreeMap.{get_by_text}
 use Rattle.wasm_ast.specs.declared.module.Module.{Module}
-use Rattle.bounded_profile.specs.Facts.{IsSizeOfCompute}
+use Rattle.verified.specs.Facts.{IsSizeOfCompute}
 use Rattle.superstep.specs.declared.fault.JobFault.{JobFault}
 use Rattle.sources.specs.declared.fault.CommandFault.{CommandFault}
 use Rattle.session.specs.declared.command.Command.{Command}

@@ -1,7 +1,7 @@
 -- How it is followed that no new epoch begins where nobody is lost.
 use Rattle.std.specs.Prelude.{◌≡◌, Bool, true, false, ◌||◌, List, [], ◌∷◌}
-use Rattle.rollback.specs.Events.{Stamp}
-use Rattle.rollback.specs.Events.Stamp.{DoneBy, FailedBy, JoinedBy, LostBy, Ticked}
+use Rattle.control.specs.Events.{Stamp}
+use Rattle.control.specs.Events.Stamp.{DoneBy, FailedBy, JoinedBy, LostBy, Ticked}
 use Rattle.workers.specs.Passes.{handed_in_by, ticked_by}
 use Rattle.workers.specs.Steps.{stamps_in}
 use Rattle.workers.specs.declared.coordinator.Receipts.{Receipts}

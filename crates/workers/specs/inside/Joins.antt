@@ -4,12 +4,12 @@ use Rattle.superstep.specs.Job.{Work}
 use Rattle.superstep.specs.declared.fault.JobFault.{JobFault}
 use Rattle.channels.specs.Channel.{Channel}
 use Rattle.channels.specs.declared.order.Order.{Order}
-use Rattle.rollback.specs.declared.event.Answer.{Answer}
-use Rattle.rollback.specs.declared.event.Event.{Event}
-use Rattle.rollback.specs.declared.event.Event.TheVariants.{Done, Failed, Joined, Lost, Tick}
+use Rattle.control.specs.declared.event.Answer.{Answer}
+use Rattle.control.specs.declared.event.Event.{Event}
+use Rattle.control.specs.declared.event.Event.TheVariants.{Done, Failed, Joined, Lost, Tick}
 use Rattle.rollback.specs.declared.report.Report.{Report}
-use Rattle.rollback.specs.Events.{Stamp}
-use Rattle.rollback.specs.Machine.{Machine}
+use Rattle.control.specs.Events.{Stamp}
+use Rattle.control.specs.Machine.{Machine}
 use Rattle.std.specs.declared.thread.PromisedHandle.{PromisedHandle}
 use Rattle.workers.specs.JobAnswers.{RanFrom}
 use Rattle.workers.specs.Joining.{is_counted, joins_counted, losses}

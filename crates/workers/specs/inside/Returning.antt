@@ -1,8 +1,8 @@
 -- How the worker's loop follows what it sends for its tasks.
 use Rattle.std.specs.Prelude.{◌≡◌, ℕ, Bool, List, ◌++◌}
 use Rattle.superstep.specs.Job.{Work}
-use Rattle.rollback.specs.declared.control.Out.{Out}
-use Rattle.rollback.specs.Events.{Stamp}
+use Rattle.control.specs.declared.control.Out.{Out}
+use Rattle.control.specs.Events.{Stamp}
 use Rattle.channels.specs.declared.order.Order.{Order}
 use Rattle.workers.specs.Passes.{handed_in_by, taken_by}
 use Rattle.workers.specs.Returns.{AreReturnsOf, IsReturnOf}

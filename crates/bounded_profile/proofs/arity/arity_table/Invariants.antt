@@ -1,8 +1,8 @@
 use Rattle.std.proofs.Common.{◌≡◌, ◌++◌, map, drop, take}
 use Rattle.std.specs.Prelude.{slice_get}
 use Rattle.wasm_ast.specs.declared.module.Function.{Function}
-use Rattle.validate.specs.Spaces.{imported, function_import}
-use Rattle.bounded_profile.specs.Arities.{type_arity}
+use Rattle.valid.specs.Spaces.{imported, function_import}
+use Rattle.verified.specs.Arities.{type_arity}
 use Rattle.bounded_profile.proofs.arity.arity_table.Given as goal
 
 abbrev pub invariant-loop-import : goal.invariant-loop-import

@@ -1,8 +1,8 @@
 use Rattle.std.proofs.Common.{◌≡◌, ◌+◌, [], length, min, refl, ap, ◌∙◌, arith}
 use Rattle.wasm_ast.specs.Limits.{parameters_of}
-use Rattle.bounded_profile.specs.Arities.{arity_table}
-use Rattle.bounded_profile.specs.Cells.{no_heights, most_told}
-use Rattle.bounded_profile.specs.Heights.{peak}
+use Rattle.verified.specs.Arities.{arity_table}
+use Rattle.verified.specs.Cells.{no_heights, most_told}
+use Rattle.verified.specs.Heights.{peak}
 use Rattle.bounded_profile.specs.inside.StackHeights.{most_along}
 use Rattle.bounded_profile.proofs.StackHeights.{own_along}
 use Rattle.bounded_profile.proofs.cells.cells_of.Goals as goal

@@ -1,7 +1,7 @@
 use Rattle.std.proofs.Common.{◌≡◌, ◌++◌, map, drop}
 use Rattle.std.specs.List.{AllByRecursion}
 use Rattle.wasm_ast.specs.Limits.{IsFunctionWithin}
-use Rattle.bounded_profile.specs.Cells.{cells_of}
+use Rattle.verified.specs.Cells.{cells_of}
 use Rattle.bounded_profile.proofs.cells.cells_table.Given as goal
 
 abbrev pub invariant-loop-function : goal.invariant-loop-function

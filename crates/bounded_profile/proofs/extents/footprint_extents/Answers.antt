@@ -1,8 +1,9 @@
 use Rattle.std.proofs.Common.{length, replicate, Bool, false, ap, ◌∙◌, arith}
 use Rattle.std.proofs.lemmas.List.{length-replicate}
-use Rattle.bounded_profile.specs.Memory.{memory_bytes}
-use Rattle.bounded_profile.specs.Reached.{accesses}
-use Rattle.bounded_profile.proofs.ReachedFootprint.{all_length, memory_small}
+use Rattle.verified.specs.Memory.{memory_bytes}
+use Rattle.verified.specs.Reached.{accesses}
+use Rattle.bounded_profile.proofs.ReachedFootprint.{all_length}
+use Rattle.verified.proofs.MemorySize.{memory_small}
 use Rattle.bounded_profile.proofs.ReachedExtents.{tell_reached}
 use Rattle.bounded_profile.proofs.extents.footprint_extents.Goals as goal
 

@@ -1,7 +1,7 @@
 use Rattle.std.proofs.Common.{◌≡◌, ◌+◌, [], length, drop, sym, ap, ◌∙◌, arith}
 use Rattle.std.proofs.lemmas.List.{with_items_is}
-use Rattle.bounded_profile.specs.Arities.{arity_table}
-use Rattle.bounded_profile.specs.Reached.{accesses_along, accesses_in}
+use Rattle.verified.specs.Arities.{arity_table}
+use Rattle.verified.specs.Reached.{accesses_along, accesses_in}
 use Rattle.bounded_profile.specs.inside.Footprint.{marked_all}
 use Rattle.bounded_profile.proofs.ReachedFootprint.{all_length, next_function}
 use Rattle.bounded_profile.proofs.footprint.footprint_marks.Goals as goal

@@ -1,7 +1,7 @@
 use Rattle.std.proofs.Common.{◌≡◌, drop, replicate, false}
-use Rattle.bounded_profile.specs.Arities.{arity_table}
-use Rattle.bounded_profile.specs.Memory.{memory_bytes}
-use Rattle.bounded_profile.specs.Reached.{accesses_in}
+use Rattle.verified.specs.Arities.{arity_table}
+use Rattle.verified.specs.Memory.{memory_bytes}
+use Rattle.verified.specs.Reached.{accesses_in}
 use Rattle.bounded_profile.specs.inside.Footprint.{marked_all}
 use Rattle.bounded_profile.proofs.footprint.footprint_marks.Given as goal
 

@@ -1,7 +1,7 @@
 use Rattle.std.proofs.Common.{◌≡◌, ◌+◌, ◌-◌, sym, subst, ◌∙◌, arith}
 use Rattle.std.proofs.lemmas.List.{length-replicate}
 use Rattle.cost.specs.Marks.{rank_at}
-use Rattle.bounded_profile.specs.Facts.{IsHeightAt}
+use Rattle.verified.specs.Facts.{IsHeightAt}
 use Rattle.bounded_profile.specs.inside.Levels.{AreTold}
 use Rattle.bounded_profile.proofs.Leveling.{told_none, height_told}
 use Rattle.bounded_profile.proofs.heights.operand_height.Goals as goal

@@ -3,7 +3,7 @@ use Rattle.std.specs.Prelude.{filter}
 use Rattle.std.specs.List.{AllByRecursion}
 use Rattle.wasm_ast.specs.Limits.{is_function}
 use Rattle.host_calls.specs.Imports.{call_of}
-use Rattle.bounded_profile.specs.Hosts.{IsHostImport}
+use Rattle.verified.specs.Hosts.{IsHostImport}
 use Rattle.bounded_profile.proofs.hosts.host_calls.Given as goal
 
 abbrev pub invariant-loop-import : goal.invariant-loop-import

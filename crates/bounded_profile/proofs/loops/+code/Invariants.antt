@@ -2,7 +2,7 @@ use Rattle.std.proofs.Common.{◌↔◌, drop}
 use Rattle.wasm_ast.specs.Code.{size_of}
 use Rattle.wasm_ast.specs.declared.body.Body.TheDeep.{deep-Instr}
 use Rattle.wasm_ast.specs.View.{code_of}
-use Rattle.bounded_profile.specs.Shapes.{NamesNot}
+use Rattle.verified.specs.Shapes.{NamesNot}
 use Rattle.bounded_profile.specs.inside.Closing.{LabelFits}
 use Rattle.bounded_profile.proofs.loops.+code.Given as goal
 

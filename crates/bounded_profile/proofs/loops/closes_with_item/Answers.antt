@@ -1,5 +1,5 @@
 use Rattle.std.proofs.Common.{◌-◌, length, arith}
-use Rattle.bounded_profile.specs.Hosts.{call_at}
+use Rattle.verified.specs.Hosts.{call_at}
 use Rattle.bounded_profile.proofs.LoopEnds.{closing, too_few}
 use Rattle.bounded_profile.proofs.Nested.{within_front}
 use Rattle.bounded_profile.proofs.loops.closes_with_item.Goals as goal

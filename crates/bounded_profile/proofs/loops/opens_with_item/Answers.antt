@@ -1,5 +1,5 @@
 use Rattle.std.proofs.Common.{arith}
-use Rattle.bounded_profile.specs.Hosts.{call_at}
+use Rattle.verified.specs.Hosts.{call_at}
 use Rattle.bounded_profile.proofs.LoopEnds.{too_short}
 use Rattle.bounded_profile.proofs.loops.opens_with_item.Goals as goal
 

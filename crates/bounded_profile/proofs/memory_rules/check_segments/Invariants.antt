@@ -1,6 +1,6 @@
 use Rattle.std.proofs.Common.{take}
 use Rattle.std.specs.List.{AllByRecursion}
-use Rattle.bounded_profile.specs.Memory.{DataWithin}
+use Rattle.verified.specs.Memory.{DataWithin}
 use Rattle.bounded_profile.proofs.memory_rules.check_segments.Given as goal
 
 abbrev pub invariant-loop-segment : goal.invariant-loop-segment

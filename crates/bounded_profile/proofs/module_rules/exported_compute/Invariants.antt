@@ -1,6 +1,6 @@
 use Rattle.std.proofs.Common.{◌≡◌, drop}
 use Rattle.std.specs.Prelude.{find}
-use Rattle.bounded_profile.specs.Compute.{has_its_name}
+use Rattle.verified.specs.Compute.{has_its_name}
 use Rattle.bounded_profile.proofs.module_rules.exported_compute.Given as goal
 
 abbrev pub invariant-loop-export : goal.invariant-loop-export

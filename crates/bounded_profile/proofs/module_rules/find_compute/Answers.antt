@@ -1,5 +1,5 @@
 use Rattle.std.proofs.Common.{refl, sym, ap, ◌∙◌}
-use Rattle.bounded_profile.specs.Compute.{exported_compute}
+use Rattle.verified.specs.Compute.{exported_compute}
 use Rattle.bounded_profile.proofs.Computing.{is_number, not_plain, no_number}
 use Rattle.bounded_profile.proofs.module_rules.find_compute.Goals as goal
 

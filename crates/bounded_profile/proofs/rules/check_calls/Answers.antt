@@ -2,8 +2,8 @@ use Rattle.std.proofs.Common.{rules, refl, subst, sym}
 use Rattle.cost.specs.Marks.{rank_at}
 use Rattle.bounded_profile.specs.declared.fault.ProfileRule.TheVariants.{P13, P14}
 use Rattle.bounded_profile.specs.Faults.{Refuses}
-use Rattle.bounded_profile.specs.Known.{ConstantsKnown}
-use Rattle.bounded_profile.specs.Profile.{SizeWithin, asks_slots}
+use Rattle.verified.specs.Known.{ConstantsKnown}
+use Rattle.verified.specs.Profile.{SizeWithin, asks_slots}
 use Rattle.bounded_profile.proofs.Refusals.{refused_rule, refused_cycle}
 use Rattle.bounded_profile.proofs.rules.check_calls.Goals as goal
 

@@ -1,9 +1,9 @@
 use Rattle.std.proofs.Common.{rules, subst}
 use Rattle.bounded_profile.specs.declared.fault.ProfileRule.TheVariants.{P10}
 use Rattle.bounded_profile.specs.Faults.{Denies, Refuses}
-use Rattle.bounded_profile.specs.Known.{ConstantsKnown}
-use Rattle.bounded_profile.specs.Memory.{MinimumsWithin, SegmentsWithin}
-use Rattle.bounded_profile.specs.Profile.{asks_addresses}
+use Rattle.verified.specs.Known.{ConstantsKnown}
+use Rattle.verified.specs.Memory.{MinimumsWithin, SegmentsWithin}
+use Rattle.verified.specs.Profile.{asks_addresses}
 use Rattle.bounded_profile.proofs.Refusals.{refused_rule}
 use Rattle.bounded_profile.proofs.rules.check_memory.Goals as goal
 

@@ -1,7 +1,7 @@
 use Rattle.std.proofs.Common.{rules}
 use Rattle.bounded_profile.specs.declared.fault.ProfileRule.TheVariants.{P1, P2, P3, P4}
 use Rattle.bounded_profile.specs.Faults.{Refuses}
-use Rattle.bounded_profile.specs.Profile.{ImportsHostCalls, HasCompute, NoStart, NoElements}
+use Rattle.verified.specs.Profile.{ImportsHostCalls, HasCompute, NoStart, NoElements}
 use Rattle.bounded_profile.proofs.Refusals.{refused_rule}
 use Rattle.bounded_profile.proofs.rules.check_parts.Goals as goal
 

@@ -1,11 +1,11 @@
 use Rattle.std.proofs.Common.{◌≡◌, rules, subst}
-use Rattle.validate.specs.Modules.{IsTyped}
+use Rattle.valid.specs.Modules.{IsTyped}
 use Rattle.bounded_profile.specs.declared.fault.ProfileFault.TheVariants as fault
 use Rattle.bounded_profile.specs.declared.fault.ProfileRule.TheVariants.{P10, P11}
-use Rattle.bounded_profile.specs.Compute.{IsComputeNumber}
+use Rattle.verified.specs.Compute.{IsComputeNumber}
 use Rattle.bounded_profile.specs.Faults.{Refuses}
-use Rattle.bounded_profile.specs.Known.{ConstantsKnown}
-use Rattle.bounded_profile.specs.Profile.{asks_all, asks_divisors}
+use Rattle.verified.specs.Known.{ConstantsKnown}
+use Rattle.verified.specs.Profile.{asks_all, asks_divisors}
 use Rattle.bounded_profile.specs.inside.Stages.{PartsHold, ShapesHold}
 use Rattle.bounded_profile.proofs.KnownVerdict.{together}
 use Rattle.bounded_profile.proofs.Refusals.{refused_rule, only_memory, bounded, facts_hold}

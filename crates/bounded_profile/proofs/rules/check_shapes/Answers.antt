@@ -1,10 +1,10 @@
 use Rattle.std.proofs.Common.{rules, ◌∙◌}
 use Rattle.bounded_profile.specs.declared.fault.ProfileRule.TheVariants.{P5, P6, P7, P8, P9}
 use Rattle.bounded_profile.specs.Faults.{Refuses}
-use Rattle.bounded_profile.specs.Profile.{NoIndirectCalls, NoUnreachable, NoGrowth, NothingAfterBranches, EachBody}
-use Rattle.bounded_profile.specs.Hosts.{call_at}
-use Rattle.bounded_profile.specs.Shapes.{Keeps}
-use Rattle.bounded_profile.specs.declared.shapes.Shape.TheVariants as shape
+use Rattle.verified.specs.Profile.{NoIndirectCalls, NoUnreachable, NoGrowth, NothingAfterBranches, EachBody}
+use Rattle.verified.specs.Hosts.{call_at}
+use Rattle.verified.specs.Shapes.{Keeps}
+use Rattle.verified.specs.declared.shape.Shape.TheVariants as shape
 use Rattle.bounded_profile.proofs.HostTable.{by_table}
 use Rattle.bounded_profile.proofs.Refusals.{refused_rule}
 use Rattle.bounded_profile.proofs.rules.check_shapes.Goals as goal

@@ -5,8 +5,8 @@ use Rattle.wasm_ast.specs.Code.{Code, end}
 use Rattle.wasm_ast.specs.View.{then_code}
 use Rattle.wasm_ast.specs.Limits.{IsBodyWithin, max_nesting}
 use Rattle.wasm_ast.specs.Falls.{item_falls}
-use Rattle.bounded_profile.specs.Hosts.{call_at}
-use Rattle.bounded_profile.specs.Shapes.{Everywhere, Keeps}
+use Rattle.verified.specs.Hosts.{call_at}
+use Rattle.verified.specs.Shapes.{Everywhere, Keeps}
 use Rattle.bounded_profile.proofs.Nested.{within_more, within_here, within_body}
 use Rattle.bounded_profile.proofs.Walking.{Says, last_or_not, goes_on, breaks}
 use Rattle.bounded_profile.proofs.shapes.+code.Goals as goal

@@ -1,8 +1,8 @@
 use Rattle.std.proofs.Common.{◌↔◌, drop}
 use Rattle.wasm_ast.specs.Limits.{IsBodyWithin}
 use Rattle.wasm_ast.specs.View.{code_of}
-use Rattle.bounded_profile.specs.Hosts.{call_at}
-use Rattle.bounded_profile.specs.Shapes.{Everywhere, Keeps}
+use Rattle.verified.specs.Hosts.{call_at}
+use Rattle.verified.specs.Shapes.{Everywhere, Keeps}
 use Rattle.bounded_profile.proofs.shapes.+code.Given as goal
 
 abbrev pub decreases-is_kept_in : goal.decreases-is_kept_in

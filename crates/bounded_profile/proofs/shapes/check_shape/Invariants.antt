@@ -1,8 +1,8 @@
 use Rattle.std.proofs.Common.{take}
 use Rattle.std.specs.List.{AllByRecursion}
 use Rattle.wasm_ast.specs.declared.module.Function.{Function}
-use Rattle.bounded_profile.specs.Hosts.{call_at}
-use Rattle.bounded_profile.specs.Shapes.{Everywhere, Keeps}
+use Rattle.verified.specs.Hosts.{call_at}
+use Rattle.verified.specs.Shapes.{Everywhere, Keeps}
 use Rattle.bounded_profile.proofs.shapes.check_shape.Given as goal
 
 abbrev pub invariant-loop-index : goal.invariant-loop-index

@@ -1,7 +1,7 @@
 use Rattle.std.proofs.Common.{◌≡◌, IfOk, subst}
 use Rattle.std.proofs.lemmas.Result.{IfErr-weaker, IfOk-weaker}
 use Rattle.superstep.specs.Ending.{IsEndOf, answer_of}
-use Rattle.console.specs.Notes.{HasNoted}
+use Rattle.plain_commands.specs.Notes.{HasNoted}
 use Rattle.console.proofs.JobLines.{ended_printed, fault_noted, fault_of_run, lines_end, lines_report}
 use Rattle.console.proofs.jobs.resume.Goals as goal
 

@@ -3,7 +3,7 @@ use Rattle.std.proofs.lemmas.Result.{IfErr-weaker, IfOk-weaker}
 use Rattle.superstep.specs.Ending.{IsEndOf}
 use Rattle.superstep.specs.Tasks.{trusts}
 use Rattle.superstep.proofs.Trusting.{trusts_sure}
-use Rattle.console.specs.Notes.{HasNoted}
+use Rattle.plain_commands.specs.Notes.{HasNoted}
 use Rattle.console.proofs.JobLines.{answer_printed, fault_noted, fault_of_run, lines_end, lines_report}
 use Rattle.console.proofs.jobs.run.Goals as goal
 

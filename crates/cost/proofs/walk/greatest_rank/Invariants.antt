@@ -1,5 +1,5 @@
 use Rattle.std.proofs.Common.{◌≡◌, max, drop}
-use Rattle.cost.specs.Heights.{most}
+use Rattle.units.specs.Heights.{most}
 use Rattle.cost.specs.Marks.{rank_at}
 use Rattle.cost.proofs.walk.greatest_rank.Given as goal
 

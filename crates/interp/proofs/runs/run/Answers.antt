@@ -2,8 +2,8 @@ use Rattle.std.proofs.Common.{◌+◌, ◌*◌, refl, sym, subst}
 use Rattle.std.specs.Prelude.{IfOk}
 use Rattle.wasm_ast.specs.declared.module.Module.{Module}
 use Rattle.wasm_ast.specs.Limits.{IsWithinLimits}
-use Rattle.validate.specs.Modules.{IsTyped}
-use Rattle.bounded_profile.specs.Profile.{IsBounded}
+use Rattle.valid.specs.Modules.{IsTyped}
+use Rattle.verified.specs.Profile.{IsBounded}
 use Rattle.interp.specs.Bounded.{items_of}
 use Rattle.interp.specs.Call.{IsOutcome}
 use Rattle.interp.specs.inside.Begun.{BeginsAt, IsDefinedAt}

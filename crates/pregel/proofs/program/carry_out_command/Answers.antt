@@ -2,9 +2,9 @@ use Rattle.std.proofs.Common.{◌≡◌, false, None, subst, sym}
 use Rattle.sources.proofs.Disks.{stays_same}
 use Rattle.sources.proofs.Faults.{is_fault}
 use Rattle.console.specs.FileCommands.{MayPrint}
-use Rattle.console.specs.Sheets.{IsStatusOf, asks_sheets}
-use Rattle.console.specs.declared.noting.RunNotes.{RunNotes}
-use Rattle.console.proofs.SheetFiles.{may_stay}
+use Rattle.plain_commands.specs.Sheets.{IsStatusOf, asks_sheets}
+use Rattle.plain_commands.specs.declared.noting.RunNotes.{RunNotes}
+use Rattle.plain_commands.proofs.SheetFiles.{may_stay}
 use Rattle.pregel.proofs.Asides.{command_told}
 use Rattle.pregel.proofs.program.carry_out_command.Goals as goal
 

@@ -1,6 +1,6 @@
 use Rattle.std.proofs.Common.{◌≡◌, true, sym, ap, ◌∙◌, subst, arith}
 use Rattle.superstep.specs.Job.{Work}
-use Rattle.rollback.specs.Machine.{Machine}
+use Rattle.control.specs.Machine.{Machine}
 use Rattle.rollback.specs.inside.Book.{AreIdsOf}
 use Rattle.rollback.specs.inside.Recovery.{has_room}
 use Rattle.rollback.proofs.Beginning.{is_begun, keeps_resumed}

@@ -2,9 +2,9 @@ use Rattle.std.proofs.Common.{◌≡◌, None, Some, sym, ap, ◌∙◌, subst}
 use Rattle.std.specs.Prelude.{◌⊎◌}
 use Rattle.checkpoint.specs.Keep.{HasFailed}
 use Rattle.superstep.specs.Job.{Work}
-use Rattle.rollback.specs.declared.job_status.DeviceResult.TheVariants.{Failed}
-use Rattle.rollback.specs.Machine.{Machine}
-use Rattle.rollback.specs.Events.{loading, slicing}
+use Rattle.control.specs.declared.job_status.DeviceResult.TheVariants.{Failed}
+use Rattle.control.specs.Machine.{Machine}
+use Rattle.control.specs.Events.{loading, slicing}
 use Rattle.rollback.specs.Saving.{IsFullStateAt, MayLoadOther}
 use Rattle.rollback.specs.inside.Book.{AreIdsOf}
 use Rattle.rollback.specs.inside.Recovery.{has_room}

@@ -1,6 +1,6 @@
 use Rattle.std.proofs.Common.{ap, false, true}
-use Rattle.rollback.specs.declared.control.Out.{Out}
-use Rattle.rollback.specs.Events.Stamp.{DoneBy, FailedBy}
+use Rattle.control.specs.declared.control.Out.{Out}
+use Rattle.control.specs.Events.Stamp.{DoneBy, FailedBy}
 use Rattle.rollback.proofs.Simulated
 use Rattle.rollback.proofs.simulation.done_by.Goals as goal
 

@@ -1,7 +1,7 @@
 use Rattle.std.proofs.lemmas.Result.{err_from_is_err_and}
 use Rattle.std.proofs.Common.{◌≡◌, refl, sym, ◌∙◌, ap, replicate, None, Err}
 use Rattle.superstep.specs.Job.{Work}
-use Rattle.rollback.specs.Machine.{opened}
+use Rattle.control.specs.Machine.{opened}
 use Rattle.rollback.specs.inside.Simulating.{with_none_held}
 use Rattle.rollback.proofs.Simulated
 use Rattle.rollback.proofs.simulation.simulate_by.Goals as goal

@@ -1,6 +1,6 @@
 use Rattle.std.proofs.Common.{◌≡◌, ◌∙◌, inl, inr, subst, sym}
 use Rattle.wasm_ast.specs.declared.module.Module.{Module}
-use Rattle.bounded_profile.specs.Profile.{IsBounded}
+use Rattle.verified.specs.Profile.{IsBounded}
 use Rattle.sources.specs.Modules.{IsVerified}
 use Rattle.sources.specs.Source.{content, is_text}
 use Rattle.sources.proofs.Faults.{is_fault, loaded, unbounded}

@@ -20,11 +20,11 @@ run_part-ran-requires-clause-same g c =
     (entries_here work c.args.job.now c.parts.result.now part c.index-parts-part.result c.deref.result.now vertices c.requires.job c.parts.ensures.parts
     c.slice.invariant.fits c.index-parts-part.is c.deref.ensures.value)
     ∙ fits_ids work part vertices c.slice.invariant.fits
-    ∙ ap (λ (states : List VertexState). map state_id states) (sym (c.deref_mut.ensures.value ∙ c.part_states.view_is))
+    ∙ ap (λ (states : List VertexState). map state_id states) (sym (c.deref_mut.ensures.value ∙ c.into_parts-vertices.ensures.vertices))
 
 pub run_part-ran-requires-clause-due : goal.run_part-ran-requires-clause-due
 run_part-ran-requires-clause-due g c =
-    c.deref-2.ensures.value ∙ c.part_states.invariant ∙ ap (due_rows 0) (sym c.deref_mut.ensures.value)
+    c.deref-2.ensures.value ∙ c.into_parts-vertices.ensures.due ∙ ap (due_rows 0) (sym (c.deref_mut.ensures.value ∙ c.into_parts-vertices.ensures.vertices))
 
 pub run_part-ran-requires-clause-proper : goal.run_part-ran-requires-clause-proper
 run_part-ran-requires-clause-proper g c =
@@ -41,8 +41,8 @@ run_part-ran-requires-clause-proper g c =
 pub invariant_of-result : goal.invariant_of-result
 invariant_of-result g c =
     let whole =
-    whole_slice c.part_states.inside.vertices.items c.run_part-ran.new.vertices c.part_states.inside.vertices.len (c.run_part-ran.auto.vertices ∙ ap length c.deref_mut.ensures.value)
-    (omega (arith, c.part_states.inside.vertices.ok.0)) in
+    whole_slice c.into_parts-vertices.result.0.items c.run_part-ran.new.vertices c.into_parts-vertices.result.0.len (c.run_part-ran.auto.vertices ∙ ap length c.deref_mut.ensures.value)
+    (omega (arith, c.into_parts-vertices.result.0.ok.0)) in
     c.in-Ok.ensures.active ∙ ap (due_rows 0) (sym whole)
 
 pub invariant_of-result-2 : goal.invariant_of-result-2
@@ -64,7 +64,7 @@ invariant_of-result-2 g c =
     c.slice.invariant.fits c.index-parts-part.is c.deref.ensures.value in
     let calls =
     subst (λ (es : List Entry). CallsPart shared es before after left) seen
-    (subst (λ (states : List VertexState). CallsPart shared (entries_of c.deref.result.now) states after left) (c.deref_mut.ensures.value ∙ c.part_states.view_is) c.in-Ok.ensures.calls) in
+    (subst (λ (states : List VertexState). CallsPart shared (entries_of c.deref.result.now) states after left) (c.deref_mut.ensures.value ∙ c.into_parts-vertices.ensures.vertices) c.in-Ok.ensures.calls) in
     let known : shared.verified.now ≡ work.«module» = c.verified.ensures ∙ ap (λ (w : Work). w.«module») (sym c.requires.job) in
     let counted = subst (λ (w : Work). IsCount w shared.count) (sym c.requires.job) c.count.ensures in
     let done =
@@ -73,7 +73,7 @@ invariant_of-result-2 g c =
     (λ sure. subst (λ (s : ℕ). AreAggregatesAt work s shared.aggregated) (ap (λ (stamp : SliceStamp). stamp.superstep) (sym c.slice.view_is)) (c.task.invariant sure).1)
     counted
     (λ outcomes are. subst (λ (m : Module). Tells m outcomes) (sym known) (c.calls_are_a_function.ensures.told work.«module» outcomes are)) in
-    let whole = whole_slice c.part_states.inside.vertices.items after c.part_states.inside.vertices.len (c.run_part-ran.auto.vertices ∙ ap length c.deref_mut.ensures.value) (omega (arith, c.part_states.inside.vertices.ok.0)) in
+    let whole = whole_slice c.into_parts-vertices.result.0.items after c.into_parts-vertices.result.0.len (c.run_part-ran.auto.vertices ∙ ap length c.deref_mut.ensures.value) (omega (arith, c.into_parts-vertices.result.0.ok.0)) in
     subst (λ (states : List VertexState). IsDone work g.J.Origin.honest (record { epoch = c.task.inside.epoch; superstep = shared.superstep; part = part; units = left.units }) states left.letters left.aggregators)
     (sym whole) done
 

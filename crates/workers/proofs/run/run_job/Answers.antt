@@ -1,7 +1,7 @@
 use Rattle.workers.proofs.Ending.{calm_told, ended_own, joined_opened, keeps_first, opened_of, own_opened, unspent_opened, where_mapped, where_run}
 use Rattle.std.proofs.Common.{◌∙◌, ap}
-use Rattle.rollback.specs.Machine.{Machine, count_set}
-use Rattle.rollback.proofs.ByPlace.{count_none}
+use Rattle.control.specs.Machine.{Machine, count_set}
+use Rattle.control.proofs.ByPlace.{count_none}
 use Rattle.workers.specs.Hub.{handed, received}
 use Rattle.workers.proofs.Epochs.{epoch_none}
 use Rattle.workers.proofs.HandedIn.{handed_in}

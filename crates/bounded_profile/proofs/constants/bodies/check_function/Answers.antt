@@ -1,5 +1,5 @@
 use Rattle.std.proofs.Common.{◌≡◌, sym, ap, ◌∙◌}
-use Rattle.validate.specs.Spaces.{first_type}
+use Rattle.valid.specs.Spaces.{first_type}
 use Rattle.bounded_profile.proofs.KnownVerdict.{settled}
 use Rattle.bounded_profile.proofs.constants.bodies.check_function.Goals as goal
 

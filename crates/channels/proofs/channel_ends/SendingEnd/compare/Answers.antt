@@ -1,11 +1,12 @@
 use Rattle.std.proofs.Common.{ap, ◌∙◌}
+use Rattle.crossbeam_channel.specs.Claims.{view}
 use Rattle.channels.proofs.ProtocolSteps.{gives, learns, takes}
 use Rattle.channels.proofs.channel_ends.SendingEnd.compare.Goals as goal
 
 pub absorb-requires-clause-rule : goal.absorb-requires-clause-rule
 absorb-requires-clause-rule g c =
     takes g.M.Signed.from g.M.Signed.closes _ _ _ _ (ap (λ v. v.sends) c.args.self.now.role)
-    (ap (λ v. v.reads) c.args.reader.role)
+    (ap (λ v. v.reads) (ap (λ p. view p) c.into_parts-from.ensures.pass ∙ c.args.reader.role))
 
 pub learn_as-requires-clause-rule : goal.learn_as-requires-clause-rule
 learn_as-requires-clause-rule g c =

@@ -1,5 +1,5 @@
 use Rattle.std.proofs.Common.{ap}
-use Rattle.rollback.specs.Machine.{Machine}
+use Rattle.control.specs.Machine.{Machine}
 use Rattle.rollback.proofs.Keeps.{keeps_same}
 use Rattle.conformance_jobs.proofs.simulations.doubles.work.Goals as goal
 

@@ -1,6 +1,6 @@
 use Rattle.std.proofs.Common.{◌≡◌, ◌*◌, length, ap, ◌∙◌, arith}
 use Rattle.wasm_ast.specs.declared.module.Module.{Module}
-use Rattle.bounded_profile.specs.Memory.{bytes_of, memory_bytes, page}
+use Rattle.verified.specs.Memory.{bytes_of, memory_bytes, page}
 use Rattle.interp.proofs.Kept.{length-kept}
 use Rattle.interp.proofs.memory.Memory.size.Goals as goal
 

@@ -1,8 +1,8 @@
 use Rattle.std.proofs.Common.{◌∙◌, subst}
 use Rattle.wasm_ast.specs.declared.module.Module.{Module}
 use Rattle.wasm_ast.specs.Limits.{IsWithinLimits}
-use Rattle.validate.specs.Modules.{IsTyped}
-use Rattle.bounded_profile.specs.Profile.{IsBounded}
+use Rattle.valid.specs.Modules.{IsTyped}
+use Rattle.verified.specs.Profile.{IsBounded}
 use Rattle.interp.proofs.scratch.Scratch.program_for.Goals as goal
 
 pub returns-clause-typed : goal.returns-clause-typed

@@ -1,6 +1,6 @@
 use Rattle.std.proofs.Common.{◌≡◌, ◌<◌, ◌≤◌, length, subst, rules, refl, ◌∙◌, ap, true, false}
 use Rattle.std.specs.Prelude.{nat_lt}
-use Rattle.rollback.specs.Machine.{Machine, charged, has_answer}
+use Rattle.control.specs.Machine.{Machine, charged, has_answer}
 use Rattle.rollback.proofs.Kept
 use Rattle.rollback.proofs.Steps.{above_is, below_is}
 use Rattle.rollback.proofs.book.Book.charge_late.Goals as goal

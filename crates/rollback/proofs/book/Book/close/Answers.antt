@@ -3,9 +3,9 @@ use Rattle.superstep.specs.declared.fault.JobFault.TheVariants.{OutOfMemory}
 use Rattle.superstep.specs.declared.fault.Place.TheVariants.{Merge}
 use Rattle.superstep.specs.Job.{Work}
 use Rattle.superstep.specs.State.{HasIdsOf}
-use Rattle.rollback.specs.declared.job_status.DeviceResult.TheVariants.{Good}
-use Rattle.rollback.specs.Machine.{Machine, all_set, closed, ended_by, is_running, is_saved_now, saved_or_first, welcomed}
-use Rattle.rollback.specs.Events.{advanced, reply_of, saving, slicing}
+use Rattle.control.specs.declared.job_status.DeviceResult.TheVariants.{Good}
+use Rattle.control.specs.Machine.{Machine, all_set, closed, ended_by, is_running, is_saved_now, saved_or_first, welcomed}
+use Rattle.control.specs.Events.{advanced, reply_of, saving, slicing}
 use Rattle.rollback.specs.inside.Parts.Spot.{Returned}
 use Rattle.rollback.specs.Book.{IsQuietAt}
 use Rattle.rollback.specs.Saving.{IsFullStateAt, KeepsFor, LoadsNoMore}

@@ -1,12 +1,12 @@
 use Rattle.std.proofs.Common.{◌≡◌, ◌<◌, length, sym, subst, ◌∙◌, ap, true, false}
 use Rattle.std.specs.Prelude.{Ok}
-use Rattle.rollback.specs.declared.control.Out.{Out}
-use Rattle.rollback.specs.declared.event.Answer.TheVariants.{Stale, Taken}
-use Rattle.rollback.specs.Machine.{Machine, all_set, counts, finished, freed, is_running}
-use Rattle.rollback.specs.Events.{Heard, done_step, stale_done}
+use Rattle.control.specs.declared.control.Out.{Out}
+use Rattle.control.specs.declared.event.Answer.TheVariants.{Stale, Taken}
+use Rattle.control.specs.Machine.{Machine, all_set, counts, finished, freed, is_running}
+use Rattle.control.specs.Events.{Heard, done_step, stale_done}
 use Rattle.rollback.specs.Book.{done_out}
 use Rattle.rollback.proofs.Kept
-use Rattle.rollback.proofs.Sound.{stale_is, taken_is}
+use Rattle.control.proofs.Sound.{stale_is, taken_is}
 use Rattle.rollback.proofs.Steps.{counted_on_event, on_event_steady, plain, plain_step, reply_running}
 use Rattle.rollback.proofs.Taking.{book_stale, stale_leaves}
 use Rattle.rollback.proofs.book.Book.count_done.Goals as goal

@@ -1,5 +1,5 @@
 use Rattle.std.proofs.Common.{◌≡◌, refl, sym, subst, rules, ◌∙◌, ap, Some}
-use Rattle.rollback.specs.Machine.{Machine, hand, handed}
+use Rattle.control.specs.Machine.{Machine, hand, handed}
 use Rattle.rollback.proofs.Kept.{book_handed_in, has_home, home_epoch, home_superstep}
 use Rattle.rollback.proofs.book.Book.next_task.Goals as goal
 

@@ -1,11 +1,11 @@
 use Rattle.std.proofs.Common.{◌≡◌, sym, ℕ, refl, ◌∙◌, ap}
 use Rattle.superstep.specs.Tasks.{DoneStamp}
-use Rattle.rollback.specs.declared.event.Answer.TheVariants.{Ended}
-use Rattle.rollback.specs.declared.event.Event.{Event}
-use Rattle.rollback.specs.declared.event.Event.TheVariants as event
-use Rattle.rollback.specs.Machine.{Machine}
-use Rattle.rollback.specs.Events.{Heard, accepted, after_end, reply_of}
-use Rattle.rollback.specs.Events.Stamp.{DoneBy}
+use Rattle.control.specs.declared.event.Answer.TheVariants.{Ended}
+use Rattle.control.specs.declared.event.Event.{Event}
+use Rattle.control.specs.declared.event.Event.TheVariants as event
+use Rattle.control.specs.Machine.{Machine}
+use Rattle.control.specs.Events.{Heard, accepted, after_end, reply_of}
+use Rattle.control.specs.Events.Stamp.{DoneBy}
 use Rattle.rollback.specs.Book.{done_out, stamp_of}
 use Rattle.rollback.proofs.Steps.{accepted_over, plain, plain_step}
 use Rattle.rollback.proofs.book.Book.note_after_end.Goals as goal

@@ -1,10 +1,11 @@
 use Rattle.std.proofs.Common.{◌≡◌, ◌<◌, ◌≤◌, length, subst, rules, refl, ◌∙◌, ap, true, false}
 use Rattle.std.specs.Prelude.{Ok, nat_lt}
-use Rattle.rollback.specs.declared.event.Answer.TheVariants.{Stale}
-use Rattle.rollback.specs.Machine.{Machine, charged}
-use Rattle.rollback.specs.Events.{Heard, on_event}
-use Rattle.rollback.specs.Events.Stamp.{DoneBy}
+use Rattle.control.specs.declared.event.Answer.TheVariants.{Stale}
+use Rattle.control.specs.Machine.{Machine, charged}
+use Rattle.control.specs.Events.{Heard, on_event}
+use Rattle.control.specs.Events.Stamp.{DoneBy}
 use Rattle.rollback.specs.Book.{done_out}
+use Rattle.rollback.proofs.Keeps.{keeps_same}
 use Rattle.rollback.proofs.Kept
 use Rattle.rollback.proofs.Steps.{above_is, below_is, charged_on_event, on_event_steady, plain_step, reply_running}
 use Rattle.rollback.proofs.book.Book.on_done.Goals as goal
@@ -16,6 +17,11 @@ returns-then-worker-workers g c =
     let next = λ (heard : Heard). on_event heard m (DoneBy c.args.worker (done_out c.args.done) c.args.done.units) in
     on_event_steady g.J.Origin.work g.J.Origin.honest next m m (g.K.Keep.honest c.args.keep.now) (g.K.Keep.saved c.args.keep.now) (g.K.Keep.may_load c.args.keep.now) (g.K.Keep.faults c.args.keep.now) (Ok Stale)
     (plain_step g.J.Origin.work g.J.Origin.honest m m m next Stale (Ok Stale) (rw far refl) refl refl (reply_running m.ending Stale c.requires.running)) (record { saved = refl; missed = refl; restarts = refl }) c.requires.keep
+
+pub count_done-requires-clause-keep : goal.count_done-requires-clause-keep
+count_done-requires-clause-keep g c _ _ =
+    let same : c.charge.new.self ≡ charged c.args.self.now c.args.worker c.units.result = c.charge.ensures ∙ ap (λ x. charged x c.args.worker c.units.result) c.self.view_is in
+    keeps_same g.J.Origin.work g.J.Origin.honest (g.K.Keep.honest c.args.keep.now) (g.K.Keep.saved c.args.keep.now) (g.K.Keep.may_load c.args.keep.now) c.args.self.now c.charge.new.self (ap (λ (x : Machine). x.saved) same) c.requires.keep
 
 pub invariant_of-self : goal.invariant_of-self
 invariant_of-self g c =

@@ -1,10 +1,10 @@
 use Rattle.std.proofs.Common.{◌≡◌, ◌<◌, ◌≤◌, length, sym, subst, rules, refl, ◌∙◌, ap, true, false}
 use Rattle.std.specs.Prelude.{Ok, Err, nat_lt}
 use Rattle.superstep.specs.declared.fault.JobFault.TheVariants.{OutOfMemory}
-use Rattle.rollback.specs.declared.event.Answer.TheVariants.{Ended, Stale}
-use Rattle.rollback.specs.Machine.{Machine, ended_by, is_busy}
-use Rattle.rollback.specs.Events.{on_event}
-use Rattle.rollback.specs.Events.Stamp.{FailedBy}
+use Rattle.control.specs.declared.event.Answer.TheVariants.{Ended, Stale}
+use Rattle.control.specs.Machine.{Machine, ended_by, is_busy}
+use Rattle.control.specs.Events.{on_event}
+use Rattle.control.specs.Events.Stamp.{FailedBy}
 use Rattle.rollback.proofs.Kept.{book_ended}
 use Rattle.rollback.proofs.Steps.{above_is, below_is, plain_step, reply_running}
 use Rattle.rollback.proofs.book.Book.on_failed.Goals as goal

@@ -1,11 +1,11 @@
 use Rattle.std.proofs.Common.{◌≡◌, ◌<◌, ◌≤◌, length, sym, subst, rules, refl, ◌∙◌, ap, true, false}
 use Rattle.std.specs.Prelude.{Ok, nat_lt}
-use Rattle.rollback.specs.declared.event.Answer.TheVariants.{Stale, Taken}
-use Rattle.rollback.specs.Machine.{Machine, is_running, may_join, waits}
-use Rattle.rollback.specs.Events.{on_event}
-use Rattle.rollback.specs.Events.Stamp.{JoinedBy}
+use Rattle.control.specs.declared.event.Answer.TheVariants.{Stale, Taken}
+use Rattle.control.specs.Machine.{Machine, is_running, may_join, waits}
+use Rattle.control.specs.Events.{on_event}
+use Rattle.control.specs.Events.Stamp.{JoinedBy}
 use Rattle.rollback.proofs.Kept.{book_waits, runs}
-use Rattle.rollback.proofs.Sound.{dead_none}
+use Rattle.control.proofs.Sound.{dead_none}
 use Rattle.rollback.proofs.Steps.{above_is, below_is, joins_dead, plain_step, reply_running}
 use Rattle.rollback.proofs.book.Book.on_joined.Goals as goal
 

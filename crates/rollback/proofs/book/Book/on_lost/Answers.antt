@@ -1,10 +1,10 @@
 use Rattle.std.proofs.Common.{arith, ◌≡◌, ◌<◌, ◌≤◌, length, sym, subst, rules, refl, ◌∙◌, ap, true, false}
 use Rattle.std.specs.Prelude.{Ok, Err, nat_lt}
 use Rattle.superstep.specs.declared.fault.JobFault.TheVariants.{NoWorkers}
-use Rattle.rollback.specs.declared.event.Answer.TheVariants.{Stale}
-use Rattle.rollback.specs.Machine.{Machine, is_alive, is_running, lost, saved_or_first}
-use Rattle.rollback.specs.Events.{Heard, after_loss, on_event}
-use Rattle.rollback.specs.Events.Stamp.{LostBy}
+use Rattle.control.specs.declared.event.Answer.TheVariants.{Stale}
+use Rattle.control.specs.Machine.{Machine, is_alive, is_running, lost, saved_or_first}
+use Rattle.control.specs.Events.{Heard, after_loss, on_event}
+use Rattle.control.specs.Events.Stamp.{LostBy}
 use Rattle.rollback.specs.inside.Recovery.{has_room}
 use Rattle.rollback.proofs.Kept
 use Rattle.rollback.proofs.Steps

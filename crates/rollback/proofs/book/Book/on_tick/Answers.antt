@@ -1,15 +1,15 @@
 use Rattle.std.proofs.Common.{arith, ◌≡◌, ◌≤◌, sym, subst, refl, ◌∙◌, ap, true, false, ◌&&◌, not}
 use Rattle.std.specs.Prelude.{Ok, Err, nat_lt}
 use Rattle.superstep.specs.declared.fault.JobFault.TheVariants.{NoWorkers}
-use Rattle.rollback.specs.declared.event.Answer.TheVariants.{Taken}
-use Rattle.rollback.specs.Machine.{Machine, aged, count_set, expired, in_time, is_overdue, is_running, saved_or_first}
-use Rattle.rollback.specs.Events.{Heard, after_loss, on_event}
-use Rattle.rollback.specs.Events.Stamp.{Ticked}
+use Rattle.control.specs.declared.event.Answer.TheVariants.{Taken}
+use Rattle.control.specs.Machine.{Machine, aged, count_set, expired, in_time, is_overdue, is_running, saved_or_first}
+use Rattle.control.specs.Events.{Heard, after_loss, on_event}
+use Rattle.control.specs.Events.Stamp.{Ticked}
 use Rattle.rollback.specs.inside.Recovery.{has_room}
 use Rattle.rollback.proofs.Kept
 use Rattle.rollback.proofs.Steps
 use Rattle.rollback.proofs.Steps.{on_event_steady, plain_step, reply_running}
-use Rattle.rollback.proofs.ByPlace.{length-by_place}
+use Rattle.control.proofs.ByPlace.{length-by_place}
 use Rattle.rollback.proofs.Keeps
 use Rattle.rollback.proofs.book.Book.on_tick.Goals as goal
 

@@ -1,5 +1,5 @@
 use Rattle.std.proofs.Common.{◌≡◌, true, sym, subst}
-use Rattle.rollback.specs.Machine.{Machine, has_answer}
+use Rattle.control.specs.Machine.{Machine, has_answer}
 use Rattle.rollback.specs.Book.{IsReport}
 use Rattle.rollback.specs.inside.Book.{HoldsData, IsWhole}
 use Rattle.rollback.proofs.Reports.{has_whole, reports}

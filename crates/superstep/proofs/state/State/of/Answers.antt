@@ -1,4 +1,4 @@
-use Rattle.std.proofs.Common.{◌≡◌, List, [], ◌∷◌, ◌++◌, ap, ◌∙◌}
+use Rattle.std.proofs.Common.{◌≡◌, List, [], ◌∷◌, ap, ◌∙◌}
 use Rattle.superstep.specs.State.{in_order, state_id}
 use Rattle.superstep.specs.Totals.{standing_of}
 use Rattle.superstep.specs.declared.state.VertexState.{VertexState}
@@ -6,10 +6,9 @@ use Rattle.superstep.proofs.Ordering.{one_part_is, one_part_is_kept}
 use Rattle.superstep.proofs.state.State.of.Goals as goal
 
 -- the one part
-part : (c : goal.In_ok-push) → c.push.new.self.items ≡ c.args.vertices.items ∷ []
+part : (c : goal.In_ok-parts) → c.in_ok-parts.parts.items ≡ c.args.vertices.items ∷ []
 part c =
-    c.in_ok-push.ensures.items ∙ ap (λ (before : List (List VertexState)). before ++ c.in_ok-states.states ∷ []) c.in_ok-parts.ensures.items
-    ∙ ap (λ (own : List VertexState). own ∷ []) c.in_ok-states.ensures
+    c.in_ok-parts.ensures.items ∙ ap (λ (own : List VertexState). own ∷ []) c.in_ok-states.ensures
 
 pub of_parts-requires : goal.of_parts-requires
 of_parts-requires c =

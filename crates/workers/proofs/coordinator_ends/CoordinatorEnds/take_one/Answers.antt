@@ -1,5 +1,5 @@
 use Rattle.std.proofs.Common.{ap, sym, subst, ◌∙◌, refl, ◌++◌, ◌∷◌, []}
-use Rattle.rollback.specs.Machine.{Machine}
+use Rattle.control.specs.Machine.{Machine}
 use Rattle.rollback.specs.Saving.{IsKeptStep}
 use Rattle.workers.specs.Hub.{handed, received}
 use Rattle.workers.specs.inside.Joins.{StepsDue, due_by}

@@ -1,5 +1,5 @@
 use Rattle.std.proofs.Common.{◌≡◌, ◌++◌, drop, replicate}
-use Rattle.bounded_profile.specs.declared.constants.operands.Operand.TheVariants.{Unknown}
+use Rattle.verified.specs.declared.operand.Operand.TheVariants.{Unknown}
 use Rattle.bounded_profile.specs.inside.Tracking.{operands_of}
 use Rattle.bounded_profile.proofs.constants.operands.Operands.pass.Given as goal
 

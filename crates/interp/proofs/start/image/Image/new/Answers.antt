@@ -37,5 +37,5 @@ invariant_of-result c =
       globals = a;
       bytes = memory_is m (has_initial m told.typed told.bounded) cells a bytes laid;
       long = c.in_ok-globals.ensures.long ∙ ap length same;
-      count = c.write_memory.ensures.kept ∙ c.in_ok-extend.ensures.kept;
+      count = c.write_memory.ensures.kept ∙ c.in_ok-memory.ensures.kept;
     }

@@ -1,4 +1,0 @@
-use Rattle.bounded_profile.proofs.verified.Verified.max_operands.Goals as goal
-
-pub returns : goal.returns
-returns c compute = (c.tables.ensures.tables.facts compute).operands

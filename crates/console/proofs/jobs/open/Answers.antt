@@ -1,5 +1,0 @@
-use Rattle.console.proofs.JobLines.{settings_refused}
-use Rattle.console.proofs.jobs.open.Goals as goal
-
-pub returns-in-Err : goal.returns-in-Err
-returns-in-Err c = rw c.opening_fault.ensures (record { opened = settings_refused c.args.settings c.in-Err.fault c.in-Err.ensures.refused })

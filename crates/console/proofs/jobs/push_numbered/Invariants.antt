@@ -1,6 +1,0 @@
-use Rattle.std.proofs.Common.{◌≡◌, ◌++◌, take, string_bytes}
-use Rattle.sources.specs.OutputLines.{numbered_lines}
-use Rattle.console.proofs.jobs.push_numbered.Given as goal
-
-abbrev pub invariant-loop-index : goal.invariant-loop-index
-invariant-loop-index l = string_bytes l.text ≡ string_bytes l.initial.text ++ numbered_lines l.word l.first (take l.index l.units)

@@ -1,7 +1,0 @@
-use Rattle.std.proofs.Common.{◌≡◌, ◌++◌, take, string_bytes}
-use Rattle.std.specs.List.{flat_map}
-use Rattle.console.specs.Replays.{answer_line}
-use Rattle.console.proofs.replay.push_answers.Given as goal
-
-abbrev pub invariant-loop-answer : goal.invariant-loop-answer
-invariant-loop-answer l = string_bytes l.text ≡ string_bytes l.initial.text ++ flat_map answer_line (take l.answer-index l.answers)

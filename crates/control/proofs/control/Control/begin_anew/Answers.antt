@@ -1,0 +1,31 @@
+use Rattle.std.proofs.Common.{◌≡◌, ◌∙◌, sym, ap, rules, arith, length, subst, refl, Option, Some, None, ℕ, ◌+◌, ◌*◌, ◌^◌, ◌<◌, ◌++◌, take, drop}
+use Rattle.std.specs.Option.{unwrap_or}
+use Rattle.control.proofs.ByPlace.{either_fits, few_taken, overwritten}
+use Rattle.control.specs.inside.Control.{epochs_there, epochs_used}
+use Rattle.control.specs.Machine.{count_set, either, none_set, saved_or_first}
+use Rattle.control.proofs.control.Control.begin_anew.Goals as goal
+
+unwrap_is : (o : Option ℕ) → unwrap_or o 0 ≡ saved_or_first o
+unwrap_is None = refl
+unwrap_is (Some s) = refl
+
+pub invariant_of-self : goal.invariant_of-self
+invariant_of-self c =
+    let i = c.self.inside in
+    let waiting = i.waiting.items in
+    let alive = i.alive.items in
+    let w : take i.waiting.len (c.clear.new.flags ++ drop (length c.clear.new.flags) waiting) ≡ none_set waiting = overwritten i.waiting.len c.clear.new.flags waiting (search rules) ∙ c.clear.ensures ∙ ap (λ x. none_set x) c.deref_mut-2.ensures.value in
+    let a : take i.alive.len (c.join.new.alive ++ drop (length c.join.new.alive) alive) ≡ either alive waiting = overwritten i.alive.len c.join.new.alive alive (search rules) ∙ c.join.ensures ∙ ap (λ x. either x c.deref.result.now) c.deref_mut.ensures.value ∙ ap (λ x. either alive x) c.deref.ensures.value in
+    let j = either_fits alive waiting c.self.invariant.0 in
+    let used : i.epoch + count_set alive + 2 * count_set waiting < 2 ^ 32 + 3 * length alive = subst (λ m. epochs_used m < epochs_there m) (sym c.self.view_is) c.requires.epochs in
+    rw (w, a) (
+      j.1,
+      c.self.invariant.1 ∙ sym j.0,
+      c.self.invariant.2 ∙ sym j.0,
+      c.self.invariant.3 ∙ sym j.0,
+      rw j.0 c.self.invariant.4,
+      rw j.0 (omega (arith, j.2, used)),
+      c.self.invariant.6,
+      λ r. let x = c.self.invariant.7 r in (rw (c.unwrap_or-self-inside.ensures, unwrap_is) x.1, x.1),
+      few_taken i.done.len _ (2 ^ 20) (let few = c.self.invariant.8 in let long = i.done.ok.0 in omega (arith, few, long)),
+    )

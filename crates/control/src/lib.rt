@@ -1,0 +1,13 @@
+//! The control of a running job: which part each worker has, which results count, and when states are saved and loaded. It has
+//! the numbers of workers, epochs and supersteps, without data.
+#![tactic(auto)]
+
+mod control;
+mod event;
+mod flags;
+mod job_status;
+mod leases;
+
+pub use control::{Control, Out};
+pub use event::{Answer, Event};
+pub use job_status::{DeviceResult, JobStatus};

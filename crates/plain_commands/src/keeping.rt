@@ -1,0 +1,340 @@
+//! The folder in which a run keeps its states.
+
+ghost use Rattle.std.specs.Prelude.{◌≡◌, ◌⊎◌, true, false, None, IfOk, IfErr, IfSome};
+ghost use Rattle.checkpoint.specs.Files.{superstep_on};
+ghost use Rattle.sources.specs.Disk.{Stays};
+ghost use Rattle.sources.specs.Reading.{IsUnread};
+ghost use Rattle.sources.specs.declared.fault.CommandFault.TheVariants.{Resume};
+ghost use Rattle.plain_commands.specs.Keeping.{IsNoFolder, IsNotReady, IsUnidentified};
+
+use checkpoint::{FileKeep, replace};
+use command_line::{JobRequest, RunRequest};
+use job_file::{JobId, Kinship, compare, digest_of, job_text};
+use sources::{CommandFault, Files, read_bytes};
+use std::alloc::{AllocError, Global};
+use std::fs::File;
+use std::io::ErrorKind;
+use std::{fs, io};
+use superstep::Settings;
+
+/// Makes ready the folder in which a run keeps its states, and gives its Keep. Where the run is to go on with what an earlier one
+/// has left there, the Keep counts the newest checkpoint that reads well as saved, and else nothing.
+///
+/// The file `job.json` of the folder says of which job its checkpoints are. Those of another job are renamed, so that no run takes
+/// them. `Resume`: the run is to go on, and `job.json` is of another job or reads as none, or the checkpoint is not below the
+/// limit. Why is a warning.
+pub fn keep_in<'a, F: Files>(
+    rt: &(impl std::rt::Files + AllocGlobal),
+    alloc: Global,
+    asked: RunRequest<'a>,
+    folder: &'a str,
+    files: &mut F,
+) -> Result<FileKeep, CommandFault<'a>>
+    // Unless the run is to go on, nothing counts as saved.
+    ensures fresh { IfOk result (λ keep. asked.entry.resume ≡ false → superstep_on keep ≡ None) }
+    ensures kept { Stays (F.disk files.old) (F.disk files.new) }
+    ensures refused { IfErr result (λ fault.
+        IsNotReady (F.disk files.old) asked.entry fault ⊎ IsNoFolder folder.now fault) }
+{
+    let keep = FileKeep::new(alloc, folder)?;
+    match make_ready(rt, alloc, asked, folder, &keep, files) {
+        Ok(false) => Ok(keep),
+        Ok(true) => find_in(rt, alloc, asked.job.settings, folder, files),
+        Err(fault) => Err(fault),
+    }
+}
+
+// Makes a folder ready. Answers whether the run goes on with what is there.
+fn make_ready<'a, F: Files>(
+    rt: &(impl std::rt::Files + AllocGlobal),
+    alloc: Global,
+    asked: RunRequest<'a>,
+    folder: &'a str,
+    keep: &FileKeep,
+    files: &mut F,
+) -> Result<bool, CommandFault<'a>>
+    ensures goes_on { IfOk result (λ goes_on. goes_on ≡ true → asked.entry.resume ≡ true) }
+    ensures kept { Stays (F.disk files.old) (F.disk files.new) }
+    ensures refused { IfErr result (λ fault.
+        IsNotReady (F.disk files.old) asked.entry fault ⊎ IsNoFolder folder.now fault) }
+{
+    if let Err(error) = keep.try_directory(rt) {
+        return Err(no_folder(folder, &error, files));
+    }
+    let job = match identify(rt, alloc, asked.job, files) {
+        Ok(job) => job,
+        Err(fault) => return Err(fault),
+    };
+    match settle(rt, alloc, asked, folder, job, keep, files) {
+        Ok(Some(goes_on)) => Ok(goes_on),
+        Ok(None) => Err(CommandFault::Resume),
+        Err(error) => Err(no_folder(folder, &error, files)),
+    }
+}
+
+// Whether what is at a path can be read once only, as a pipe.
+fn is_stream(rt: &impl std::rt::Files, path: &str) -> bool {
+    match fs::metadata(rt, path) {
+        Ok(metadata) => !metadata.is_file(),
+        Err(_) => false,
+    }
+}
+
+// Settles of which job the checkpoints of a folder are. Answers whether the run goes on with them, or nothing where it may not.
+fn settle<F: Files>(
+    rt: &(impl std::rt::Files + AllocGlobal),
+    alloc: Global,
+    asked: RunRequest<'_>,
+    folder: &str,
+    job: Option<JobId>,
+    keep: &FileKeep,
+    files: &mut F,
+) -> io::Result<Option<bool>>
+    ensures goes_on { IfOk result (λ found.
+        IfSome found (λ goes_on. goes_on ≡ true → asked.entry.resume ≡ true)) }
+    ensures refused { IfOk result (λ found. found ≡ None → asked.entry.resume ≡ true) }
+    ensures kept { Stays (F.disk files.old) (F.disk files.new) }
+{
+    let found = match job {
+        Some(job) => kinship_in(rt, alloc, folder, &job)?,
+        None => Some(Kinship::Unreadable),
+    };
+    if asked.resume && tells_refusal(folder, job.is_some(), found, files) {
+        return Ok(None);
+    }
+    let goes_on = asked.resume && found.is_some();
+    if !matches!(found, Some(Kinship::Same)) {
+        clear(rt, alloc, asked.resume, folder, keep, files)?;
+    }
+    if let Some(job) = job {
+        note_job(rt, alloc, folder, &job, asked.job.settings, files);
+    }
+    Ok(Some(goes_on))
+}
+
+// Tells why no file can be made in the folder.
+fn no_folder<'a, F: Files>(folder: &'a str, error: &io::Error, files: &mut F) -> CommandFault<'a>
+    ensures kept { Stays (F.disk files.old) (F.disk files.new) }
+    ensures refused { IsNoFolder folder.now result }
+{
+    if error.kind() == ErrorKind::OutOfMemory {
+        return CommandFault::OutOfMemory;
+    }
+    files.warn(format_args!("{folder}: {error}"));
+    CommandFault::Unwritable(folder)
+}
+
+// Identifies the job of the module in one file over the graph in another, where both can be read twice.
+fn identify<'a, F: Files>(
+    rt: &impl std::rt::Files,
+    alloc: Global,
+    asked: JobRequest<'a>,
+    files: &mut F,
+) -> Result<Option<JobId>, CommandFault<'a>>
+    ensures kept { Stays (F.disk files.old) (F.disk files.new) }
+    ensures refused { IfErr result (IsUnidentified (F.disk files.old) asked.entry) }
+{
+    if is_stream(rt, asked.module.path) || is_stream(rt, asked.graph) {
+        return Ok(None);
+    }
+    match file_digest(alloc, asked.module.path, files) {
+        Ok(module) => match file_digest(alloc, asked.graph, files) {
+            Ok(graph) => Ok(Some(JobId { module, graph })),
+            Err(fault) => Err(fault),
+        },
+        Err(fault) => Err(fault),
+    }
+}
+
+// Computes the SHA-256 of a file.
+fn file_digest<'a, F: Files>(
+    alloc: Global,
+    path: &'a str,
+    files: &mut F,
+) -> Result<[u8; 32], CommandFault<'a>>
+    ensures kept { Stays (F.disk files.old) (F.disk files.new) }
+    ensures refused { IfErr result (IsUnread false (F.disk files.old) path.now) }
+{
+    match read_bytes(alloc, path, files) {
+        Ok(bytes) => Ok(digest_of(bytes.as_slice())),
+        Err(fault) => Err(fault),
+    }
+}
+
+// What the folder's `job.json` says of a job, where there is one.
+fn kinship_in(
+    rt: &(impl std::rt::Files + AllocGlobal),
+    alloc: Global,
+    folder: &str,
+    job: &JobId,
+) -> io::Result<Option<Kinship>> {
+    let path = path_in(alloc, folder, "job.json")?;
+    match fs::read_to_string(rt, path.as_str()) {
+        Ok(text) => Ok(Some(compare(alloc, text.as_str(), job)?)),
+        Err(error) => match error.kind() {
+            ErrorKind::NotFound => Ok(None),
+            ErrorKind::InvalidData => Ok(Some(Kinship::Unreadable)),
+            _ => Err(error),
+        },
+    }
+}
+
+fn path_in(alloc: Global, folder: &str, name: &str) -> Result<String, AllocError> {
+    format!(in alloc; "{folder}/{name}")
+}
+
+// Tells why a run may not go on with the checkpoints of a folder, where that is so.
+fn tells_refusal<F: Files>(
+    folder: &str,
+    is_known: bool,
+    found: Option<Kinship>,
+    files: &mut F,
+) -> bool
+    ensures { Stays (F.disk files.old) (F.disk files.new) }
+{
+    if !is_known {
+        files.warn("--resume asks for a module and a graph in files of their own");
+        return true;
+    }
+    match found {
+        None | Some(Kinship::Same) => false,
+        Some(Kinship::OtherModule) => {
+            files.warn(format_args!(
+                "{folder}/job.json: the checkpoints are of another module; run without --resume to begin again"
+            ));
+            true
+        }
+        Some(Kinship::OtherGraph) => {
+            files.warn(format_args!(
+                "{folder}/job.json: the checkpoints are of another graph; run without --resume to begin again"
+            ));
+            true
+        }
+        Some(Kinship::Unreadable) => {
+            files.warn(format_args!(
+                "{folder}/job.json: it does not say of which job the checkpoints are; run without --resume to begin again"
+            ));
+            true
+        }
+    }
+}
+
+// Leaves no checkpoint in a folder that a later run could take for one of this job, and no `job.json`.
+fn clear<F: Files>(
+    rt: &(impl std::rt::Files + AllocGlobal),
+    alloc: Global,
+    resumes: bool,
+    folder: &str,
+    keep: &FileKeep,
+    files: &mut F,
+) -> io::Result<()>
+    ensures { Stays (F.disk files.old) (F.disk files.new) }
+{
+    warn_of_aside(keep.set_aside(rt)?, folder, files);
+    if resumes {
+        files.warn(format_args!("{folder}: it has no job.json; the job begins at superstep 0"));
+    }
+    let path = path_in(alloc, folder, "job.json")?;
+    match fs::remove_file(rt, path.as_str()) {
+        Err(error) if error.kind() != ErrorKind::NotFound => Err(error),
+        _ => Ok(()),
+    }
+}
+
+// Warns of checkpoints of another job that were renamed, where there are any.
+fn warn_of_aside<F: Files>(count: usize, folder: &str, files: &mut F)
+    ensures { Stays (F.disk files.old) (F.disk files.new) }
+{
+    match count {
+        0 => {}
+        1 => files.warn(format_args!(
+            "{folder}: 1 checkpoint of another job is renamed to end in .old"
+        )),
+        _ => files.warn(format_args!(
+            "{folder}: {count} checkpoints of another job are renamed to end in .old"
+        )),
+    }
+}
+
+// Writes `job.json`. Where that fails the job goes on, and no later run can go on with its states.
+fn note_job<F: Files>(
+    rt: &(impl std::rt::Files + AllocGlobal),
+    alloc: Global,
+    folder: &str,
+    job: &JobId,
+    settings: Settings,
+    files: &mut F,
+)
+    ensures { Stays (F.disk files.old) (F.disk files.new) }
+{
+    if let Err(error) = write_job(rt, alloc, folder, job, settings) {
+        files.warn(format_args!("{folder}/job.json: {error}"));
+    }
+}
+
+fn write_job(
+    rt: &(impl std::rt::Files + AllocGlobal),
+    alloc: Global,
+    folder: &str,
+    job: &JobId,
+    settings: Settings,
+) -> io::Result<()> {
+    let mut text = job_text(alloc, job, settings.limit, settings.parts)?;
+    text.push('\n')?;
+    let part = path_in(alloc, folder, "job.part")?;
+    let whole = path_in(alloc, folder, "job.json")?;
+    let mut file = File::create(rt, part.as_str())?;
+    replace(
+        rt,
+        &mut file,
+        part.as_str(),
+        whole.as_str(),
+        text.as_bytes(),
+    )
+}
+
+// Finds the newest checkpoint in a folder, and tells where the job begins.
+fn find_in<'a, F: Files>(
+    rt: &(impl std::rt::Files + AllocGlobal),
+    alloc: Global,
+    settings: Settings,
+    folder: &'a str,
+    files: &mut F,
+) -> Result<FileKeep, CommandFault<'a>>
+    ensures kept { Stays (F.disk files.old) (F.disk files.new) }
+    ensures refused { IfErr result (λ fault. (fault ≡ Resume) ⊎ IsNoFolder folder.now fault) }
+{
+    let keep = match FileKeep::find(rt, alloc, folder) {
+        Ok(keep) => keep,
+        Err(error) => return Err(no_folder(folder, &error, files)),
+    };
+    if tell_beginning(keep.newest(), settings.limit, folder, files) {
+        Ok(keep)
+    } else {
+        Err(CommandFault::Resume)
+    }
+}
+
+// Tells where a job begins. Answers whether it may: the limit is not reached there.
+fn tell_beginning<F: Files>(newest: Option<u32>, limit: u32, folder: &str, files: &mut F) -> bool
+    ensures { Stays (F.disk files.old) (F.disk files.new) }
+{
+    match newest {
+        None => {
+            files.warn(format_args!(
+                "{folder}: no checkpoint that reads well; the job begins at superstep 0"
+            ));
+            true
+        }
+        Some(superstep) if superstep < limit => {
+            files.warn(format_args!("{folder}: the job goes on at superstep {superstep}"));
+            true
+        }
+        Some(superstep) => {
+            files.warn(format_args!(
+                "{folder}: the checkpoint is of superstep {superstep}; --limit has to be greater"
+            ));
+            false
+        }
+    }
+}

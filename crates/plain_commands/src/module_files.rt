@@ -1,0 +1,144 @@
+//! The commands that read a module: its spelling, what `fit` makes of it, its text and its bounds.
+
+ghost use Rattle.std.specs.Prelude.{◌≡◌, ◌⊎◌, IfOk, IfErr, OnErr, string_bytes};
+ghost use Rattle.wasm_ast.specs.Limits.{IsWithinLimits};
+ghost use Rattle.wasm_decode.specs.Canonical.{canonical};
+ghost use Rattle.sources.specs.Disk.{Stays, Tries};
+ghost use Rattle.sources.specs.OutputLines.{IfText};
+ghost use Rattle.sources.specs.Source.{RefusesModule};
+ghost use Rattle.sources.specs.Reading.{IsRefusedAt};
+ghost use Rattle.plain_commands.specs.Outputs.{IsBoundsLine, PrintsBounds, PrintsLayout, PrintsLength, PrintsSpelling, PrintsFitted, PrintsFittedOf, TriesFitted, TriesFittedOf, TriesSpelling, bounds_line};
+ghost use Rattle.plain_commands.specs.Causes.{IsUnassembled, IsUnfitted, IsUnspelled, RefusesFit, StaysBeforeWriting};
+ghost use Rattle.plain_commands.specs.Sizes.{IsNotAdmitted};
+
+use crate::sizes::load_within;
+use crate::writing::write_told;
+use command_line::ModuleRequest;
+use fit::fit;
+use sources::{CommandFault, Files, read_module};
+use std::alloc::{AllocError, Global};
+use validate::validate;
+use verified::Verified;
+use wasm_ast::Module;
+use wasm_decode::encode;
+use wat_asm::print;
+
+/// Writes the module in one file to another, in the binary format.
+pub fn assemble_file<'a, F: Files>(
+    alloc: Global,
+    path: &'a str,
+    binary: &'a str,
+    files: &mut F,
+) -> Result<String, CommandFault<'a>>
+    ensures answered { IfText result
+        (PrintsLength (F.disk files.old) (F.disk files.new) path.now binary.now) }
+    ensures refused { IfErr result (IsUnassembled (F.disk files.old) path.now binary.now) }
+    ensures before { IfErr result (StaysBeforeWriting (F.disk files.old) (F.disk files.new)) }
+    ensures tried { OnErr result (Stays (F.disk files.old) (F.disk files.new)
+        ⊎ TriesSpelling (F.disk files.old) (F.disk files.new) path.now binary.now) }
+{
+    let module = read_module(alloc, path, files)?;
+    write_module(alloc, &module, binary, files)
+}
+
+// Writes a module to a file, in the binary format.
+fn write_module<'a, F: Files>(
+    alloc: Global,
+    module: &Module,
+    binary: &'a str,
+    files: &mut F,
+) -> Result<String, CommandFault<'a>>
+    requires { IsWithinLimits «module».now }
+    ensures answered { IfText result
+        (PrintsSpelling (F.disk files.old) (F.disk files.new) «module».now binary.now) }
+    ensures refused { IfErr result (IsUnspelled (F.disk files.old) binary.now «module».now) }
+    ensures before { IfErr result (StaysBeforeWriting (F.disk files.old) (F.disk files.new)) }
+    ensures tried { OnErr result
+        (Tries binary.now (canonical «module».now) (F.disk files.old) (F.disk files.new)) }
+{
+    let bytes = encode(alloc, module)?;
+    write_told(alloc, bytes.as_slice(), binary, files)
+}
+
+/// Writes what the module in one file is rewritten to into another, in the binary format.
+pub fn fit_file<'a, F: Files>(
+    alloc: Global,
+    path: &'a str,
+    binary: &'a str,
+    files: &mut F,
+) -> Result<String, CommandFault<'a>>
+    ensures answered { IfText result
+        (PrintsFitted (F.disk files.old) (F.disk files.new) path.now binary.now) }
+    ensures refused { IfErr result (IsUnfitted (F.disk files.old) path.now binary.now) }
+    ensures before { IfErr result (StaysBeforeWriting (F.disk files.old) (F.disk files.new)) }
+    ensures tried { OnErr result (Stays (F.disk files.old) (F.disk files.new)
+        ⊎ TriesFitted (F.disk files.old) (F.disk files.new) path.now binary.now) }
+{
+    let module = read_module(alloc, path, files)?;
+    write_fitted(alloc, module, binary, files)
+}
+
+// Writes what a module is rewritten to into a file, in the binary format.
+fn write_fitted<'a, F: Files>(
+    alloc: Global,
+    module: Module,
+    binary: &'a str,
+    files: &mut F,
+) -> Result<String, CommandFault<'a>>
+    ensures answered { IfText result
+        (PrintsFittedOf (F.disk files.old) (F.disk files.new) «module» binary.now) }
+    ensures refused { IfErr result (RefusesFit (F.disk files.old) binary.now «module») }
+    ensures before { IfErr result (StaysBeforeWriting (F.disk files.old) (F.disk files.new)) }
+    ensures tried { OnErr result (Stays (F.disk files.old) (F.disk files.new)
+        ⊎ TriesFittedOf (F.disk files.old) (F.disk files.new) «module» binary.now) }
+{
+    let valid = validate(alloc, module)?;
+    let fitted = fit(alloc, valid)?;
+    write_module(alloc, fitted.module(), binary, files)
+}
+
+/// Prints the module in a file.
+pub fn print_file<'a, F: Files>(
+    alloc: Global,
+    path: &'a str,
+    files: &mut F,
+) -> Result<String, CommandFault<'a>>
+    ensures answered { IfText result (PrintsLayout (F.disk files.old) path.now) }
+    ensures kept { Stays (F.disk files.old) (F.disk files.new) }
+    ensures refused { IfErr result (IsRefusedAt (F.disk files.old) path.now RefusesModule) }
+{
+    let module = read_module(alloc, path, files)?;
+    let text = print(alloc, &module)?;
+    Ok(text)
+}
+
+/// Returns the bounds of the module in a file.
+pub fn verify_file<'a, F: Files>(
+    alloc: Global,
+    asked: ModuleRequest<'a>,
+    files: &mut F,
+) -> Result<String, CommandFault<'a>>
+    ensures answered { IfText result (PrintsBounds (F.disk files.old) asked.entry) }
+    ensures kept { Stays (F.disk files.old) (F.disk files.new) }
+    ensures refused { IfErr result (IsNotAdmitted (F.disk files.old) asked.entry) }
+{
+    let verified = load_within(alloc, asked, files)?;
+    let text = bounds_of(alloc, &verified)?;
+    Ok(text)
+}
+
+// A module's bounds.
+fn bounds_of(alloc: Global, verified: &Verified) -> Result<String, AllocError>
+    ensures { IfText result (IsBoundsLine verified.now) }
+{
+    let (size, operands) = (verified.size(), verified.max_operands());
+    bounds_text(alloc, size, operands, verified.max_frames())
+}
+
+fn bounds_text(alloc: Global, size: u32, operands: u32, frames: u32) -> Result<String, AllocError>
+    ensures { IfOk result (λ text. string_bytes text ≡ bounds_line size operands frames) }
+{
+    let mut text = String::new(alloc);
+    writeln!(text, "ok size {size} operands {operands} frames {frames}")?;
+    Ok(text)
+}

@@ -1,0 +1,50 @@
+//! Serving a session whose jobs run on this machine.
+
+ghost use Rattle.sources.specs.Disk.{Stays};
+ghost use Rattle.session.specs.Maps.{nothing};
+ghost use Rattle.session.specs.Runs.{IsPlainEnd, plain};
+ghost use Rattle.session.specs.Serving.{Serves};
+
+use crate::runner::PlainRunner;
+use crate::serving::{ServeFault, serve};
+use rollback::Report;
+use sources::Files;
+use std::alloc::Global;
+use std::io::{Read, Write};
+use std::thread::Threads;
+use superstep::{Job, JobFault, Place, one_machine};
+
+/// Serves a session as `serve` does. Each job runs on this machine, superstep after superstep. It waits for nobody.
+///
+/// A run fails only if memory runs out, always with the place `Call`.
+pub fn serve_on_one_machine<R: Read, W: Write, F: Files>(
+    rt: &(impl Threads + Sync),
+    alloc: Global,
+    reader: &mut R,
+    writer: &mut W,
+    files: &mut F,
+) -> Result<(), ServeFault>
+    ensures served { Serves (F.disk files.old) plain nothing (R.remaining reader.old)
+        (R.remaining reader.new) (W.contents writer.old) (W.contents writer.new) result }
+    ensures files { Stays (F.disk files.old) (F.disk files.new) }
+{
+    let run = |job: &Job| -> Result<Report, JobFault>
+        ensures { IsPlainEnd job.now result }
+    { run_plainly(rt, alloc, job) };
+    serve(rt, alloc, reader, writer, files, &PlainRunner::new(run))
+}
+
+fn run_plainly<R: Threads + Sync>(rt: &R, alloc: Global, job: &Job) -> Result<Report, JobFault>
+    ensures { IsPlainEnd job.now result }
+{
+    match one_machine(rt, alloc, job) {
+        Ok(ended) => Ok(Report {
+            ended,
+            epoch: 0,
+            missed: 0,
+            restarts: 0,
+            spent: Vec::new(alloc),
+        }),
+        Err(_) => Err(JobFault::OutOfMemory(Place::Call)),
+    }
+}

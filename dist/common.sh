@@ -91,54 +91,50 @@ prove_copy() {
 # Proves what the program stands on, in copies in this folder, on four processors.
 #
 # rt gives a check two processors only where no other crate of its run is ready, and where the memory that was free at the start
-# of the run is enough for both. So each crate of the longest chain has a run of its own. The crates at its side are proved beside
-# it in three rows, one processor a row at most, and what is left of them by the run of console. A run takes over what another
-# has proved, or waits for it.
+# of the run is enough for both. So each dear crate of the longest chain has a run of its own. The crates at its side are proved
+# beside it in three rows, one processor a row, those first that the others wait for longest. What is left of them is proved by
+# the run of console. A run takes over what another has proved, or waits for it.
 prove_side_by_side() {
     local room=$1 chain row rows=()
-    prove_in_turn "$room" wasm_ast valid host_calls units verified interp superstep checkpoint rollback workers \
-        console &
+    prove_in_turn "$room" verified interp superstep checkpoint rollback workers console &
     chain=$!
     {
-        # (superstep needs these two as soon as interp is proved)
-        RT_JOBS=1 prove_copy "$room/graphs" graph
-        RT_JOBS=1 prove_copy "$room/inboxes" inbox
-        wait_for "$room/past_valid"
-        prove_row "$room/validity" validate
+        prove_row "$room/inboxes" inbox
+        prove_row "$room/costs" cost
         prove_row "$room/verifier" bounded_profile
+        wait_for "$room/past_checkpoint"
+        prove_row "$room/sources" sources
+        prove_row "$room/faults" explain
+    } &
+    rows+=($!)
+    {
+        prove_row "$room/numbers" leb
+        prove_row "$room/text" wat_asm
         prove_row "$room/fit" fit
+        prove_row "$room/import" graph_import
+    } &
+    rows+=($!)
+    {
+        prove_row "$room/graphs" graph
+        prove_row "$room/validity" validate
+        prove_row "$room/binary" wasm_decode
+        prove_row "$room/reports" run_report job_file
+        wait_for "$room/past_superstep"
+        prove_row "$room/words" command_line
         wait_for "$room/past_rollback"
         prove_row "$room/session" session
         wait_for "$room/past_workers"
         prove_row "$room/threads" threaded_session
     } &
     rows+=($!)
-    {
-        wait_for "$room/past_wasm_ast"
-        prove_row "$room/text" flat_code wat_asm
-        wait_for "$room/past_checkpoint"
-        prove_row "$room/reading" sources explain
-    } &
-    rows+=($!)
-    {
-        prove_row "$room/numbers" leb
-        wait_for "$room/past_wasm_ast"
-        prove_row "$room/binary" wasm_decode
-        prove_row "$room/import" graph_import run_report job_file
-        wait_for "$room/past_superstep"
-        prove_row "$room/words" command_line
-    } &
-    rows+=($!)
     wait "$chain" || true
     for row in "${rows[@]}"; do wait "$row" || true; done
 }
 
-# Proves these crates in a copy in the folder $1, on one processor. The crates of the longest chain go first where processors
-# are short.
-prove_row() (
-    renice -n 5 -p "$BASHPID" >/dev/null
+# Proves these crates in a copy in the folder $1, on one processor.
+prove_row() {
     RT_JOBS=1 prove_copy "$@"
-)
+}
 
 # Proves these crates one after another, each in a run of its own in a copy in the folder $1, and marks each that is done.
 #

@@ -93,10 +93,10 @@ prove_copy() {
 # rt gives a check two processors only where no other crate of its run is ready, and where the memory that was free at the start
 # of the run is enough for both. So each dear crate of the longest chain has a run of its own. The crates at its side are proved
 # beside it in three rows, one processor a row, those first that the others wait for longest. What is left of them is proved by
-# the run of console. A run takes over what another has proved, or waits for it.
+# the run of plain_commands. A run takes over what another has proved, or waits for it.
 prove_side_by_side() {
     local room=$1 chain row rows=()
-    prove_in_turn "$room" verified interp superstep checkpoint rollback workers console &
+    prove_in_turn "$room" verified interp superstep checkpoint rollback workers plain_commands console &
     chain=$!
     {
         prove_row "$room/inboxes" inbox

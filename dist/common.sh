@@ -105,26 +105,26 @@ prove_side_by_side() {
         wait_for "$room/past_checkpoint"
         prove_row "$room/sources" sources
         prove_row "$room/faults" explain
+        wait_for "$room/past_rollback"
+        prove_row "$room/session" session
+        wait_for "$room/past_workers"
+        prove_row "$room/threads" threaded_session
     } &
     rows+=($!)
     {
         prove_row "$room/numbers" leb
         prove_row "$room/text" wat_asm
         prove_row "$room/fit" fit
-        prove_row "$room/import" graph_import
+        prove_row "$room/reports" run_report
     } &
     rows+=($!)
     {
         prove_row "$room/graphs" graph
         prove_row "$room/validity" validate
         prove_row "$room/binary" wasm_decode
-        prove_row "$room/reports" run_report job_file
+        prove_row "$room/import" graph_import job_file
         wait_for "$room/past_superstep"
         prove_row "$room/words" command_line
-        wait_for "$room/past_rollback"
-        prove_row "$room/session" session
-        wait_for "$room/past_workers"
-        prove_row "$room/threads" threaded_session
     } &
     rows+=($!)
     wait "$chain" || true

@@ -138,10 +138,10 @@ prove_row() {
 
 # Proves these crates one after another, each in a run of its own in a copy in the folder $1, and marks each that is done.
 #
-# A run begins a few seconds after the proof of the crate before its own has begun, and waits for that proof. So no time is lost
-# between them, and the memory that rt sees as free is not yet in use.
+# A run begins a few seconds after the proof of the crate before its own has begun, or once that crate is found to be kept, and waits
+# for that proof. So no time is lost between them, and the memory that rt sees as free is not yet in use.
 prove_in_turn() {
-    local room=$1 crate next last= before=
+    local room=$1 crate next pause last= before=
     shift
     for crate in "$@"; do
         prove_copy "$room/$crate" "$crate" &
@@ -152,7 +152,10 @@ prove_in_turn() {
         fi
         before=$next
         last=$crate
-        sleep 5
+        for pause in 1 2 3 4 5; do
+            kill -0 "$next" 2>/dev/null || break
+            sleep 1
+        done
     done
     wait
     for crate in "$@"; do touch "$room/past_$crate"; done

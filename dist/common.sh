@@ -57,6 +57,11 @@ checks_that_fit() {
     echo $((room < 1 ? 1 : room))
 }
 
+# Lets the checks of rt keep the memory that they have freed: to give it back and to ask for it again takes some 3 percent of their time.
+keep_freed_memory() {
+    export MIMALLOC_PURGE_DELAY=${MIMALLOC_PURGE_DELAY:--1}
+}
+
 # Stops with status 1 where Rattle's kit is missing.
 require_kit() {
     if ! command -v rt >/dev/null; then
@@ -85,7 +90,7 @@ prove_copy() {
             [ ! -e "$top/crates/$name/$part" ] || cp -r "$top/crates/$name/$part" "$copy/crates/$name/"
         done
     done
-    (cd "$copy" && exec rt ci)
+    (cd "$copy" && keep_freed_memory && exec rt ci)
 }
 
 # Proves what the program stands on, in copies in this folder, on four processors.

@@ -57,7 +57,7 @@ checks_that_fit() {
     echo $((room < 1 ? 1 : room))
 }
 
-# Lets the checks of rt keep the memory that they have freed: to give it back and to ask for it again takes some 3 percent of their time.
+# Lets the checks of rt keep the memory that they have freed: to give it back and to ask for it again takes time (docs/GATE.md).
 keep_freed_memory() {
     export MIMALLOC_PURGE_DELAY=${MIMALLOC_PURGE_DELAY:--1}
 }

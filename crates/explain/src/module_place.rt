@@ -3,7 +3,7 @@
 ghost use Rattle.std.specs.Prelude.{◌≡◌, [], IfOk, OnOk, string_bytes};
 ghost use Rattle.std.specs.Str.Lines.{lines};
 ghost use Rattle.wasm_ast.specs.Limits.{IsWithinLimits};
-ghost use Rattle.wat_asm.specs.Layout.{layout};
+ghost use Rattle.wat_syntax.specs.Layout.{layout};
 ghost use Rattle.sources.specs.OutputLines.{Gains, IfText, line};
 ghost use Rattle.explain.specs.Explanation.{ShowsLines};
 ghost use Rattle.explain.specs.inside.Shown.{texts};

@@ -5,7 +5,7 @@ use Rattle.std.specs.Io.KnownBytes.{Appends}
 use Rattle.wasm_ast.specs.declared.module.Module.{Module}
 use Rattle.wasm_ast.specs.Limits.{max_module_bytes}
 use Rattle.wasm_decode.specs.Canonical.{canonical}
-use Rattle.wat_asm.specs.Layout.{layout}
+use Rattle.wat_syntax.specs.Layout.{layout}
 use Rattle.verified.specs.Facts.{IsSizeAt, IsHeightAt, IsDepthAt}
 use Rattle.verified.specs.Profile.{HasCompute}
 use Rattle.fit.specs.Fit.{IsFitOf}

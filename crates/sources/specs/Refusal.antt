@@ -2,7 +2,7 @@
 use Rattle.std.specs.Prelude.{ℕ, List, ◌++◌, codes}
 use Rattle.std.specs.Fmt.{decimal}
 use Rattle.wasm_decode.specs.Faults.{fault_text as decode_text, encode_word}
-use Rattle.wat_asm.specs.Faults.{fault_text as text_fault_text}
+use Rattle.wat_syntax.specs.Faults.{fault_text as text_fault_text}
 use Rattle.validate.specs.Faults.{fault_text as invalid_text}
 use Rattle.bounded_profile.specs.FaultText.{fault_text as unbounded_text}
 use Rattle.graph.specs.Faults.{fault_text as graph_text}

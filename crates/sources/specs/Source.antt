@@ -5,7 +5,7 @@ use Rattle.wasm_ast.specs.Limits.{IsWithinLimits}
 use Rattle.wasm_decode.specs.Grammar.{Spells}
 use Rattle.wasm_decode.specs.declared.fault.DecodeFault.TheVariants as decode
 use Rattle.wasm_decode.specs.declared.encoder.fault.EncodeFault.TheVariants as encode
-use Rattle.wat_asm.specs.declared.fault.TextFault.TheVariants as text_fault
+use Rattle.wat_syntax.specs.declared.fault.TextFault.TheVariants as text_fault
 use Rattle.validate.specs.declared.fault.ValidFault.TheVariants as valid
 use Rattle.valid.specs.Modules.{IsTyped}
 use Rattle.bounded_profile.specs.declared.fault.ProfileFault.{ProfileFault}

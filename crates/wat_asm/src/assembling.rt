@@ -4,17 +4,15 @@ ghost use Rattle.std.specs.Prelude.{◌≡◌, ℕ, true, Some, IfOk, MatchResul
 ghost use Rattle.wasm_ast.specs.declared.module.Module.{Module as AnyModule};
 ghost use Rattle.wasm_ast.specs.Limits.{IsWithinLimits};
 ghost use Rattle.wasm_ast.specs.Representable.{IsRepresentable};
-ghost use Rattle.wat_asm.specs.declared.fault.TextFault.TheVariants.{OutOfMemory};
-ghost use Rattle.wat_asm.specs.inside.Follows.{IsMemory};
-ghost use Rattle.wat_asm.specs.Layout.{layout};
-ghost use Rattle.wat_asm.specs.inside.ReadingModule.{module_at, nameless};
-ghost use Rattle.wat_asm.specs.inside.Tokens.{toks_of};
+ghost use Rattle.wat_syntax.specs.declared.fault.TextFault.TheVariants.{OutOfMemory};
+ghost use Rattle.wat_syntax.specs.inside.Follows.{IsMemory};
+ghost use Rattle.wat_syntax.specs.Layout.{layout};
+ghost use Rattle.wat_syntax.specs.inside.ReadingModule.{module_at, nameless};
+ghost use Rattle.wat_syntax.specs.inside.Tokens.{toks_of};
 
-use crate::fault::{Failure, FaultKind, Position, TextFault};
-use crate::lexer::{Tokens, lex};
-use crate::parser::parse;
 use std::alloc::Global;
 use wasm_ast::Module;
+use wat_syntax::{Failure, FaultKind, Position, TextFault, Tokens, lex, parse};
 
 /// Assembles the module that this text spells (Core 1.0, section 6).
 ///

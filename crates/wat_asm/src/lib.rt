@@ -2,16 +2,8 @@
 #![tactic(auto)]
 
 mod assembling;
-mod fault;
-mod fields;
-mod instructions;
-mod keyword;
-mod lexer;
-mod parser;
-mod pieces;
 mod printing;
 
 pub use assembling::assemble;
-pub use fault::{Position, TextFault};
-pub use keyword::Keyword;
 pub use printing::print;
+pub use wat_syntax::{Keyword, Position, TextFault};

@@ -2,14 +2,14 @@
 
 ghost use Rattle.std.specs.Prelude.{◌≡◌, IfOk, OnOk, string_bytes};
 ghost use Rattle.wasm_ast.specs.Limits.{IsWithinLimits};
-ghost use Rattle.wat_asm.specs.inside.Writing.{Writes};
-ghost use Rattle.wat_asm.specs.Layout.{definitions, layout, pieces, uses};
+ghost use Rattle.wat_syntax.specs.inside.Writing.{Writes};
+ghost use Rattle.wat_syntax.specs.Layout.{definitions, layout, pieces, uses};
 
-use crate::fields::{Memory, Table, write_start};
-use crate::keyword::Keyword;
-use crate::pieces::{Gap, write_closing_line, write_each, write_opening};
 use std::alloc::{AllocError, Global};
 use wasm_ast::{Data, Element, Export, FuncType, Function, Global as ModuleGlobal, Import, Module};
+use wat_syntax::{
+    Gap, Keyword, Memory, Table, write_closing_line, write_each, write_opening, write_start,
+};
 
 /// Prints the module in the text format (Core 1.0, 6.6).
 ///
@@ -38,7 +38,7 @@ fn write_module(text: &mut String, module: &Module) -> Result<(), AllocError>
 }
 
 // Writes the types, the imports and the definitions of the module.
-#[tactic(auto, using(crate::proofs::Codes::bodies_within, crate::proofs::Codes::all_held))]
+#[tactic(auto, using(wat_syntax::proofs::Codes::bodies_within, wat_syntax::proofs::Codes::all_held))]
 fn write_definitions(text: &mut String, module: &Module) -> Result<(), AllocError>
     requires { IsWithinLimits «module».now }
     ensures { Writes text.old text.new result (definitions «module».now) }
@@ -52,7 +52,7 @@ fn write_definitions(text: &mut String, module: &Module) -> Result<(), AllocErro
 }
 
 // Writes the exports, the start function and the segments of the module.
-#[tactic(auto, using(crate::proofs::Codes::all_held))]
+#[tactic(auto, using(wat_syntax::proofs::Codes::all_held))]
 fn write_uses(text: &mut String, module: &Module) -> Result<(), AllocError>
     requires { IsWithinLimits «module».now }
     ensures { Writes text.old text.new result (uses «module».now) }

@@ -1,9 +1,9 @@
 use Rattle.std.proofs.Common.{[]}
-use Rattle.wat_asm.specs.Layout.{pieces}
-use Rattle.wat_asm.proofs.AgainModule.{steps_of}
-use Rattle.wat_asm.proofs.AgainHeld.{pieces_held}
-use Rattle.wat_asm.proofs.Assembled.{layout_printed, tokens_again}
-use Rattle.wat_asm.proofs.Printed.{printed_nameless}
+use Rattle.wat_syntax.specs.Layout.{pieces}
+use Rattle.wat_syntax.proofs.AgainModule.{steps_of}
+use Rattle.wat_syntax.proofs.AgainHeld.{pieces_held}
+use Rattle.wat_syntax.proofs.Assembled.{layout_printed, tokens_again}
+use Rattle.wat_syntax.proofs.Printed.{printed_nameless}
 use Rattle.wat_asm.proofs.assembling.assemble.Goals as goal
 
 pub returns-in-Ok-clause-printed : goal.returns-in-Ok-clause-printed

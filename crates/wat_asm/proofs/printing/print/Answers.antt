@@ -1,9 +1,9 @@
 use Rattle.std.proofs.Common.{◌≡◌, ◌++◌, ◌∷◌, [], string_bytes}
 use Rattle.std.proofs.lemmas.Grind.{common_steps}
 use Rattle.std.proofs.Common.{arith}
-use Rattle.wat_asm.specs.Pieces.{text}
-use Rattle.wat_asm.specs.Layout.{pieces, layout}
-use Rattle.wat_asm.proofs.Adds.{adds_all}
+use Rattle.wat_syntax.specs.Pieces.{text}
+use Rattle.wat_syntax.specs.Layout.{pieces, layout}
+use Rattle.wat_syntax.proofs.Adds.{adds_all}
 use Rattle.wat_asm.proofs.printing.print.Goals as goal
 
 pub returns : goal.returns

@@ -1,6 +1,0 @@
-use Rattle.std.proofs.Common.{◌≡◌, drop}
-use Rattle.wat_asm.specs.Keywords.{lookup}
-use Rattle.wat_asm.proofs.keyword.find.Given as goal
-
-abbrev pub invariant-loop-keyword : goal.invariant-loop-keyword
-invariant-loop-keyword l = lookup (drop l.keyword-index l.keywords) l.word ≡ lookup l.keywords l.word

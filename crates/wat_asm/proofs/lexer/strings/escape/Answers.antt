@@ -1,6 +1,0 @@
-use Rattle.std.proofs.Common.{arith}
-use Rattle.wat_asm.proofs.Left.{left_from}
-use Rattle.wat_asm.proofs.lexer.strings.escape.Goals as goal
-
-pub returns-in-117-clause-ends : goal.returns-in-117-clause-ends
-returns-in-117-clause-ends c = left_from c.args.text.now 2 c.character.result (omega arith) c.character.ensures.ends

@@ -1,6 +1,0 @@
-use Rattle.std.proofs.Common.{◌≡◌, ◌++◌, take, string_bytes}
-use Rattle.wat_asm.specs.Quoted.{quoted}
-use Rattle.wat_asm.proofs.pieces.write_all_escaped.Given as goal
-
-abbrev pub invariant-loop-b : goal.invariant-loop-b
-invariant-loop-b l = string_bytes l.text ≡ string_bytes l.fn.text ++ quoted (take l.b-index l.bytes)

@@ -1,0 +1,328 @@
+//! The printer of a module's fields.
+
+ghost use Rattle.std.specs.Prelude.{◌≡◌, ◌∷◌, ℕ, OnOk, string_bytes};
+ghost use Rattle.wasm_ast.specs.declared.module.ImportDescription.TheVariants as import;
+ghost use Rattle.wasm_ast.specs.Limits.{IsBodyWithin};
+ghost use Rattle.wat_syntax.specs.inside.Writing.{Writes};
+ghost use Rattle.wat_syntax.specs.Instructions.{code, type_word};
+ghost use Rattle.wat_syntax.specs.Layout.{begins, data_field, element_field, export_description, export_field, function_field, global_field, global_type, import_description, import_field, limits, maximum_part, memory_field, number_part, numbered, offset, start_field, table_field, type_field, type_group};
+
+use crate::instructions::{write_code, write_type_use};
+use crate::keyword::Keyword;
+use crate::pieces::{
+    Gap, Part, write_closing, write_closing_line, write_count, write_each, write_keyword,
+    write_opening, write_string,
+};
+use std::alloc::AllocError;
+use wasm_ast::{
+    Body, Data, Element, Export, ExportDescription, FuncType, Function, Global, GlobalType, Import,
+    ImportDescription, Limits, MAX_NESTING, Mutability, ValType,
+};
+
+// ---- parts of fields
+
+/// Writes a type with a blank before it.
+impl Part for ValType {
+    type Of = ValType;
+
+    ghost pieces = { type_word };
+
+    fn write(text: &mut String, word: &ValType) -> Result<(), AllocError> {
+        write_keyword(text, Gap::Space, Keyword::Type(*word))
+    }
+}
+
+// Writes a keyword and types in parentheses, as `(param i32 i64)`, or nothing where there are no types.
+#[tactic(auto, using(crate::proofs::Codes::all_held))]
+fn write_type_group(
+    text: &mut String,
+    keyword: Keyword,
+    types: &[ValType],
+) -> Result<(), AllocError>
+    ensures { Writes text.old text.new result (type_group keyword types.now) }
+{
+    if types.is_empty() {
+        return Ok(());
+    }
+    write_opening(text, Gap::Space, keyword)?;
+    write_each::<ValType>(text, types)?;
+    write_closing(text)
+}
+
+fn write_limits(text: &mut String, given: Limits) -> Result<(), AllocError>
+    ensures { Writes text.old text.new result (limits given) }
+{
+    write_count(text, given.minimum)?;
+    match given.maximum {
+        None => Ok(()),
+        Some(maximum) => write_count(text, maximum),
+    }
+}
+
+fn write_global_type(text: &mut String, global: GlobalType) -> Result<(), AllocError>
+    ensures { Writes text.old text.new result (global_type global) }
+{
+    match global.mutability {
+        Mutability::Constant => write_keyword(text, Gap::Space, Keyword::Type(global.value)),
+        Mutability::Variable => {
+            write_opening(text, Gap::Space, Keyword::Mut)?;
+            write_keyword(text, Gap::Space, Keyword::Type(global.value))?;
+            write_closing(text)
+        }
+    }
+}
+
+// Writes the index of a segment's table or memory, where it is not 0.
+fn write_number_part(text: &mut String, n: u32) -> Result<(), AllocError>
+    ensures { Writes text.old text.new result (number_part n) }
+{
+    if n == 0 { Ok(()) } else { write_count(text, n) }
+}
+
+fn write_offset(text: &mut String, body: &Body) -> Result<(), AllocError>
+    requires { IsBodyWithin body.now }
+    ensures { Writes text.old text.new result (offset body.now) }
+{
+    write_opening(text, Gap::Space, Keyword::Offset)?;
+    write_code(text, Gap::Space, MAX_NESTING, body)?;
+    write_closing(text)
+}
+
+// ---- fields
+
+// Writes the start of a field, on a line of its own.
+fn write_beginning(text: &mut String, keyword: Keyword) -> Result<(), AllocError>
+    ensures { Writes text.old text.new result (begins keyword) }
+{
+    write_opening(text, Gap::Line(1), keyword)
+}
+
+/// Writes a type (Core 1.0, 6.6.2).
+impl Part for FuncType {
+    type Of = FuncType;
+
+    ghost pieces = { type_field };
+
+    fn write(text: &mut String, field: &FuncType) -> Result<(), AllocError> {
+        write_beginning(text, Keyword::FuncType)?;
+        write_opening(text, Gap::Space, Keyword::Func)?;
+        write_type_group(text, Keyword::Param, field.parameters.as_slice())?;
+        write_type_group(text, Keyword::Result, field.results.as_slice())?;
+        write_closing(text)?;
+        write_closing(text)
+    }
+}
+
+fn write_import_description(
+    text: &mut String,
+    description: ImportDescription,
+) -> Result<(), AllocError>
+    ensures { Writes text.old text.new result (import_description description) }
+{
+    match description {
+        ImportDescription::Function(type_number) => write_imported_function(text, type_number),
+        ImportDescription::Table(limits) => write_imported_table(text, limits),
+        ImportDescription::Memory(limits) => write_imported_memory(text, limits),
+        ImportDescription::Global(global) => write_imported_global(text, global),
+    }
+}
+
+fn write_imported_function(text: &mut String, type_number: u32) -> Result<(), AllocError>
+    ensures { Writes text.old text.new result (import_description (import.Function type_number)) }
+{
+    write_opening(text, Gap::Space, Keyword::Func)?;
+    write_type_use(text, type_number)?;
+    write_closing(text)
+}
+
+fn write_imported_table(text: &mut String, table: Limits) -> Result<(), AllocError>
+    ensures { Writes text.old text.new result (import_description (import.Table table)) }
+{
+    write_opening(text, Gap::Space, Keyword::Table)?;
+    write_limits(text, table)?;
+    write_keyword(text, Gap::Space, Keyword::Funcref)?;
+    write_closing(text)
+}
+
+fn write_imported_memory(text: &mut String, memory: Limits) -> Result<(), AllocError>
+    ensures { Writes text.old text.new result (import_description (import.Memory memory)) }
+{
+    write_opening(text, Gap::Space, Keyword::Memory)?;
+    write_limits(text, memory)?;
+    write_closing(text)
+}
+
+fn write_imported_global(text: &mut String, global: GlobalType) -> Result<(), AllocError>
+    ensures { Writes text.old text.new result (import_description (import.Global global)) }
+{
+    write_opening(text, Gap::Space, Keyword::Global)?;
+    write_global_type(text, global)?;
+    write_closing(text)
+}
+
+/// Writes an import (Core 1.0, 6.6.4).
+impl Part for Import {
+    type Of = Import;
+
+    ghost pieces = { import_field };
+
+    fn write(text: &mut String, field: &Import) -> Result<(), AllocError> {
+        write_beginning(text, Keyword::Import)?;
+        write_string(text, field.module.as_str().as_bytes())?;
+        write_string(text, field.name.as_str().as_bytes())?;
+        write_import_description(text, field.description)?;
+        write_closing(text)
+    }
+}
+
+/// Writes a function (Core 1.0, 6.6.5).
+impl Part for Function {
+    type Of = Function;
+
+    ghost pieces = { function_field };
+
+    ghost IsWithin = { λ f. IsBodyWithin f.body };
+
+    fn write(text: &mut String, field: &Function) -> Result<(), AllocError> {
+        write_beginning(text, Keyword::Func)?;
+        write_type_use(text, field.type_number)?;
+        write_type_group(text, Keyword::Local, field.locals.as_slice())?;
+        write_code(text, Gap::Line(2), MAX_NESTING, &field.body)?;
+        write_closing_line(text, 1)
+    }
+}
+
+/// A table, which is printed by its limits.
+pub struct Table;
+
+/// Writes a table (Core 1.0, 6.6.6).
+impl Part for Table {
+    type Of = Limits;
+
+    ghost pieces = { table_field };
+
+    fn write(text: &mut String, field: &Limits) -> Result<(), AllocError> {
+        write_beginning(text, Keyword::Table)?;
+        write_limits(text, *field)?;
+        write_keyword(text, Gap::Space, Keyword::Funcref)?;
+        write_closing(text)
+    }
+}
+
+/// A memory, which is printed by its limits.
+pub struct Memory;
+
+/// Writes a memory (Core 1.0, 6.6.7).
+impl Part for Memory {
+    type Of = Limits;
+
+    ghost pieces = { memory_field };
+
+    fn write(text: &mut String, field: &Limits) -> Result<(), AllocError> {
+        write_beginning(text, Keyword::Memory)?;
+        write_limits(text, *field)?;
+        write_closing(text)
+    }
+}
+
+/// Writes a global (Core 1.0, 6.6.8).
+impl Part for Global {
+    type Of = Global;
+
+    ghost pieces = { global_field };
+
+    ghost IsWithin = { λ g. IsBodyWithin g.initial };
+
+    fn write(text: &mut String, field: &Global) -> Result<(), AllocError> {
+        write_beginning(text, Keyword::Global)?;
+        write_global_type(text, field.global_type)?;
+        write_code(text, Gap::Space, MAX_NESTING, &field.initial)?;
+        write_closing(text)
+    }
+}
+
+// Writes the keyword and the index of an exported item.
+fn write_numbered(text: &mut String, keyword: Keyword, n: u32) -> Result<(), AllocError>
+    ensures { Writes text.old text.new result (numbered keyword n) }
+{
+    write_opening(text, Gap::Space, keyword)?;
+    write_count(text, n)?;
+    write_closing(text)
+}
+
+fn write_export_description(
+    text: &mut String,
+    description: ExportDescription,
+) -> Result<(), AllocError>
+    ensures { Writes text.old text.new result (export_description description) }
+{
+    match description {
+        ExportDescription::Function(n) => write_numbered(text, Keyword::Func, n),
+        ExportDescription::Table(n) => write_numbered(text, Keyword::Table, n),
+        ExportDescription::Memory(n) => write_numbered(text, Keyword::Memory, n),
+        ExportDescription::Global(n) => write_numbered(text, Keyword::Global, n),
+    }
+}
+
+/// Writes an export (Core 1.0, 6.6.9).
+impl Part for Export {
+    type Of = Export;
+
+    ghost pieces = { export_field };
+
+    fn write(text: &mut String, field: &Export) -> Result<(), AllocError> {
+        write_beginning(text, Keyword::Export)?;
+        write_string(text, field.name.as_str().as_bytes())?;
+        write_export_description(text, field.description)?;
+        write_closing(text)
+    }
+}
+
+/// Writes the start function, or nothing where the module has none (Core 1.0, 6.6.10).
+pub fn write_start(text: &mut String, start: Option<u32>) -> Result<(), AllocError>
+    ensures { Writes text.old text.new result (start_field start) }
+{
+    match start {
+        None => Ok(()),
+        Some(n) => {
+            write_beginning(text, Keyword::Start)?;
+            write_count(text, n)?;
+            write_closing(text)
+        }
+    }
+}
+
+/// Writes an element segment (Core 1.0, 6.6.11).
+impl Part for Element {
+    type Of = Element;
+
+    ghost pieces = { element_field };
+
+    ghost IsWithin = { λ e. IsBodyWithin e.offset };
+
+    #[tactic(auto, using(crate::proofs::Codes::all_held))]
+    fn write(text: &mut String, field: &Element) -> Result<(), AllocError> {
+        write_beginning(text, Keyword::Elem)?;
+        write_number_part(text, field.table)?;
+        write_offset(text, &field.offset)?;
+        write_each::<u32>(text, field.functions.as_slice())?;
+        write_closing(text)
+    }
+}
+
+/// Writes a data segment (Core 1.0, 6.6.12).
+impl Part for Data {
+    type Of = Data;
+
+    ghost pieces = { data_field };
+
+    ghost IsWithin = { λ d. IsBodyWithin d.offset };
+
+    fn write(text: &mut String, field: &Data) -> Result<(), AllocError> {
+        write_beginning(text, Keyword::Data)?;
+        write_number_part(text, field.memory)?;
+        write_offset(text, &field.offset)?;
+        write_string(text, field.bytes.as_slice())?;
+        write_closing(text)
+    }
+}

@@ -1,12 +1,12 @@
 -- A run as JSON.
-use Rattle.std.specs.Prelude.{◌≡◌, ◌++◌, ℕ, List, Option, Some, None, codes, map}
+use Rattle.std.specs.Prelude.{◌≡◌, ◌++◌, ℕ, List, Option, Some, None, codes, fold, map}
 use Rattle.std.specs.Borrow.{Bor}
 use Rattle.run_report.specs.declared.report.JobFiles.{JobFiles}
 use Rattle.run_report.specs.declared.report.Outcome.{Outcome}
 use Rattle.run_report.specs.declared.report.RunReport.{RunReport}
 use Rattle.run_report.specs.declared.report.RunSettings.{RunSettings}
 use Rattle.run_report.specs.declared.report.SuperstepCounts.{SuperstepCounts}
-use Rattle.serde_json.specs.Data.{Data, null, string, number, unsigned, array, object, member, no_members}
+use Rattle.serde_json.specs.Data.{Data, Members, null, string, number, unsigned, array, object, member, no_members, put}
 use Rattle.serde_json.specs.Read.{read}
 use Rattle.serde_json.specs.View.{items_of}
 use Rattle.serde_json.specs.Written.{compact_text}
@@ -15,6 +15,10 @@ use Rattle.serde_json.specs.Written.{compact_text}
 abbrev pub count_data : Option ℕ → Data
 count_data None = null
 count_data (Some count) = number (unsigned count)
+
+-- the members of an object, with these counts by their names
+abbrev pub with_counts : List (Bor (List ℕ) × Option ℕ) → Members → Members
+with_counts counts members = fold (λ members count. put count.0.now (count_data count.1) members) members counts
 
 abbrev pub settings_data : RunSettings → Data
 settings_data settings =

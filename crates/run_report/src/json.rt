@@ -1,13 +1,14 @@
 //! A run as JSON.
 
-ghost use Rattle.std.specs.Prelude.{◌≡◌, IfOk, Some, string_bytes};
-ghost use Rattle.run_report.specs.Json.{IsJsonOf, count_data, counts_data, fault_data, numbers_data, outcome_data, report_data, settings_data, superstep_data};
+ghost use Rattle.std.specs.Prelude.{◌≡◌, ◌++◌, IfOk, OnOk, Some, codes, map, string_bytes};
+ghost use Rattle.run_report.specs.Json.{IsJsonOf, count_data, counts_data, fault_data, number_data, numbers_data, outcome_data, report_data, settings_data, superstep_data, with_counts};
+ghost use Rattle.serde_json.specs.Data.{no_members, object, put as with_member, string};
 ghost use Rattle.serde_json.specs.Read.{read};
-ghost use Rattle.serde_json.specs.View.{view};
+ghost use Rattle.serde_json.specs.View.{members_view, view};
 ghost use Rattle.serde_json.specs.Written.{compact_text};
 
 use crate::report::{JobFiles, Outcome, RunReport, RunSettings, SuperstepCounts};
-use serde_json::{Value, json};
+use serde_json::{Map, Value, push, put};
 use std::alloc::{AllocError, Global};
 
 /// The report as one line of JSON, which reads back as what was reported. The only refusal is that there is no memory.
@@ -33,49 +34,106 @@ fn text_of(alloc: Global, files: JobFiles, report: &RunReport) -> Result<String,
 fn report_value(alloc: Global, files: JobFiles, report: &RunReport) -> Result<Value, AllocError>
     ensures { IfOk result (λ value. view value ≡ report_data files.entry report.now) }
 {
+    let mut map = Map::new(alloc);
+    put_report(&mut map, alloc, files, report)?;
+    Ok(Value::Object(map))
+}
+
+fn put_report(
+    map: &mut Map<String, Value>,
+    alloc: Global,
+    files: JobFiles,
+    report: &RunReport,
+) -> Result<(), AllocError>
+    requires { members_view map.old.entries ≡ no_members }
+    ensures { OnOk result
+        (object (members_view map.new.entries) ≡ report_data files.entry report.now) }
+{
+    let counts = [
+        ("edges", Some(report.edges)),
+        ("size", Some(report.size)),
+        ("vertices", Some(report.vertices)),
+    ];
+    put_counts(map, alloc, &counts)?;
+    put_text(map, alloc, "graph", files.graph)?;
+    put_text(map, alloc, "module", files.module)?;
     let outcome = outcome_value(alloc, &report.outcome)?;
+    put(map, alloc, "ended", outcome)?;
     let settings = settings_value(alloc, &report.settings)?;
+    put(map, alloc, "settings", settings)?;
+    put_lists(map, alloc, report)
+}
+
+fn put_lists(
+    map: &mut Map<String, Value>,
+    alloc: Global,
+    report: &RunReport,
+) -> Result<(), AllocError>
+    ensures { OnOk result (members_view map.new.entries
+        ≡ with_member (codes "supersteps") (counts_data report.now.supersteps.items)
+        (with_member (codes "spent") (numbers_data report.now.spent.items)
+        (members_view map.old.entries))) }
+{
     let spent = numbers_value(alloc, &report.spent)?;
+    put(map, alloc, "spent", spent)?;
     let supersteps = counts_value(alloc, &report.supersteps)?;
-    json!(in alloc; {
-        "edges": report.edges,
-        "ended": outcome,
-        "graph": files.graph,
-        "module": files.module,
-        "settings": settings,
-        "size": report.size,
-        "spent": spent,
-        "supersteps": supersteps,
-        "vertices": report.vertices
-    })
+    put(map, alloc, "supersteps", supersteps)
 }
 
 fn settings_value(alloc: Global, settings: &RunSettings) -> Result<Value, AllocError>
     ensures { IfOk result (λ value. view value ≡ settings_data settings.now) }
 {
-    json!(in alloc; {
-        "every": settings.every,
-        "lease": settings.lease,
-        "limit": settings.limit,
-        "parts": settings.parts,
-        "workers": settings.workers
-    })
+    let counts = [
+        ("every", Some(u64::from(settings.every))),
+        ("lease", Some(u64::from(settings.lease))),
+        ("limit", Some(u64::from(settings.limit))),
+        ("parts", Some(u64::from(settings.parts))),
+        ("workers", Some(u64::from(settings.workers))),
+    ];
+    object_of(alloc, &counts)
+}
+
+fn superstep_value(alloc: Global, counts: &SuperstepCounts) -> Result<Value, AllocError>
+    ensures { IfOk result (λ value. view value ≡ superstep_data counts.now) }
+{
+    let counts = [
+        ("called", counts.called),
+        ("dropped", counts.dropped),
+        ("sent", counts.sent),
+        ("superstep", Some(counts.superstep)),
+        ("units", counts.units),
+    ];
+    object_of(alloc, &counts)
 }
 
 fn outcome_value(alloc: Global, outcome: &Outcome) -> Result<Value, AllocError>
     ensures { IfOk result (λ value. view value ≡ outcome_data outcome.now) }
 {
+    let mut map = Map::new(alloc);
+    put_outcome(&mut map, alloc, outcome)?;
+    Ok(Value::Object(map))
+}
+
+fn put_outcome(
+    map: &mut Map<String, Value>,
+    alloc: Global,
+    outcome: &Outcome,
+) -> Result<(), AllocError>
+    requires { members_view map.old.entries ≡ no_members }
+    ensures { OnOk result (object (members_view map.new.entries) ≡ outcome_data outcome.now) }
+{
+    let counts = [
+        ("dropped", outcome.dropped),
+        ("epoch", outcome.epoch),
+        ("missed", outcome.missed),
+        ("restarts", outcome.restarts),
+        ("superstep", outcome.superstep),
+        ("units", outcome.units),
+    ];
+    put_counts(map, alloc, &counts)?;
     let fault = fault_value(alloc, outcome.fault)?;
-    json!(in alloc; {
-        "dropped": count_value(outcome.dropped),
-        "epoch": count_value(outcome.epoch),
-        "fault": fault,
-        "how": outcome.how,
-        "missed": count_value(outcome.missed),
-        "restarts": count_value(outcome.restarts),
-        "superstep": count_value(outcome.superstep),
-        "units": count_value(outcome.units)
-    })
+    put(map, alloc, "fault", fault)?;
+    put_text(map, alloc, "how", outcome.how)
 }
 
 fn fault_value(alloc: Global, fault: Option<&str>) -> Result<Value, AllocError>
@@ -87,16 +145,41 @@ fn fault_value(alloc: Global, fault: Option<&str>) -> Result<Value, AllocError>
     }
 }
 
-fn superstep_value(alloc: Global, counts: &SuperstepCounts) -> Result<Value, AllocError>
-    ensures { IfOk result (λ value. view value ≡ superstep_data counts.now) }
+fn put_text(
+    map: &mut Map<String, Value>,
+    alloc: Global,
+    name: &str,
+    text: &str,
+) -> Result<(), AllocError>
+    ensures { OnOk result (members_view map.new.entries
+        ≡ with_member name.now (string text.now) (members_view map.old.entries)) }
 {
-    json!(in alloc; {
-        "called": count_value(counts.called),
-        "dropped": count_value(counts.dropped),
-        "sent": count_value(counts.sent),
-        "superstep": counts.superstep,
-        "units": count_value(counts.units)
-    })
+    let text = Value::try_from_str(alloc, text)?;
+    put(map, alloc, name, text)
+}
+
+// An object of counts by their names.
+fn object_of(alloc: Global, counts: &[(&str, Option<u64>)]) -> Result<Value, AllocError>
+    ensures { IfOk result (λ value. view value ≡ object (with_counts counts.now no_members)) }
+{
+    let mut map = Map::new(alloc);
+    put_counts(&mut map, alloc, counts)?;
+    Ok(Value::Object(map))
+}
+
+// Puts counts into an object, each by its name.
+fn put_counts(
+    map: &mut Map<String, Value>,
+    alloc: Global,
+    counts: &[(&str, Option<u64>)],
+) -> Result<(), AllocError>
+    ensures { OnOk result (members_view map.new.entries
+        ≡ with_counts counts.now (members_view map.old.entries)) }
+{
+    for (name, count) in counts {
+        put(map, alloc, name, count_value(*count))?;
+    }
+    Ok(())
 }
 
 // A count, or null where it is not known.
@@ -113,19 +196,39 @@ fn counts_value(alloc: Global, counts: &[SuperstepCounts]) -> Result<Value, Allo
     ensures { IfOk result (λ value. view value ≡ counts_data counts.now) }
 {
     let mut values = Vec::with_capacity(alloc, counts.len())?;
+    push_counts(&mut values, alloc, counts)?;
+    Ok(Value::Array(values))
+}
+
+fn push_counts(
+    values: &mut Vec<Value>,
+    alloc: Global,
+    counts: &[SuperstepCounts],
+) -> Result<(), AllocError>
+    ensures { OnOk result (map view values.new.items
+        ≡ map view values.old.items ++ map superstep_data counts.now) }
+{
     for counts in counts {
         let value = superstep_value(alloc, counts)?;
-        values.push(value)?;
+        push(values, value)?;
     }
-    Ok(Value::Array(values))
+    Ok(())
 }
 
 fn numbers_value(alloc: Global, numbers: &[u64]) -> Result<Value, AllocError>
     ensures { IfOk result (λ value. view value ≡ numbers_data numbers.now) }
 {
     let mut values = Vec::with_capacity(alloc, numbers.len())?;
-    for number in numbers {
-        values.push(Value::from(*number))?;
-    }
+    push_numbers(&mut values, numbers)?;
     Ok(Value::Array(values))
+}
+
+fn push_numbers(values: &mut Vec<Value>, numbers: &[u64]) -> Result<(), AllocError>
+    ensures { OnOk result (map view values.new.items
+        ≡ map view values.old.items ++ map number_data numbers.now) }
+{
+    for number in numbers {
+        push(values, Value::from(*number))?;
+    }
+    Ok(())
 }

@@ -63,8 +63,11 @@ pub fn push_panel(
 ) -> Result<(), AllocError> {
     let axes = Axes::of(supersteps, measure.most(supersteps));
     let (top, label) = (measure.top(), measure.label());
-    writeln!(text, "<g transform=\"translate(1200,{top})\">")?;
-    writeln!(text, "<text y=\"-130\" font-weight=\"bold\">{label}</text>")?;
+    writeln!(
+        text,
+        "<g transform=\"translate(1200,{top})\">\n\
+         <text y=\"-130\" font-weight=\"bold\">{label}</text>"
+    )?;
     push_values(text, axes)?;
     push_numbers(text, axes)?;
     writeln!(
@@ -91,11 +94,11 @@ fn push_values(text: &mut String, axes: Axes) -> Result<(), AllocError> {
 fn push_value(text: &mut String, value: u64, axes: Axes) -> Result<(), AllocError> {
     let down = axes.down(value);
     let foot = down.saturating_add(45);
-    writeln!(
+    write!(
         text,
-        "<path d=\"M0 {down}H{WIDTH}\" stroke=\"#dddddd\" stroke-width=\"8\"/>"
+        "<path d=\"M0 {down}H{WIDTH}\" stroke=\"#dddddd\" stroke-width=\"8\"/>\n\
+         <text x=\"-90\" y=\"{foot}\" text-anchor=\"end\">"
     )?;
-    write!(text, "<text x=\"-90\" y=\"{foot}\" text-anchor=\"end\">")?;
     push_short(text, value, axes.unit)?;
     text.push_str("</text>\n")
 }
@@ -133,11 +136,8 @@ fn push_number(text: &mut String, superstep: u64, across: u64) -> Result<(), All
     let (tick, foot) = (HEIGHT + 50, HEIGHT + 200);
     writeln!(
         text,
-        "<path d=\"M{across} {HEIGHT}V{tick}\" stroke=\"#333333\" stroke-width=\"12\"/>"
-    )?;
-    writeln!(
-        text,
-        "<text x=\"{across}\" y=\"{foot}\" text-anchor=\"middle\">{superstep}</text>"
+        "<path d=\"M{across} {HEIGHT}V{tick}\" stroke=\"#333333\" stroke-width=\"12\"/>\n\
+         <text x=\"{across}\" y=\"{foot}\" text-anchor=\"middle\">{superstep}</text>"
     )
 }
 
@@ -191,20 +191,26 @@ fn push_marks(
     if supersteps.len() > MOST_MARKS {
         return Ok(());
     }
-    let colour = measure.colour();
     for counts in supersteps {
         if let Some(value) = measure.of(counts) {
-            let superstep = counts.superstep;
-            let (across, down) = (axes.across(superstep), axes.down(value));
-            write!(
-                text,
-                "<circle cx=\"{across}\" cy=\"{down}\" r=\"35\" fill=\"{colour}\">"
-            )?;
-            writeln!(
-                text,
-                "<title>superstep {superstep}: {value}</title></circle>"
-            )?;
+            push_mark(text, measure, counts.superstep, value, axes)?;
         }
     }
     Ok(())
+}
+
+fn push_mark(
+    text: &mut String,
+    measure: Measure,
+    superstep: u64,
+    value: u64,
+    axes: Axes,
+) -> Result<(), AllocError> {
+    let colour = measure.colour();
+    let (across, down) = (axes.across(superstep), axes.down(value));
+    writeln!(
+        text,
+        "<circle cx=\"{across}\" cy=\"{down}\" r=\"35\" fill=\"{colour}\">\
+         <title>superstep {superstep}: {value}</title></circle>"
+    )
 }

@@ -1,12 +1,14 @@
 //! The state of a job, as JSON.
 
-ghost use Rattle.std.specs.Prelude.{◌≡◌, IfOk, string_bytes};
+ghost use Rattle.std.specs.Prelude.{◌≡◌, IfOk, OnOk, string_bytes};
+ghost use Rattle.std.specs.Fmt.{decimal};
+ghost use Rattle.serde_json.specs.Data.{no_members, object, put as with_member, string};
 ghost use Rattle.serde_json.specs.Written.{compact_text};
-ghost use Rattle.serde_json.specs.View.{view};
+ghost use Rattle.serde_json.specs.View.{members_view, view};
 ghost use Rattle.session.specs.Replies.{fault_data, numbers_of, state_word, status_data, status_line};
 
 use crate::held_job::RunState;
-use serde_json::{Value, json};
+use serde_json::{Map, Value, put};
 use sources::end_word;
 use std::alloc::{AllocError, Global};
 
@@ -42,18 +44,59 @@ fn json_of(alloc: Global, name: &str, state: &RunState) -> Result<String, AllocE
 fn status_value(alloc: Global, name: &str, state: &RunState) -> Result<Value, AllocError>
     ensures { IfOk result (λ status. view status ≡ status_data name.now state.now) }
 {
+    let mut map = Map::new(alloc);
+    put_status(&mut map, alloc, name, state)?;
+    Ok(Value::Object(map))
+}
+
+fn put_status(
+    map: &mut Map<String, Value>,
+    alloc: Global,
+    name: &str,
+    state: &RunState,
+) -> Result<(), AllocError>
+    requires { members_view map.old.entries ≡ no_members }
+    ensures { OnOk result
+        (object (members_view map.new.entries) ≡ status_data name.now state.now) }
+{
     let numbers = numbers_of(state);
-    json!(in alloc; {
-        "dropped": numbers.dropped.to_string(alloc)?,
-        "epoch": numbers.epoch,
-        "fault": fault_of(alloc, state)?,
-        "missed": numbers.missed,
-        "name": name,
-        "restarts": numbers.restarts,
-        "state": state_word(state),
-        "superstep": numbers.superstep,
-        "units": numbers.units.to_string(alloc)?
-    })
+    put_large(map, alloc, "dropped", numbers.dropped)?;
+    put(map, alloc, "epoch", Value::from(numbers.epoch))?;
+    let fault = fault_of(alloc, state)?;
+    put(map, alloc, "fault", fault)?;
+    put(map, alloc, "missed", Value::from(numbers.missed))?;
+    put_text(map, alloc, "name", name)?;
+    put(map, alloc, "restarts", Value::from(numbers.restarts))?;
+    put_text(map, alloc, "state", state_word(state))?;
+    put(map, alloc, "superstep", Value::from(numbers.superstep))?;
+    put_large(map, alloc, "units", numbers.units)
+}
+
+// Puts a number that JSON readers may not hold into an object, as a text.
+fn put_large(
+    map: &mut Map<String, Value>,
+    alloc: Global,
+    name: &str,
+    number: u128,
+) -> Result<(), AllocError>
+    ensures { OnOk result (members_view map.new.entries
+        ≡ with_member name.now (string (decimal number)) (members_view map.old.entries)) }
+{
+    let text = number.to_string(alloc)?;
+    put(map, alloc, name, Value::String(text))
+}
+
+fn put_text(
+    map: &mut Map<String, Value>,
+    alloc: Global,
+    name: &str,
+    text: &str,
+) -> Result<(), AllocError>
+    ensures { OnOk result (members_view map.new.entries
+        ≡ with_member name.now (string text.now) (members_view map.old.entries)) }
+{
+    let text = Value::try_from_str(alloc, text)?;
+    put(map, alloc, name, text)
 }
 
 // Returns the numbers of the report. All are 0 if there is none.

@@ -1,7 +1,5 @@
 -- what is reported of a run, as JSON data
 pub mod Json
--- what is counted of a superstep while a job runs
-pub mod Tally
 -- what a panel of a chart shows
 pub mod Measures
 -- numbers on an axis

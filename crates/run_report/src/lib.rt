@@ -7,11 +7,10 @@ mod measure;
 mod panel;
 mod report;
 mod scale;
-mod tally;
 mod unit;
 mod words;
 
 pub use chart::svg_text;
 pub use json::json_text;
-pub use report::{JobFiles, Outcome, RunReport, RunSettings, SuperstepCounts};
-pub use tally::{Ended, Tallied, Tally, capped};
+pub use report::{JobFiles, Outcome, RunReport, RunSettings};
+pub use run_tally::{Ended, SuperstepCounts, Tallied, Tally, capped};

@@ -3,7 +3,7 @@
 ghost use Rattle.std.specs.Prelude.{◌≡◌};
 ghost use Rattle.run_report.specs.Measures.{measured, most_of};
 
-use crate::report::SuperstepCounts;
+use run_tally::SuperstepCounts;
 
 /// What a panel shows of each superstep.
 #[derive(Clone, Copy)]

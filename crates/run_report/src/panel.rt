@@ -1,9 +1,9 @@
 //! A panel of a chart: two axes, and a curve over supersteps.
 
 use crate::measure::Measure;
-use crate::report::SuperstepCounts;
 use crate::scale::{place_on, round_up};
 use crate::unit::Unit;
+use run_tally::SuperstepCounts;
 use std::alloc::AllocError;
 
 // How wide a panel is, how high, and how many points are drawn at most, and marked. Lengths are tenths of a pixel.

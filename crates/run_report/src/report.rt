@@ -1,5 +1,7 @@
 //! What is reported of a run.
 
+use run_tally::SuperstepCounts;
+
 /// How the job was run.
 #[derive(Clone, Copy)]
 pub struct RunSettings {
@@ -34,21 +36,6 @@ pub struct Outcome {
     pub missed: Option<u64>,
     /// How often all began again with superstep 0.
     pub restarts: Option<u64>,
-}
-
-/// What was counted of a superstep. A count is missing where it is not known.
-#[derive(Clone, Copy)]
-pub struct SuperstepCounts {
-    /// The superstep, from 0 on.
-    pub superstep: u64,
-    /// The units of its calls.
-    pub units: Option<u64>,
-    /// How many vertices were called.
-    pub called: Option<u64>,
-    /// How many messages they sent.
-    pub sent: Option<u64>,
-    /// How many of these went to no vertex.
-    pub dropped: Option<u64>,
 }
 
 /// The files of a job, by their names.

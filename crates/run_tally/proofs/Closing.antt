@@ -1,6 +1,6 @@
 use Rattle.std.proofs.Common.{◌≡◌, ℕ, List, [], ◌∷◌, ◌++◌, Option, ap, refl}
-use Rattle.run_report.specs.Tally.{closed, closed_from, less, rest_behind, with_dropped}
-use Rattle.run_report.specs.declared.report.SuperstepCounts.{SuperstepCounts}
+use Rattle.run_tally.specs.Tally.{closed, closed_from, less, rest_behind, with_dropped}
+use Rattle.run_tally.specs.declared.counts.SuperstepCounts.{SuperstepCounts}
 
 closed_from-last : (counts : SuperstepCounts) (others : List SuperstepCounts) (last : SuperstepCounts) (dropped : Option ℕ) → closed_from counts (others ++ last ∷ []) dropped ≡ counts ∷ (others ++ with_dropped last (rest_behind (counts ∷ others) dropped) ∷ [])
 closed_from-last counts [] last dropped = refl

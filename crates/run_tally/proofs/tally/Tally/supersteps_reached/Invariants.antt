@@ -1,6 +1,6 @@
 use Rattle.std.proofs.Common.{◌≡◌, vec_len}
-use Rattle.run_report.specs.Tally.{counts_until}
-use Rattle.run_report.proofs.tally.Tally.supersteps_reached.Given as goal
+use Rattle.run_tally.specs.Tally.{counts_until}
+use Rattle.run_tally.proofs.tally.Tally.supersteps_reached.Given as goal
 
 abbrev pub invariant-loop-superstep : goal.invariant-loop-superstep
 invariant-loop-superstep l = record {

@@ -1,6 +1,6 @@
 use Rattle.std.proofs.Common.{◌≡◌, ◌-◌, ◌^◌, ◌<◌, ℕ, min, IsSome}
-use Rattle.run_report.specs.Tally.{epoch_before, whole_in}
-use Rattle.run_report.proofs.tally.Tally.reached.Given as goal
+use Rattle.run_tally.specs.Tally.{epoch_before, whole_in}
+use Rattle.run_tally.proofs.tally.Tally.reached.Given as goal
 
 abbrev pub invariant-loop-row : goal.invariant-loop-row
 invariant-loop-row l = record {

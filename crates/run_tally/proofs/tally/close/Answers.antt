@@ -1,7 +1,7 @@
 use Rattle.std.proofs.Common.{◌∙◌, Some, [], ◌∷◌, ◌++◌, ap, sym}
-use Rattle.run_report.specs.Tally.{closed, with_dropped}
-use Rattle.run_report.proofs.Closing.{closed-last}
-use Rattle.run_report.proofs.tally.close.Goals as goal
+use Rattle.run_tally.specs.Tally.{closed, with_dropped}
+use Rattle.run_tally.proofs.Closing.{closed-last}
+use Rattle.run_tally.proofs.tally.close.Goals as goal
 
 pub returns : goal.returns
 returns c =

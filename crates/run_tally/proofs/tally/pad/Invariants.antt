@@ -1,6 +1,6 @@
 use Rattle.std.proofs.Common.{◌≡◌, ◌≤◌, ℕ, vec_len}
-use Rattle.run_report.specs.Tally.{row_in}
-use Rattle.run_report.proofs.tally.pad.Given as goal
+use Rattle.run_tally.specs.Tally.{row_in}
+use Rattle.run_tally.proofs.tally.pad.Given as goal
 
 abbrev pub invariant-loop-next : goal.invariant-loop-next
 invariant-loop-next l = record {

@@ -1,8 +1,8 @@
 use Rattle.std.proofs.Common.{◌≡◌, ◌+◌, ℕ, Option, Some, IsSome, add-one, ap, arith, below_more, option_map, refl, subst, sym, unwrap_or}
-use Rattle.run_report.specs.Tally.{epoch_before, whole_in}
-use Rattle.run_report.specs.declared.tally.Tallied.{Tallied}
-use Rattle.run_report.specs.declared.tally.Tally.{Tally}
-use Rattle.run_report.proofs.tally.Tally.reached.Goals as goal
+use Rattle.run_tally.specs.Tally.{epoch_before, whole_in}
+use Rattle.run_tally.specs.declared.tally.Tallied.{Tallied}
+use Rattle.run_tally.specs.declared.tally.Tally.{Tally}
+use Rattle.run_tally.proofs.tally.Tally.reached.Goals as goal
 
 -- the epoch of a superstep that was run to its end is that before the next
 epoch_next : (tally : Tally) (n : ℕ) (row : Tallied) → whole_in tally n ≡ Some row → row.epoch ≡ epoch_before tally (n + 1)

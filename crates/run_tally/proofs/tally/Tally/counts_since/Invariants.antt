@@ -1,6 +1,6 @@
 use Rattle.std.proofs.Common.{◌≡◌, ◌≤◌, ◌-◌, max, vec_len}
-use Rattle.run_report.specs.Tally.{counts_since}
-use Rattle.run_report.proofs.tally.Tally.counts_since.Given as goal
+use Rattle.run_tally.specs.Tally.{counts_since}
+use Rattle.run_tally.proofs.tally.Tally.counts_since.Given as goal
 
 abbrev pub invariant-loop-superstep : goal.invariant-loop-superstep
 invariant-loop-superstep l = record {

@@ -1,8 +1,8 @@
 use Rattle.std.proofs.Common.{◌≡◌, ◌∙◌, ◌+◌, ◌<◌, ◌++◌, ◌∷◌, [], ℕ, None, ap, arith, subst, sym, vec_len}
 use Rattle.std.proofs.lemmas.List.FromFn.{map-range_with_len_more}
-use Rattle.run_report.specs.Tally.{StopsAt, counts_at, counts_until}
-use Rattle.run_report.specs.declared.tally.Tally.{Tally}
-use Rattle.run_report.proofs.tally.Tally.supersteps_reached.Goals as goal
+use Rattle.run_tally.specs.Tally.{StopsAt, counts_at, counts_until}
+use Rattle.run_tally.specs.declared.tally.Tally.{Tally}
+use Rattle.run_tally.proofs.tally.Tally.supersteps_reached.Goals as goal
 
 -- with the counts of one more superstep
 counts_more : (tally : Tally) (n : ℕ) → counts_until tally (n + 1) ≡ counts_until tally n ++ counts_at tally n None ∷ []

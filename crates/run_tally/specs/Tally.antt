@@ -2,10 +2,10 @@
 use Rattle.std.specs.Prelude.{◌≡◌, ◌≢◌, ℕ, zero, suc, ◌+◌, ◌-◌, ◌^◌, ◌<◌, ◌==◌, List, [], ◌∷◌, Option, Some, None, IfSome, map, min, nat_le, nat_lt, option_map, slice_get, slice_index_or, unwrap_or, if◌then◌else◌}
 use Rattle.std.specs.List.{fold, range_with_len}
 use Rattle.std.specs.Option.{option_or}
-use Rattle.run_report.specs.declared.report.SuperstepCounts.{SuperstepCounts}
-use Rattle.run_report.specs.declared.tally.Ended.{Ended}
-use Rattle.run_report.specs.declared.tally.Tallied.{Tallied}
-use Rattle.run_report.specs.declared.tally.Tally.{Tally}
+use Rattle.run_tally.specs.declared.counts.SuperstepCounts.{SuperstepCounts}
+use Rattle.run_tally.specs.declared.tally.Ended.{Ended}
+use Rattle.run_tally.specs.declared.tally.Tallied.{Tallied}
+use Rattle.run_tally.specs.declared.tally.Tally.{Tally}
 
 -- a sum, which stops at the greatest number of 64 bits
 abbrev pub capped_sum : ℕ → ℕ → ℕ

@@ -1,9 +1,9 @@
 use Rattle.std.proofs.Common.{◌≡◌, ◌∙◌, ◌+◌, ◌-◌, ◌≤◌, ◌++◌, ◌∷◌, [], ℕ, ap, arith, subst, sym}
 use Rattle.std.proofs.lemmas.List.FromFn.{map-range_with_len_more}
-use Rattle.run_report.specs.Tally.{counts_at, counts_since, units_known}
-use Rattle.run_report.specs.declared.tally.Ended.{Ended}
-use Rattle.run_report.specs.declared.tally.Tally.{Tally}
-use Rattle.run_report.proofs.tally.Tally.counts_since.Goals as goal
+use Rattle.run_tally.specs.Tally.{counts_at, counts_since, units_known}
+use Rattle.run_tally.specs.declared.tally.Ended.{Ended}
+use Rattle.run_tally.specs.declared.tally.Tally.{Tally}
+use Rattle.run_tally.proofs.tally.Tally.counts_since.Goals as goal
 
 -- with the counts of one more superstep
 counts_more : (tally : Tally) (ended : Ended) (n : ℕ) → ended.since ≤ n → counts_since tally ended (n + 1 - ended.since) ≡ counts_since tally ended (n - ended.since) ++ counts_at tally n (units_known ended n) ∷ []

@@ -1,9 +1,9 @@
 //! What is counted while a job runs.
 
 ghost use Rattle.std.specs.Prelude.{◌≡◌, ◌≤◌, ◌<◌, ◌-◌, ◌^◌, ℕ, IfOk, IsSome, Some, min, vec_len, OnOk};
-ghost use Rattle.run_report.specs.Tally.{Counts, IsNoTally, StopsAt, closed, counts_at, counts_of_end, counts_since, counts_until, dropped_of, less, rest_behind, row_in, units_known, whole, whole_in, with_task};
+ghost use Rattle.run_tally.specs.Tally.{Counts, IsNoTally, StopsAt, closed, counts_at, counts_of_end, counts_since, counts_until, dropped_of, less, rest_behind, row_in, units_known, whole, whole_in, with_task};
 
-use crate::report::SuperstepCounts;
+use crate::counts::SuperstepCounts;
 use std::alloc::{AllocError, Global};
 
 /// What was counted of the tasks of a superstep in one epoch. Counts stop at the greatest number of 64 bits.

@@ -37,122 +37,98 @@ i32.const 65520 i64.load i32.const 65528 i64.load call $send";
 /// Writes the module of a seed.
 pub fn module_text(alloc: Global, seed: u64) -> Result<String, AllocError> {
     let mut writer = Writer::new(alloc, seed);
-    writer.module()?;
-    Ok(writer.text)
+    writer.module();
+    writer.into_text()
 }
 
 impl Writer {
-    fn module(&mut self) -> Result<(), AllocError> {
-        self.word(IMPORTS)?;
-        self.fields()?;
-        self.functions()?;
-        self.word(")")
+    fn module(&mut self) {
+        self.word(IMPORTS);
+        self.global("(global $wide (mut i64)", ValType::I64);
+        self.global("(global $fixed i64", ValType::I64);
+        self.global("(global $small (mut i32)", ValType::I32);
+        self.memory();
+        self.functions();
+        self.word(")");
     }
 
-    fn fields(&mut self) -> Result<(), AllocError> {
-        self.global("(global $wide (mut i64)", ValType::I64)?;
-        self.global("(global $fixed i64", ValType::I64)?;
-        self.global("(global $small (mut i32)", ValType::I32)?;
-        self.memory()
+    fn global(&mut self, head: &str, val_type: ValType) {
+        self.word(head);
+        self.constant(val_type);
+        self.word(")");
     }
 
     // Writes a memory with data in its first and in its last bytes, or none.
-    fn memory(&mut self) -> Result<(), AllocError> {
-        if !self.has_memory {
-            return Ok(());
+    fn memory(&mut self) {
+        if self.has_memory {
+            self.segment("(memory 1) (data (i32.const 0) \"");
+            self.segment("(data (i32.const 65520) \"");
         }
-        self.segment("(memory 1) (data (i32.const 0) \"")?;
-        self.segment("(data (i32.const 65520) \"")
-    }
-
-    fn global(&mut self, head: &str, val_type: ValType) -> Result<(), AllocError> {
-        self.word(head)?;
-        self.constant(val_type)?;
-        self.word(")")
     }
 
     // Writes a segment of 16 bytes.
-    fn segment(&mut self, head: &str) -> Result<(), AllocError> {
-        self.text.push_str(head)?;
+    fn segment(&mut self, head: &str) {
+        self.part(head);
         for _ in 0..16 {
             let byte = self.random.below(256);
-            write!(self.text, "\\{byte:02x}")?;
+            self.byte(byte);
         }
-        self.word("\")")
+        self.word("\")");
     }
 
-    fn functions(&mut self) -> Result<(), AllocError> {
-        self.function(FIRST, Some(ValType::I64), 10)?;
+    fn functions(&mut self) {
+        self.function(FIRST, Some(ValType::I64), 10);
         self.callees = 1;
-        self.function(SECOND, Some(ValType::I32), 10)?;
+        self.function(SECOND, Some(ValType::I32), 10);
         self.callees = 2;
-        self.compute()
+        self.function(COMPUTE, None, 40);
     }
 
-    fn function(
-        &mut self,
-        head: &str,
-        result_type: BlockType,
-        steps: u32,
-    ) -> Result<(), AllocError> {
-        self.body(head, result_type, steps)?;
-        self.close()
-    }
-
-    fn compute(&mut self) -> Result<(), AllocError> {
-        self.body(COMPUTE, None, 40)?;
-        self.sends()?;
-        self.close()
-    }
-
-    fn sends(&mut self) -> Result<(), AllocError> {
-        self.word(SENDS)?;
-        if self.has_memory {
-            self.word(MEMORY_SENDS)?;
+    // Writes a function. `compute` alone has no result.
+    fn function(&mut self, head: &str, result_type: BlockType, steps: u32) {
+        self.word(head);
+        self.set_locals();
+        self.push_layer(Kind::Function, result_type);
+        self.steps(steps);
+        self.ends();
+        self.settle();
+        if result_type.is_none() {
+            self.sends();
         }
-        Ok(())
+        self.layers.clear();
+        self.operands.clear();
+        self.word(")");
     }
 
-    // Writes a function up to its result.
-    fn body(&mut self, head: &str, result_type: BlockType, steps: u32) -> Result<(), AllocError> {
-        self.word(head)?;
-        self.set_locals()?;
-        self.push_layer(Kind::Function, result_type)?;
-        self.steps(steps)?;
-        self.ends()?;
-        self.settle()
+    fn sends(&mut self) {
+        self.word(SENDS);
+        if self.has_memory {
+            self.word(MEMORY_SENDS);
+        }
     }
 
     // Sets the last two locals, which are no parameters.
-    fn set_locals(&mut self) -> Result<(), AllocError> {
-        self.constant(ValType::I64)?;
-        self.word("local.set 2")?;
-        self.constant(ValType::I32)?;
-        self.word("local.set 3")
+    fn set_locals(&mut self) {
+        self.constant(ValType::I64);
+        self.word("local.set 2");
+        self.constant(ValType::I32);
+        self.word("local.set 3");
     }
 
-    fn steps(&mut self, steps: u32) -> Result<(), AllocError> {
+    fn steps(&mut self, steps: u32) {
         for _ in 0..steps {
             if self.random.below(4) == 0 {
-                self.control_step()?;
+                self.control_step();
             } else {
-                self.straight_step()?;
+                self.straight_step();
             }
         }
-        Ok(())
     }
 
     // Ends the open sequences. A condition may have two.
-    fn ends(&mut self) -> Result<(), AllocError> {
+    fn ends(&mut self) {
         for _ in 0..self.layers.len().saturating_mul(2) {
-            self.end()?;
+            self.end();
         }
-        Ok(())
-    }
-
-    fn close(&mut self) -> Result<(), AllocError> {
-        self.layers.clear();
-        self.operands.clear();
-        self.word(")")
     }
 }

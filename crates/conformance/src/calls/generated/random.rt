@@ -25,18 +25,19 @@ impl Random {
 
     /// Returns `true` half of the time.
     pub fn is_heads(&mut self) -> bool {
-        self.below(2) == 0
+        self.number() % 2 == 0
     }
 
-    /// Returns one of the words, or an empty one if there is none.
-    pub fn one_of(&mut self, words: &[&'static str]) -> &'static str {
-        let place = self.place_below(words.len());
-        words.get(place).copied().unwrap_or("")
+    /// Returns one of the words between bars. A single word takes no number.
+    pub fn one_of(&mut self, words: &'static str) -> &'static str {
+        match words.split('|').count() {
+            1 => words,
+            count => words.split('|').nth(self.place_below(count)).unwrap_or(""),
+        }
     }
 
     /// Returns a place below a length, or 0 if the length is 0.
     pub fn place_below(&mut self, length: usize) -> usize {
-        let bound = u64::try_from(length).unwrap_or(0);
-        usize::try_from(self.below(bound)).unwrap_or(0)
+        self.below(length as u64) as usize
     }
 }

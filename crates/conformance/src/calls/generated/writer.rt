@@ -30,7 +30,7 @@ pub struct Layer {
 #[derive(Drop)]
 pub struct Writer {
     pub random: Random,
-    pub text: String,
+    text: String,
     /// The types of the operands, with those below the innermost sequence.
     pub operands: Vec<ValType>,
     /// The open sequences, the innermost last. The first is the function's body.
@@ -38,6 +38,8 @@ pub struct Writer {
     /// How many functions of the module are written before this one, which may call them.
     pub callees: u64,
     pub has_memory: bool,
+    /// Whether memory ran out, so that something is missing.
+    is_cut: bool,
 }
 
 impl Writer {
@@ -49,23 +51,51 @@ impl Writer {
             layers: Vec::new(alloc),
             callees: 0,
             has_memory: seed % 4 == 0,
+            is_cut: false,
+        }
+    }
+
+    /// Returns the text, unless memory ran out.
+    pub fn into_text(self) -> Result<String, AllocError> {
+        if self.is_cut {
+            Err(AllocError)
+        } else {
+            Ok(self.text)
+        }
+    }
+
+    /// Writes a word.
+    pub fn part(&mut self, word: &str) {
+        if self.text.push_str(word).is_err() {
+            self.is_cut = true;
         }
     }
 
     /// Writes a word and a blank.
-    pub fn word(&mut self, word: &str) -> Result<(), AllocError> {
-        self.text.push_str(word)?;
-        self.text.push(' ')
+    pub fn word(&mut self, word: &str) {
+        self.part(word);
+        self.part(" ");
     }
 
     /// Writes a word, a number and a blank.
-    pub fn numbered(&mut self, word: &str, number: u64) -> Result<(), AllocError> {
-        write!(self.text, "{word} {number} ")
+    pub fn numbered(&mut self, word: &str, number: u64) {
+        if write!(self.text, "{word} {number} ").is_err() {
+            self.is_cut = true;
+        }
+    }
+
+    /// Writes a byte of a string.
+    pub fn byte(&mut self, byte: u64) {
+        if write!(self.text, "\\{byte:02x}").is_err() {
+            self.is_cut = true;
+        }
     }
 
     /// Writes an instruction whose name begins with a type.
-    pub fn typed(&mut self, val_type: ValType, word: &str) -> Result<(), AllocError> {
-        write!(self.text, "{}.{word} ", type_word(val_type))
+    pub fn typed(&mut self, val_type: ValType, word: &str) {
+        self.part(type_word(val_type));
+        self.part(".");
+        self.word(word);
     }
 
     /// Returns what the innermost sequence belongs to.
@@ -103,25 +133,31 @@ impl Writer {
         self.operands.truncate(rest);
     }
 
-    pub fn push(&mut self, val_type: ValType) -> Result<(), AllocError> {
-        self.operands.push(val_type)?;
-        Ok(())
+    /// Notes an operand, if there is one.
+    pub fn push(&mut self, result_type: BlockType) {
+        if let Some(val_type) = result_type
+            && self.operands.push(val_type).is_err()
+        {
+            self.is_cut = true;
+        }
     }
 
     /// Begins a sequence over the present operands.
-    pub fn push_layer(&mut self, kind: Kind, result_type: BlockType) -> Result<(), AllocError> {
+    pub fn push_layer(&mut self, kind: Kind, result_type: BlockType) {
         let base = self.operands.len();
-        self.layers.push(Layer {
+        let layer = Layer {
             kind,
             base,
             result: result_type,
-        })?;
-        Ok(())
+        };
+        if self.layers.push(layer).is_err() {
+            self.is_cut = true;
+        }
     }
 }
 
 /// Returns the name of a type.
-pub fn type_word(val_type: ValType) -> &'static str {
+fn type_word(val_type: ValType) -> &'static str {
     match val_type {
         ValType::I32 => "i32",
         ValType::I64 => "i64",

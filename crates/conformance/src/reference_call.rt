@@ -11,9 +11,10 @@ mod start;
 
 use host::call_host;
 use host_calls::{CallInput, CallOutcome, CallState, HostCall};
+use operands::Operands;
 use plain::act_plain;
-use start::{begin, compute_function, defined_function};
-use std::alloc::{AllocError, AllocFailed, Global};
+use start::defined_function;
+use std::alloc::Global;
 use units::{branch_units, host_units, plain_units};
 use wasm_ast::{Instr, Module, Value};
 
@@ -31,32 +32,23 @@ pub enum Stop {
     OutOfMemory,
 }
 
-impl From<AllocError> for Stop {
-    fn from(_: AllocError) -> Stop {
-        Stop::OutOfMemory
-    }
-}
-
-impl<T: Drop> From<AllocFailed<T>> for Stop {
-    fn from(_: AllocFailed<T>) -> Stop {
-        Stop::OutOfMemory
-    }
-}
-
-/// A label (Core 1.0, 4.2.12) or, with the caller's locals, a frame. It waits until its sequence ends.
-#[derive(Drop)]
+/// A label (Core 1.0, 4.2.12) or a frame. It waits until its sequence ends.
+#[derive(Clone, Copy)]
 struct Layer<'a> {
     /// Whether a branch to it keeps an operand.
     keeps: bool,
-    operands: Vec<Value>,
-    locals: Option<Vec<Value>>,
+    /// The number of labels in its frame up to this one, or 0 if it is the frame.
+    labels: usize,
+    /// The number of operands below those of its sequence, and of the sequence around it.
+    base: usize,
+    outer_base: usize,
     /// The code with which a branch to it goes on.
     target: &'a [Instr],
     /// The code after its end.
     after: &'a [Instr],
 }
 
-/// A running call.
+/// A running call. A step that is not possible notes the reason in `operands`, and no step comes after it.
 #[derive(Drop)]
 struct Walk<'a, 'b, 'c> {
     alloc: Global,
@@ -69,10 +61,12 @@ struct Walk<'a, 'b, 'c> {
     units: u128,
     /// The labels and frames around the running sequence, the innermost last.
     layers: Vec<Layer<'a>>,
-    /// The rest of the running sequence, its operands, and the locals of its function.
+    /// The rest of the running sequence, and the operands.
     code: &'a [Instr],
-    operands: Vec<Value>,
+    operands: Operands,
+    /// The locals of the running function, and those of its callers.
     locals: Vec<Value>,
+    callers: Vec<Vec<Value>>,
 }
 
 /// Runs the function `compute` of the module over fresh memory and globals, for at most `budget` units (Core 1.0, 4.5.5).
@@ -84,8 +78,10 @@ pub fn run(
     budget: u128,
 ) -> Result<CallOutcome, Stop> {
     let mut vertex = CallState::new(alloc, input);
-    let units = units_of(alloc, module, &mut vertex, budget)?;
-    Ok(vertex.into_outcome(units))
+    match units_of(alloc, module, &mut vertex, budget) {
+        Ok(units) => Ok(vertex.into_outcome(units)),
+        Err(stop) => Err(stop),
+    }
 }
 
 // Runs to the end and returns the units.
@@ -95,43 +91,50 @@ fn units_of(
     vertex: &mut CallState,
     budget: u128,
 ) -> Result<u128, Stop> {
-    let mut walk = begin(alloc, module, vertex)?;
+    let mut walk = Walk {
+        alloc,
+        module,
+        imports: Vec::new(alloc),
+        globals: Vec::new(alloc),
+        memory: Vec::new(alloc),
+        vertex,
+        units: 0,
+        layers: Vec::new(alloc),
+        code: &[],
+        operands: Operands::new(alloc),
+        locals: Vec::new(alloc),
+        callers: Vec::new(alloc),
+    };
+    walk.begin();
     walk.finish(budget)
 }
 
 impl<'a> Walk<'a, '_, '_> {
-    /// Calls `compute` and runs to its end.
+    /// Runs to the end of `compute`.
     fn finish(&mut self, budget: u128) -> Result<u128, Stop> {
-        self.begin_compute()?;
         // Each end of a sequence has a beginning, which is counted. So the budget ends the run long before.
         for _ in 0..u64::MAX {
-            if self.layers.is_empty() {
-                return Ok(self.units);
+            match self.operands.stopped {
+                Some(stop) => return Err(stop),
+                None if self.layers.is_empty() => return Ok(self.units),
+                None => self.step(budget),
             }
-            self.step(budget)?;
         }
         Err(Stop::Budget)
     }
 
-    fn begin_compute(&mut self) -> Result<(), Stop> {
-        match compute_function(self.module) {
-            Some(function) => self.enter(function),
-            None => Err(Stop::Stuck),
-        }
-    }
-
     /// Executes the next instruction if the budget allows it, or goes on after the end of the sequence.
-    fn step(&mut self, budget: u128) -> Result<(), Stop> {
+    fn step(&mut self, budget: u128) {
         let whole = self.code;
-        let Some((first, rest)) = whole.split_first() else {
+        let [first, rest @ ..] = whole else {
             return self.leave();
         };
         self.units = self.units.saturating_add(u128::from(self.weight(first)));
         if self.units > budget {
-            return Err(Stop::Budget);
+            return self.operands.stop(Stop::Budget);
         }
         self.code = rest;
-        self.take(first, whole)
+        self.take(first, whole);
     }
 
     /// Returns the units of an instruction.
@@ -145,7 +148,7 @@ impl<'a> Walk<'a, '_, '_> {
     }
 
     /// Executes the first instruction of a sequence.
-    fn take(&mut self, first: &'a Instr, whole: &'a [Instr]) -> Result<(), Stop> {
+    fn take(&mut self, first: &'a Instr, whole: &'a [Instr]) {
         match first {
             Instr::Plain(plain) => act_plain(
                 *plain,
@@ -156,28 +159,25 @@ impl<'a> Walk<'a, '_, '_> {
             ),
             Instr::Branch(branch) => self.branch(branch),
             Instr::Call(number) => self.call(*number),
-            Instr::CallIndirect(_) => Err(Stop::Stuck),
-            Instr::Unreachable => Err(Stop::Trap),
+            Instr::CallIndirect(_) => self.operands.stop(Stop::Stuck),
+            Instr::Unreachable => self.operands.stop(Stop::Trap),
             Instr::Block(result, body) => self.open(result.is_some(), self.code, body),
             Instr::Loop(_, body) => self.open(false, whole, body),
             Instr::If(result, then_body, else_body) => {
-                self.choose(result.is_some(), then_body, else_body)
+                let body = match self.operands.pop_i32() {
+                    0 => else_body,
+                    _ => then_body,
+                };
+                self.open(result.is_some(), self.code, body);
             }
         }
     }
 
     /// Calls the function with this index. Imports have the first indices (Core 1.0, 4.4.7).
-    fn call(&mut self, number: u32) -> Result<(), Stop> {
+    fn call(&mut self, number: u32) {
         match self.imports.get(number as usize) {
             Some(call) => call_host(*call, &mut self.operands, self.vertex),
-            None => self.enter_defined(number),
-        }
-    }
-
-    fn enter_defined(&mut self, number: u32) -> Result<(), Stop> {
-        match defined_function(self.module, number) {
-            Some(function) => self.enter(function),
-            None => Err(Stop::Stuck),
+            None => self.enter(defined_function(self.module, number)),
         }
     }
 }

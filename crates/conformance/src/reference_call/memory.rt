@@ -34,9 +34,7 @@ pub fn store(memory: &mut [u8], op: Store, place: u64, number: u64) -> Option<()
 pub fn lay(memory: &mut [u8], place: u64, bytes: &[u8]) -> Option<()> {
     let start = usize::try_from(place).ok()?;
     let places = memory.get_mut(start..start.checked_add(bytes.len())?)?;
-    for (old, new) in places.iter_mut().zip(bytes) {
-        *old = *new;
-    }
+    places.copy_from_slice(bytes);
     Some(())
 }
 
@@ -44,8 +42,11 @@ pub fn lay(memory: &mut [u8], place: u64, bytes: &[u8]) -> Option<()> {
 fn read(memory: &[u8], place: u64, width: u32) -> Option<u64> {
     let start = usize::try_from(place).ok()?;
     let bytes = memory.get(start..start.checked_add(width as usize)?)?;
-    let bytes = bytes.iter().rev();
-    Some(bytes.fold(0, |number: u64, byte| (number << 8) | u64::from(*byte)))
+    let mut number = 0u64;
+    for byte in bytes.iter().rev() {
+        number = (number << 8) | u64::from(*byte);
+    }
+    Some(number)
 }
 
 // Extends the sign of a number, which is this bit (Core 1.0, 4.3.4, extend_s).

@@ -1,71 +1,96 @@
 //! Numeric instructions (Core 1.0, 4.4.1).
 
 use super::Stop;
-use super::operands::{pop_i32, pop_i64};
+use super::operands::Operands;
 use wasm_ast::{
-    Conversion, Division, Numeric, ValType, Value, i32_eqz, i32_wrap_i64, i64_eqz,
-    i64_extend_i32_s, i64_extend_i32_u,
+    Binary, Comparison, Conversion, Division, Numeric, Unary, ValType, Value, i32_eqz,
+    i32_wrap_i64, i64_eqz, i64_extend_i32_s, i64_extend_i32_u,
 };
 
 /// Pops the operands of a numeric instruction and returns its result. Divisions without one trap.
-pub fn value_of(op: Numeric, operands: &mut Vec<Value>) -> Result<Value, Stop> {
+pub fn value_of(op: Numeric, operands: &mut Operands) -> Value {
     match op {
-        Numeric::Eqz(ValType::I32) => Ok(Value::I32(i32_eqz(pop_i32(operands)?))),
-        Numeric::Eqz(ValType::I64) => Ok(Value::I32(i64_eqz(pop_i64(operands)?))),
-        Numeric::Unary(ValType::I32, op) => Ok(Value::I32(op.apply_i32(pop_i32(operands)?))),
-        Numeric::Unary(ValType::I64, op) => Ok(Value::I64(op.apply_i64(pop_i64(operands)?))),
+        Numeric::Eqz(val_type) => is_zero(val_type, operands),
+        Numeric::Unary(val_type, op) => unary(val_type, op, operands),
         Numeric::Conversion(op) => converted(op, operands),
-        Numeric::Comparison(ValType::I32, op) => {
-            let (x, y) = pop_two_i32(operands)?;
-            Ok(Value::I32(u32::from(op.holds_i32(x, y))))
-        }
-        Numeric::Comparison(ValType::I64, op) => {
-            let (x, y) = pop_two_i64(operands)?;
-            Ok(Value::I32(u32::from(op.holds_i64(x, y))))
-        }
-        Numeric::Binary(ValType::I32, op) => {
-            let (x, y) = pop_two_i32(operands)?;
-            Ok(Value::I32(op.apply_i32(x, y)))
-        }
-        Numeric::Binary(ValType::I64, op) => {
-            let (x, y) = pop_two_i64(operands)?;
-            Ok(Value::I64(op.apply_i64(x, y)))
-        }
-        Numeric::Division(ValType::I32, op) => divided_i32(op, operands),
-        Numeric::Division(ValType::I64, op) => divided_i64(op, operands),
+        Numeric::Comparison(val_type, op) => compared(val_type, op, operands),
+        Numeric::Binary(val_type, op) => combined(val_type, op, operands),
+        Numeric::Division(val_type, op) => divided(val_type, op, operands),
     }
 }
 
-fn pop_two_i32(operands: &mut Vec<Value>) -> Result<(u32, u32), Stop> {
-    let second = pop_i32(operands)?;
-    Ok((pop_i32(operands)?, second))
-}
-
-fn pop_two_i64(operands: &mut Vec<Value>) -> Result<(u64, u64), Stop> {
-    let second = pop_i64(operands)?;
-    Ok((pop_i64(operands)?, second))
-}
-
-fn divided_i32(op: Division, operands: &mut Vec<Value>) -> Result<Value, Stop> {
-    let (x, y) = pop_two_i32(operands)?;
-    if op.traps_i32(x, y) {
-        return Err(Stop::Trap);
-    }
-    Ok(Value::I32(op.apply_i32(x, y)))
-}
-
-fn divided_i64(op: Division, operands: &mut Vec<Value>) -> Result<Value, Stop> {
-    let (x, y) = pop_two_i64(operands)?;
-    if op.traps_i64(x, y) {
-        return Err(Stop::Trap);
-    }
-    Ok(Value::I64(op.apply_i64(x, y)))
-}
-
-fn converted(op: Conversion, operands: &mut Vec<Value>) -> Result<Value, Stop> {
-    Ok(match op {
-        Conversion::Wrap => Value::I32(i32_wrap_i64(pop_i64(operands)?)),
-        Conversion::ExtendS => Value::I64(i64_extend_i32_s(pop_i32(operands)?)),
-        Conversion::ExtendU => Value::I64(i64_extend_i32_u(pop_i32(operands)?)),
+fn is_zero(val_type: ValType, operands: &mut Operands) -> Value {
+    Value::I32(match val_type {
+        ValType::I32 => i32_eqz(operands.pop_i32()),
+        ValType::I64 => i64_eqz(operands.pop_i64()),
     })
+}
+
+fn unary(val_type: ValType, op: Unary, operands: &mut Operands) -> Value {
+    match val_type {
+        ValType::I32 => Value::I32(op.apply_i32(operands.pop_i32())),
+        ValType::I64 => Value::I64(op.apply_i64(operands.pop_i64())),
+    }
+}
+
+fn converted(op: Conversion, operands: &mut Operands) -> Value {
+    match op {
+        Conversion::Wrap => Value::I32(i32_wrap_i64(operands.pop_i64())),
+        Conversion::ExtendS => Value::I64(i64_extend_i32_s(operands.pop_i32())),
+        Conversion::ExtendU => Value::I64(i64_extend_i32_u(operands.pop_i32())),
+    }
+}
+
+fn compared(val_type: ValType, op: Comparison, operands: &mut Operands) -> Value {
+    let holds = match val_type {
+        ValType::I32 => {
+            let second = operands.pop_i32();
+            op.holds_i32(operands.pop_i32(), second)
+        }
+        ValType::I64 => {
+            let second = operands.pop_i64();
+            op.holds_i64(operands.pop_i64(), second)
+        }
+    };
+    Value::I32(u32::from(holds))
+}
+
+fn combined(val_type: ValType, op: Binary, operands: &mut Operands) -> Value {
+    match val_type {
+        ValType::I32 => {
+            let second = operands.pop_i32();
+            Value::I32(op.apply_i32(operands.pop_i32(), second))
+        }
+        ValType::I64 => {
+            let second = operands.pop_i64();
+            Value::I64(op.apply_i64(operands.pop_i64(), second))
+        }
+    }
+}
+
+fn divided(val_type: ValType, op: Division, operands: &mut Operands) -> Value {
+    match val_type {
+        ValType::I32 => divided_i32(op, operands),
+        ValType::I64 => divided_i64(op, operands),
+    }
+}
+
+fn divided_i32(op: Division, operands: &mut Operands) -> Value {
+    let second = operands.pop_i32();
+    let first = operands.pop_i32();
+    if op.traps_i32(first, second) {
+        operands.stop(Stop::Trap);
+        return Value::I32(0);
+    }
+    Value::I32(op.apply_i32(first, second))
+}
+
+fn divided_i64(op: Division, operands: &mut Operands) -> Value {
+    let second = operands.pop_i64();
+    let first = operands.pop_i64();
+    if op.traps_i64(first, second) {
+        operands.stop(Stop::Trap);
+        return Value::I64(0);
+    }
+    Value::I64(op.apply_i64(first, second))
 }

@@ -2,49 +2,101 @@
 
 use super::memory::{PAGE_SIZE, lay};
 use super::{Stop, Walk};
-use host_calls::{CallState, HostCall};
-use std::alloc::{AllocError, Global};
+use host_calls::HostCall;
 use wasm_ast::{
-    Body, Export, ExportDescription, FuncType, Function, Global as GlobalDefinition, Import,
-    ImportDescription, Instr, Module, Plain, Value, Variable,
+    Body, Data, Export, ExportDescription, FuncType, Function, Import, ImportDescription, Instr,
+    Module, Plain, Value, Variable,
 };
 
 /// The most pages of a memory.
 const MAX_PAGES: u32 = 16;
 
-/// Makes the state before the call of `compute`.
-pub fn begin<'a, 'b, 'c>(
-    alloc: Global,
-    module: &'a Module,
-    vertex: &'c mut CallState<'b>,
-) -> Result<Walk<'a, 'b, 'c>, Stop> {
-    let imports = imported_calls(alloc, module)?;
-    let globals = initial_globals(alloc, module.globals.as_slice())?;
-    let memory = initial_memory(alloc, module, &globals)?;
-    Ok(Walk {
-        alloc,
-        module,
-        imports,
-        globals,
-        memory,
-        vertex,
-        units: 0,
-        layers: Vec::new(alloc),
-        code: &[],
-        operands: Vec::new(alloc),
-        locals: Vec::new(alloc),
-    })
+impl Walk<'_, '_, '_> {
+    /// Makes the globals and the memory, and calls `compute`.
+    pub fn begin(&mut self) {
+        self.add_imports();
+        self.add_globals();
+        self.add_memory();
+        self.enter(compute_function(self.module));
+    }
+
+    // Lists the host functions that the imports name, in order. There are no other imports.
+    fn add_imports(&mut self) {
+        for import in self.module.imports.as_slice() {
+            match imported_call(self.module, import) {
+                Some(call) => self.add_import(call),
+                None => self.operands.stop(Stop::Stuck),
+            }
+        }
+    }
+
+    fn add_import(&mut self, call: HostCall) {
+        if self.imports.push(call).is_err() {
+            self.operands.stop(Stop::OutOfMemory);
+        }
+    }
+
+    // Lists the value of each global.
+    fn add_globals(&mut self) {
+        for definition in self.module.globals.as_slice() {
+            match constant_value(&[], &definition.initial) {
+                Some(value) => self.add_global(value),
+                None => self.operands.stop(Stop::Stuck),
+            }
+        }
+    }
+
+    fn add_global(&mut self, value: Value) {
+        if self.globals.push(value).is_err() {
+            self.operands.stop(Stop::OutOfMemory);
+        }
+    }
+
+    // Makes a memory of zeros, and writes the data segments over them in order.
+    fn add_memory(&mut self) {
+        let pages = match self.module.memories.as_slice() {
+            [limits, ..] => limits.minimum,
+            [] => 0,
+        };
+        if pages > MAX_PAGES {
+            return self.operands.stop(Stop::Stuck);
+        }
+        if self.memory.resize(pages as usize * PAGE_SIZE, 0).is_err() {
+            return self.operands.stop(Stop::OutOfMemory);
+        }
+        for segment in self.module.data.as_slice() {
+            self.lay_segment(segment);
+        }
+    }
+
+    fn lay_segment(&mut self, segment: &Data) {
+        let place = match constant_value(&self.globals, &segment.offset) {
+            Some(Value::I32(place)) => u64::from(place),
+            _ => return self.operands.stop(Stop::Stuck),
+        };
+        if lay(&mut self.memory, place, segment.bytes.as_slice()).is_none() {
+            self.operands.stop(Stop::Stuck);
+        }
+    }
 }
 
-/// Returns the function that the module defines and exports as `compute`, without parameters and results. The module may
-/// have no start function and no elements.
-pub fn compute_function(module: &Module) -> Option<&Function> {
+// Returns the function that the module defines and exports as `compute`, without parameters and results. The module may have
+// no start function and no elements.
+fn compute_function(module: &Module) -> Option<&Function> {
     if module.start.is_some() || !module.elements.as_slice().is_empty() {
         return None;
     }
     let function = defined_function(module, compute_number(module.exports.as_slice())?)?;
-    let func_type = module.types.as_slice().get(function.type_number as usize)?;
-    is_empty_type(func_type).then_some(function)
+    if is_empty_type(type_of(module, function)?) {
+        Some(function)
+    } else {
+        None
+    }
+}
+
+/// Returns the type of a function.
+pub fn type_of<'a>(module: &'a Module, function: &Function) -> Option<&'a FuncType> {
+    module.types.as_slice().get(function.type_number as usize)
 }
 
 /// Returns the function with this index, if the module defines it. Each import is a function.
@@ -54,69 +106,28 @@ pub fn defined_function(module: &Module, number: u32) -> Option<&Function> {
 }
 
 fn compute_number(exports: &[Export]) -> Option<u32> {
-    let compute = exports
-        .iter()
-        .find(|export| export.name.as_str() == "compute")?;
-    match compute.description {
-        ExportDescription::Function(number) => Some(number),
-        _ => None,
+    for export in exports {
+        if export.name.as_str() == "compute" {
+            return match export.description {
+                ExportDescription::Function(number) => Some(number),
+                _ => None,
+            };
+        }
     }
+    None
 }
 
 fn is_empty_type(func_type: &FuncType) -> bool {
     func_type.parameters.as_slice().is_empty() && func_type.results.as_slice().is_empty()
 }
 
-// Returns the host functions that the imports name, in order. There are no other imports.
-fn imported_calls(alloc: Global, module: &Module) -> Result<Vec<HostCall>, Stop> {
-    let mut calls = Vec::new(alloc);
-    for import in module.imports.as_slice() {
-        calls.push(imported_call(module, import).ok_or(Stop::Stuck)?)?;
-    }
-    Ok(calls)
-}
-
+// Returns the host function that an import names.
 fn imported_call(module: &Module, import: &Import) -> Option<HostCall> {
     let ImportDescription::Function(number) = import.description else {
         return None;
     };
     let func_type = module.types.as_slice().get(number as usize)?;
     HostCall::of_import(import.module.as_str(), import.name.as_str(), func_type)
-}
-
-// Returns the value of each global.
-fn initial_globals(alloc: Global, definitions: &[GlobalDefinition]) -> Result<Vec<Value>, Stop> {
-    let mut globals = Vec::new(alloc);
-    for definition in definitions {
-        globals.push(constant_value(&[], &definition.initial).ok_or(Stop::Stuck)?)?;
-    }
-    Ok(globals)
-}
-
-// Returns zeros with the data segments written over them in order.
-fn initial_memory(alloc: Global, module: &Module, globals: &[Value]) -> Result<Vec<u8>, Stop> {
-    let pages = module
-        .memories
-        .as_slice()
-        .first()
-        .map_or(0, |limits| limits.minimum);
-    if pages > MAX_PAGES {
-        return Err(Stop::Stuck);
-    }
-    let mut memory = zeros(alloc, pages as usize * PAGE_SIZE)?;
-    for segment in module.data.as_slice() {
-        let Some(Value::I32(place)) = constant_value(globals, &segment.offset) else {
-            return Err(Stop::Stuck);
-        };
-        lay(&mut memory, u64::from(place), segment.bytes.as_slice()).ok_or(Stop::Stuck)?;
-    }
-    Ok(memory)
-}
-
-fn zeros(alloc: Global, count: usize) -> Result<Vec<u8>, AllocError> {
-    let mut bytes = Vec::new(alloc);
-    bytes.resize(count, 0)?;
-    Ok(bytes)
 }
 
 // Returns the value of a constant expression (Core 1.0, 3.3.7).

@@ -4,7 +4,7 @@ use conformance_cases::bytes;
 use sources::CommandFault;
 use std::alloc::{AllocError, Global};
 use validate::{Valid, validate};
-use wasm_ast::{Module, within_limits};
+use wasm_ast::{Instr, Module, Plain, within_limits};
 use wasm_decode::{EncodeFault, decode, encode};
 use wat_asm::{assemble, print};
 
@@ -73,6 +73,22 @@ pub fn of_valid<F: Fn(Global, &Valid) -> Result<String, AllocError>>(
     match valid_of(alloc, text) {
         Ok(valid) => answer(alloc, &valid),
         Err(fault) => line_of(alloc, fault),
+    }
+}
+
+/// Returns the instruction that a text spells, if it is one that neither branches nor calls.
+pub fn plain_of(alloc: Global, text: &str) -> Result<Option<Plain>, AllocError> {
+    let text = format!(in alloc; "(module (func {text}))")?;
+    match assembled(alloc, text.as_str()) {
+        Ok(module) => Ok(only_plain(&module)),
+        Err(_) => Ok(None),
+    }
+}
+
+fn only_plain(module: &Module) -> Option<Plain> {
+    match module.functions.as_slice().first()?.body.as_slice() {
+        [Instr::Plain(plain)] => Some(*plain),
+        _ => None,
     }
 }
 

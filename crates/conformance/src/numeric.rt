@@ -4,17 +4,15 @@
 //! -99 to 99 is printed in decimal, any other in hexadecimal.
 
 mod large;
-mod names;
 mod small;
 
-use anyhow::{Result, bail};
-use conformance_cases::show_cases;
-use names::numeric_named;
+use crate::modules::plain_of;
+use anyhow::Result;
+use conformance_cases::show_texts;
 use std::alloc::{AllocError, Global};
-use std::num::ParseIntError;
 use std::rt::Files;
 use wasm_ast::{
-    Conversion, Numeric, ValType, Value, i32_eqz, i32_wrap_i64, i64_eqz, i64_extend_i32_s,
+    Conversion, Numeric, Plain, ValType, Value, i32_eqz, i32_wrap_i64, i64_eqz, i64_extend_i32_s,
     i64_extend_i32_u,
 };
 
@@ -36,32 +34,33 @@ impl Given {
 }
 
 pub fn show(rt: &(impl Files + Print + AllocGlobal)) -> Result<()> {
-    show_cases(rt, "wasm_ast/numeric.txt", answer)
+    show_texts(rt, "wasm_ast/numeric.txt", answer)
 }
 
-fn answer(alloc: Global, case: &str) -> Result<String> {
+fn answer(alloc: Global, case: &str) -> Result<String, AllocError> {
     let (name, operands) = case.split_once(' ').unwrap_or((case, ""));
-    let Some(numeric) = numeric_named(name) else {
-        bail!("no numeric instruction: {name}");
-    };
-    let (first, second) = operands_in(operands)?;
-    Ok(told(alloc, outcome(numeric, first, second))?)
+    match (plain_of(alloc, name)?, operands_in(operands)) {
+        (Some(Plain::Numeric(numeric)), Some((first, second))) => {
+            told(alloc, outcome(numeric, first, second))
+        }
+        _ => String::from_str(alloc, "no numeric instruction with operands"),
+    }
 }
 
 // Reads the operands. The second is 0 if there is only one.
-fn operands_in(text: &str) -> Result<(u64, u64), ParseIntError> {
+fn operands_in(text: &str) -> Option<(u64, u64)> {
     let (first, second) = text.split_once(' ').unwrap_or((text, "0"));
-    Ok((number_of(first)?, number_of(second)?))
+    Some((number_of(first)?, number_of(second)?))
 }
 
-fn number_of(text: &str) -> Result<u64, ParseIntError> {
+fn number_of(text: &str) -> Option<u64> {
     if let Some(digits) = text.strip_prefix("0x") {
-        return u64::from_str_radix(digits, 16);
+        return u64::from_str_radix(digits, 16).ok();
     }
-    if text.starts_with('-') {
-        return Ok(text.parse::<i64>()?.cast_unsigned());
+    match text.parse::<i64>() {
+        Ok(number) => Some(number.cast_unsigned()),
+        Err(_) => text.parse().ok(),
     }
-    text.parse()
 }
 
 // Returns the value of the instruction on these operands, or none if it traps.

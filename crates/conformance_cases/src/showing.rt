@@ -26,27 +26,16 @@ fn show_lines<R: Print + AllocGlobal, F: Fn(Global, &str) -> Result<String>>(
     requires { F.IsAlwaysCallable answer.now }
 {
     for line in text.lines() {
-        show_line(rt, line, answer)?;
+        if is_case(line) {
+            show_case(rt, named(line).0, answer(rt.alloc(), line)?)?;
+        }
     }
     Ok(())
 }
 
-fn show_line<R: Print + AllocGlobal, F: Fn(Global, &str) -> Result<String>>(
-    rt: &R,
-    line: &str,
-    answer: &F,
-) -> Result<()>
-    requires { F.IsAlwaysCallable answer.now }
-{
-    if !is_case(line) {
-        return Ok(());
-    }
-    show_case(rt, named(line).0, answer(rt.alloc(), line)?)
-}
-
 /// Prints a line for each case of a file of texts: `NAME: TEXT`, or a text that is its own name. The answer is for the text
 /// as it is spelled, in the frame of the last line `within FRAME`. A text or a frame that ends in `.wat` is a file, whose
-/// content is used.
+/// content is used. The file begins with a comment.
 pub fn show_texts<
     R: Files + Print + AllocGlobal,
     F: Fn(Global, &str) -> Result<String, AllocError>,
@@ -64,15 +53,13 @@ fn show_parts<R: Files + Print + AllocGlobal, F: Fn(Global, &str) -> Result<Stri
 ) -> Result<()>
     requires { F.IsAlwaysCallable answer.now }
 {
-    let (first, others) = text.split_once("\nwithin ").unwrap_or((text, ""));
-    show_in_frame(rt, "…", first, answer)?;
-    for part in others.split("\nwithin ") {
+    for part in text.split("\nwithin ") {
         show_part(rt, part, answer)?;
     }
     Ok(())
 }
 
-// Shows the lines after a frame in it.
+// Shows the lines after a frame in it, or after a comment in no frame.
 fn show_part<R: Files + Print + AllocGlobal, F: Fn(Global, &str) -> Result<String, AllocError>>(
     rt: &R,
     part: &str,
@@ -80,8 +67,9 @@ fn show_part<R: Files + Print + AllocGlobal, F: Fn(Global, &str) -> Result<Strin
 ) -> Result<()>
     requires { F.IsAlwaysCallable answer.now }
 {
-    let (frame, lines) = part.split_once('\n').unwrap_or((part, ""));
-    show_in_frame(rt, frame, lines, answer)
+    let (first, lines) = part.split_once('\n').unwrap_or((part, ""));
+    let frame = text_of(rt, if is_case(first) { first } else { "…" })?;
+    show_in_frame(rt, frame.as_str(), lines, answer)
 }
 
 fn show_in_frame<R: Files + Print + AllocGlobal, F: Fn(Global, &str) -> Result<String, AllocError>>(
@@ -93,7 +81,9 @@ fn show_in_frame<R: Files + Print + AllocGlobal, F: Fn(Global, &str) -> Result<S
     requires { F.IsAlwaysCallable answer.now }
 {
     for line in lines.lines() {
-        show_text(rt, frame, line, answer)?;
+        if is_case(line) {
+            show_text(rt, frame, line, answer)?;
+        }
     }
     Ok(())
 }
@@ -106,20 +96,12 @@ fn show_text<R: Files + Print + AllocGlobal, F: Fn(Global, &str) -> Result<Strin
 ) -> Result<()>
     requires { F.IsAlwaysCallable answer.now }
 {
-    if !is_case(line) {
-        return Ok(());
-    }
     let (name, case) = line.split_once(": ").unwrap_or((line, line));
     let whole = whole(rt, frame, case)?;
     show_case(rt, name, answer(rt.alloc(), whole.as_str())?)
 }
 
 fn whole(rt: &(impl Files + AllocGlobal), frame: &str, case: &str) -> Result<String> {
-    let frame = text_of(rt, frame)?;
-    in_frame(rt, frame.as_str(), case)
-}
-
-fn in_frame(rt: &(impl Files + AllocGlobal), frame: &str, case: &str) -> Result<String> {
     let text = text_of(rt, case)?;
     Ok(framed(rt.alloc(), frame, text.as_str())?)
 }

@@ -87,12 +87,18 @@ fn bytes_of_words(alloc: Global, text: &str) -> Result<Vec<u8>, AllocError> {
 /// Appends the bytes of a word of hexadecimal digits.
 pub fn push_digits(word: &str, bytes: &mut Vec<u8>) -> Result<(), AllocError> {
     for pair in word.as_bytes().chunks(2) {
-        let byte = pair
-            .iter()
-            .fold(0u8, |byte, digit| (byte << 4) | digit_of(*digit));
-        bytes.push(byte)?;
+        bytes.push(byte_of(pair))?;
     }
     Ok(())
+}
+
+// Returns the byte of two digits, or of one.
+fn byte_of(digits: &[u8]) -> u8 {
+    match digits {
+        [first, second] => (digit_of(*first) << 4) | digit_of(*second),
+        [only] => digit_of(*only),
+        _ => 0,
+    }
 }
 
 // Returns the value of a digit, and 0 for any other byte.

@@ -13,7 +13,7 @@ mod damage;
 mod sized;
 pub mod sweep;
 
-use crate::modules::{assembled, decoded, printed, spelling};
+use crate::modules::{decoded, line_of, of_module, printed, spelling};
 use anyhow::Result;
 use conformance_cases::{is_case, named, spelled};
 use damage::damaged;
@@ -35,8 +35,6 @@ const FILES: [&str; 6] = [
 
 // From this many on, equal words in a row are written as one.
 const MANY: usize = 10;
-
-type Answer = Result<String, CommandFault<'static>>;
 
 #[derive(Clone, Copy)]
 struct Frame<'a> {
@@ -93,19 +91,20 @@ fn show_part(rt: &(impl Print + AllocGlobal), part: &str) -> Result<()> {
 
 fn show_case(rt: &(impl Print + AllocGlobal), frame: Frame, line: &str) -> Result<()> {
     let (name, text) = named(line);
-    match answer(rt.alloc(), frame, text) {
-        Ok(answer) => println!(rt; "{name}: {answer}")?,
-        Err(fault) => println!(rt; "{name}: {fault}")?,
-    }
+    let answer = answer(rt.alloc(), frame, text)?;
+    println!(rt; "{name}: {answer}")?;
     Ok(())
 }
 
-fn answer(alloc: Global, frame: Frame, text: &str) -> Answer {
+fn answer(alloc: Global, frame: Frame, text: &str) -> Result<String, AllocError> {
     match frame.question {
-        "alike" => return alike(alloc, frame, text),
-        "length" => return length(alloc, frame, text),
-        _ => {}
+        "alike" => alike(alloc, frame, text),
+        "length" => length(alloc, frame, text),
+        _ => answer_for_bytes(alloc, frame, text),
     }
+}
+
+fn answer_for_bytes(alloc: Global, frame: Frame, text: &str) -> Result<String, AllocError> {
     let bytes = frame.bytes(alloc, text)?;
     match frame.question {
         "decode" => shown(alloc, bytes.as_slice()),
@@ -115,9 +114,11 @@ fn answer(alloc: Global, frame: Frame, text: &str) -> Answer {
 }
 
 // Prints the module that the bytes spell.
-fn shown(alloc: Global, bytes: &[u8]) -> Answer {
-    let module = decoded(alloc, bytes)?;
-    Ok(printed_on_one_line(alloc, &module)?)
+fn shown(alloc: Global, bytes: &[u8]) -> Result<String, AllocError> {
+    match decoded(alloc, bytes) {
+        Ok(module) => printed_on_one_line(alloc, &module),
+        Err(fault) => line_of(alloc, fault),
+    }
 }
 
 fn printed_on_one_line(alloc: Global, module: &Module) -> Result<String, AllocError> {
@@ -183,11 +184,11 @@ fn push_blank(line: &mut String) -> Result<(), AllocError> {
 }
 
 // Returns the answer that each of the bytes has in the frame, or the first byte with another one.
-fn alike(alloc: Global, frame: Frame, text: &str) -> Answer {
+fn alike(alloc: Global, frame: Frame, text: &str) -> Result<String, AllocError> {
     let (first, others) = text.split_once(' ').unwrap_or((text, ""));
     let told = told_of(alloc, frame, first)?;
     match first_otherwise(alloc, frame, others, told.as_str())? {
-        Some(byte) => Ok(format!(in alloc; "otherwise at {byte}")?),
+        Some(byte) => format!(in alloc; "otherwise at {byte}"),
         None => Ok(told),
     }
 }
@@ -215,22 +216,24 @@ fn told_of(alloc: Global, frame: Frame, text: &str) -> Result<String, AllocError
     let bytes = frame.bytes(alloc, text)?;
     match decoded(alloc, bytes.as_slice()) {
         Ok(_) => String::from_str(alloc, "a module"),
-        Err(fault) => format!(in alloc; "{fault}"),
+        Err(fault) => line_of(alloc, fault),
     }
 }
 
 // Encodes the module that the bytes spell.
-fn encoded(alloc: Global, bytes: &[u8]) -> Answer {
-    let module = decoded(alloc, bytes)?;
-    spelled_again(alloc, &module, bytes)
+fn encoded(alloc: Global, bytes: &[u8]) -> Result<String, AllocError> {
+    match decoded(alloc, bytes) {
+        Ok(module) => spelled_again(alloc, &module, bytes),
+        Err(fault) => line_of(alloc, fault),
+    }
 }
 
-fn spelled_again(alloc: Global, module: &Module, bytes: &[u8]) -> Answer {
-    let again = spelling(alloc, module)?;
-    if again.as_slice() == bytes {
-        return Ok(String::from_str(alloc, "the same bytes")?);
+fn spelled_again(alloc: Global, module: &Module, bytes: &[u8]) -> Result<String, AllocError> {
+    match spelling(alloc, module) {
+        Ok(again) if again.as_slice() == bytes => String::from_str(alloc, "the same bytes"),
+        Ok(again) => in_hexadecimal(alloc, again.as_slice()),
+        Err(fault) => line_of(alloc, CommandFault::from(fault)),
     }
-    Ok(in_hexadecimal(alloc, again.as_slice())?)
 }
 
 fn in_hexadecimal(alloc: Global, bytes: &[u8]) -> Result<String, AllocError> {
@@ -243,18 +246,15 @@ fn in_hexadecimal(alloc: Global, bytes: &[u8]) -> Result<String, AllocError> {
 }
 
 // Returns the length of the shortest spelling of a text's module.
-fn length(alloc: Global, frame: Frame, text: &str) -> Answer {
+fn length(alloc: Global, frame: Frame, text: &str) -> Result<String, AllocError> {
     let line = frame.filled(alloc, text)?;
     let text = spelled(alloc, line.as_str())?;
-    length_of(alloc, text.as_str())
+    of_module(alloc, text.as_str(), length_told)
 }
 
-fn length_of(alloc: Global, text: &str) -> Answer {
-    let module = assembled(alloc, text)?;
-    length_told(alloc, &module)
-}
-
-fn length_told(alloc: Global, module: &Module) -> Answer {
-    let bytes = spelling(alloc, module)?;
-    Ok(format!(in alloc; "{} bytes", bytes.len())?)
+fn length_told(alloc: Global, module: &Module) -> Result<String, AllocError> {
+    match spelling(alloc, module) {
+        Ok(bytes) => format!(in alloc; "{} bytes", bytes.len()),
+        Err(fault) => line_of(alloc, CommandFault::from(fault)),
+    }
 }

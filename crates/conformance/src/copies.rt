@@ -3,7 +3,7 @@
 
 use crate::modules::assembled;
 use anyhow::Result;
-use conformance_cases::{is_case, named};
+use conformance_cases::show_texts;
 use std::alloc::{AllocError, Global};
 use std::fs;
 use std::rt::Files;
@@ -15,15 +15,11 @@ pub fn show(rt: &(impl Files + Print + AllocGlobal)) -> Result<()> {
 }
 
 fn show_changes(rt: &(impl Files + Print + AllocGlobal), whole: &str) -> Result<()> {
-    let cases = fs::read_to_string(rt, "wasm_ast/copies.txt")?;
-    for line in cases.as_str().lines() {
-        if is_case(line) {
-            let (name, case) = named(line);
-            let answer = answer(rt.alloc(), whole, case)?;
-            println!(rt; "{name}: {answer}")?;
-        }
-    }
-    Ok(())
+    show_texts(
+        rt,
+        "wasm_ast/copies.txt",
+        |alloc, case| String::from_str(alloc, answer(alloc, whole, case)?),
+    )
 }
 
 fn answer(alloc: Global, whole: &str, case: &str) -> Result<&'static str, AllocError> {

@@ -32,8 +32,16 @@ fn costs(alloc: Global, valid: &Valid) -> Result<String, AllocError> {
 fn sizes_and_ranks(alloc: Global, valid: &Valid, ranks: &Ranks) -> Result<String, AllocError>
     requires { IsRanking valid.now ranks.now }
 {
+    let mut text = String::new(alloc);
+    tell(valid, ranks, &mut text)?;
+    Ok(text)
+}
+
+fn tell(valid: &Valid, ranks: &Ranks, text: &mut String) -> Result<(), AllocError>
+    requires { IsRanking valid.now ranks.now }
+{
     let count = function_count(valid.module());
-    let mut text = String::from_str(alloc, "sizes")?;
+    text.push_str("sizes")?;
     for function in 0..count {
         match inlined_size(valid, ranks, function) {
             Some(size) => write!(text, " {size}")?,
@@ -44,7 +52,7 @@ fn sizes_and_ranks(alloc: Global, valid: &Valid, ranks: &Ranks) -> Result<String
     for function in 0..count {
         write!(text, " {}", ranks.rank(function))?;
     }
-    Ok(text)
+    Ok(())
 }
 
 fn function_count(module: &Module) -> u32 {

@@ -3,23 +3,23 @@
 
 use crate::modules::assembled;
 use anyhow::Result;
-use conformance_cases::show_cases;
+use conformance_cases::show_texts;
 use host_calls::HostCall;
 use std::alloc::{AllocError, Global};
 use std::rt::Files;
 use wasm_ast::{Import, ImportDescription, Module, ValType};
 
 pub fn show(rt: &(impl Files + Print + AllocGlobal)) -> Result<()> {
-    show_cases(rt, "host_calls/host-functions.txt", answer)
+    show_texts(rt, "host_calls/host-functions.txt", answer)
 }
 
-fn answer(alloc: Global, case: &str) -> Result<String> {
+fn answer(alloc: Global, case: &str) -> Result<String, AllocError> {
     if case.starts_with('(') {
         return import_told(alloc, case);
     }
     match HostCall::named("pregel", case) {
-        Some(call) => Ok(type_told(alloc, case, call)?),
-        None => Ok(String::from_str(alloc, "none")?),
+        Some(call) => type_told(alloc, case, call),
+        None => String::from_str(alloc, "none"),
     }
 }
 
@@ -58,13 +58,13 @@ fn word_of(val_type: ValType) -> &'static str {
 }
 
 // Returns the name of the function that the import names.
-fn import_told(alloc: Global, import: &str) -> Result<String> {
+fn import_told(alloc: Global, import: &str) -> Result<String, AllocError> {
     let text = format!(in alloc; "(module {import})")?;
     let name = match assembled(alloc, text.as_str()) {
         Ok(module) => first_name(&module),
         Err(_) => "no module",
     };
-    Ok(String::from_str(alloc, name)?)
+    String::from_str(alloc, name)
 }
 
 fn first_name(module: &Module) -> &'static str {

@@ -1,9 +1,11 @@
 //! Modules as cases spell them. One function here owns each module, and the functions that show it borrow it.
 
+use bounded_profile::verify;
 use conformance_cases::bytes;
 use sources::CommandFault;
 use std::alloc::{AllocError, Global};
 use validate::{Valid, validate};
+use verified::Verified;
 use wasm_ast::{Instr, Module, Plain, within_limits};
 use wasm_decode::{EncodeFault, decode, encode};
 use wat_asm::{assemble, print};
@@ -35,7 +37,8 @@ pub fn assembled(alloc: Global, text: &str) -> Result<Box<Module>, CommandFault<
     }
 }
 
-fn boxed(alloc: Global, module: Module) -> Result<Box<Module>, AllocError> {
+/// Puts a module into a box, so that its drop is one call.
+pub fn boxed(alloc: Global, module: Module) -> Result<Box<Module>, AllocError> {
     Ok(Box::new(alloc, module)?)
 }
 
@@ -44,6 +47,14 @@ pub fn valid_of(alloc: Global, text: &str) -> Result<Valid, CommandFault<'static
     let module = module_of(alloc, text)?;
     match validate(alloc, Box::into_inner(module)) {
         Ok(valid) => Ok(valid),
+        Err(fault) => Err(CommandFault::from(fault)),
+    }
+}
+
+/// Reads a module and verifies it.
+pub fn verified_of(alloc: Global, text: &str) -> Result<Verified, CommandFault<'static>> {
+    match verify(alloc, valid_of(alloc, text)?) {
+        Ok(verified) => Ok(verified),
         Err(fault) => Err(CommandFault::from(fault)),
     }
 }

@@ -1,7 +1,7 @@
 //! Whole programs in files: whether the printed text spells the same module, how long the module is in the binary format,
 //! and what becomes of its bytes when they are damaged.
 
-use crate::binary::sweep::{ALL, Places, SOME, swept};
+use crate::binary::sweep::{ALL, EVERYWHERE, Places, SOME, swept};
 use crate::modules::{assembled, module_of, of_module, printed, spelling};
 use anyhow::{Result, bail};
 use conformance_cases::show_texts;
@@ -56,7 +56,7 @@ fn damaged(alloc: Global, text: &str) -> Result<String, AllocError> {
 
 fn swept_in_steps(alloc: Global, module: &Module) -> Result<String, AllocError> {
     match spelling(alloc, module) {
-        Ok(mut bytes) => swept(alloc, &mut bytes, Places { first: 0, step: 1 }, SOME),
+        Ok(mut bytes) => swept(alloc, &mut bytes, EVERYWHERE, SOME),
         Err(_) => String::from_str(alloc, "not spelled"),
     }
 }

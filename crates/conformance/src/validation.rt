@@ -20,13 +20,13 @@ pub fn show(rt: &(impl Files + Print + AllocGlobal)) -> Result<()> {
 
 fn answer(alloc: Global, text: &str) -> Result<String, AllocError> {
     match module_of(alloc, text) {
-        Ok(module) => validity(alloc, Box::into_inner(module)),
+        Ok(module) => validity(alloc, module),
         Err(fault) => line_of(alloc, fault),
     }
 }
 
-fn validity(alloc: Global, module: Module) -> Result<String, AllocError> {
-    match validate(alloc, module) {
+fn validity(alloc: Global, module: Box<Module>) -> Result<String, AllocError> {
+    match validate(alloc, Box::into_inner(module)) {
         Ok(_) => String::from_str(alloc, "ok"),
         Err(fault) => told(alloc, fault),
     }
@@ -41,12 +41,12 @@ fn told(alloc: Global, fault: ValidFault) -> Result<String, AllocError> {
 // Answers for the module with each body in one block more. So blocks can be nested deeper than any text or bytes allow.
 fn answer_in_a_block(alloc: Global, text: &str) -> Result<String, AllocError> {
     match module_of(alloc, text) {
-        Ok(module) => validity_in_blocks(alloc, Box::into_inner(module)),
+        Ok(module) => validity_in_blocks(alloc, module),
         Err(fault) => line_of(alloc, fault),
     }
 }
 
-fn validity_in_blocks(alloc: Global, mut module: Module) -> Result<String, AllocError> {
+fn validity_in_blocks(alloc: Global, mut module: Box<Module>) -> Result<String, AllocError> {
     put_in_blocks(alloc, &mut module)?;
     validity(alloc, module)
 }

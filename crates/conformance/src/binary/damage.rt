@@ -1,21 +1,24 @@
 //! Damaged bytes: proper fronts, and each change of one byte to another.
 
-use super::Answer;
 use super::bounded::is_bounded;
-use crate::modules::spelling;
+use super::sweep::{ALL, EVERYWHERE, changes};
+use crate::modules::{boxed, decoded, spelling};
 use std::alloc::{AllocError, Global};
 use std::fmt;
 use wasm_ast::Module;
 use wasm_decode::{DecodeFault, DecodeRule, decode};
 
 /// Shows what becomes of the bytes, damaged in each way.
-pub fn damaged(alloc: Global, bytes: &[u8]) -> Answer {
+pub fn damaged(alloc: Global, bytes: &[u8]) -> Result<String, AllocError> {
     let fronts = Fronts::of(alloc, bytes)?;
-    let changes = Changes::of(alloc, bytes)?;
-    Ok(format!(in alloc;
-        "{} bytes; fronts: {fronts}; changes: {changes}",
-        bytes.len()
-    )?)
+    let fates = fates_of_changes(alloc, bytes)?;
+    format!(in alloc; "{} bytes; fronts: {fronts}; changes: {fates}", bytes.len())
+}
+
+// Tries every other byte at each place.
+fn fates_of_changes(alloc: Global, bytes: &[u8]) -> Result<Fates, AllocError> {
+    let mut bytes = Vec::from_slice(alloc, bytes)?;
+    Ok(changes(alloc, &mut bytes, EVERYWHERE, ALL))
 }
 
 // The answers to the proper fronts.
@@ -79,50 +82,42 @@ pub enum Fate {
     Lost,
 }
 
-// How many changes have which fate.
+/// How many damaged bytes have which fate.
 #[derive(Clone, Copy)]
-struct Changes {
-    refused: usize,
-    kept: usize,
-    lost: usize,
+pub struct Fates {
+    refused: u64,
+    kept: u64,
+    pub lost: u64,
 }
 
-impl fmt::Display for Changes {
+impl fmt::Display for Fates {
     fn fmt<W: fmt::Write>(&self, f: &mut fmt::Formatter<W>) -> fmt::Result {
         write!(f, "{} refused, ", self.refused)?;
         write!(f, "{} kept, {} lost", self.kept, self.lost)
     }
 }
 
-impl Changes {
-    fn of(alloc: Global, bytes: &[u8]) -> Result<Changes, AllocError> {
-        let mut changes = Changes {
+impl Fates {
+    pub fn new() -> Fates {
+        Fates {
             refused: 0,
             kept: 0,
             lost: 0,
-        };
-        let mut damaged = Vec::from_slice(alloc, bytes)?;
-        for place in 0..bytes.len() {
-            changes.take_at(alloc, &mut damaged, place);
-        }
-        Ok(changes)
-    }
-
-    // Tries every other byte at this place.
-    fn take_at(&mut self, alloc: Global, bytes: &mut [u8], place: usize) {
-        for difference in 1..=255 {
-            change(bytes, place, difference);
-            self.take(fate_of(alloc, bytes));
-            change(bytes, place, difference);
         }
     }
 
-    fn take(&mut self, fate: Fate) {
+    pub fn take(&mut self, fate: Fate) {
         match fate {
             Fate::Refused(_) => self.refused = self.refused.saturating_add(1),
             Fate::Kept => self.kept = self.kept.saturating_add(1),
             Fate::Lost => self.lost = self.lost.saturating_add(1),
         }
+    }
+
+    pub fn count(self) -> u64 {
+        self.refused
+            .saturating_add(self.kept)
+            .saturating_add(self.lost)
     }
 }
 
@@ -136,14 +131,17 @@ pub fn change(bytes: &mut [u8], place: usize, difference: u8) {
 /// Returns the fate of these bytes.
 pub fn fate_of(alloc: Global, bytes: &[u8]) -> Fate {
     match decode(alloc, bytes) {
-        Ok(module) => fate_of_module(alloc, module),
+        Ok(module) => match boxed(alloc, module) {
+            Ok(module) => fate_of_module(alloc, module),
+            Err(_) => Fate::Lost,
+        },
         Err(DecodeFault::OutOfMemory) => Fate::Lost,
         Err(fault) => Fate::Refused(fault),
     }
 }
 
-fn fate_of_module(alloc: Global, module: Module) -> Fate {
-    if comes_back(alloc, &module) && is_bounded(alloc, module) {
+fn fate_of_module(alloc: Global, module: Box<Module>) -> Fate {
+    if comes_back(alloc, &module) && is_bounded(alloc, Box::into_inner(module)) {
         Fate::Kept
     } else {
         Fate::Lost
@@ -159,8 +157,8 @@ fn comes_back(alloc: Global, module: &Module) -> bool {
 }
 
 fn is_spelled(alloc: Global, module: &Module, bytes: &[u8]) -> bool {
-    match decode(alloc, bytes) {
-        Ok(spelled) => spelled == *module,
+    match decoded(alloc, bytes) {
+        Ok(spelled) => *spelled == *module,
         Err(_) => false,
     }
 }

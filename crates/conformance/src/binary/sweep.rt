@@ -1,6 +1,6 @@
 //! The bytes of a module, damaged: each proper front, and each byte changed to others.
 
-use super::damage::{Fate, change, fate_of};
+use super::damage::{Fates, change, fate_of};
 use std::alloc::{AllocError, Global};
 
 /// The other bytes that are tried at a place: their number, and the distance between them. The first differs in the last
@@ -23,32 +23,15 @@ pub const SOME: Others = Others {
     stride: 16,
 };
 
-// The number of tried bytes, and of lost ones among them.
-#[derive(Clone, Copy)]
-struct Tally {
-    tried: u64,
-    lost: u64,
-}
-
-impl Tally {
-    fn new() -> Tally {
-        Tally { tried: 0, lost: 0 }
-    }
-
-    fn take(&mut self, fate: Fate) {
-        self.tried = self.tried.saturating_add(1);
-        if matches!(fate, Fate::Lost) {
-            self.lost = self.lost.saturating_add(1);
-        }
-    }
-}
-
 /// Places from a first one on, at equal distances.
 #[derive(Clone, Copy)]
 pub struct Places {
     pub first: usize,
     pub step: usize,
 }
+
+/// All places.
+pub const EVERYWHERE: Places = Places { first: 0, step: 1 };
 
 impl Places {
     /// Returns whether this place is one of them.
@@ -67,35 +50,36 @@ pub fn swept(
     let fronts = fronts(alloc, bytes, places);
     let changes = changes(alloc, bytes, places, others);
     let lost = fronts.lost.saturating_add(changes.lost);
-    let (fronts, changes) = (fronts.tried, changes.tried);
+    let (fronts, changes) = (fronts.count(), changes.count());
     format!(in alloc; "{fronts} fronts and {changes} changes, {lost} lost")
 }
 
-fn fronts(alloc: Global, bytes: &[u8], places: Places) -> Tally {
-    let mut tally = Tally::new();
+fn fronts(alloc: Global, bytes: &[u8], places: Places) -> Fates {
+    let mut fates = Fates::new();
     for length in 0..bytes.len() {
         if places.has(length) {
-            tally.take(fate_of(alloc, &bytes[..length]));
+            fates.take(fate_of(alloc, &bytes[..length]));
         }
     }
-    tally
+    fates
 }
 
-fn changes(alloc: Global, bytes: &mut [u8], places: Places, others: Others) -> Tally {
-    let mut tally = Tally::new();
+/// Tries the changes at these places. In the end the bytes are what they were.
+pub fn changes(alloc: Global, bytes: &mut [u8], places: Places, others: Others) -> Fates {
+    let mut fates = Fates::new();
     for place in 0..bytes.len() {
         if places.has(place) {
-            change_at(alloc, bytes, place, others, &mut tally);
+            change_at(alloc, bytes, place, others, &mut fates);
         }
     }
-    tally
+    fates
 }
 
-fn change_at(alloc: Global, bytes: &mut [u8], place: usize, others: Others, tally: &mut Tally) {
+fn change_at(alloc: Global, bytes: &mut [u8], place: usize, others: Others, fates: &mut Fates) {
     let mut difference = 1u8;
     for _ in 0..others.count {
         change(bytes, place, difference);
-        tally.take(fate_of(alloc, bytes));
+        fates.take(fate_of(alloc, bytes));
         change(bytes, place, difference);
         difference = difference.wrapping_add(others.stride);
     }

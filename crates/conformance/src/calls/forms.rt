@@ -15,6 +15,9 @@ use valid::Valid;
 use verified::Verified;
 use wasm_ast::Module;
 
+// More units than a call of a module in the profile can take.
+const ENOUGH: u128 = 1_000_000;
+
 /// Returns the answer of both forms if the module is in the bounded profile. Otherwise it returns that of the reference
 /// call, which alone stops at a budget.
 pub fn both_answers(
@@ -23,10 +26,19 @@ pub fn both_answers(
     input: &CallInput,
     budget: u128,
 ) -> Result<String, AllocError> {
-    let slow = slow_answer(alloc, valid.module(), input, budget)?;
-    if slow.as_str() == "Budget" {
-        return Ok(slow);
+    match slow_answer(alloc, valid.module(), input, budget) {
+        Ok(slow) if slow.as_str() != "Budget" => compared_with_fast(alloc, valid, input, slow),
+        slow => slow,
     }
+}
+
+// Compares the answer of the reference call, if the module is in the profile.
+fn compared_with_fast(
+    alloc: Global,
+    valid: Valid,
+    input: &CallInput,
+    slow: String,
+) -> Result<String, AllocError> {
     match verify(alloc, valid) {
         Ok(verified) => compared(alloc, slow, &verified, input),
         Err(_) => Ok(slow),
@@ -47,7 +59,7 @@ fn compared(
     }
 }
 
-pub fn slow_answer(
+fn slow_answer(
     alloc: Global,
     module: &Module,
     input: &CallInput,
@@ -56,8 +68,31 @@ pub fn slow_answer(
     told(alloc, reference_call::run(alloc, module, input, budget))
 }
 
-/// Returns the answer of `interp` to the second of two calls, which uses the buffers of the first.
-pub fn fast_answer(
+/// Returns whether both forms give the same answer. The calls of `interp` use these buffers.
+pub fn is_alike(
+    alloc: Global,
+    verified: &Verified,
+    input: &CallInput,
+    scratch: &mut Scratch,
+) -> Result<bool, AllocError> {
+    let slow = slow_answer(alloc, verified.module(), input, ENOUGH)?;
+    is_fast_answer(alloc, verified, input, scratch, slow.as_str())
+}
+
+// Returns whether `interp` gives this answer.
+fn is_fast_answer(
+    alloc: Global,
+    verified: &Verified,
+    input: &CallInput,
+    scratch: &mut Scratch,
+    answer: &str,
+) -> Result<bool, AllocError> {
+    let fast = second_answer(alloc, verified, input, scratch)?;
+    Ok(answer == fast.as_str())
+}
+
+// Returns the answer of `interp` to the second of two calls, which uses the buffers of the first.
+fn fast_answer(
     alloc: Global,
     verified: &Verified,
     input: &CallInput,
@@ -66,8 +101,8 @@ pub fn fast_answer(
     second_answer(alloc, verified, input, &mut scratch)
 }
 
-/// Returns the answer of `interp` to the second of two calls in these buffers.
-pub fn second_answer(
+// Returns the answer of `interp` to the second of two calls in these buffers.
+fn second_answer(
     alloc: Global,
     verified: &Verified,
     input: &CallInput,
@@ -103,8 +138,5 @@ fn told<F: Debug + Drop>(
 
 fn on_one_line(alloc: Global, outcome: &CallOutcome) -> Result<String, AllocError> {
     let text = outcome_text(alloc, outcome)?;
-    let text = text.as_str().trim_end();
-    text.chars()
-        .map(|c| if c == '\n' { ' ' } else { c })
-        .collect(alloc)
+    text.as_str().trim_end().replace(alloc, '\n', " ")
 }

@@ -1,6 +1,6 @@
 //! Generated modules. `FIRST to LAST` prints how many of the modules of these seeds are in the bounded profile, and for
-//! how many inputs both forms of their calls give the same answer. It also prints the seed and the text of each module
-//! that is refused or has other answers. The messages and edges are the first ones of `interp/alike-input.txt`.
+//! how many inputs both forms of their calls give the same answer. Then come the seed and the text of each module that is
+//! refused or has other answers. The messages and edges are the first ones of `interp/alike-input.txt`.
 
 mod control;
 mod modules;
@@ -9,29 +9,28 @@ mod steps;
 mod values;
 mod writer;
 
-use super::alike::{read_input, shortened, verified_of};
-use super::forms::{second_answer, slow_answer};
+use super::alike::{read_input, shortened};
+use super::forms::is_alike;
+use crate::modules::verified_of;
 use anyhow::Result;
-use conformance_cases::is_case;
+use conformance_cases::show_cases;
 use host_calls::CallInput;
 use interp::Scratch;
 use modules::module_text;
 use std::alloc::{AllocError, Global};
-use std::fs;
 use std::rt::Files;
 use verified::Verified;
 
 // The numbers of messages and of edges of each input.
 const INPUTS: [(usize, usize); 4] = [(0, 0), (1, 2), (2, 0), (4, 4)];
 
-// More units than a call can take.
-const ENOUGH: u128 = 1_000_000;
-
-// The number of accepted modules, and of inputs for which both forms give the same answer.
-#[derive(Clone, Copy)]
+// The number of accepted modules, and of inputs for which both forms give the same answer; and a line for each module that
+// is refused or has other answers.
+#[derive(Drop)]
 struct Tally {
     accepted: u32,
     alike: u32,
+    others: String,
 }
 
 pub fn show(rt: &(impl Files + Print + AllocGlobal)) -> Result<()> {
@@ -40,83 +39,57 @@ pub fn show(rt: &(impl Files + Print + AllocGlobal)) -> Result<()> {
 }
 
 fn show_ranges(rt: &(impl Files + Print + AllocGlobal), input: &CallInput) -> Result<()> {
-    let ranges = fs::read_to_string(rt, "interp/generated.txt")?;
-    show_lines(rt, ranges.as_str(), input)
+    show_cases(
+        rt,
+        "interp/generated.txt",
+        |alloc, range| Ok(answer(alloc, range, input)?),
+    )
 }
 
-fn show_lines(rt: &(impl Print + AllocGlobal), ranges: &str, input: &CallInput) -> Result<()> {
-    for line in ranges.lines() {
-        if is_case(line) {
-            show_range(rt, line, input)?;
-        }
-    }
-    Ok(())
-}
-
-fn show_range(rt: &(impl Print + AllocGlobal), line: &str, input: &CallInput) -> Result<()> {
-    let (first, last) = line.split_once(" to ").unwrap_or((line, line));
-    let Tally { accepted, alike } = count_range(rt, first.parse()?, last.parse()?, input)?;
-    println!(rt; "{line}: {accepted} accepted, {alike} alike")?;
-    Ok(())
-}
-
-fn count_range(
-    rt: &(impl Print + AllocGlobal),
-    first: u64,
-    last: u64,
-    input: &CallInput,
-) -> Result<Tally> {
+fn answer(alloc: Global, range: &str, input: &CallInput) -> Result<String, AllocError> {
+    let (first, last) = range.split_once(" to ").unwrap_or((range, range));
+    let seeds = first.parse::<u64>().unwrap_or(0)..=last.parse::<u64>().unwrap_or(0);
     let mut tally = Tally {
         accepted: 0,
         alike: 0,
+        others: String::new(alloc),
     };
-    for seed in first..=last {
-        count_module(rt, seed, input, &mut tally)?;
+    for seed in seeds {
+        tally.count(alloc, seed, input)?;
     }
-    Ok(tally)
+    let Tally {
+        accepted,
+        alike,
+        others,
+    } = &tally;
+    format!(in alloc; "{accepted} accepted, {alike} alike{others}")
 }
 
-fn count_module(
-    rt: &(impl Print + AllocGlobal),
-    seed: u64,
-    input: &CallInput,
-    tally: &mut Tally,
-) -> Result<()> {
-    let text = module_text(rt.alloc(), seed)?;
-    count_text(rt, seed, text.as_str(), input, tally)
-}
-
-// Counts a module, or prints its text with the line of the fault.
-fn count_text(
-    rt: &(impl Print + AllocGlobal),
-    seed: u64,
-    text: &str,
-    input: &CallInput,
-    tally: &mut Tally,
-) -> Result<()> {
-    match verified_of(rt.alloc(), text) {
-        Ok(verified) => count_verified(rt, seed, &verified, text, input, tally)?,
-        Err(fault) => println!(rt; "{seed}: {fault}: {text}")?,
+impl Tally {
+    fn count(&mut self, alloc: Global, seed: u64, input: &CallInput) -> Result<(), AllocError> {
+        let text = module_text(alloc, seed)?;
+        match verified_of(alloc, text.as_str()) {
+            Ok(verified) => self.count_verified(alloc, seed, &verified, &text, input),
+            Err(fault) => write!(self.others, "\n{seed}: {fault}: {text}"),
+        }
     }
-    Ok(())
-}
 
-// Counts a module of the profile, and prints its text if the forms differ.
-fn count_verified(
-    rt: &(impl Print + AllocGlobal),
-    seed: u64,
-    verified: &Verified,
-    text: &str,
-    input: &CallInput,
-    tally: &mut Tally,
-) -> Result<()> {
-    let alike = alike_count(rt.alloc(), verified, input)?;
-    tally.accepted = tally.accepted.saturating_add(1);
-    tally.alike = tally.alike.saturating_add(alike);
-    if alike as usize != INPUTS.len() {
-        println!(rt; "{seed}: {alike} alike: {text}")?;
+    fn count_verified(
+        &mut self,
+        alloc: Global,
+        seed: u64,
+        verified: &Verified,
+        text: &str,
+        input: &CallInput,
+    ) -> Result<(), AllocError> {
+        let alike = alike_count(alloc, verified, input)?;
+        self.accepted = self.accepted.saturating_add(1);
+        self.alike = self.alike.saturating_add(alike);
+        if alike as usize == INPUTS.len() {
+            return Ok(());
+        }
+        write!(self.others, "\n{seed}: {alike} alike: {text}")
     }
-    Ok(())
 }
 
 fn alike_count(alloc: Global, verified: &Verified, input: &CallInput) -> Result<u32, AllocError> {
@@ -133,31 +106,8 @@ fn alike_count_in(
 ) -> Result<u32, AllocError> {
     let mut alike = 0u32;
     for (messages, edges) in INPUTS {
-        if is_alike(alloc, verified, &shortened(input, messages, edges), scratch)? {
-            alike = alike.saturating_add(1);
-        }
+        let is_alike = is_alike(alloc, verified, &shortened(input, messages, edges), scratch)?;
+        alike = alike.saturating_add(u32::from(is_alike));
     }
     Ok(alike)
-}
-
-fn is_alike(
-    alloc: Global,
-    verified: &Verified,
-    input: &CallInput,
-    scratch: &mut Scratch,
-) -> Result<bool, AllocError> {
-    let slow = slow_answer(alloc, verified.module(), input, ENOUGH)?;
-    is_answer(alloc, verified, input, scratch, slow.as_str())
-}
-
-// Returns whether `interp` gives this answer.
-fn is_answer(
-    alloc: Global,
-    verified: &Verified,
-    input: &CallInput,
-    scratch: &mut Scratch,
-    answer: &str,
-) -> Result<bool, AllocError> {
-    let fast = second_answer(alloc, verified, input, scratch)?;
-    Ok(answer == fast.as_str())
 }

@@ -1,6 +1,7 @@
 //! Loops in their new form.
 
 ghost use Rattle.std.specs.Prelude.{◌+◌, ◌≤◌, length};
+ghost use Rattle.fit.specs.inside.Forms.{FormFits};
 
 use crate::code::Code;
 use crate::labels::Move;
@@ -17,20 +18,34 @@ pub fn push_loop(
     body: Code,
     out: &mut Code,
 ) -> Result<(), AllocError> {
-    let instrs = body.instrs.as_slice();
-    let ends = body.ends;
     match form_of(takers, &body) {
-        Form::Other => return out.push(Instr::Loop(gives, Body::from(body.instrs)), ends),
-        Form::Once => return out.push(Instr::Block(gives, Body::from(body.instrs)), ends),
-        Form::Trailing(index) => push_trailing(alloc, instrs, index, &mut out.instrs)?,
-        Form::Inverted(index) => push_inverted(alloc, instrs, index, &mut out.instrs)?,
-        Form::Late(index) => push_late(alloc, instrs, index, &mut out.instrs)?,
-        Form::Nested(index) => push_nested(alloc, instrs, index, &mut out.instrs)?,
-        Form::Chosen(index) => push_chosen(alloc, instrs, index, 1, &mut out.instrs)?,
-        Form::ChosenNot(index) => push_chosen(alloc, instrs, index, 2, &mut out.instrs)?,
+        Form::Other => out.push(Instr::Loop(gives, Body::from(body.instrs)), body.ends),
+        Form::Once => out.push(Instr::Block(gives, Body::from(body.instrs)), body.ends),
+        form => {
+            out.ends = body.ends;
+            push_form(alloc, form, body.instrs.as_slice(), &mut out.instrs)
+        }
     }
-    out.ends = ends;
-    Ok(())
+}
+
+// Adds a loop of this form, which is rewritten.
+fn push_form(
+    alloc: Global,
+    form: Form,
+    instrs: &[Instr],
+    out: &mut Vec<Instr>,
+) -> Result<(), AllocError>
+    requires { FormFits (length instrs.now) form }
+{
+    match form {
+        Form::Other | Form::Once => Ok(()),
+        Form::Trailing(index) => push_trailing(alloc, instrs, index, out),
+        Form::Inverted(index) => push_inverted(alloc, instrs, index, out),
+        Form::Late(index) => push_late(alloc, instrs, index, out),
+        Form::Nested(index) => push_nested(alloc, instrs, index, out),
+        Form::Chosen(index) => push_chosen(alloc, instrs, index, 1, out),
+        Form::ChosenNot(index) => push_chosen(alloc, instrs, index, 2, out),
+    }
 }
 
 // Moves the code behind the pair out of the loop.

@@ -1,6 +1,6 @@
 //! The forms of loops that can be rewritten.
 
-ghost use Rattle.std.specs.Prelude.{◌+◌, ◌≤◌, IfSome, length};
+ghost use Rattle.std.specs.Prelude.{◌≡◌, ◌+◌, ◌≤◌, IfSome, length, true};
 ghost use Rattle.fit.specs.inside.Forms.{FormFits};
 
 use crate::code::{Code, ends_by_branch};
@@ -49,8 +49,10 @@ pub fn form_of(takers: &[bool], body: &Code) -> Form
     }
 }
 
-// Whether a loop takes an item first, and leaves where there is none.
-fn is_opening(takers: &[bool], instrs: &[Instr]) -> bool {
+// Whether code takes an item first, and leaves the loop where there is none.
+fn is_opening(takers: &[bool], instrs: &[Instr]) -> bool
+    ensures { result ≡ true → 3 ≤ length instrs.now }
+{
     match instrs {
         [call, invert, leave, ..] => takes(takers, call) && inverts(invert) && leaves(leave),
         _ => false,
@@ -113,14 +115,21 @@ fn forward_form(takers: &[bool], body: &Code) -> Form
 {
     let instrs = body.instrs.as_slice();
     let index = waiting_count(instrs);
+    if body.ends && is_opening(takers, &instrs[index..]) {
+        return Form::Late(index);
+    }
+    if body.ends && begins_by_leaving(takers, &instrs[index..]) {
+        return Form::Nested(index);
+    }
+    chosen_form(takers, instrs, index)
+}
+
+// Finds the form of a loop that takes an item at this index, and goes on by an `if`.
+fn chosen_form(takers: &[bool], instrs: &[Instr], index: usize) -> Form
+    requires { index ≤ length instrs.now }
+    ensures { FormFits (length instrs.now) result }
+{
     match &instrs[index..] {
-        [call, invert, leave, ..]
-            if body.ends && takes(takers, call) && inverts(invert) && leaves(leave) => {
-            Form::Late(index)
-        }
-        [Instr::Block(None, block), ..] if body.ends && leaves_first(takers, block) => {
-            Form::Nested(index)
-        }
         [call, Instr::If(None, arm, other), rest @ ..]
             if takes(takers, call) && is_chosen(index, arm, other, rest) => { Form::Chosen(index) }
         [call, invert, Instr::If(None, other, arm), rest @ ..]
@@ -151,6 +160,16 @@ fn can_wait(instr: &Instr) -> bool {
             variable,
             Variable::LocalGet(_) | Variable::LocalSet(_) | Variable::LocalTee(_)
         ),
+        _ => false,
+    }
+}
+
+// Whether code begins with a block that takes an item first, is left where there was one, and else leaves the loop.
+fn begins_by_leaving(takers: &[bool], instrs: &[Instr]) -> bool
+    ensures { result ≡ true → 1 ≤ length instrs.now }
+{
+    match instrs {
+        [Instr::Block(None, block), ..] => leaves_first(takers, block),
         _ => false,
     }
 }

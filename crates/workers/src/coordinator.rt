@@ -1,6 +1,6 @@
 //! The coordinator of a job.
 
-ghost use Rattle.std.specs.Prelude.{◌≡◌, ◌<◌, ◌+◌, ◌++◌, ◌∷◌, [], ℕ, true, Some, IfOk, IfErr, OnOk, OnErr};
+ghost use Rattle.std.specs.Prelude.{◌≡◌, ◌<◌, ◌+◌, ◌++◌, ◌∷◌, [], ℕ, true, IfOk, IfErr, OnOk, OnErr};
 ghost use Rattle.superstep.specs.declared.fault.JobFault.TheVariants.{Closed};
 ghost use Rattle.checkpoint.specs.Keep.{LoadsNothingElse};
 ghost use Rattle.rollback.specs.Simulation.{NeverFails};
@@ -56,16 +56,6 @@ impl<J: Origin> Coordinator<J> {
     ghost use Rattle.workers.specs.Hub.{HasByes};
     ghost use Rattle.channels.specs.Orders.{at, tasks_in, with_order};
     ghost use Rattle.workers.specs.Passes.{handed_in_by, taken_by, ticked_by};
-
-    // Makes a coordinator with these ends.
-    pub(crate) fn of(ends: CoordinatorEnds<J>) -> Coordinator<J>
-        ensures { result.ends ≡ Some ends }
-    {
-        Coordinator {
-            ends: Some(ends),
-            receipts: None,
-        }
-    }
 
     /// Sends a task to a worker. It waits while the worker's channel is full. `Closed`: the worker's end is gone, or
     /// the worker was stopped.

@@ -43,11 +43,14 @@ struct Taken {
     due: Option<Due>,
 }
 
-// Returns who is free if the superstep stays the same: the worker that returned a result.
-fn freed_by<J: Origin>(event: &Event<J>) -> Free {
+// Returns who is free if the superstep stays the same, the worker that returned a result, and whom the event reports as lost.
+fn named_by<J: Origin>(event: &Event<J>) -> (Free, Option<u32>)
+    ensures { result.1 ≡ lost_in event.now }
+{
     match event {
-        Event::Done(worker, _) => Free::One(*worker),
-        Event::Failed(..) | Event::Lost(_) | Event::Joined(_) | Event::Tick => Free::Nobody,
+        Event::Done(worker, _) => (Free::One(*worker), None),
+        Event::Lost(worker) => (Free::Nobody, Some(*worker)),
+        Event::Failed(..) | Event::Joined(_) | Event::Tick => (Free::Nobody, None),
     }
 }
 
@@ -57,16 +60,6 @@ fn free_after(freed: Free, answer: Result<Answer, JobFault>) -> Free {
         Ok(Answer::Taken) | Ok(Answer::Stale) => freed,
         Ok(Answer::Advanced(_)) | Ok(Answer::RolledBack(_)) => Free::All,
         Ok(Answer::Ended) | Err(_) => Free::Nobody,
-    }
-}
-
-// Returns the worker that this event reports as lost.
-fn lost_by<J: Origin>(event: &Event<J>) -> Option<u32>
-    ensures { result ≡ lost_in event.now }
-{
-    match event {
-        Event::Lost(worker) => Some(*worker),
-        Event::Done(..) | Event::Failed(..) | Event::Joined(_) | Event::Tick => None,
     }
 }
 
@@ -207,8 +200,7 @@ impl<J: Origin> CoordinatorEnds<J> {
     {
         match self.take_event(rt)? {
             Message::Event(event) => {
-                let freed = freed_by(&event);
-                let lost = lost_by(&event);
+                let (freed, lost) = named_by(&event);
                 let answer = book.accept(rt, event, keep);
                 let due = verdict_on(lost, &answer);
                 Ok(Taken {

@@ -186,7 +186,13 @@ impl Hub {
             return Err(JobFault::OutOfMemory(Place::Open));
         };
         match connect(alloc, workers, rows) {
-            Ok((ends, passes, ticker)) => Ok((Coordinator::of(ends), passes, ticker)),
+            Ok((ends, passes, ticker)) => {
+                let coordinator = Coordinator {
+                    ends: Some(ends),
+                    receipts: None,
+                };
+                Ok((coordinator, passes, ticker))
+            }
             Err(_) => Err(JobFault::OutOfMemory(Place::Channel)),
         }
     }

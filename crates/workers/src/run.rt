@@ -30,7 +30,7 @@ use std::rt::Files;
 use std::sync::Wait;
 use std::thread;
 use std::thread::Threads;
-use superstep::{Job, JobFault, Origin};
+use superstep::{Job, JobFault, Origin, Place};
 
 // Returns whether the job was driven to its end.
 fn was_driven(answer: &Result<Report, JobFault>) -> bool
@@ -163,10 +163,10 @@ fn run_spawned<
                     );
                     (mine, receipts, answer)
                 }
-                Err(fault) => {
+                Err(_) => {
                     drop(book);
                     let _stopped = mine.stop(rt);
-                    (mine, None, Err(fault))
+                    (mine, None, Err(JobFault::ThreadRefused))
                 }
             }
         },
@@ -227,12 +227,9 @@ pub fn run_job<
     ensures refused { IfErr result IsRunFault }
     ensures hub { lent.IsSameHub coordinator.old coordinator.new }
 {
-    let book = match Book::open(alloc, job) {
-        Ok(book) => book,
-        Err(fault) => {
-            drop(ticker);
-            return Err(fault);
-        }
+    let Ok(book) = Book::open(alloc, job) else {
+        drop(ticker);
+        return Err(JobFault::OutOfMemory(Place::Open));
     };
     let Some(ends) = coordinator.ends.take() else {
         drop(book);
@@ -303,12 +300,9 @@ pub fn resume_job<
     ensures hub { lent.IsSameHub coordinator.old coordinator.new }
 {
     let mut keep = keep;
-    let book = match Book::resume(rt, alloc, job, &mut keep, superstep) {
-        Ok(book) => book,
-        Err(fault) => {
-            drop(ticker);
-            return Err(fault);
-        }
+    let Ok(book) = Book::resume(rt, alloc, job, &mut keep, superstep) else {
+        drop(ticker);
+        return Err(JobFault::OutOfMemory(Place::Open));
     };
     let Some(ends) = coordinator.ends.take() else {
         drop(book);

@@ -50,12 +50,9 @@ pub fn spawn_all<'s, E, J: Origin + Send + Sync + 's, G: Gate + Sync + 's, R: Wa
         drop(ticker);
         return Err(JobFault::ThreadRefused);
     };
-    let (workers, verdicts) = match spawn_workers(scope, rt, alloc, job, gate, ends, passes) {
-        Ok(pair) => pair,
-        Err(fault) => {
-            drop(ticker);
-            return Err(fault);
-        }
+    let Ok((workers, verdicts)) = spawn_workers(scope, rt, alloc, job, gate, ends, passes) else {
+        drop(ticker);
+        return Err(JobFault::ThreadRefused);
     };
     let ticker = spawn_ticker(scope, rt, gate, ends, ticker)?;
     Ok((

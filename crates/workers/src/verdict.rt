@@ -24,14 +24,9 @@ impl Signed for Verdict {
 }
 
 /// The worker's end: it hears the verdict of each of its losses, in order.
+#[derive(Drop)]
 pub struct VerdictReader {
     pub(crate) verdicts: ReceivingEnd<Verdict>,
-}
-
-impl Drop for VerdictReader {
-    fn drop(self) {
-        let VerdictReader { verdicts: _ } = self;
-    }
 }
 
 /// The coordinator's end.
@@ -48,14 +43,6 @@ impl Drop for VerdictSender {
 
 impl VerdictReader {
     ghost use Rattle.workers.specs.Verdicts.{heard_on, reads_on};
-
-    // Returns its end of the channel.
-    fn into_end(self) -> ReceivingEnd<Verdict>
-        ensures { result ≡ self.verdicts }
-    {
-        let VerdictReader { verdicts } = self;
-        verdicts
-    }
 
     /// Waits for the next verdict, and returns whether the loss was counted. `Closed`: the coordinator is gone.
     pub fn hear<R: Wait>(&mut self, rt: &R) -> Result<bool, JobFault>
@@ -102,7 +89,7 @@ impl VerdictSender {
         ensures told { told_on self.new ≡ told_on self.old }
         ensures line { sends_on self.new ≡ sends_on self.old }
     {
-        let end = reader.into_end();
-        let _verdicts = self.verdicts.compare(end);
+        let VerdictReader { verdicts } = reader;
+        let _verdicts = self.verdicts.compare(verdicts);
     }
 }

@@ -145,49 +145,9 @@ fn be_lost<J: Origin, G: Gate, R: Wait>(
     Ok(false)
 }
 
-// Works on one task, or is lost with it, as the gate says. Returns whether the worker is lost for good.
+// Works on one task, or is lost with it, as the gate says. A worker that is lost for good drops it. Returns whether the worker is
+// lost for good.
 fn work_one<'a, J: Origin, G: Gate, R: Wait>(
-    rt: &R,
-    alloc: Global,
-    job: &'a Job,
-    gate: &G,
-    pass: &mut WorkerPass<J>,
-    reader: &mut VerdictReader,
-    task: Task<J>,
-    scratch: &mut Option<Scratch<'a>>,
-) -> Result<bool, JobFault>
-    requires job { J.work ≡ job.now }
-    requires fits { IfSome scratch.old (λ scratch. scratch ≡ job.now.«module») }
-    ensures fits { IfSome scratch.new (λ scratch. scratch ≡ job.now.«module») }
-    ensures same { IsSamePass pass.old pass.new }
-    ensures joins { OnOk result (AddsJoins (handed_in pass.old) (handed_in pass.new)) }
-    ensures taken { taken pass.new ≡ taken pass.old }
-    ensures returns { OnOk result (AddsReturn J.work J.honest (task_out task)
-        (handed_in pass.old) (handed_in pass.new)) }
-    ensures counted { OnOk result (AddsCounted (handed_in pass.old) (handed_in pass.new)
-        (heard_on reader.old) (heard_on reader.new)) }
-    ensures steady { G.loses gate.now ≡ false → OnOk result
-        (renews (stamps_in (handed_in pass.new)) ≡ renews (stamps_in (handed_in pass.old))) }
-    ensures line { reads_on reader.new ≡ reads_on reader.old }
-{
-    let worker = pass.worker();
-    match gate.before(worker, task.superstep(), task.part()) {
-        Turn::Go => {
-            let found = found_by(gate, &task);
-            let event = outcome(alloc, job, worker, task, scratch);
-            show(rt, gate, worker, found, &event);
-            pass.hand_in(rt, event)?;
-            Ok(false)
-        }
-        Turn::Lose => {
-            drop(task);
-            be_lost(rt, gate, pass, reader)
-        }
-    }
-}
-
-// Does the same, unless the worker is lost for good: then it drops the task.
-fn work_unless_lost<'a, J: Origin, G: Gate, R: Wait>(
     rt: &R,
     alloc: Global,
     job: &'a Job,
@@ -216,7 +176,20 @@ fn work_unless_lost<'a, J: Origin, G: Gate, R: Wait>(
         drop(task);
         return Ok(true);
     }
-    work_one(rt, alloc, job, gate, pass, reader, task, scratch)
+    let worker = pass.worker();
+    match gate.before(worker, task.superstep(), task.part()) {
+        Turn::Go => {
+            let found = found_by(gate, &task);
+            let event = outcome(alloc, job, worker, task, scratch);
+            show(rt, gate, worker, found, &event);
+            pass.hand_in(rt, event)?;
+            Ok(false)
+        }
+        Turn::Lose => {
+            drop(task);
+            be_lost(rt, gate, pass, reader)
+        }
+    }
 }
 
 // Takes tasks until the worker is stopped. As the gate says, it works on each task or is lost with it, and sends the
@@ -247,7 +220,7 @@ fn work_until_stopped<'a, J: Origin, G: Gate, R: Wait>(
         let Some(task) = pass.take(rt)? else {
             return Ok(());
         };
-        lost = work_unless_lost(rt, alloc, job, gate, lost, pass, reader, task, scratch)?;
+        lost = work_one(rt, alloc, job, gate, lost, pass, reader, task, scratch)?;
     }
     unreachable!()
 }

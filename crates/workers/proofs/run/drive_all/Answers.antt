@@ -94,3 +94,18 @@ returns-in-Ok-clause-hub g c = hub_then c.drive-answer.ensures.hub c.settle_all.
 
 pub returns-clause-hub : goal.returns-clause-hub
 returns-clause-hub g c = hub_then c.drive-answer.ensures.hub c.settle_all.ensures.hub
+
+pub returns-then-not-was_driven-clause-byes : goal.returns-then-not-was_driven-clause-byes
+returns-then-not-was_driven-clause-byes g c = c.drive-answer.ensures.byes
+
+pub returns-then-not-was_driven-clause-spent : goal.returns-then-not-was_driven-clause-spent
+returns-then-not-was_driven-clause-spent g c = c.drive-answer.ensures.spent
+
+pub returns-then-not-was_driven-clause-refused : goal.returns-then-not-was_driven-clause-refused
+returns-then-not-was_driven-clause-refused g c = c.drive-answer.ensures.refused
+
+pub returns-then-not-was_driven-clause-hub : goal.returns-then-not-was_driven-clause-hub
+returns-then-not-was_driven-clause-hub g c = c.drive-answer.ensures.hub
+
+pub returns-in-Ok-clause-refused : goal.returns-in-Ok-clause-refused
+returns-in-Ok-clause-refused g c = c.drive-answer.ensures.refused

@@ -51,3 +51,12 @@ returns-clause-handed_in g c =
     let r = c.run_spawned-ends.result in
     let e = c.run_spawned-ends.ensures in
     handed_in r.0 r.1 r.2 e.settled e.byes e.spent
+
+pub returns-clause-spent : goal.returns-clause-spent
+returns-clause-spent g c = c.run_spawned-ends.ensures.spent
+
+pub returns-clause-refused : goal.returns-clause-refused
+returns-clause-refused g c = c.run_spawned-ends.ensures.refused
+
+pub returns-clause-idle : goal.returns-clause-idle
+returns-clause-idle g c = c.run_spawned-ends.ensures.idle

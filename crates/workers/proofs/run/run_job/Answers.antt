@@ -61,3 +61,12 @@ returns-clause-epoch g c = λ never.
     let o = opened_of g.J.Origin.work c.args.job.now c.in-Ok.book c.requires.job c.in-Ok.ensures.opened in
     let none = ap (λ (m : Machine). count_set m.waiting) o.2 ∙ count_none g.J.Origin.work.settings.workers in
     epoch_none r.2 c.in-Ok.book.epoch (ap (λ (m : Machine). m.epoch) o.2) (c.run_spawned-ends.ensures.epoch never none)
+
+pub returns-clause-spent : goal.returns-clause-spent
+returns-clause-spent g c = c.run_spawned-ends.ensures.spent
+
+pub returns-clause-refused : goal.returns-clause-refused
+returns-clause-refused g c = c.run_spawned-ends.ensures.refused
+
+pub returns-clause-idle : goal.returns-clause-idle
+returns-clause-idle g c = c.run_spawned-ends.ensures.idle

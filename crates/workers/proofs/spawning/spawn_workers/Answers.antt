@@ -30,3 +30,15 @@ loop-pass-preserved g c =
       lines_room = search rules;
       untold = λ w. ap (λ xs. told_to (map told_on xs) w) added ∙ at_more told_on verdicts.items one.sender one.ensures.untold i.untold w;
     }
+
+pub returns-clause-spawned : goal.returns-clause-spawned
+returns-clause-spawned g c = c.loop-pass.invariant.spawned
+
+pub returns-clause-gate : goal.returns-clause-gate
+returns-clause-gate g c = c.loop-pass.invariant.gate
+
+pub returns-clause-linked : goal.returns-clause-linked
+returns-clause-linked g c = c.loop-pass.invariant.linked
+
+pub returns-clause-untold : goal.returns-clause-untold
+returns-clause-untold g c = c.loop-pass.invariant.untold

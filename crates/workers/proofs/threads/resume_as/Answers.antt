@@ -15,3 +15,9 @@ returns-clause-since g c = λ sure.
 pub returns-clause-kept : goal.returns-clause-kept
 returns-clause-kept g c =
     kept_told_on g.K.Keep.honest g.K.Keep.saved g.K.Keep.may_load g.K.Keep.faults g.J.Origin.work g.J.Origin.honest _ _ c.args.keep c.resume_job-answer.result c.args.superstep c.resume_job-answer.ensures.kept c.resume_job-answer.ensures.joins
+
+pub returns-clause-calm : goal.returns-clause-calm
+returns-clause-calm g c = c.resume_job-answer.ensures.calm
+
+pub returns-clause-refused : goal.returns-clause-refused
+returns-clause-refused g c = c.resume_job-answer.ensures.refused

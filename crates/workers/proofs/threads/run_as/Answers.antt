@@ -12,3 +12,12 @@ returns-clause-since g c =
 pub returns-clause-kept : goal.returns-clause-kept
 returns-clause-kept g c =
     kept_told g.K.Keep.honest g.K.Keep.saved g.K.Keep.may_load g.K.Keep.faults g.J.Origin.work g.J.Origin.honest _ _ c.args.keep c.run_job-answer.result c.run_job-answer.ensures.kept c.run_job-answer.ensures.joins
+
+pub returns-clause-calm : goal.returns-clause-calm
+returns-clause-calm g c = c.run_job-answer.ensures.calm
+
+pub returns-clause-epoch : goal.returns-clause-epoch
+returns-clause-epoch g c = c.run_job-answer.ensures.epoch
+
+pub returns-clause-refused : goal.returns-clause-refused
+returns-clause-refused g c = c.run_job-answer.ensures.refused

@@ -1,6 +1,6 @@
 use Rattle.std.proofs.Common.{◌≡◌, true, refl}
 use Rattle.workers.proofs.Joins.{counted_join, counted_loss}
-use Rattle.workers.proofs.Passing.{joins_event, joins_pair}
+use Rattle.workers.proofs.Passing.{joins_event, joins_pair, pass_then}
 use Rattle.workers.proofs.Returning.{return_joined, return_lost}
 use Rattle.workers.proofs.worker_loop.be_lost.Goals as goal
 
@@ -32,3 +32,21 @@ returns-then-not-counted-clause-returns g c = λ task. return_lost g.J.Origin.wo
 
 pub returns-clause-returns : goal.returns-clause-returns
 returns-clause-returns g c = λ task. return_joined g.J.Origin.work g.J.Origin.honest task _ _ _ _ c.in_ok-hand_in.ensures.handed_in c.in_ok-hand_in-2.ensures.handed_in
+
+pub returns-in_err-hand_in-clause-same : goal.returns-in_err-hand_in-clause-same
+returns-in_err-hand_in-clause-same g c = c.hand_in.ensures.same
+
+pub returns-in_err-counted-clause-same : goal.returns-in_err-counted-clause-same
+returns-in_err-counted-clause-same g c = c.hand_in.ensures.same
+
+pub returns-then-not-again-clause-same : goal.returns-then-not-again-clause-same
+returns-then-not-again-clause-same g c = c.hand_in.ensures.same
+
+pub returns-then-not-counted-clause-same : goal.returns-then-not-counted-clause-same
+returns-then-not-counted-clause-same g c = c.hand_in.ensures.same
+
+pub returns-in_err-hand_in-2-clause-same : goal.returns-in_err-hand_in-2-clause-same
+returns-in_err-hand_in-2-clause-same g c = pass_then c.hand_in.ensures.same c.hand_in-2.ensures.same
+
+pub returns-clause-same : goal.returns-clause-same
+returns-clause-same g c = pass_then c.hand_in.ensures.same c.hand_in-2.ensures.same

@@ -1,3 +1,5 @@
+use Rattle.std.proofs.Common.{Some, subst, sym}
+use Rattle.workers.specs.Coordinator.{IsSameOn}
 use Rattle.workers.proofs.Ending.{calm_driven, ended_over, keeps_first, over_opened, unspent_opened, where_mapped}
 use Rattle.workers.proofs.Moving.{left_none}
 use Rattle.workers.specs.Hub.{handed, received}
@@ -35,3 +37,18 @@ returns-in-None-clause-left g c =
     let k = c.args.keep.now in
     left_none g.K.Keep.honest g.K.Keep.saved g.K.Keep.may_load g.K.Keep.faults g.J.Origin.work g.J.Origin.honest c.args.book _ k
     (keeps_first g.J.Origin.work g.J.Origin.honest (g.K.Keep.honest k) (g.K.Keep.saved k) (g.K.Keep.may_load k) c.args.book c.requires.book c.requires.keep)
+
+pub returns-in-Some-clause-hub : goal.returns-in-Some-clause-hub
+returns-in-Some-clause-hub g c = subst (λ ends. IsSameOn ends (Some c.drive.new.self)) (sym c.in-Some.is) c.drive.ensures.hub
+
+pub returns-in-Some-clause-byes : goal.returns-in-Some-clause-byes
+returns-in-Some-clause-byes g c = c.drive.ensures.byes
+
+pub returns-in-Some-clause-spent : goal.returns-in-Some-clause-spent
+returns-in-Some-clause-spent g c = c.drive.ensures.spent
+
+pub returns-in-Some-clause-stopped : goal.returns-in-Some-clause-stopped
+returns-in-Some-clause-stopped g c = c.drive.ensures.stopped
+
+pub returns-in-Some-clause-refused : goal.returns-in-Some-clause-refused
+returns-in-Some-clause-refused g c = c.drive.ensures.refused

@@ -26,6 +26,9 @@ returns-in-Ok-clause-told g c =
     (told_from g.J.Origin.work g.J.Origin.honest c.args.book c.run_out.new.book (received s) (received t) (handed s) (handed t) _ c.args.keep.now c.run_out.new.keep (map told_on c.run_out.new.verdicts.items) c.answer_of.result
     c.in-Ok.ensures.steps c.requires.unused.nothing_received c.requires.unused.nothing_handed many c.answer_of.ensures)
 
+pub returns-in-Ok-clause-left : goal.returns-in-Ok-clause-left
+returns-in-Ok-clause-left g c = c.run_out.ensures.left
+
 pub returns-in-Ok-clause-byes : goal.returns-in-Ok-clause-byes
 returns-in-Ok-clause-byes g c = where_ended c.answer_of.result _ c.in-Ok.ensures.byes
 
@@ -52,3 +55,18 @@ returns-in-Err-clause-hub g c = hub_then c.run_out.ensures.hub c.stop-closed.ens
 pub returns-in-Err-clause-left : goal.returns-in-Err-clause-left
 returns-in-Err-clause-left g c =
     subst (λ l. IsLeftBy g.K.Keep.honest g.K.Keep.saved g.K.Keep.may_load g.K.Keep.faults g.J.Origin.work g.J.Origin.honest c.args.book (received c.args.self.now) l c.args.keep.now c.run_out.new.keep) (sym c.stop-closed.ensures.received) c.run_out.ensures.left
+
+pub returns-in-Ok-clause-hub : goal.returns-in-Ok-clause-hub
+returns-in-Ok-clause-hub g c = c.run_out.ensures.hub
+
+pub returns-in-Ok-clause-linked : goal.returns-in-Ok-clause-linked
+returns-in-Ok-clause-linked g c = c.run_out.ensures.linked
+
+pub returns-in-Ok-clause-lines : goal.returns-in-Ok-clause-lines
+returns-in-Ok-clause-lines g c = c.run_out.ensures.lines
+
+pub returns-in-Err-clause-linked : goal.returns-in-Err-clause-linked
+returns-in-Err-clause-linked g c = c.run_out.ensures.linked
+
+pub returns-in-Err-clause-lines : goal.returns-in-Err-clause-lines
+returns-in-Err-clause-lines g c = c.run_out.ensures.lines

@@ -35,3 +35,15 @@ returns-in_err-offer_next-clause-hub g c = hub_then c.loop-worker.invariant.hub 
 
 pub returns-in_err-offer_next-clause-received : goal.returns-in_err-offer_next-clause-received
 returns-in_err-offer_next-clause-received g c = c.offer_next.ensures.received ∙ c.loop-worker.invariant.received
+
+pub returns-clause-steps : goal.returns-clause-steps
+returns-clause-steps g c = c.loop-worker.invariant.steps
+
+pub returns-clause-received : goal.returns-clause-received
+returns-clause-received g c = c.loop-worker.invariant.received
+
+pub returns-clause-saved : goal.returns-clause-saved
+returns-clause-saved g c = c.loop-worker.invariant.saved
+
+pub returns-clause-hub : goal.returns-clause-hub
+returns-clause-hub g c = c.loop-worker.invariant.hub

@@ -68,3 +68,39 @@ returns-in_err-tell_due-clause-left g c =
     (over_then g.K.Keep.honest g.K.Keep.saved g.K.Keep.may_load g.K.Keep.faults g.J.Origin.work g.J.Origin.honest
     (over_hands g.K.Keep.honest g.K.Keep.saved g.K.Keep.may_load g.K.Keep.faults g.J.Origin.work g.J.Origin.honest c.loop.keep c.in_ok-offer_or_stop.ensures.steps c.offer_or_stop.ensures.received i.keep) t.steps.over))
     t.keep refl refl
+
+pub returns-then-all_gone-clause-linked : goal.returns-then-all_gone-clause-linked
+returns-then-all_gone-clause-linked g c = c.loop.invariant.linked
+
+pub returns-then-all_gone-clause-lines : goal.returns-then-all_gone-clause-lines
+returns-then-all_gone-clause-lines g c = c.loop.invariant.lines
+
+pub returns-then-all_gone-clause-hub : goal.returns-then-all_gone-clause-hub
+returns-then-all_gone-clause-hub g c = hub_then c.loop.invariant.hub c.offer_or_stop.ensures.hub
+
+pub returns-in_err-offer_or_stop-clause-linked : goal.returns-in_err-offer_or_stop-clause-linked
+returns-in_err-offer_or_stop-clause-linked g c = c.loop.invariant.linked
+
+pub returns-in_err-offer_or_stop-clause-lines : goal.returns-in_err-offer_or_stop-clause-lines
+returns-in_err-offer_or_stop-clause-lines g c = c.loop.invariant.lines
+
+pub returns-in_err-offer_or_stop-clause-hub : goal.returns-in_err-offer_or_stop-clause-hub
+returns-in_err-offer_or_stop-clause-hub g c = hub_then c.loop.invariant.hub c.offer_or_stop.ensures.hub
+
+pub returns-in_err-taken-clause-linked : goal.returns-in_err-taken-clause-linked
+returns-in_err-taken-clause-linked g c = c.loop.invariant.linked
+
+pub returns-in_err-taken-clause-lines : goal.returns-in_err-taken-clause-lines
+returns-in_err-taken-clause-lines g c = c.loop.invariant.lines
+
+pub returns-in_err-taken-clause-hub : goal.returns-in_err-taken-clause-hub
+returns-in_err-taken-clause-hub g c = hub_then c.loop.invariant.hub (hub_then c.offer_or_stop.ensures.hub c.in_err-taken.ensures.hub)
+
+pub returns-in_err-tell_due-clause-linked : goal.returns-in_err-tell_due-clause-linked
+returns-in_err-tell_due-clause-linked g c = c.tell_due.ensures.linked ∙ c.loop.invariant.linked
+
+pub returns-in_err-tell_due-clause-lines : goal.returns-in_err-tell_due-clause-lines
+returns-in_err-tell_due-clause-lines g c = c.tell_due.ensures.lines ∙ c.loop.invariant.lines
+
+pub returns-in_err-tell_due-clause-hub : goal.returns-in_err-tell_due-clause-hub
+returns-in_err-tell_due-clause-hub g c = hub_then c.loop.invariant.hub (hub_then c.offer_or_stop.ensures.hub c.in_ok-taken.ensures.hub)

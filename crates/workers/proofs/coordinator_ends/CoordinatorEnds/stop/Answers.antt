@@ -20,3 +20,12 @@ loop-worker-preserved g c =
       hub = hub_then i.hub s.hub;
       end = i.end;
     }
+
+pub returns-clause-tasks : goal.returns-clause-tasks
+returns-clause-tasks g c = c.loop-worker.invariant.tasks
+
+pub returns-clause-received : goal.returns-clause-received
+returns-clause-received g c = c.loop-worker.invariant.received
+
+pub returns-clause-hub : goal.returns-clause-hub
+returns-clause-hub g c = c.loop-worker.invariant.hub

@@ -13,7 +13,7 @@ returns-in-Event-clause-steps g c =
     let e = c.accept-answer.ensures in
     let a = e.step in
     let got = c.in_ok-event.ensures.received ∙ ap (λ m. received s ++ m ∷ []) c.in-Event.is in
-    let due = c.verdict_on-due.ensures ∙ ap (λ w. due_by w c.accept-answer.result) c.lost_by-lost.ensures in
+    let due = c.verdict_on-due.ensures ∙ ap (λ w. due_by w c.accept-answer.result) c.named_by-freed.ensures in
     subst (λ d. StepsDue (IsKeptStep g.K.Keep.honest g.K.Keep.saved g.K.Keep.may_load g.K.Keep.faults g.J.Origin.work g.J.Origin.honest) g.J.Origin.work g.J.Origin.honest c.args.book.now c.accept-answer.new.self (received s) (received t) (handed s) (handed t)
     c.args.keep.now c.accept-answer.new.keep d) (sym due)
     (due_taken g.K.Keep.honest g.K.Keep.saved g.K.Keep.may_load g.K.Keep.faults g.J.Origin.work g.J.Origin.honest c.args.book.now c.accept-answer.new.self a.heard (received s) (received t) (handed s) (handed t) c.in-Event.event

@@ -40,7 +40,7 @@ impl<'a> Printed<'a> {
         ensures { IfOk result (λ printed. texts printed.lines.items ≡ lines text.now) }
     {
         let lines = lines_in(alloc, text)?;
-        let imports = imports_in(alloc, text)?;
+        let imports = imports_in(alloc, lines.as_slice())?;
         Ok(Printed { lines, imports })
     }
 
@@ -73,14 +73,15 @@ impl<'a> Printed<'a> {
 
     // Finds the kind of a loop from its line on; `outside` is the number of blanks that its line begins with.
     fn sight_of_loop(&self, lines: &[&str], outside: usize) -> Sight {
-        let lines = behind(lines, 1);
-        let end = lines.iter().position(|line| depth(line) <= outside);
-        let inside = front(lines, end.unwrap_or(lines.len()));
-        if inside.iter().any(|line| self.takes_item(line)) {
-            Sight::TakesItems
-        } else {
-            Sight::Other
+        for line in behind(lines, 1) {
+            if depth(line) <= outside {
+                return Sight::Other;
+            }
+            if self.takes_item(line) {
+                return Sight::TakesItems;
+            }
         }
+        Sight::Other
     }
 
     // Decides whether a line calls `next_message` or `next_edge`.
@@ -100,12 +101,14 @@ fn lines_in<'a>(alloc: Global, text: &'a str) -> Result<Vec<&'a str>, AllocError
 }
 
 // Finds the lines that import functions.
-fn imports_in(alloc: Global, text: &str) -> Result<Vec<usize>, AllocError> {
-    text.lines()
-        .enumerate()
-        .filter(|(_, line)| imports_function(line))
-        .map(|(at, _)| at)
-        .collect(alloc)
+fn imports_in(alloc: Global, lines: &[&str]) -> Result<Vec<usize>, AllocError> {
+    let mut imports = Vec::new(alloc);
+    for (at, line) in lines.iter().enumerate() {
+        if imports_function(line) {
+            imports.push(at)?;
+        }
+    }
+    Ok(imports)
 }
 
 // Decides whether a line is the import of a function. What follows the last quote is not part of a name.
@@ -134,11 +137,12 @@ fn begins_loop(line: &str) -> bool {
 
 // Finds the kind of code in the body of a function.
 fn sight_of(body: &[&str]) -> Sight {
-    if body.iter().any(|line| uses_global(line)) {
-        Sight::HasGlobals
-    } else {
-        Sight::Other
+    for line in body {
+        if uses_global(line) {
+            return Sight::HasGlobals;
+        }
     }
+    Sight::Other
 }
 
 fn uses_global(line: &str) -> bool {
@@ -180,28 +184,47 @@ fn body_in<'a, 'b>(lines: &'b [&'a str], number: usize) -> Option<&'b [&'a str]>
 {
     let header = header_in(lines, number)?;
     let rest = behind(lines, header.saturating_add(1));
-    let end = rest.iter().position(|line| !line.starts_with("    "));
-    Some(front(rest, end.unwrap_or(rest.len())))
+    Some(front(rest, end_in(rest)))
+}
+
+// Counts the first lines that are indented deeper than that of a function.
+fn end_in(lines: &[&str]) -> usize {
+    for (at, line) in lines.iter().enumerate() {
+        if !line.starts_with("    ") {
+            return at;
+        }
+    }
+    lines.len()
 }
 
 // Finds the first line of the function with this number, among those that are defined.
 fn header_in(lines: &[&str], number: usize) -> Option<usize> {
-    let (header, _) = lines
-        .iter()
-        .enumerate()
-        .filter(|(_, line)| line.starts_with("  (func "))
-        .nth(number)?;
-    Some(header)
+    let mut left = number;
+    for (at, line) in lines.iter().enumerate() {
+        if !line.starts_with("  (func ") {
+            continue;
+        }
+        if left == 0 {
+            return Some(at);
+        }
+        left -= 1;
+    }
+    None
 }
 
 // Finds the line of an instruction, counted from 0 in the body.
 fn place_in(body: &[&str], instruction: u32) -> Option<usize> {
-    let (line, _) = body
-        .iter()
-        .enumerate()
-        .filter(|(_, line)| is_numbered(line))
-        .nth(instruction as usize)?;
-    Some(line)
+    let mut left = instruction;
+    for (at, line) in body.iter().enumerate() {
+        if !is_numbered(line) {
+            continue;
+        }
+        if left == 0 {
+            return Some(at);
+        }
+        left -= 1;
+    }
+    None
 }
 
 /// Appends the lines of a body around an instruction to a text, or its last lines where no instruction is named.

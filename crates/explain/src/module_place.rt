@@ -67,9 +67,17 @@ fn seen_in(alloc: Global, module: &Module, place: Place) -> Result<Seen, AllocEr
         (string_bytes seen.text)) }
 {
     let layout = print(alloc, module)?;
-    let printed = Printed::new(alloc, layout.as_str())?;
-    let sight = sight_at(&printed, place);
+    seen_in_text(alloc, layout.as_str(), place)
+}
+
+// Finds what is at a place of the module with this text.
+fn seen_in_text(alloc: Global, layout: &str, place: Place) -> Result<Seen, AllocError>
+    ensures { IfOk result (λ seen. ShowsLines (lines layout.now) place.instruction
+        (string_bytes seen.text)) }
+{
+    let printed = Printed::new(alloc, layout)?;
     let text = place_text(alloc, &printed, place)?;
+    let sight = sight_at(&printed, place);
     Ok(Seen { sight, text })
 }
 

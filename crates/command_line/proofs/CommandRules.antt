@@ -1,10 +1,9 @@
 -- The rules of a command that gets more arguments.
-use Rattle.std.proofs.Common.{◌≡◌, ◌∙◌, ◌<◌, ◌+◌, ◌||◌, ◌∷◌, ◌++◌, ℕ, Bool, true, false, List, [], ap, refl, sym, ap₂, length, map, take, append_assoc, append-nil}
+use Rattle.std.proofs.Common.{◌≡◌, ◌∙◌, ◌<◌, ◌+◌, ◌||◌, ◌∷◌, ◌++◌, ℕ, Bool, true, false, List, [], ap, refl, sym, length, map, take, append_assoc, append-nil}
 use Rattle.std.specs.List.{slice_index_or}
 use Rattle.std.proofs.lemmas.List.{map_more}
-use Rattle.clap.specs.Words.{AddsSubcommand, App, Rule, Shape, with_rule, with_subcommand}
-use Rattle.clap.specs.declared.builder.command.Command.{Command}
-use Rattle.command_line.specs.inside.Commands.{IsCommand, IsLeaf, with_rules, with_shapes}
+use Rattle.clap.specs.Words.{App, Rule, Shape, with_rule, with_subcommand}
+use Rattle.command_line.specs.inside.Commands.{with_rules, with_shapes}
 
 pub or_false : (b : Bool) → (b || false) ≡ b
 or_false true = refl
@@ -25,14 +24,6 @@ one_more app rules rule = ap (all_of app) (append_assoc app.top.rules rules (rul
 pub next_made : {X : Type 0} (make : X → Rule) (app : App) (xs : List X) (k : ℕ) (x : X) → k < length xs
     → with_rule (with_rules app (map make (take k xs))) (make (slice_index_or xs k x)) ≡ with_rules app (map make (take (k + 1) xs))
 next_made make app xs k x low = one_more app (map make (take k xs)) (make (slice_index_or xs k x)) ∙ ap (with_rules app) (sym (map_more make xs k x low))
-
--- a command that gets a subcommand
-pub one_below : (old sub new : Command) (app : App) (shape : Shape) → IsCommand app old → IsLeaf shape sub → AddsSubcommand old sub new
-    → IsCommand (with_subcommand app shape) new
-one_below old sub new app shape is leaf added = (
-  added.shape leaf.1 ∙ ap₂ with_subcommand is.0 (ap (λ (a : App). a.top) leaf.0),
-  added.globals ∙ ap₂ ◌||◌ is.1 leaf.1,
-)
 
 -- one more of the subcommands that are made of xs
 pub last_below : (app : App) (shapes : List Shape) (shape : Shape) → with_subcommand (with_shapes app shapes) shape ≡ with_shapes app (shapes ++ shape ∷ [])

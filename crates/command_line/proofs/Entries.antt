@@ -1,5 +1,5 @@
 -- What the getters of a parse's matches read, by its entries.
-use Rattle.std.proofs.Common.{◌≡◌, ◌∙◌, ◌<◌, ◌^◌, ℕ, Bool, true, false, List, Option, Some, None, Result, Ok, Err, ap, sym, subst, refl, codes, option_map}
+use Rattle.std.proofs.Common.{◌≡◌, ◌∙◌, ◌<◌, ◌^◌, ℕ, Bool, true, false, true≢false, List, Option, Some, None, Result, Ok, Err, ap, sym, subst, refl, codes, option_map}
 use Rattle.std.specs.Prelude.{IsSomeAnd, MatchOption, find, option_and_then, unwrap_or}
 use Rattle.std.specs.Borrow.{Bor}
 use Rattle.std.specs.Option.{option_map_or}
@@ -148,39 +148,39 @@ bound_found rows name text (Some n) (Some r) there finds made_is = subst (MayGiv
 
 pub asks_call : (rows : List Row) (asked : Request) → AsksFor (codes "call") rows asked → (m : ModuleRequest) × (input : Bor Text) × AsksModule rows m × Gives rows (codes "input") input
 asks_call rows (request.Call m input) h = (m, input, h.1, h.2)
-asks_call rows other h = let no : true ≡ false = ap (bytes_eq (codes "call")) h.0 in cc
+asks_call rows other h = absurd (true≢false (ap (bytes_eq (codes "call")) h.0))
 
 pub asks_run : (rows : List Row) (asked : Request) → AsksFor (codes "run") rows asked → (asked : RunRequest) × AsksRun rows asked
 asks_run rows (request.Run asked) h = (asked, h.1)
-asks_run rows other h = let no : true ≡ false = ap (bytes_eq (codes "run")) h.0 in cc
+asks_run rows other h = absurd (true≢false (ap (bytes_eq (codes "run")) h.0))
 
 pub asks_replay : (rows : List Row) (asked : Request) → AsksFor (codes "replay") rows asked → (asked : JobRequest) × (steps : Bor Text) × AsksJob rows asked × Gives rows (codes "steps") steps
 asks_replay rows (request.Replay asked steps) h = (asked, steps, h.1, h.2)
-asks_replay rows other h = let no : true ≡ false = ap (bytes_eq (codes "replay")) h.0 in cc
+asks_replay rows other h = absurd (true≢false (ap (bytes_eq (codes "replay")) h.0))
 
 pub asks_upgrade : (rows : List Row) (asked : Request) → AsksFor (codes "upgrade") rows asked → (checkpoint : Bor Text) × (newer : Bor Text) × Gives rows (codes "checkpoint") checkpoint × Gives rows (codes "binary") newer
 asks_upgrade rows (request.Upgrade checkpoint newer) h = (checkpoint, newer, h.1, h.2)
-asks_upgrade rows other h = let no : true ≡ false = ap (bytes_eq (codes "upgrade")) h.0 in cc
+asks_upgrade rows other h = absurd (true≢false (ap (bytes_eq (codes "upgrade")) h.0))
 
 pub asks_asm : (rows : List Row) (asked : Request) → AsksFor (codes "asm") rows asked → (m : Bor Text) × (binary : Bor Text) × Gives rows (codes "module") m × Gives rows (codes "binary") binary
 asks_asm rows (request.Assemble m binary) h = (m, binary, h.1, h.2)
-asks_asm rows other h = let no : true ≡ false = ap (bytes_eq (codes "asm")) h.0 in cc
+asks_asm rows other h = absurd (true≢false (ap (bytes_eq (codes "asm")) h.0))
 
 pub asks_fit : (rows : List Row) (asked : Request) → AsksFor (codes "fit") rows asked → (m : Bor Text) × (binary : Bor Text) × Gives rows (codes "module") m × Gives rows (codes "binary") binary
 asks_fit rows (request.Fit m binary) h = (m, binary, h.1, h.2)
-asks_fit rows other h = let no : true ≡ false = ap (bytes_eq (codes "fit")) h.0 in cc
+asks_fit rows other h = absurd (true≢false (ap (bytes_eq (codes "fit")) h.0))
 
 pub asks_print : (rows : List Row) (asked : Request) → AsksFor (codes "print") rows asked → (m : Bor Text) × Gives rows (codes "module") m
 asks_print rows (request.Print m) h = (m, h.1)
-asks_print rows other h = let no : true ≡ false = ap (bytes_eq (codes "print")) h.0 in cc
+asks_print rows other h = absurd (true≢false (ap (bytes_eq (codes "print")) h.0))
 
 pub asks_verify : (rows : List Row) (asked : Request) → AsksFor (codes "verify") rows asked → (m : ModuleRequest) × AsksModule rows m
 asks_verify rows (request.Verify m) h = (m, h.1)
-asks_verify rows other h = let no : true ≡ false = ap (bytes_eq (codes "verify")) h.0 in cc
+asks_verify rows other h = absurd (true≢false (ap (bytes_eq (codes "verify")) h.0))
 
 pub asks_graph : (rows : List Row) (asked : Request) → AsksFor (codes "graph") rows asked → (asked : ImportRequest) × AsksImport rows asked
 asks_graph rows (request.Import asked) h = (asked, h.1)
-asks_graph rows other h = let no : true ≡ false = ap (bytes_eq (codes "graph")) h.0 in cc
+asks_graph rows other h = absurd (true≢false (ap (bytes_eq (codes "graph")) h.0))
 
 pub asks_none : (name : Text) (rows : List Row) → (name ≡ codes "call" → ⊥) → (name ≡ codes "run" → ⊥) → (name ≡ codes "replay" → ⊥)
     → (name ≡ codes "upgrade" → ⊥) → (name ≡ codes "asm" → ⊥) → (name ≡ codes "fit" → ⊥) → (name ≡ codes "print" → ⊥) → (name ≡ codes "verify" → ⊥) → (name ≡ codes "graph" → ⊥)
@@ -194,12 +194,6 @@ asks_none name rows call run replay upgrade asm fit print verify graph (request.
 asks_none name rows call run replay upgrade asm fit print verify graph (request.Print m) h = print h.0
 asks_none name rows call run replay upgrade asm fit print verify graph (request.Verify m) h = verify h.0
 asks_none name rows call run replay upgrade asm fit print verify graph (request.Import asked) h = graph h.0
-
-pub run_found : (rows : List Row) (found : Option RunRequest) (made : Option Request) → Finds (AsksRun rows) found
-    → MatchOption found (made ≡ None) (λ asked. IsSomeAnd made (λ r. r ≡ request.Run asked)) → Finds (AsksFor (codes "run") rows) made
-run_found rows None made finds made_is = none_is _ made made_is (λ asked asks. finds _ (asks_run rows asked asks).1)
-run_found rows (Some asked) None finds made_is = absurd made_is
-run_found rows (Some asked) (Some r) finds made_is = subst (AsksFor (codes "run") rows) (sym made_is) (refl, finds)
 
 pub nothing_asked : (name : Text) (rows : List Row) → (name ≡ codes "console" → ⊥) → ((asked : Request) → AsksFor name rows asked → ⊥)
     → (given : Options) → Asks name rows given → ⊥

@@ -15,8 +15,7 @@ A module whose file's name ends in `.wat` is text, any other is binary.
 Example:
   pregel run examples/max.wat examples/line.txt --workers 2 --parts 4";
 
-/// The end of the help of `console`.
-pub(crate) const CONSOLE: &str = "\
+const CONSOLE: &str = "\
 Commands, one a line, and their replies:
   module NAME PATH      ok module NAME SIZE
   graph NAME PATH       ok graph NAME VERTICES EDGES
@@ -40,18 +39,36 @@ Limits: a name has 1 to 32 letters, digits, `_` and `-`. A line has at most 4,09
 Example:
   printf 'module m examples/max.wat\\nquit\\n' | pregel console";
 
-/// Returns the end of the help of the command of this name. It is empty for `fit`, `console` and any other name.
-pub(crate) fn of(name: &str) -> &'static str {
-    match name {
-        "call" => CALL,
-        "run" => RUN,
-        "replay" => REPLAY,
-        "upgrade" => UPGRADE,
-        "asm" => ASM,
-        "print" => PRINT,
-        "verify" => VERIFY,
-        "graph" => GRAPH,
-        _ => "",
+/// The end of a command's help.
+#[derive(Clone, Copy)]
+pub enum AfterHelp {
+    Call,
+    Run,
+    Replay,
+    Upgrade,
+    Assemble,
+    Fit,
+    Print,
+    Verify,
+    Graph,
+    Console,
+}
+
+impl AfterHelp {
+    /// Returns its text. It is empty for `fit`.
+    pub fn text(self) -> &'static str {
+        match self {
+            AfterHelp::Call => CALL,
+            AfterHelp::Run => RUN,
+            AfterHelp::Replay => REPLAY,
+            AfterHelp::Upgrade => UPGRADE,
+            AfterHelp::Assemble => ASM,
+            AfterHelp::Fit => "",
+            AfterHelp::Print => PRINT,
+            AfterHelp::Verify => VERIFY,
+            AfterHelp::Graph => GRAPH,
+            AfterHelp::Console => CONSOLE,
+        }
     }
 }
 

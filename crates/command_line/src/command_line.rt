@@ -3,7 +3,7 @@
 ghost use Rattle.std.specs.Prelude.{◌≡◌, ◌∷◌, [], IfErr, IfOk, IsErrAnd, MatchResult, OnOk, codes, false, map};
 ghost use Rattle.std.specs.List.{list_any};
 ghost use Rattle.clap.specs.Words.{HasKind, app_of, fault_of, subcommand_rows_of};
-ghost use Rattle.command_line.specs.CommandLine.{AskedBy, AskedIn, AsksCores, AsksFor, AsksJob, AsksModule, AsksRun, GivesNumber, GivesSettings, IsRefusal, MayGiveNumber, has_plus, has_plus_in, is_given, is_set, is_signed, pregel, progress_in};
+ghost use Rattle.command_line.specs.CommandLine.{AskedBy, AskedIn, AsksCores, AsksFor, AsksJob, AsksModule, GivesNumber, GivesSettings, IsRefusal, MayGiveNumber, has_plus, has_plus_in, is_given, is_set, is_signed, pregel, progress_in};
 ghost use Rattle.command_line.specs.inside.Commands.{Finds, IsRefusedIn, rows_in};
 
 use crate::commands::pregel;
@@ -97,7 +97,12 @@ fn has_plus(matches: &ArgMatches) -> bool
 fn any_has_plus(entries: &ArgMatches, names: &[&str]) -> bool
     ensures { result ≡ list_any (λ s. is_signed (rows_in entries.now) s.now) names.now }
 {
-    names.iter().any(|name| begins_with_plus(entries, name))
+    for name in names {
+        if begins_with_plus(entries, name) {
+            return true;
+        }
+    }
+    false
 }
 
 fn begins_with_plus(entries: &ArgMatches, name: &str) -> bool
@@ -128,7 +133,7 @@ fn requested<'a>(name: &str, entries: &ArgMatches<'a>) -> Option<Request<'a>>
 {
     match name {
         "call" => call_asked(entries),
-        "run" => run_asked(entries).map(Request::Run),
+        "run" => run_asked(entries),
         "replay" => replay_asked(entries),
         "upgrade" => upgrade_asked(entries),
         "asm" => assemble_asked(entries),
@@ -149,16 +154,17 @@ fn requested<'a>(name: &str, entries: &ArgMatches<'a>) -> Option<Request<'a>>
 fn call_asked<'a>(entries: &ArgMatches<'a>) -> Option<Request<'a>>
     ensures { Finds (AsksFor (codes "call") (rows_in entries.now)) result }
 {
-    let module = module_asked(entries)?;
-    let input = entries.get_str("input")?;
-    Some(Request::Call { module, input })
+    match (module_asked(entries), entries.get_str("input")) {
+        (Some(module), Some(input)) => Some(Request::Call { module, input }),
+        _ => None,
+    }
 }
 
-fn run_asked<'a>(entries: &ArgMatches<'a>) -> Option<RunRequest<'a>>
-    ensures { Finds (AsksRun (rows_in entries.now)) result }
+fn run_asked<'a>(entries: &ArgMatches<'a>) -> Option<Request<'a>>
+    ensures { Finds (AsksFor (codes "run") (rows_in entries.now)) result }
 {
     let job = job_asked(entries)?;
-    Some(RunRequest {
+    Some(Request::Run(RunRequest {
         job,
         cores: cores_asked(entries),
         keep: entries.get_str("keep"),
@@ -168,7 +174,7 @@ fn run_asked<'a>(entries: &ArgMatches<'a>) -> Option<RunRequest<'a>>
         progress: progress_asked(entries),
         report: entries.get_str("report"),
         plot: entries.get_str("plot"),
-    })
+    }))
 }
 
 fn cores_asked(entries: &ArgMatches) -> Cores
@@ -198,73 +204,82 @@ fn progress_asked(entries: &ArgMatches) -> Progress
 fn replay_asked<'a>(entries: &ArgMatches<'a>) -> Option<Request<'a>>
     ensures { Finds (AsksFor (codes "replay") (rows_in entries.now)) result }
 {
-    let asked = job_asked(entries)?;
-    let steps = entries.get_str("steps")?;
-    Some(Request::Replay { asked, steps })
+    match (job_asked(entries), entries.get_str("steps")) {
+        (Some(asked), Some(steps)) => Some(Request::Replay { asked, steps }),
+        _ => None,
+    }
 }
 
 fn upgrade_asked<'a>(entries: &ArgMatches<'a>) -> Option<Request<'a>>
     ensures { Finds (AsksFor (codes "upgrade") (rows_in entries.now)) result }
 {
-    let checkpoint = entries.get_str("checkpoint")?;
-    let newer = entries.get_str("binary")?;
-    Some(Request::Upgrade { checkpoint, newer })
+    match (entries.get_str("checkpoint"), entries.get_str("binary")) {
+        (Some(checkpoint), Some(newer)) => Some(Request::Upgrade { checkpoint, newer }),
+        _ => None,
+    }
 }
 
 fn assemble_asked<'a>(entries: &ArgMatches<'a>) -> Option<Request<'a>>
     ensures { Finds (AsksFor (codes "asm") (rows_in entries.now)) result }
 {
-    let module = entries.get_str("module")?;
-    let binary = entries.get_str("binary")?;
-    Some(Request::Assemble { module, binary })
+    match (entries.get_str("module"), entries.get_str("binary")) {
+        (Some(module), Some(binary)) => Some(Request::Assemble { module, binary }),
+        _ => None,
+    }
 }
 
 fn fit_asked<'a>(entries: &ArgMatches<'a>) -> Option<Request<'a>>
     ensures { Finds (AsksFor (codes "fit") (rows_in entries.now)) result }
 {
-    let module = entries.get_str("module")?;
-    let binary = entries.get_str("binary")?;
-    Some(Request::Fit { module, binary })
+    match (entries.get_str("module"), entries.get_str("binary")) {
+        (Some(module), Some(binary)) => Some(Request::Fit { module, binary }),
+        _ => None,
+    }
 }
 
 fn import_asked<'a>(entries: &ArgMatches<'a>) -> Option<Request<'a>>
     ensures { Finds (AsksFor (codes "graph") (rows_in entries.now)) result }
 {
-    let edges = entries.get_str("edges")?;
-    let graph = entries.get_str("binary")?;
-    Some(Request::Import(ImportRequest {
-        edges,
-        graph,
-        undirected: is_set(entries, "undirected"),
-        value: entries.get_str("value"),
-        source: entries.get_str("source"),
-        weight: entries.get_str("weight"),
-        share: is_set(entries, "share"),
-        names: entries.get_str("names"),
-    }))
+    match (entries.get_str("edges"), entries.get_str("binary")) {
+        (Some(edges), Some(graph)) => Some(Request::Import(ImportRequest {
+            edges,
+            graph,
+            undirected: is_set(entries, "undirected"),
+            value: entries.get_str("value"),
+            source: entries.get_str("source"),
+            weight: entries.get_str("weight"),
+            share: is_set(entries, "share"),
+            names: entries.get_str("names"),
+        })),
+        _ => None,
+    }
 }
 
 fn job_asked<'a>(entries: &ArgMatches<'a>) -> Option<JobRequest<'a>>
     ensures { Finds (AsksJob (rows_in entries.now)) result }
 {
-    let module = module_asked(entries)?;
-    let graph = entries.get_str("graph")?;
-    let settings = settings_of(entries)?;
-    let tells_units = is_set(entries, "units");
-    Some(JobRequest {
-        module,
-        graph,
-        settings,
-        tells_units,
-    })
+    match (
+        module_asked(entries),
+        entries.get_str("graph"),
+        settings_of(entries),
+    ) {
+        (Some(module), Some(graph), Some(settings)) => Some(JobRequest {
+            module,
+            graph,
+            settings,
+            tells_units: is_set(entries, "units"),
+        }),
+        _ => None,
+    }
 }
 
 fn module_asked<'a>(entries: &ArgMatches<'a>) -> Option<ModuleRequest<'a>>
     ensures { Finds (AsksModule (rows_in entries.now)) result }
 {
-    let path = entries.get_str("module")?;
-    let max_size = bound_of(entries, "max-size")?;
-    Some(ModuleRequest { path, max_size })
+    match (entries.get_str("module"), bound_of(entries, "max-size")) {
+        (Some(path), Some(max_size)) => Some(ModuleRequest { path, max_size }),
+        _ => None,
+    }
 }
 
 fn settings_of(entries: &ArgMatches) -> Option<Settings>

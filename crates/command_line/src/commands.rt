@@ -1,45 +1,35 @@
 //! The program's commands, with the arguments and the help of each.
 
-ghost use Rattle.std.specs.Prelude.{◌≡◌, IfOk, map};
-ghost use Rattle.command_line.specs.CommandLine.{bound, console, flag, option, positional, pregel, setting};
-ghost use Rattle.command_line.specs.inside.Commands.{AddsCommands, AddsRules, IsArg, IsCommand, IsLeaf, leaves, rule_in, shape_in};
+ghost use Rattle.std.specs.Prelude.{◌≡◌, ◌∷◌, [], IfOk, map};
+ghost use Rattle.command_line.specs.CommandLine.{pregel};
+ghost use Rattle.command_line.specs.inside.Commands.{AddsCommands, AddsRules, IsArg, IsCommand, leaves, rule_in, shape_in};
 
-use crate::after_help;
+use crate::after_help::{AfterHelp, PREGEL};
+use crate::argument_help::Help;
 use clap::{Arg, ArgAction, Command, value_parser};
 use std::alloc::{AllocError, Global};
 
-// An argument of a command, with its help.
+// An argument of a command.
 #[derive(Clone, Copy)]
-enum Argument {
+struct Argument {
+    name: &'static str,
+    kind: Kind,
+    help: Help,
+}
+
+// The kinds of arguments, with the name of the value in the help. That of a setting is `N`.
+#[derive(Clone, Copy)]
+enum Kind {
     // A required word, known by its place.
-    Positional {
-        name: &'static str,
-        value_name: &'static str,
-        help: &'static str,
-    },
+    Positional(&'static str),
     // An option with a value.
-    Option {
-        name: &'static str,
-        value_name: &'static str,
-        help: &'static str,
-    },
+    Option(&'static str),
     // An option with a number of 32 bits, and no default.
-    Number {
-        name: &'static str,
-        value_name: &'static str,
-        help: &'static str,
-    },
+    Number(&'static str),
     // An option without a value.
-    Flag {
-        name: &'static str,
-        help: &'static str,
-    },
-    // A setting of a job: an option with a number of 32 bits, and a default.
-    Setting {
-        name: &'static str,
-        otherwise: &'static str,
-        help: &'static str,
-    },
+    Flag,
+    // A setting of a job: an option with a number of 32 bits, and this default.
+    Setting(&'static str),
 }
 
 // A command without subcommands: a row of the table.
@@ -47,202 +37,211 @@ enum Argument {
 struct Usage {
     name: &'static str,
     about: &'static str,
+    after_help: AfterHelp,
     arguments: &'static [Argument],
 }
 
-// The help of a module.
-const MODULE_HELP: &str = "The module: text where the name ends in `.wat`, else binary";
-
-const MODULE: Argument = Argument::Positional {
+const MODULE: Argument = Argument {
     name: "module",
-    value_name: "MODULE",
-    help: MODULE_HELP,
+    kind: Kind::Positional("MODULE"),
+    help: Help::Module,
 };
 
-const MODULE_IN: Argument = Argument::Positional {
+const MODULE_IN: Argument = Argument {
     name: "module",
-    value_name: "IN",
-    help: MODULE_HELP,
+    kind: Kind::Positional("IN"),
+    help: Help::Module,
 };
 
-const BINARY: Argument = Argument::Positional {
+const BINARY: Argument = Argument {
     name: "binary",
-    value_name: "OUT",
-    help: "The file to be written",
+    kind: Kind::Positional("OUT"),
+    help: Help::Binary,
 };
 
-const GRAPH: Argument = Argument::Positional {
+const GRAPH: Argument = Argument {
     name: "graph",
-    value_name: "GRAPH",
-    help: "The graph, in lines such as `v 1 3` for a vertex and `e 1 2 5` for an edge",
+    kind: Kind::Positional("GRAPH"),
+    help: Help::Graph,
 };
 
-const INPUT: Argument = Argument::Positional {
+const INPUT: Argument = Argument {
     name: "input",
-    value_name: "INPUT",
-    help: "The input, in lines such as `value 34`",
+    kind: Kind::Positional("INPUT"),
+    help: Help::Input,
 };
 
-const STEPS: Argument = Argument::Positional {
+const STEPS: Argument = Argument {
     name: "steps",
-    value_name: "STEPS",
-    help: "The steps, in lines such as `work 0`; also `take`, `lose` and `join` with a worker, and `tick`",
+    kind: Kind::Positional("STEPS"),
+    help: Help::Steps,
 };
 
-const CHECKPOINT: Argument = Argument::Positional {
+const CHECKPOINT: Argument = Argument {
     name: "checkpoint",
-    value_name: "IN",
-    help: "The checkpoint, of version 1 or 2",
+    kind: Kind::Positional("IN"),
+    help: Help::Checkpoint,
 };
 
-const KEEP: Argument = Argument::Option {
+const KEEP: Argument = Argument {
     name: "keep",
-    value_name: "DIR",
-    help: "Keeps checkpoints in files of this folder, which has to exist, and not in memory. Failed saves are reported on standard error when the job ends",
+    kind: Kind::Option("DIR"),
+    help: Help::Keep,
 };
 
-const RESUME: Argument = Argument::Flag {
+const RESUME: Argument = Argument {
     name: "resume",
-    help: "Begins with the newest checkpoint in the folder of `--keep`. It has to be of the same module and graph",
+    kind: Kind::Flag,
+    help: Help::Resume,
 };
 
-const LOSE: Argument = Argument::Option {
+const LOSE: Argument = Argument {
     name: "lose",
-    value_name: "W:S",
-    help: "Loses worker W once, with its first task in superstep S or later",
+    kind: Kind::Option("W:S"),
+    help: Help::Lose,
 };
 
-const AGAIN: Argument = Argument::Flag {
+const AGAIN: Argument = Argument {
     name: "again",
-    help: "Has the worker that `--lose` names join again",
+    kind: Kind::Flag,
+    help: Help::Again,
 };
 
-const PARTS: Argument = Argument::Setting {
+const PARTS: Argument = Argument {
     name: "parts",
-    otherwise: "1",
-    help: "How many parts the graph is cut into, from 1 to 256",
+    kind: Kind::Setting("1"),
+    help: Help::Parts,
 };
 
-const WORKERS: Argument = Argument::Setting {
+const WORKERS: Argument = Argument {
     name: "workers",
-    otherwise: "1",
-    help: "How many worker threads there are, from 1 to 64. More than there are parts have nothing to do",
+    kind: Kind::Setting("1"),
+    help: Help::Workers,
 };
 
-const EVERY: Argument = Argument::Setting {
+const EVERY: Argument = Argument {
     name: "every",
-    otherwise: "10",
-    help: "Saves a checkpoint at each multiple of N supersteps, from 1 to 1,000",
+    kind: Kind::Setting("10"),
+    help: Help::Every,
 };
 
-const LIMIT: Argument = Argument::Setting {
+const LIMIT: Argument = Argument {
     name: "limit",
-    otherwise: "1000",
-    help: "The superstep at which the job ends if it has not finished, from 1 to 1,000,000",
+    kind: Kind::Setting("1000"),
+    help: Help::Limit,
 };
 
-const LEASE: Argument = Argument::Setting {
+const LEASE: Argument = Argument {
     name: "lease",
-    otherwise: "1000",
-    help: "How many ticks a worker may take for a task, from 1 to 1,000,000; in `run` no tick comes",
+    kind: Kind::Setting("1000"),
+    help: Help::Lease,
 };
 
-const UNITS: Argument = Argument::Flag {
+const UNITS: Argument = Argument {
     name: "units",
-    help: "Prints the units of each superstep too",
+    kind: Kind::Flag,
+    help: Help::Units,
 };
 
-const ALL_CORES: Argument = Argument::Flag {
+const ALL_CORES: Argument = Argument {
     name: "all-cores",
-    help: "Uses as many workers as the machine has processors, up to 64, and four times as many parts. A number given by `--workers` or `--parts` stays",
+    kind: Kind::Flag,
+    help: Help::AllCores,
 };
 
-const PROGRESS: Argument = Argument::Flag {
+const PROGRESS: Argument = Argument {
     name: "progress",
-    help: "Shows progress on standard error, also where that is no terminal",
+    kind: Kind::Flag,
+    help: Help::Progress,
 };
 
-const QUIET: Argument = Argument::Flag {
+const QUIET: Argument = Argument {
     name: "quiet",
-    help: "Shows neither progress nor warnings, also on a terminal. It outweighs `--progress`",
+    kind: Kind::Flag,
+    help: Help::Quiet,
 };
 
-const REPORT: Argument = Argument::Option {
+const REPORT: Argument = Argument {
     name: "report",
-    value_name: "FILE",
-    help: "Writes a report of the run to this file, as JSON",
+    kind: Kind::Option("FILE"),
+    help: Help::Report,
 };
 
-const PLOT: Argument = Argument::Option {
+const PLOT: Argument = Argument {
     name: "plot",
-    value_name: "FILE",
-    help: "Writes a chart of the run's supersteps to this file, as SVG",
+    kind: Kind::Option("FILE"),
+    help: Help::Plot,
 };
 
-const MAX_SIZE: Argument = Argument::Number {
+const MAX_SIZE: Argument = Argument {
     name: "max-size",
-    value_name: "S",
-    help: "Refuses a module whose size, with calls inlined, is greater than S. `pregel verify` prints the size",
+    kind: Kind::Number("S"),
+    help: Help::MaxSize,
 };
 
-const EDGES: Argument = Argument::Positional {
+const EDGES: Argument = Argument {
     name: "edges",
-    value_name: "IN",
-    help: "The edges: a table with a heading where the name ends in `.csv` or `.tsv`, of which the first two columns are the ends; a Matrix Market file, `pattern` or `integer`, `general` or `symmetric`, where the first line says so; else two ends on each line and a value or none, and comments that begin with `#` or `%`",
+    kind: Kind::Positional("IN"),
+    help: Help::Edges,
 };
 
-const UNDIRECTED: Argument = Argument::Flag {
+const UNDIRECTED: Argument = Argument {
     name: "undirected",
-    help: "Writes each edge in both directions",
+    kind: Kind::Flag,
+    help: Help::Undirected,
 };
 
-const VALUE: Argument = Argument::Option {
+const VALUE: Argument = Argument {
     name: "value",
-    value_name: "N",
-    help: "The value of every vertex, written as `--value=-1` where it is below 0; without it 0",
+    kind: Kind::Option("N"),
+    help: Help::Value,
 };
 
-const SOURCE: Argument = Argument::Option {
+const SOURCE: Argument = Argument {
     name: "source",
-    value_name: "ID",
-    help: "Gives this vertex the value 0, and all others -1, or that of `--value`",
+    kind: Kind::Option("ID"),
+    help: Help::Source,
 };
 
-const WEIGHT: Argument = Argument::Option {
+const WEIGHT: Argument = Argument {
     name: "weight",
-    value_name: "N|COLUMN",
-    help: "The value of every edge, or the heading of the column of a table that has the values; without it that of the line, or 1",
+    kind: Kind::Option("N|COLUMN"),
+    help: Help::Weight,
 };
 
-const SHARE: Argument = Argument::Flag {
+const SHARE: Argument = Argument {
     name: "share",
-    help: "Gives each edge 2^32 divided by the number of edges from its source, as for PageRank",
+    kind: Kind::Flag,
+    help: Help::Share,
 };
 
-const NAMES: Argument = Argument::Option {
+const NAMES: Argument = Argument {
     name: "names",
-    value_name: "FILE",
-    help: "Takes all ends as names, numbers them from 0 in the order in which they come, and writes a line `ID NAME` for each to this file",
+    kind: Kind::Option("FILE"),
+    help: Help::Names,
 };
 
-const EXPLAIN: Argument = Argument::Flag {
+const EXPLAIN: Argument = Argument {
     name: "explain",
-    help: "Explains on standard error why the module is refused: the rule, its usual causes, what to write instead, and the place",
+    kind: Kind::Flag,
+    help: Help::Explain,
 };
 
 // The program's version, and the kit that proves it. `rt version` prints the kit.
 const VERSION: &str = "0.3.0, proved with rattle-kit-13f logic dac8208d650f15bf";
 
-// The commands except `console`, in the help's order.
-static COMMANDS: [Usage; 9] = [
+// The commands, in the help's order.
+static COMMANDS: [Usage; 10] = [
     Usage {
         name: "call",
         about: "Makes one compute call of one vertex, and prints its outcome",
+        after_help: AfterHelp::Call,
         arguments: &[MODULE, INPUT, MAX_SIZE, EXPLAIN],
     },
     Usage {
         name: "run",
         about: "Runs a module's job over a graph, and prints the vertices' values",
+        after_help: AfterHelp::Run,
         arguments: &[
             MODULE, GRAPH, KEEP, RESUME, LOSE, AGAIN, PARTS, WORKERS, EVERY, LIMIT, LEASE, UNITS,
             ALL_CORES, PROGRESS, QUIET, REPORT, PLOT, MAX_SIZE, EXPLAIN,
@@ -251,6 +250,7 @@ static COMMANDS: [Usage; 9] = [
     Usage {
         name: "replay",
         about: "Replays a job by steps of its workers, and prints the answer to each step",
+        after_help: AfterHelp::Replay,
         arguments: &[
             MODULE, GRAPH, STEPS, PARTS, WORKERS, EVERY, LIMIT, LEASE, UNITS,
         ],
@@ -258,38 +258,50 @@ static COMMANDS: [Usage; 9] = [
     Usage {
         name: "upgrade",
         about: "Writes a checkpoint of any version as one of the newest",
+        after_help: AfterHelp::Upgrade,
         arguments: &[CHECKPOINT, BINARY],
     },
     Usage {
         name: "asm",
         about: "Writes a module in WebAssembly's binary format, in the fewest bytes",
+        after_help: AfterHelp::Assemble,
         arguments: &[MODULE_IN, BINARY],
     },
     Usage {
         name: "fit",
         about: "Rewrites a valid module so that `verify` may accept it, in WebAssembly's binary format",
+        after_help: AfterHelp::Fit,
         arguments: &[MODULE_IN, BINARY],
     },
     Usage {
         name: "print",
         about: "Prints a module in WebAssembly's text format",
+        after_help: AfterHelp::Print,
         arguments: &[MODULE_IN],
     },
     Usage {
         name: "verify",
         about: "Checks a module and prints the bounds of its calls",
+        after_help: AfterHelp::Verify,
         arguments: &[MODULE, MAX_SIZE, EXPLAIN],
     },
     Usage {
         name: "graph",
         about: "Makes a graph file of edges, and prints how many vertices and edges it has; a refusal has the line, or 0 for an option",
+        after_help: AfterHelp::Graph,
         arguments: &[
             EDGES, BINARY, UNDIRECTED, VALUE, SOURCE, WEIGHT, SHARE, NAMES,
         ],
     },
+    Usage {
+        name: "console",
+        about: "Serves a session of named modules, graphs and jobs: lines of commands in, replies out",
+        after_help: AfterHelp::Console,
+        arguments: &[],
+    },
 ];
 
-// Returns the commands except `console`.
+// Returns the commands.
 fn usages() -> &'static [Usage]
     ensures { map shape_in result.now ≡ leaves }
 {
@@ -304,11 +316,10 @@ pub(crate) fn pregel<'a>(alloc: Global) -> Result<Command<'a>, AllocError>
         .bin_name("pregel")?
         .about("Runs vertex programs, each a WebAssembly module, over graphs")
         .version(VERSION)
-        .after_help(after_help::PREGEL)
+        .after_help(PREGEL)
         .subcommand_required(true)
         .arg_required_else_help(true);
-    let command = with_commands(alloc, command, usages())?;
-    command.subcommand(console(alloc))
+    with_commands(alloc, command, usages())
 }
 
 // Adds these commands to a command, in order.
@@ -320,20 +331,24 @@ fn with_commands<'a>(
     ensures { IfOk result (AddsCommands command.entry (map shape_in usages.now)) }
 {
     for usage in usages {
-        let leaf = leaf(alloc, usage)?;
-        command = command.subcommand(leaf)?;
+        command = with_command(alloc, command, usage)?;
     }
     Ok(command)
 }
 
-// Makes a command without subcommands.
-fn leaf<'a>(alloc: Global, usage: &Usage) -> Result<Command<'a>, AllocError>
-    ensures { IfOk result (IsLeaf (shape_in usage.now)) }
+// Adds this command to a command.
+fn with_command<'a>(
+    alloc: Global,
+    command: Command<'a>,
+    usage: &Usage,
+) -> Result<Command<'a>, AllocError>
+    ensures { IfOk result (AddsCommands command.entry (shape_in usage.now ∷ [])) }
 {
-    let command = Command::new(alloc, usage.name)
+    let leaf = Command::new(alloc, usage.name)
         .about(usage.about)
-        .after_help(after_help::of(usage.name));
-    with_arguments(alloc, command, usage.arguments)
+        .after_help(usage.after_help.text());
+    let leaf = with_arguments(alloc, leaf, usage.arguments)?;
+    command.subcommand(leaf)
 }
 
 // Adds these arguments to a command, in order.
@@ -355,84 +370,20 @@ impl Argument {
     fn arg<'a>(self, alloc: Global) -> Arg<'a>
         ensures { IsArg (rule_in self) result }
     {
-        match self {
-            Argument::Positional {
-                name,
-                value_name,
-                help,
-            } => positional(alloc, name, value_name, help),
-            Argument::Option {
-                name,
-                value_name,
-                help,
-            } => option(alloc, name, value_name, help),
-            Argument::Number {
-                name,
-                value_name,
-                help,
-            } => bound(alloc, name, value_name, help),
-            Argument::Flag { name, help } => flag(alloc, name, help),
-            Argument::Setting {
-                name,
-                otherwise,
-                help,
-            } => setting(alloc, name, otherwise, help),
+        let arg = Arg::new(alloc, self.name).help(self.help.text());
+        match self.kind {
+            Kind::Positional(value_name) => arg.value_name(value_name).required(true),
+            Kind::Option(value_name) => arg.long(self.name).value_name(value_name),
+            Kind::Number(value_name) => arg
+                .long(self.name)
+                .value_name(value_name)
+                .value_parser(value_parser!(u32)),
+            Kind::Flag => arg.long(self.name).action(ArgAction::SetTrue),
+            Kind::Setting(otherwise) => arg
+                .long(self.name)
+                .value_name("N")
+                .default_value(otherwise)
+                .value_parser(value_parser!(u32)),
         }
     }
-}
-
-fn console<'a>(alloc: Global) -> Command<'a>
-    ensures { IsLeaf console result }
-{
-    Command::new(alloc, "console")
-        .about(
-            "Serves a session of named modules, graphs and jobs: lines of commands in, replies out",
-        )
-        .after_help(after_help::CONSOLE)
-}
-
-// Makes a required argument, known by its place.
-fn positional<'a>(alloc: Global, name: &'a str, value_name: &'a str, help: &'a str) -> Arg<'a>
-    ensures { IsArg (positional name.entry.now) result }
-{
-    Arg::new(alloc, name)
-        .value_name(value_name)
-        .help(help)
-        .required(true)
-}
-
-// Makes an option with a value.
-fn option<'a>(alloc: Global, name: &'a str, value_name: &'a str, help: &'a str) -> Arg<'a>
-    ensures { IsArg (option name.entry.now) result }
-{
-    Arg::new(alloc, name)
-        .long(name)
-        .value_name(value_name)
-        .help(help)
-}
-
-// Makes an option with a number of 32 bits, and no default.
-fn bound<'a>(alloc: Global, name: &'a str, value_name: &'a str, help: &'a str) -> Arg<'a>
-    ensures { IsArg (bound name.entry.now) result }
-{
-    option(alloc, name, value_name, help).value_parser(value_parser!(u32))
-}
-
-// Makes an option without a value.
-fn flag<'a>(alloc: Global, name: &'a str, help: &'a str) -> Arg<'a>
-    ensures { IsArg (flag name.entry.now) result }
-{
-    Arg::new(alloc, name)
-        .long(name)
-        .action(ArgAction::SetTrue)
-        .help(help)
-}
-
-// Makes an option with a number of 32 bits, which is `otherwise` by default.
-fn setting<'a>(alloc: Global, name: &'a str, otherwise: &'a str, help: &'a str) -> Arg<'a>
-    ensures { IsArg (setting (name.entry.now, otherwise.entry.now)) result }
-{
-    option(alloc, name, "N", help)
-        .default_value(otherwise)
-        .value_parser(value_parser!(u32))
 }

@@ -2,6 +2,7 @@
 #![tactic(auto)]
 
 mod after_help;
+mod argument_help;
 mod command_line;
 mod commands;
 mod machine;

@@ -7,9 +7,10 @@ use Rattle.clap.specs.declared.builder.command.Command.TheViews.{out-Command}
 use Rattle.clap.specs.declared.error.Error.{Error}
 use Rattle.clap.specs.declared.error.kind.ErrorKind.TheVariants.{MissingSubcommand, OutOfMemory, ValueValidation}
 use Rattle.clap.specs.declared.parser.matches.ArgMatches.{ArgMatches}
-use Rattle.command_line.specs.CommandLine.{AskedIn, asm, bound, call, command, fit, flag, graph, has_plus_in, option, positional, print, replay, run, setting, upgrade, verify}
+use Rattle.command_line.specs.CommandLine.{AskedIn, asm, bound, call, command, console, fit, flag, graph, has_plus_in, option, positional, print, replay, run, setting, upgrade, verify}
 use Rattle.command_line.specs.declared.commands.Argument.{Argument}
-use Rattle.command_line.specs.declared.commands.Argument.TheVariants as argument
+use Rattle.command_line.specs.declared.commands.Kind.{Kind}
+use Rattle.command_line.specs.declared.commands.Kind.TheVariants as kind
 use Rattle.command_line.specs.declared.commands.Usage.{Usage}
 use Rattle.command_line.specs.declared.request.Options.{Options}
 
@@ -20,10 +21,6 @@ IsArg rule arg = (rule_of arg ≡ rule) × (arg.global ≡ false)
 -- the command's model is this app, and it passes no argument on to subcommands
 abbrev pub IsCommand : App → Command → Type 0
 IsCommand app command = (app_of command ≡ app) × ((out-Command command).has_globals ≡ false)
-
--- the same for a command without subcommands
-abbrev pub IsLeaf : Shape → Command → Type 0
-IsLeaf shape = IsCommand (record { top = shape; subs = [] })
 
 -- the app with these rules added
 abbrev pub with_rules : App → List Rule → App
@@ -44,13 +41,17 @@ abbrev pub AddsCommands : Command → List Shape → Command → Type 0
 AddsCommands old shapes new =
     (app_of new ≡ with_shapes (app_of old) shapes) × ((out-Command new).has_globals ≡ (out-Command old).has_globals)
 
+-- the rule of an argument of this name and kind
+abbrev pub kind_rule : (name : Text) → Kind → Rule
+kind_rule name (kind.Positional value_name) = positional name
+kind_rule name (kind.Option value_name) = option name
+kind_rule name (kind.Number value_name) = bound name
+kind_rule name kind.Flag = flag name
+kind_rule name (kind.Setting otherwise) = setting (name, otherwise.now)
+
 -- the rule of an argument in the table
 abbrev pub rule_in : Argument → Rule
-rule_in (argument.Positional name value_name help) = positional name.now
-rule_in (argument.Option name value_name help) = option name.now
-rule_in (argument.Number name value_name help) = bound name.now
-rule_in (argument.Flag name help) = flag name.now
-rule_in (argument.Setting name otherwise help) = setting (name.now, otherwise.now)
+rule_in argument = kind_rule argument.name.now argument.kind
 
 -- the model of a command in the table
 abbrev pub shape_in : Usage → Shape
@@ -58,7 +59,7 @@ shape_in usage = command usage.name.now (map rule_in usage.arguments.now)
 
 -- the models of all commands in the table
 abbrev pub leaves : List Shape
-leaves = call ∷ run ∷ replay ∷ upgrade ∷ asm ∷ fit ∷ print ∷ verify ∷ graph ∷ []
+leaves = call ∷ run ∷ replay ∷ upgrade ∷ asm ∷ fit ∷ print ∷ verify ∷ graph ∷ console ∷ []
 
 -- the entries of a command's own arguments
 abbrev pub rows_in : ArgMatches → List Row

@@ -1,19 +1,20 @@
 use Rattle.std.proofs.Common.{codes, refl}
 use Rattle.command_line.specs.inside.Commands.{rows_in}
-use Rattle.command_line.proofs.Entries.{asks_replay, lacking, none_is, text_given}
+use Rattle.command_line.proofs.Entries.{asks_replay, lacking, none_found, text_given}
+use Rattle.command_line.proofs.command_line.replay_asked.Goals.{in_default-via-in-Some+in_default, in_default-via-in_default}
 use Rattle.command_line.proofs.command_line.replay_asked.Goals as goal
 
-pub returns : goal.returns
-returns c = (refl, c.in_ok-asked.ensures, text_given c.args.entries.now (codes "steps") c.get_str.result c.in_ok-steps.steps c.get_str.ensures c.in_ok-steps.was)
+pub returns-in-Some-Some : goal.returns-in-Some-Some
+returns-in-Some-Some c = (
+  refl,
+  c.in-Some-Some.ensures,
+  text_given c.args.entries.now (codes "steps") c.get_str.result c.in-Some-Some.steps c.get_str.ensures c.in-Some-Some.is-1,
+)
 
-pub returns-in_err-asked : goal.returns-in_err-asked
-returns-in_err-asked c =
-    none_is _ _ c.from_residual.ensures (λ asked asks.
+pub returns-in_default : goal.returns-in_default
+returns-in_default c = λ asked asks.
     let gives = asks_replay (rows_in c.args.entries.now) asked asks in
-    c.in_err-asked.ensures gives.0 gives.2)
-
-pub returns-in_err-steps : goal.returns-in_err-steps
-returns-in_err-steps c =
-    none_is _ _ c.from_residual-in_err-steps.ensures (λ asked asks.
-    let gives = asks_replay (rows_in c.args.entries.now) asked asks in
-    lacking c.args.entries.now (codes "steps") c.get_str.result c.get_str.ensures c.in_err-steps.was gives.1 gives.3)
+    elim c.in_default.branch [
+      | in_default-via-in-Some+in_default w ↦ lacking c.args.entries.now (codes "steps") c.get_str.result c.get_str.ensures w.in_default.is-1 gives.1 gives.3
+      | in_default-via-in_default w ↦ none_found _ c.job_asked.result c.job_asked.ensures w.in_default.is-0 gives.0 gives.2
+    ]

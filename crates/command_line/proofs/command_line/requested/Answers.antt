@@ -1,7 +1,7 @@
 use Rattle.std.proofs.Common.{codes, subst, sym}
 use Rattle.command_line.specs.CommandLine.{AsksFor}
 use Rattle.command_line.specs.inside.Commands.{Finds, rows_in}
-use Rattle.command_line.proofs.Entries.{asks_none, asks_print, asks_verify, lacking, none_is, run_found, text_given}
+use Rattle.command_line.proofs.Entries.{asks_none, asks_print, asks_verify, lacking, none_is, text_given}
 use Rattle.command_line.proofs.command_line.requested.Goals as goal
 
 pub returns-in_ok-module-in-print : goal.returns-in_ok-module-in-print
@@ -32,8 +32,7 @@ pub returns-in-graph : goal.returns-in-graph
 returns-in-graph c = subst (λ name. Finds (AsksFor name (rows_in c.args.entries.now)) c.import_asked.result) (sym c.in-graph.is) c.import_asked.ensures
 
 pub returns-in-run : goal.returns-in-run
-returns-in-run c = subst (λ name. Finds (AsksFor name (rows_in c.args.entries.now)) c.map.result) (sym c.in-run.is)
-    (run_found (rows_in c.args.entries.now) c.run_asked.result c.map.result c.run_asked.ensures c.map.ensures.cases)
+returns-in-run c = subst (λ name. Finds (AsksFor name (rows_in c.args.entries.now)) c.run_asked.result) (sym c.in-run.is) c.run_asked.ensures
 
 pub returns-in_err-module-in-print : goal.returns-in_err-module-in-print
 returns-in_err-module-in-print c = none_is _ _ c.from_residual.ensures (λ asked asks.

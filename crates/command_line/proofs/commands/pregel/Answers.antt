@@ -5,9 +5,8 @@ use Rattle.clap.specs.Simple.{app_of_fields, on_top}
 use Rattle.clap.specs.declared.builder.command.Command.{Command}
 use Rattle.clap.specs.declared.builder.command.Command.TheOpen.{Command-F}
 use Rattle.clap.specs.declared.builder.command.Command.TheViews.{out-Command}
-use Rattle.command_line.specs.CommandLine.{console, pregel}
-use Rattle.command_line.specs.inside.Commands.{IsCommand, leaves, with_shapes}
-use Rattle.command_line.proofs.CommandRules.{one_below}
+use Rattle.command_line.specs.CommandLine.{pregel}
+use Rattle.command_line.specs.inside.Commands.{IsCommand, with_shapes}
 use Rattle.command_line.proofs.commands.pregel.Goals as goal
 
 abbrev bare : App
@@ -39,6 +38,4 @@ returns c =
       helping ∙ ap shows_help (wanting ∙ ap wants_command (told ∙ ap shows_version c.new.ensures.app)),
       alone,
     ) in
-    let old = c.in_ok-command.ensures in
-    let below : app_of c.in_ok-command.command ≡ with_shapes bare leaves = old.0 ∙ ap₂ with_shapes top.0 c.usages.ensures in
-    IfOk-weaker c.subcommand.result _ _ (λ new added. one_below _ _ _ _ console (below, old.1 ∙ top.1) c.console.ensures added) c.subcommand.ensures
+    IfOk-weaker c.with_commands.result _ _ (λ new added. (added.0 ∙ ap₂ with_shapes top.0 c.usages.ensures, added.1 ∙ top.1)) c.with_commands.ensures

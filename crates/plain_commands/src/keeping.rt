@@ -95,21 +95,64 @@ fn settle<F: Files>(
     ensures refused { IfOk result (λ found. found ≡ None → asked.entry.resume ≡ true) }
     ensures kept { Stays (F.disk files.old) (F.disk files.new) }
 {
-    let found = match job {
-        Some(job) => kinship_in(rt, alloc, folder, &job)?,
-        None => Some(Kinship::Unreadable),
-    };
-    if asked.resume && tells_refusal(folder, job.is_some(), found, files) {
+    match job {
+        Some(job) => settle_known(rt, alloc, asked, folder, &job, keep, files),
+        None => settle_unknown(rt, alloc, asked.resume, folder, keep, files),
+    }
+}
+
+// Settles it for a job that is identified.
+fn settle_known<F: Files>(
+    rt: &(impl std::rt::Files + AllocGlobal),
+    alloc: Global,
+    asked: RunRequest<'_>,
+    folder: &str,
+    job: &JobId,
+    keep: &FileKeep,
+    files: &mut F,
+) -> io::Result<Option<bool>>
+    ensures goes_on { IfOk result (λ found.
+        IfSome found (λ goes_on. goes_on ≡ true → asked.entry.resume ≡ true)) }
+    ensures refused { IfOk result (λ found. found ≡ None → asked.entry.resume ≡ true) }
+    ensures kept { Stays (F.disk files.old) (F.disk files.new) }
+{
+    let found = kinship_in(rt, alloc, folder, job)?;
+    if tells_refusal(asked.resume, folder, found, files) {
         return Ok(None);
     }
-    let goes_on = asked.resume && found.is_some();
-    if !matches!(found, Some(Kinship::Same)) {
-        clear(rt, alloc, asked.resume, folder, keep, files)?;
+    clear(rt, alloc, asked.resume, found, folder, keep, files)?;
+    note_job(rt, alloc, folder, job, asked.job.settings, files);
+    Ok(Some(asked.resume && found.is_some()))
+}
+
+// Settles it for a job that is not identified: no checkpoint is of it.
+fn settle_unknown<F: Files>(
+    rt: &(impl std::rt::Files + AllocGlobal),
+    alloc: Global,
+    resumes: bool,
+    folder: &str,
+    keep: &FileKeep,
+    files: &mut F,
+) -> io::Result<Option<bool>>
+    ensures goes_on { IfOk result (λ found.
+        IfSome found (λ goes_on. goes_on ≡ true → resumes ≡ true)) }
+    ensures refused { IfOk result (λ found. found ≡ None → resumes ≡ true) }
+    ensures kept { Stays (F.disk files.old) (F.disk files.new) }
+{
+    if resumes {
+        files.warn("--resume asks for a module and a graph in files of their own");
+        return Ok(None);
     }
-    if let Some(job) = job {
-        note_job(rt, alloc, folder, &job, asked.job.settings, files);
-    }
-    Ok(Some(goes_on))
+    clear(
+        rt,
+        alloc,
+        resumes,
+        Some(Kinship::Unreadable),
+        folder,
+        keep,
+        files,
+    )?;
+    Ok(Some(false))
 }
 
 // Tells why no file can be made in the folder.
@@ -183,77 +226,95 @@ fn path_in(alloc: Global, folder: &str, name: &str) -> Result<String, AllocError
     format!(in alloc; "{folder}/{name}")
 }
 
-// Tells why a run may not go on with the checkpoints of a folder, where that is so.
+// Tells why a run may not go on with the checkpoints of a folder, where it is to and may not.
 fn tells_refusal<F: Files>(
+    resumes: bool,
     folder: &str,
-    is_known: bool,
     found: Option<Kinship>,
     files: &mut F,
 ) -> bool
-    ensures { Stays (F.disk files.old) (F.disk files.new) }
+    ensures asked { result ≡ true → resumes ≡ true }
+    ensures kept { Stays (F.disk files.old) (F.disk files.new) }
 {
-    if !is_known {
-        files.warn("--resume asks for a module and a graph in files of their own");
-        return true;
+    if !resumes {
+        return false;
     }
+    let Some(why) = refusal_of(found) else {
+        return false;
+    };
+    files.warn(format_args!("{folder}/job.json: {why}; run without --resume to begin again"));
+    true
+}
+
+// Why a run may not go on with checkpoints of this kinship, where it may not.
+fn refusal_of(found: Option<Kinship>) -> Option<&'static str> {
     match found {
-        None | Some(Kinship::Same) => false,
-        Some(Kinship::OtherModule) => {
-            files.warn(format_args!(
-                "{folder}/job.json: the checkpoints are of another module; run without --resume to begin again"
-            ));
-            true
-        }
-        Some(Kinship::OtherGraph) => {
-            files.warn(format_args!(
-                "{folder}/job.json: the checkpoints are of another graph; run without --resume to begin again"
-            ));
-            true
-        }
-        Some(Kinship::Unreadable) => {
-            files.warn(format_args!(
-                "{folder}/job.json: it does not say of which job the checkpoints are; run without --resume to begin again"
-            ));
-            true
-        }
+        None | Some(Kinship::Same) => None,
+        Some(Kinship::OtherModule) => Some("the checkpoints are of another module"),
+        Some(Kinship::OtherGraph) => Some("the checkpoints are of another graph"),
+        Some(Kinship::Unreadable) => Some("it does not say of which job the checkpoints are"),
     }
 }
 
-// Leaves no checkpoint in a folder that a later run could take for one of this job, and no `job.json`.
+// Leaves no checkpoint in a folder that a later run could take for one of this job, and no `job.json`. What is of this job stays.
 fn clear<F: Files>(
     rt: &(impl std::rt::Files + AllocGlobal),
     alloc: Global,
     resumes: bool,
+    found: Option<Kinship>,
     folder: &str,
     keep: &FileKeep,
     files: &mut F,
 ) -> io::Result<()>
     ensures { Stays (F.disk files.old) (F.disk files.new) }
 {
+    if matches!(found, Some(Kinship::Same)) {
+        return Ok(());
+    }
     warn_of_aside(keep.set_aside(rt)?, folder, files);
-    if resumes {
-        files.warn(format_args!("{folder}: it has no job.json; the job begins at superstep 0"));
-    }
+    warn_of_beginning(resumes, folder, files);
+    remove_job(rt, alloc, folder)
+}
+
+// Removes the folder's `job.json`, where there is one.
+fn remove_job(
+    rt: &(impl std::rt::Files + AllocGlobal),
+    alloc: Global,
+    folder: &str,
+) -> io::Result<()> {
     let path = path_in(alloc, folder, "job.json")?;
-    match fs::remove_file(rt, path.as_str()) {
-        Err(error) if error.kind() != ErrorKind::NotFound => Err(error),
-        _ => Ok(()),
+    let Err(error) = fs::remove_file(rt, path.as_str()) else {
+        return Ok(());
+    };
+    match error.kind() {
+        ErrorKind::NotFound => Ok(()),
+        _ => Err(error),
     }
+}
+
+// Warns that a job begins, where it was to go on.
+fn warn_of_beginning<F: Files>(resumes: bool, folder: &str, files: &mut F)
+    ensures { Stays (F.disk files.old) (F.disk files.new) }
+{
+    if !resumes {
+        return;
+    }
+    files.warn(format_args!("{folder}: it has no job.json; the job begins at superstep 0"));
 }
 
 // Warns of checkpoints of another job that were renamed, where there are any.
 fn warn_of_aside<F: Files>(count: usize, folder: &str, files: &mut F)
     ensures { Stays (F.disk files.old) (F.disk files.new) }
 {
-    match count {
-        0 => {}
-        1 => files.warn(format_args!(
-            "{folder}: 1 checkpoint of another job is renamed to end in .old"
-        )),
-        _ => files.warn(format_args!(
-            "{folder}: {count} checkpoints of another job are renamed to end in .old"
-        )),
+    if count == 0 {
+        return;
     }
+    let what = if count == 1 {
+        "checkpoint of another job is"
+    } else {
+        "checkpoints of another job are"
+    };
+    files.warn(format_args!("{folder}: {count} {what} renamed to end in .old"));
 }
 
 // Writes `job.json`. Where that fails the job goes on, and no later run can go on with its states.

@@ -1,8 +1,9 @@
 //! The replay of a job over a list of steps.
 
-ghost use Rattle.std.specs.Prelude.{◌≡◌, IfOk, IfErr, OnOk, string_bytes, MatchResult};
+ghost use Rattle.std.specs.Prelude.{◌≡◌, ◌++◌, IfOk, IfErr, OnOk, codes, string_bytes, MatchResult};
+ghost use Rattle.std.specs.Fmt.{decimal};
 ghost use Rattle.std.specs.List.{flat_map};
-ghost use Rattle.sources.specs.OutputLines.{Gains, IfText};
+ghost use Rattle.sources.specs.OutputLines.{Gains, IfText, line};
 ghost use Rattle.plain_commands.specs.Replays.{AreReplayLines, IsFaultOfReplay, answer_line, replay_end_lines, report_lines, said_line, trace_lines};
 ghost use Rattle.sources.specs.Disk.{Stays};
 ghost use Rattle.plain_commands.specs.Outputs.{AreStepsAt, PrintsReplay};
@@ -100,8 +101,8 @@ fn push_answer(text: &mut String, answer: StepAnswer) -> Result<(), AllocError>
     ensures { OnOk result (Gains text.old text.new (answer_line answer)) }
 {
     match answer {
-        StepAnswer::Idle => writeln!(text, "idle"),
-        StepAnswer::Handed(part) => writeln!(text, "handed {part}"),
+        StepAnswer::Idle => push_word(text, "idle"),
+        StepAnswer::Handed(part) => push_counted(text, "handed", part),
         StepAnswer::Said(answer) => push_said(text, answer),
     }
 }
@@ -110,19 +111,32 @@ fn push_said(text: &mut String, answer: Answer) -> Result<(), AllocError>
     ensures { OnOk result (Gains text.old text.new (said_line answer)) }
 {
     match answer {
-        Answer::Taken => writeln!(text, "taken"),
-        Answer::Advanced(superstep) => writeln!(text, "advanced {superstep}"),
-        Answer::RolledBack(superstep) => writeln!(text, "rolledback {superstep}"),
-        Answer::Stale => writeln!(text, "stale"),
-        Answer::Ended => writeln!(text, "ended"),
+        Answer::Taken => push_word(text, "taken"),
+        Answer::Advanced(superstep) => push_counted(text, "advanced", superstep),
+        Answer::RolledBack(superstep) => push_counted(text, "rolledback", superstep),
+        Answer::Stale => push_word(text, "stale"),
+        Answer::Ended => push_word(text, "ended"),
     }
+}
+
+fn push_word(text: &mut String, word: &str) -> Result<(), AllocError>
+    ensures { OnOk result (Gains text.old text.new (line word.now)) }
+{
+    writeln!(text, "{word}")
+}
+
+fn push_counted(text: &mut String, word: &str, number: u32) -> Result<(), AllocError>
+    ensures { OnOk result
+        (Gains text.old text.new (line (word.now ++ codes " " ++ decimal number))) }
+{
+    writeln!(text, "{word} {number}")
 }
 
 fn push_outcome(text: &mut String, outcome: &Outcome, tells_units: bool) -> Result<(), AllocError>
     ensures { OnOk result (Gains text.old text.new (replay_end_lines tells_units outcome.now)) }
 {
     match outcome {
-        Outcome::Open(superstep) => writeln!(text, "open {superstep}"),
+        Outcome::Open(superstep) => push_counted(text, "open", *superstep),
         Outcome::Ended(report) => push_report(text, report, tells_units),
     }
 }

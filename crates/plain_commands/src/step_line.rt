@@ -53,17 +53,21 @@ fn alone(name: &[u8]) -> StepLine
 fn of_worker(name: &[u8], worker: &[u8]) -> StepLine
     ensures { result ≡ of_worker name.now worker.now }
 {
+    let worker = match u32_of(worker) {
+        Some(worker) => worker,
+        None => return StepLine::Bad,
+    };
     if name == b"take".as_slice() {
-        return u32_of(worker).map_or(StepLine::Bad, |w| StepLine::Says(Step::Take(w)));
+        return StepLine::Says(Step::Take(worker));
     }
     if name == b"work".as_slice() {
-        return u32_of(worker).map_or(StepLine::Bad, |w| StepLine::Says(Step::Work(w)));
+        return StepLine::Says(Step::Work(worker));
     }
     if name == b"lose".as_slice() {
-        return u32_of(worker).map_or(StepLine::Bad, |w| StepLine::Says(Step::Lose(w)));
+        return StepLine::Says(Step::Lose(worker));
     }
     if name == b"join".as_slice() {
-        return u32_of(worker).map_or(StepLine::Bad, |w| StepLine::Says(Step::Join(w)));
+        return StepLine::Says(Step::Join(worker));
     }
     StepLine::Bad
 }

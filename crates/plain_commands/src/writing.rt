@@ -32,7 +32,5 @@ pub(crate) fn write_told<'a, F: Files>(
 fn length_text(alloc: Global, length: usize) -> Result<String, AllocError>
     ensures { IfOk result (λ text. string_bytes text ≡ length_line length) }
 {
-    let mut text = String::new(alloc);
-    writeln!(text, "ok {length}")?;
-    Ok(text)
+    format!(in alloc; "ok {length}\n")
 }

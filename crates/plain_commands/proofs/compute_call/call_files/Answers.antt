@@ -1,7 +1,7 @@
 use Rattle.std.proofs.Common.{inl, inr, true, subst}
 use Rattle.std.specs.String.{string_bytes}
 use Rattle.plain_commands.specs.ComputeCall.{AreCallLines, RefusesText}
-use Rattle.sources.proofs.Disks.{unread_before}
+use Rattle.sources.proofs.Disks.{stays_again, unread_before}
 use Rattle.sources.proofs.Faults.{IfErr-along, IfOk-along, is_fault}
 use Rattle.plain_commands.proofs.compute_call.call_files.Goals as goal
 
@@ -41,3 +41,16 @@ returns-clause-refused g c =
       inr (string_bytes c.in_ok-text.text, there, subst (λ text. RefusesText verified text fault) c.as_str.ensures.value refused),
     ))
     c.answer.ensures.refused
+
+pub returns-in_err-verified-clause-kept : goal.returns-in_err-verified-clause-kept
+returns-in_err-verified-clause-kept g c = c.in_err-verified.ensures.kept
+
+pub returns-in_err-text-clause-kept : goal.returns-in_err-text-clause-kept
+returns-in_err-text-clause-kept g c =
+    stays_again (g.F.Files.disk c.args.files.now) (g.F.Files.disk c.load_within.new.files) (g.F.Files.disk c.read_text.new.files)
+    c.in_ok-verified.ensures.kept c.in_err-text.ensures.kept
+
+pub returns-clause-kept : goal.returns-clause-kept
+returns-clause-kept g c =
+    stays_again (g.F.Files.disk c.args.files.now) (g.F.Files.disk c.load_within.new.files) (g.F.Files.disk c.read_text.new.files)
+    c.in_ok-verified.ensures.kept c.in_ok-text.ensures.kept

@@ -1,6 +1,6 @@
 use Rattle.std.proofs.Common.{inl, inr}
 use Rattle.sources.specs.Jobs.{IsGraphIn}
-use Rattle.sources.proofs.Disks.{holds_before, no_graph_before}
+use Rattle.sources.proofs.Disks.{holds_before, no_graph_before, stays_again}
 use Rattle.sources.proofs.Faults.{MatchResult-along, is_fault}
 use Rattle.plain_commands.proofs.opening.job_of.Goals as goal
 
@@ -33,3 +33,13 @@ returns-clause-found g c =
     })
     (λ fault is. inr (c.in_ok-verified.verified, c.in_ok-verified.ensures.found, inr (graph, read, is)))
     c.open.ensures.opened
+
+pub returns-in_err-graph-clause-kept : goal.returns-in_err-graph-clause-kept
+returns-in_err-graph-clause-kept g c =
+    stays_again (g.F.Files.disk c.args.files.now) (g.F.Files.disk c.load_within.new.files) (g.F.Files.disk c.read_graph.new.files)
+    c.in_ok-verified.ensures.kept c.in_err-graph.ensures.kept
+
+pub returns-clause-kept : goal.returns-clause-kept
+returns-clause-kept g c =
+    stays_again (g.F.Files.disk c.args.files.now) (g.F.Files.disk c.load_within.new.files) (g.F.Files.disk c.read_graph.new.files)
+    c.in_ok-verified.ensures.kept c.in_ok-graph.ensures.kept

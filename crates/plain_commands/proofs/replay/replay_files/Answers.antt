@@ -1,7 +1,7 @@
 use Rattle.std.proofs.Common.{◌≡◌, inl, inr, Ok}
 use Rattle.std.specs.String.{string_bytes}
 use Rattle.plain_commands.specs.Steps.{steps_of}
-use Rattle.sources.proofs.Disks.{holds_before}
+use Rattle.sources.proofs.Disks.{holds_before, stays_again}
 use Rattle.plain_commands.proofs.Disks.{no_steps_before}
 use Rattle.sources.proofs.Faults.{IfErr-along, IfOk-along, is_fault}
 use Rattle.plain_commands.proofs.Replays.{fault_of_lent, lines_of_lent}
@@ -45,3 +45,13 @@ returns-clause-refused g c =
       inr (steps, read, fault_of_lent c.in_ok-job.job c.as_slice.result.now steps fault c.as_slice.ensures.value is),
     ))
     c.replay.ensures.refused
+
+pub returns-in_err-steps-clause-kept : goal.returns-in_err-steps-clause-kept
+returns-in_err-steps-clause-kept g c =
+    stays_again (g.F.Files.disk c.args.files.now) (g.F.Files.disk c.job_of.new.files) (g.F.Files.disk c.read_steps.new.files)
+    c.in_ok-job.ensures.kept c.in_err-steps.ensures.kept
+
+pub returns-clause-kept : goal.returns-clause-kept
+returns-clause-kept g c =
+    stays_again (g.F.Files.disk c.args.files.now) (g.F.Files.disk c.job_of.new.files) (g.F.Files.disk c.read_steps.new.files)
+    c.in_ok-job.ensures.kept c.in_ok-steps.ensures.kept

@@ -13,10 +13,10 @@ mod damage;
 mod sized;
 pub mod sweep;
 
-use crate::modules::{decoded, line_of, of_module, printed, spelling};
+use crate::modules::{decoded, module_of, printed, spelling};
 use anyhow::Result;
 use conformance_cases::{is_case, named, spelled};
-use damage::damaged;
+use damage::tell_damaged;
 use sized::sized_bytes;
 use sources::CommandFault;
 use std::alloc::{AllocError, Global};
@@ -97,47 +97,56 @@ fn show_case(rt: &(impl Print + AllocGlobal), frame: Frame, line: &str) -> Resul
 }
 
 fn answer(alloc: Global, frame: Frame, text: &str) -> Result<String, AllocError> {
+    let mut line = String::new(alloc);
+    tell(alloc, frame, text, &mut line)?;
+    Ok(line)
+}
+
+fn tell(alloc: Global, frame: Frame, text: &str, line: &mut String) -> Result<(), AllocError> {
     match frame.question {
-        "alike" => alike(alloc, frame, text),
-        "length" => length(alloc, frame, text),
-        _ => answer_for_bytes(alloc, frame, text),
+        "alike" => tell_alike(alloc, frame, text, line),
+        "length" => tell_length(alloc, frame, text, line),
+        _ => tell_for_bytes(alloc, frame, text, line),
     }
 }
 
-fn answer_for_bytes(alloc: Global, frame: Frame, text: &str) -> Result<String, AllocError> {
+fn tell_for_bytes(
+    alloc: Global,
+    frame: Frame,
+    text: &str,
+    line: &mut String,
+) -> Result<(), AllocError> {
     let bytes = frame.bytes(alloc, text)?;
     match frame.question {
-        "decode" => shown(alloc, bytes.as_slice()),
-        "encode" => encoded(alloc, bytes.as_slice()),
-        _ => damaged(alloc, bytes.as_slice()),
+        "decode" => tell_decoded(alloc, bytes.as_slice(), line),
+        "encode" => tell_encoded(alloc, bytes.as_slice(), line),
+        _ => tell_damaged(alloc, bytes.as_slice(), line),
     }
 }
 
-// Prints the module that the bytes spell.
-fn shown(alloc: Global, bytes: &[u8]) -> Result<String, AllocError> {
+// Writes the module that the bytes spell.
+fn tell_decoded(alloc: Global, bytes: &[u8], line: &mut String) -> Result<(), AllocError> {
     match decoded(alloc, bytes) {
-        Ok(module) => printed_on_one_line(alloc, &module),
-        Err(fault) => line_of(alloc, fault),
+        Ok(module) => tell_module(alloc, &module, line),
+        Err(fault) => write!(line, "{fault}"),
     }
 }
 
-fn printed_on_one_line(alloc: Global, module: &Module) -> Result<String, AllocError> {
+fn tell_module(alloc: Global, module: &Module, line: &mut String) -> Result<(), AllocError> {
     let text = printed(alloc, module)?;
-    on_one_line(alloc, text.as_str())
+    push_words(alloc, text.as_str(), line)
 }
 
 // Joins the words of a text by single blanks.
-fn on_one_line(alloc: Global, text: &str) -> Result<String, AllocError> {
-    let mut line = String::new(alloc);
+fn push_words(alloc: Global, text: &str, line: &mut String) -> Result<(), AllocError> {
     let mut run = Run {
         word: String::new(alloc),
         count: 0,
     };
     for word in text.split_ascii_whitespace() {
-        run.take(word, &mut line)?;
+        run.take(word, line)?;
     }
-    run.write(&mut line)?;
-    Ok(line)
+    run.write(line)
 }
 
 // Equal words in a row.
@@ -183,13 +192,21 @@ fn push_blank(line: &mut String) -> Result<(), AllocError> {
     }
 }
 
-// Returns the answer that each of the bytes has in the frame, or the first byte with another one.
-fn alike(alloc: Global, frame: Frame, text: &str) -> Result<String, AllocError> {
+// Writes the answer that each of the bytes has in the frame, or the first byte with another one.
+fn tell_alike(
+    alloc: Global,
+    frame: Frame,
+    text: &str,
+    line: &mut String,
+) -> Result<(), AllocError> {
     let (first, others) = text.split_once(' ').unwrap_or((text, ""));
-    let told = told_of(alloc, frame, first)?;
-    match first_otherwise(alloc, frame, others, told.as_str())? {
-        Some(byte) => format!(in alloc; "otherwise at {byte}"),
-        None => Ok(told),
+    tell_fault(alloc, frame, first, line)?;
+    match first_otherwise(alloc, frame, others, line.as_str())? {
+        Some(byte) => {
+            line.clear();
+            write!(line, "otherwise at {byte}")
+        }
+        None => Ok(()),
     }
 }
 
@@ -208,53 +225,75 @@ fn first_otherwise<'a>(
 }
 
 fn is_otherwise(alloc: Global, frame: Frame, byte: &str, told: &str) -> Result<bool, AllocError> {
-    let other = told_of(alloc, frame, byte)?;
+    let mut other = String::new(alloc);
+    tell_fault(alloc, frame, byte, &mut other)?;
     Ok(other.as_str() != told)
 }
 
-fn told_of(alloc: Global, frame: Frame, text: &str) -> Result<String, AllocError> {
+fn tell_fault(
+    alloc: Global,
+    frame: Frame,
+    text: &str,
+    line: &mut String,
+) -> Result<(), AllocError> {
     let bytes = frame.bytes(alloc, text)?;
     match decoded(alloc, bytes.as_slice()) {
-        Ok(_) => String::from_str(alloc, "a module"),
-        Err(fault) => line_of(alloc, fault),
+        Ok(_) => line.push_str("a module"),
+        Err(fault) => write!(line, "{fault}"),
     }
 }
 
 // Encodes the module that the bytes spell.
-fn encoded(alloc: Global, bytes: &[u8]) -> Result<String, AllocError> {
+fn tell_encoded(alloc: Global, bytes: &[u8], line: &mut String) -> Result<(), AllocError> {
     match decoded(alloc, bytes) {
-        Ok(module) => spelled_again(alloc, &module, bytes),
-        Err(fault) => line_of(alloc, fault),
+        Ok(module) => tell_spelling(alloc, &module, bytes, line),
+        Err(fault) => write!(line, "{fault}"),
     }
 }
 
-fn spelled_again(alloc: Global, module: &Module, bytes: &[u8]) -> Result<String, AllocError> {
+fn tell_spelling(
+    alloc: Global,
+    module: &Module,
+    bytes: &[u8],
+    line: &mut String,
+) -> Result<(), AllocError> {
     match spelling(alloc, module) {
-        Ok(again) if again.as_slice() == bytes => String::from_str(alloc, "the same bytes"),
-        Ok(again) => in_hexadecimal(alloc, again.as_slice()),
-        Err(fault) => line_of(alloc, CommandFault::from(fault)),
+        Ok(again) if again.as_slice() == bytes => line.push_str("the same bytes"),
+        Ok(again) => push_hexadecimal(again.as_slice(), line),
+        Err(fault) => write!(line, "{}", CommandFault::from(fault)),
     }
 }
 
-fn in_hexadecimal(alloc: Global, bytes: &[u8]) -> Result<String, AllocError> {
-    let mut text = String::new(alloc);
+fn push_hexadecimal(bytes: &[u8], line: &mut String) -> Result<(), AllocError> {
     for byte in bytes {
-        push_blank(&mut text)?;
-        write!(text, "{byte:02X}")?;
+        push_blank(line)?;
+        write!(line, "{byte:02X}")?;
     }
-    Ok(text)
+    Ok(())
 }
 
-// Returns the length of the shortest spelling of a text's module.
-fn length(alloc: Global, frame: Frame, text: &str) -> Result<String, AllocError> {
-    let line = frame.filled(alloc, text)?;
-    let text = spelled(alloc, line.as_str())?;
-    of_module(alloc, text.as_str(), length_told)
+// Writes the length of the shortest spelling of a text's module.
+fn tell_length(
+    alloc: Global,
+    frame: Frame,
+    text: &str,
+    line: &mut String,
+) -> Result<(), AllocError> {
+    let filled = frame.filled(alloc, text)?;
+    tell_length_of(alloc, filled.as_str(), line)
 }
 
-fn length_told(alloc: Global, module: &Module) -> Result<String, AllocError> {
+fn tell_length_of(alloc: Global, spelling: &str, line: &mut String) -> Result<(), AllocError> {
+    let text = spelled(alloc, spelling)?;
+    match module_of(alloc, text.as_str()) {
+        Ok(module) => tell_module_length(alloc, &module, line),
+        Err(fault) => write!(line, "{fault}"),
+    }
+}
+
+fn tell_module_length(alloc: Global, module: &Module, line: &mut String) -> Result<(), AllocError> {
     match spelling(alloc, module) {
-        Ok(bytes) => format!(in alloc; "{} bytes", bytes.len()),
-        Err(fault) => line_of(alloc, CommandFault::from(fault)),
+        Ok(bytes) => write!(line, "{} bytes", bytes.len()),
+        Err(fault) => write!(line, "{}", CommandFault::from(fault)),
     }
 }

@@ -9,10 +9,10 @@ pub mod alike;
 mod forms;
 pub mod generated;
 
-use crate::modules::{line_of, valid_of};
+use crate::modules::valid_of;
 use anyhow::Result;
-use conformance_cases::{named, show_cases, spelled};
-use forms::both_answers;
+use conformance_cases::show_texts;
+use forms::tell_both;
 use host_calls::CallInput;
 use sources::{CommandFault, Input};
 use std::alloc::{AllocError, Global};
@@ -91,35 +91,36 @@ fn show_file(
     frame: &str,
     vertex: &str,
 ) -> Result<()> {
-    show_cases(
+    show_texts(
         rt,
         file,
-        |alloc, line| Ok(answer(alloc, frame, line, vertex)?),
+        |alloc, text| answer(alloc, frame, Case::new(text, vertex)),
     )
 }
 
-fn answer(alloc: Global, frame: &str, line: &str, vertex: &str) -> Result<String, AllocError> {
-    let (name, rest) = named(line);
-    let text = spelled(alloc, if rest.is_empty() { name } else { rest })?;
-    answer_to(alloc, frame, Case::new(text.as_str(), vertex))
+fn answer(alloc: Global, frame: &str, case: Case) -> Result<String, AllocError> {
+    let mut line = String::new(alloc);
+    tell(alloc, frame, case, &mut line)?;
+    Ok(line)
 }
 
-fn answer_to(alloc: Global, frame: &str, case: Case) -> Result<String, AllocError> {
+fn tell(alloc: Global, frame: &str, case: Case, line: &mut String) -> Result<(), AllocError> {
     let text = case.in_frame(alloc, frame)?;
     match Input::read(alloc, case.input) {
-        Ok(input) => answer_to_call(alloc, text.as_str(), &input.call_input(), case.budget),
-        Err(fault) => line_of(alloc, CommandFault::Input(fault)),
+        Ok(input) => tell_call(alloc, text.as_str(), &input.call_input(), case.budget, line),
+        Err(fault) => write!(line, "{}", CommandFault::Input(fault)),
     }
 }
 
-fn answer_to_call(
+fn tell_call(
     alloc: Global,
     text: &str,
     input: &CallInput,
     budget: u128,
-) -> Result<String, AllocError> {
+    line: &mut String,
+) -> Result<(), AllocError> {
     match valid_of(alloc, text) {
-        Ok(valid) => both_answers(alloc, valid, input, budget),
-        Err(fault) => line_of(alloc, fault),
+        Ok(valid) => tell_both(alloc, valid, input, budget, line),
+        Err(fault) => write!(line, "{fault}"),
     }
 }

@@ -2,42 +2,33 @@
 //! the same bytes; or why they are no checkpoint. `NAME: fronts HEX` counts the shorter fronts of the bytes that are read.
 //! `NAME: changes HEX` counts the changes of one byte with which the bytes are read.
 
-use anyhow::Result;
 use checkpoint::{read, write};
-use conformance_cases::{bytes, named, show_cases};
+use conformance_cases::bytes;
 use std::alloc::{AllocError, Global};
-use std::rt::Files;
 use superstep::{State, VertexState};
 
-pub fn show(rt: &(impl Files + Print + AllocGlobal)) -> Result<()> {
-    show_cases(
-        rt,
-        "checkpoint/checkpoints.txt",
-        |alloc, line| Ok(answer(alloc, named(line).1)?),
-    )
-}
-
-fn answer(alloc: Global, case: &str) -> Result<String, AllocError> {
+/// Writes the state that bytes hold, or how many of the fronts or changes of the bytes are read.
+pub fn answer(alloc: Global, case: &str, line: &mut String) -> Result<(), AllocError> {
     if let Some(hex) = case.strip_prefix("fronts ") {
-        return fronts_told(alloc, hex);
+        return tell_fronts(alloc, hex, line);
     }
     if let Some(hex) = case.strip_prefix("changes ") {
-        return changes_told(alloc, hex);
+        return tell_changes(alloc, hex, line);
     }
-    state_or_fault(alloc, case)
+    tell_state_or_fault(alloc, case, line)
 }
 
-fn fronts_told(alloc: Global, hex: &str) -> Result<String, AllocError> {
+fn tell_fronts(alloc: Global, hex: &str, line: &mut String) -> Result<(), AllocError> {
     let bytes = bytes(alloc, hex)?;
     let (read, all) = (fronts_read(alloc, bytes.as_slice()), bytes.len());
-    format!(in alloc; "{read} of {all} are read")
+    write!(line, "{read} of {all} are read")
 }
 
-fn changes_told(alloc: Global, hex: &str) -> Result<String, AllocError> {
+fn tell_changes(alloc: Global, hex: &str, line: &mut String) -> Result<(), AllocError> {
     let mut bytes = bytes(alloc, hex)?;
     let all = bytes.len().saturating_mul(255);
     let read = changes_read(alloc, &mut bytes);
-    format!(in alloc; "{read} of {all} are read")
+    write!(line, "{read} of {all} are read")
 }
 
 fn fronts_read(alloc: Global, bytes: &[u8]) -> u64 {
@@ -75,25 +66,29 @@ fn put(bytes: &mut Vec<u8>, place: usize, byte: u8) {
     }
 }
 
-fn state_or_fault(alloc: Global, case: &str) -> Result<String, AllocError> {
-    let bytes = bytes(alloc, case)?;
+fn tell_state_or_fault(alloc: Global, hex: &str, line: &mut String) -> Result<(), AllocError> {
+    let bytes = bytes(alloc, hex)?;
     match read(alloc, bytes.as_slice()) {
-        Ok(state) => told(alloc, &state, bytes.as_slice()),
-        Err(fault) => format!(in alloc; "{fault}"),
+        Ok(state) => tell_read(alloc, &state, bytes.as_slice(), line),
+        Err(fault) => write!(line, "{fault}"),
     }
 }
 
-fn told(alloc: Global, state: &State, bytes: &[u8]) -> Result<String, AllocError> {
-    let mut text = shown_state(alloc, state)?;
-    tell_written(alloc, state, bytes, &mut text)?;
-    Ok(text)
+fn tell_read(
+    alloc: Global,
+    state: &State,
+    bytes: &[u8],
+    line: &mut String,
+) -> Result<(), AllocError> {
+    tell_state(alloc, state, line)?;
+    tell_written(alloc, state, bytes, line)
 }
 
 fn tell_written(
     alloc: Global,
     state: &State,
     bytes: &[u8],
-    text: &mut String,
+    line: &mut String,
 ) -> Result<(), AllocError> {
     let written = write(alloc, state)?;
     let alike = if written.as_slice() == bytes {
@@ -101,38 +96,32 @@ fn tell_written(
     } else {
         ""
     };
-    write!(text, ", written {}{alike}", written.len())
+    write!(line, ", written {}{alike}", written.len())
 }
 
-/// Shows a state, except for the values of its aggregators.
-pub fn shown_state(alloc: Global, state: &State) -> Result<String, AllocError> {
-    let mut text = String::new(alloc);
-    tell_state(alloc, state, &mut text)?;
-    Ok(text)
-}
-
-fn tell_state(alloc: Global, state: &State, text: &mut String) -> Result<(), AllocError> {
+/// Writes a state, except for the values of its aggregators.
+pub fn tell_state(alloc: Global, state: &State, line: &mut String) -> Result<(), AllocError> {
     let (superstep, since) = (state.superstep(), state.since());
     let (units, dropped) = (state.units(), state.dropped());
     write!(
-        text,
+        line,
         "superstep {superstep} since {since} units {units} dropped {dropped}"
     )?;
-    tell_vertices(&state.in_order(alloc)?, text)
+    tell_vertices(&state.in_order(alloc)?, line)
 }
 
-fn tell_vertices(vertices: &[&VertexState], text: &mut String) -> Result<(), AllocError> {
+fn tell_vertices(vertices: &[&VertexState], line: &mut String) -> Result<(), AllocError> {
     for vertex in vertices {
-        tell_vertex(vertex, text)?;
+        tell_vertex(vertex, line)?;
     }
     Ok(())
 }
 
-fn tell_vertex(vertex: &VertexState, text: &mut String) -> Result<(), AllocError> {
+fn tell_vertex(vertex: &VertexState, line: &mut String) -> Result<(), AllocError> {
     let active = if vertex.active { "active" } else { "halted" };
-    write!(text, ", {} {} {active}", vertex.id, vertex.value)?;
+    write!(line, ", {} {} {active}", vertex.id, vertex.value)?;
     for message in vertex.inbox.as_slice() {
-        write!(text, " {message}")?;
+        write!(line, " {message}")?;
     }
     Ok(())
 }

@@ -3,54 +3,41 @@
 
 ghost use Rattle.cost.specs.Ranks.{IsRanking};
 
-use crate::modules::of_valid;
-use anyhow::Result;
-use conformance_cases::show_texts;
-use cost::{CostFault, Ranks, inlined_size, ranks};
+use crate::modules::valid_of;
+use cost::{Ranks, inlined_size, ranks};
 use std::alloc::{AllocError, Global};
-use std::rt::Files;
 use valid::Valid;
 use wasm_ast::{Module, imported_function_count};
 
-pub fn show(rt: &(impl Files + Print + AllocGlobal)) -> Result<()> {
-    show_texts(rt, "cost/costs.txt", answer)?;
-    println!(rt; "want of memory: {}", CostFault::OutOfMemory)?;
-    Ok(())
-}
-
-fn answer(alloc: Global, text: &str) -> Result<String, AllocError> {
-    of_valid(alloc, text, costs)
-}
-
-fn costs(alloc: Global, valid: &Valid) -> Result<String, AllocError> {
-    match ranks(alloc, valid) {
-        Ok(ranks) => sizes_and_ranks(alloc, valid, &ranks),
-        Err(fault) => format!(in alloc; "{fault}"),
+/// Writes the sizes and ranks of the functions of the module that a text spells.
+pub fn answer(alloc: Global, text: &str, line: &mut String) -> Result<(), AllocError> {
+    match valid_of(alloc, text) {
+        Ok(valid) => tell_costs(alloc, &valid, line),
+        Err(fault) => write!(line, "{fault}"),
     }
 }
 
-fn sizes_and_ranks(alloc: Global, valid: &Valid, ranks: &Ranks) -> Result<String, AllocError>
-    requires { IsRanking valid.now ranks.now }
-{
-    let mut text = String::new(alloc);
-    tell(valid, ranks, &mut text)?;
-    Ok(text)
+fn tell_costs(alloc: Global, valid: &Valid, line: &mut String) -> Result<(), AllocError> {
+    match ranks(alloc, valid) {
+        Ok(ranks) => tell(valid, &ranks, line),
+        Err(fault) => write!(line, "{fault}"),
+    }
 }
 
-fn tell(valid: &Valid, ranks: &Ranks, text: &mut String) -> Result<(), AllocError>
+fn tell(valid: &Valid, ranks: &Ranks, line: &mut String) -> Result<(), AllocError>
     requires { IsRanking valid.now ranks.now }
 {
     let count = function_count(valid.module());
-    text.push_str("sizes")?;
+    line.push_str("sizes")?;
     for function in 0..count {
         match inlined_size(valid, ranks, function) {
-            Some(size) => write!(text, " {size}")?,
-            None => text.push_str(" -")?,
+            Some(size) => write!(line, " {size}")?,
+            None => line.push_str(" -")?,
         }
     }
-    text.push_str(" ranks")?;
+    line.push_str(" ranks")?;
     for function in 0..count {
-        write!(text, " {}", ranks.rank(function))?;
+        write!(line, " {}", ranks.rank(function))?;
     }
     Ok(())
 }

@@ -1,73 +1,102 @@
 //! Inboxes. `NAME: IDS; FROM SEQ TO VALUE, FROM SEQ TO VALUE, ..` prints the inbox of each id, and the number of dropped
-//! letters.
+//! letters. It prints `no number` if a number of the case cannot be read.
 
-mod by_part;
+pub mod by_part;
 
 ghost use Rattle.std.specs.Prelude.{◌≡◌, IsTrue};
 ghost use Rattle.std.specs.List.{IsDistinct, list_any};
 ghost use Rattle.std.specs.List.Sorted.{IsStrictlyIncreasing};
 ghost use Rattle.inbox.specs.Merging.{are_one};
 
-use anyhow::{Result, ensure};
-use conformance_cases::{named, show_cases};
 use inbox::{Inbox, Letter, merge};
 use std::alloc::{AllocError, Global};
-use std::num::ParseIntError;
-use std::rt::Files;
-use std::thread::Threads;
 
-pub fn show(rt: &(impl Files + Print + AllocGlobal + Threads + Sync)) -> Result<()> {
-    show_cases(rt, "inbox/inboxes.txt", answer)?;
-    by_part::show(rt)
+/// Writes the inboxes of a case.
+pub fn answer(alloc: Global, case: &str, line: &mut String) -> Result<(), AllocError> {
+    let (ids, letters) = case.split_once(';').unwrap_or((case, ""));
+    let mut unread = false;
+    let ids = ids_in(alloc, ids, &mut unread)?;
+    deliver(alloc, letters, ids.as_slice(), unread, line)
 }
 
-fn answer(alloc: Global, case: &str) -> Result<String> {
-    let (_, rest) = named(case);
-    let (ids, letters) = rest.split_once(';').unwrap_or((rest, ""));
-    let ids = ids_in(alloc, ids)?;
-    delivered(alloc, letters, &ids)
+fn deliver(
+    alloc: Global,
+    letters: &str,
+    ids: &[u64],
+    unread_id: bool,
+    line: &mut String,
+) -> Result<(), AllocError> {
+    let mut unread = unread_id;
+    let letters = letters_in(alloc, letters, &mut unread)?;
+    if unread {
+        line.push_str("no number")
+    } else {
+        tell_merged(alloc, letters.as_slice(), ids, line)
+    }
 }
 
-fn delivered(alloc: Global, letters: &str, ids: &[u64]) -> Result<String> {
-    let letters = letters_in(alloc, letters)?;
-    merged(alloc, &letters, ids)
-}
-
-fn ids_in(alloc: Global, text: &str) -> Result<Vec<u64>> {
+// Reads the ids, and notes whether one cannot be read.
+fn ids_in(alloc: Global, text: &str, unread: &mut bool) -> Result<Vec<u64>, AllocError> {
     let mut ids = Vec::new(alloc);
     for word in text.split_ascii_whitespace() {
-        ids.push(word.parse::<u64>()?)?;
+        ids.push(natural_in(word, unread))?;
     }
     Ok(ids)
 }
 
-fn letters_in(alloc: Global, text: &str) -> Result<Vec<Letter>> {
+// Reads the letters, and notes whether a number of one cannot be read.
+fn letters_in(alloc: Global, text: &str, unread: &mut bool) -> Result<Vec<Letter>, AllocError> {
     let mut letters = Vec::new(alloc);
-    for spelling in text.split(',').filter(|part| !part.trim().is_empty()) {
-        letters.push(letter_of(spelling)?)?;
+    for spelling in text.split(',') {
+        if !spelling.trim().is_empty() {
+            letters.push(letter_of(spelling, unread))?;
+        }
     }
     Ok(letters)
 }
 
-fn letter_of(spelling: &str) -> Result<Letter, ParseIntError> {
+fn letter_of(spelling: &str, unread: &mut bool) -> Letter {
     let mut words = spelling.split_ascii_whitespace();
-    Ok(Letter {
-        from: words.next().unwrap_or("").parse()?,
-        seq: words.next().unwrap_or("").parse()?,
-        to: words.next().unwrap_or("").parse()?,
-        value: words.next().unwrap_or("").parse()?,
-    })
+    Letter {
+        from: natural_in(words.next().unwrap_or(""), unread),
+        seq: natural_in(words.next().unwrap_or(""), unread),
+        to: integer_in(words.next().unwrap_or(""), unread),
+        value: integer_in(words.next().unwrap_or(""), unread),
+    }
+}
+
+fn natural_in(word: &str, unread: &mut bool) -> u64 {
+    let Ok(number) = word.parse() else {
+        *unread = true;
+        return 0;
+    };
+    number
+}
+
+fn integer_in(word: &str, unread: &mut bool) -> i64 {
+    let Ok(number) = word.parse() else {
+        *unread = true;
+        return 0;
+    };
+    number
 }
 
 // Merges the letters, if the ids rise and the letters are distinct.
-fn merged(alloc: Global, letters: &[Letter], ids: &[u64]) -> Result<String> {
-    ensure!(are_rising(ids), "the ids do not rise");
-    ensure!(
-        are_distinct(letters),
-        "two letters of one source have one number"
-    );
+fn tell_merged(
+    alloc: Global,
+    letters: &[Letter],
+    ids: &[u64],
+    line: &mut String,
+) -> Result<(), AllocError> {
+    if !are_rising(ids) {
+        return line.push_str("the ids do not rise");
+    }
+    if !are_distinct(letters) {
+        return line.push_str("two letters of one source have one number");
+    }
     let (inboxes, dropped) = merge(alloc, letters, ids)?;
-    Ok(told(alloc, &inboxes, dropped)?)
+    tell_inboxes(&inboxes, line)?;
+    write!(line, "dropped {dropped}")
 }
 
 fn are_rising(ids: &[u64]) -> bool
@@ -101,25 +130,18 @@ fn is_among(letter: &Letter, others: &[Letter]) -> bool
     others.iter().any(|other| letter.from == other.from && letter.seq == other.seq)
 }
 
-fn told(alloc: Global, inboxes: &[Inbox], dropped: u64) -> Result<String, AllocError> {
-    let mut text = String::new(alloc);
-    tell_inboxes(inboxes, &mut text)?;
-    write!(text, "dropped {dropped}")?;
-    Ok(text)
-}
-
-fn tell_inboxes(inboxes: &[Inbox], text: &mut String) -> Result<(), AllocError> {
+fn tell_inboxes(inboxes: &[Inbox], line: &mut String) -> Result<(), AllocError> {
     for inbox in inboxes {
-        tell_messages(inbox, text)?;
+        tell_messages(inbox, line)?;
     }
     Ok(())
 }
 
-fn tell_messages(inbox: &Inbox, text: &mut String) -> Result<(), AllocError> {
-    text.push('[')?;
+fn tell_messages(inbox: &Inbox, line: &mut String) -> Result<(), AllocError> {
+    line.push('[')?;
     for (place, message) in inbox.as_slice().iter().enumerate() {
         let gap = if place == 0 { "" } else { " " };
-        write!(text, "{gap}{message}")?;
+        write!(line, "{gap}{message}")?;
     }
-    text.push_str("] ")
+    line.push_str("] ")
 }

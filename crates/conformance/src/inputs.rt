@@ -1,49 +1,37 @@
 //! Inputs of calls. `input TEXT` prints the id, the superstep, the count and the value, then the messages, then the edges
 //! as `TARGET:VALUE`. `aggregators TEXT` prints each aggregator's value. A text that is no input prints its first bad line.
 
-use anyhow::Result;
-use conformance_cases::{show_cases, spelled};
 use sources::{CommandFault, Input};
 use std::alloc::{AllocError, Global};
-use std::rt::Files;
 
-pub fn show(rt: &(impl Files + Print + AllocGlobal)) -> Result<()> {
-    show_cases(rt, "sources/inputs.txt", answer)
-}
-
-fn answer(alloc: Global, case: &str) -> Result<String> {
-    let (kind, spelling) = case.split_once(' ').unwrap_or((case, ""));
-    let text = spelled(alloc, spelling)?;
-    Ok(told(alloc, kind, text.as_str())?)
-}
-
-fn told(alloc: Global, kind: &str, text: &str) -> Result<String, AllocError> {
+/// Writes the input that a text declares.
+pub fn answer(alloc: Global, case: &str, line: &mut String) -> Result<(), AllocError> {
+    let (kind, text) = case.split_once(' ').unwrap_or((case, ""));
     match Input::read(alloc, text) {
-        Ok(input) if kind == "aggregators" => aggregators(alloc, &input),
-        Ok(input) => meaning(alloc, &input),
-        Err(fault) => format!(in alloc; "{}", CommandFault::Input(fault)),
+        Ok(input) if kind == "aggregators" => tell_aggregators(&input, line),
+        Ok(input) => tell_input(&input, line),
+        Err(fault) => write!(line, "{}", CommandFault::Input(fault)),
     }
 }
 
-fn meaning(alloc: Global, input: &Input) -> Result<String, AllocError> {
+fn tell_input(input: &Input, line: &mut String) -> Result<(), AllocError> {
     let input = input.call_input();
     let (id, superstep) = (input.id, input.superstep);
     let (count, value) = (input.count, input.value);
-    let mut text = format!(in alloc; "{id} {superstep} {count} {value}")?;
+    write!(line, "{id} {superstep} {count} {value}")?;
     for value in input.messages {
-        write!(text, " {value}")?;
+        write!(line, " {value}")?;
     }
     for (target, value) in input.edges {
-        write!(text, " {target}:{value}")?;
+        write!(line, " {target}:{value}")?;
     }
-    Ok(text)
+    Ok(())
 }
 
-fn aggregators(alloc: Global, input: &Input) -> Result<String, AllocError> {
-    let mut text = String::new(alloc);
+fn tell_aggregators(input: &Input, line: &mut String) -> Result<(), AllocError> {
     for (aggregator, value) in input.call_input().aggregated.iter().enumerate() {
         let space = if aggregator == 0 { "" } else { " " };
-        write!(text, "{space}{value}")?;
+        write!(line, "{space}{value}")?;
     }
-    Ok(text)
+    Ok(())
 }

@@ -7,13 +7,14 @@
 mod by_hand;
 
 use anyhow::Result;
-use by_hand::first_superstep;
+use by_hand::tell_first_superstep;
 use conformance_cases::{fault_told, job_in, named, show_cases};
 use std::alloc::{AllocError, Global};
 use std::rt::Files;
 use std::thread::Threads;
 use superstep::{EndReason, Job, JobEnd, one_machine};
 
+/// Shows the cases of jobs.
 pub fn show(rt: &(impl Files + Print + AllocGlobal + Threads + Sync)) -> Result<()> {
     show_cases(
         rt,
@@ -24,33 +25,39 @@ pub fn show(rt: &(impl Files + Print + AllocGlobal + Threads + Sync)) -> Result<
 
 fn answer(rt: &(impl Files + AllocGlobal + Threads + Sync), case: &str) -> Result<String> {
     match job_in(rt, case)? {
-        Ok(job) => Ok(ran(rt, rt.alloc(), &job, case.contains(" copied; "))?),
+        Ok(job) => Ok(told(rt, rt.alloc(), &job, case.contains(" copied; "))?),
         Err(fault) => Ok(fault_told(rt.alloc(), fault)?),
     }
 }
 
-fn ran(
+fn told(
     rt: &(impl Threads + Sync),
     alloc: Global,
     job: &Job,
     is_copied: bool,
 ) -> Result<String, AllocError> {
+    let mut line = String::new(alloc);
+    run(rt, alloc, job, is_copied, &mut line)?;
+    Ok(line)
+}
+
+fn run(
+    rt: &(impl Threads + Sync),
+    alloc: Global,
+    job: &Job,
+    is_copied: bool,
+    line: &mut String,
+) -> Result<(), AllocError> {
     if is_copied {
-        first_superstep(rt, alloc, job)
-    } else {
-        told(alloc, &one_machine(rt, alloc, job)?)
+        return tell_first_superstep(rt, alloc, job, line);
     }
+    let ended = one_machine(rt, alloc, job)?;
+    tell(&ended, line)
 }
 
-fn told(alloc: Global, ended: &JobEnd) -> Result<String, AllocError> {
-    let mut text = String::new(alloc);
-    tell(ended, &mut text)?;
-    Ok(text)
-}
-
-fn tell(ended: &JobEnd, text: &mut String) -> Result<(), AllocError> {
+fn tell(ended: &JobEnd, line: &mut String) -> Result<(), AllocError> {
     for (id, value) in &ended.values {
-        write!(text, "v {id} {value}, ")?;
+        write!(line, "v {id} {value}, ")?;
     }
     let how = match ended.how {
         EndReason::Finished => "finished",
@@ -58,16 +65,16 @@ fn tell(ended: &JobEnd, text: &mut String) -> Result<(), AllocError> {
     };
     let (superstep, units, dropped) = (ended.superstep, ended.units, ended.dropped);
     write!(
-        text,
+        line,
         "{how} supersteps {superstep} units {units} dropped {dropped}, since {}",
         ended.since
     )?;
-    tell_units(&ended.by_superstep, text)
+    tell_units(&ended.by_superstep, line)
 }
 
-fn tell_units(by_superstep: &[u128], text: &mut String) -> Result<(), AllocError> {
+fn tell_units(by_superstep: &[u128], line: &mut String) -> Result<(), AllocError> {
     for units in by_superstep {
-        write!(text, " {units}")?;
+        write!(line, " {units}")?;
     }
     Ok(())
 }

@@ -1,51 +1,54 @@
 //! Numbers in LEB128 (Core 1.0, 5.2.2): `u32 BYTES at PLACE` reads one, `u32 NUMBER` writes one.
 
-use anyhow::Result;
-use conformance_cases::{bytes, show_texts};
+use conformance_cases::bytes;
 use leb::{LebFault, read_s32, read_s64, read_u32, write_s32, write_s64, write_u32};
 use std::alloc::{AllocError, Global};
 use std::fmt::Display;
-use std::rt::Files;
 
-pub fn show(rt: &(impl Files + Print + AllocGlobal)) -> Result<()> {
-    show_texts(rt, "leb/leb.txt", answer)
-}
-
-fn answer(alloc: Global, case: &str) -> Result<String, AllocError> {
+/// Writes the number that bytes spell, or the bytes of a number.
+pub fn answer(alloc: Global, case: &str, line: &mut String) -> Result<(), AllocError> {
     let (kind, rest) = case.split_once(' ').unwrap_or((case, ""));
     match rest.split_once("at ") {
-        Some((spelling, place)) => read(alloc, kind, spelling, place.parse().unwrap_or(usize::MAX)),
-        None => written(alloc, kind, rest.parse().unwrap_or(0)),
+        Some((spelling, place)) => {
+            let bytes = bytes(alloc, spelling)?;
+            read(
+                kind,
+                bytes.as_slice(),
+                place.parse().unwrap_or(usize::MAX),
+                line,
+            )
+        }
+        None => tell_written(alloc, kind, rest.parse().unwrap_or(0), line),
     }
 }
 
-fn read(alloc: Global, kind: &str, spelling: &str, at: usize) -> Result<String, AllocError> {
-    let bytes = bytes(alloc, spelling)?;
-    read_told(alloc, kind, bytes.as_slice(), at)
-}
-
-fn read_told(alloc: Global, kind: &str, bytes: &[u8], at: usize) -> Result<String, AllocError> {
+fn read(kind: &str, bytes: &[u8], at: usize, line: &mut String) -> Result<(), AllocError> {
     match kind {
-        "u32" => told(alloc, read_u32(bytes, at)),
-        "s32" => told(alloc, read_s32(bytes, at)),
-        _ => told(alloc, read_s64(bytes, at)),
+        "u32" => tell(read_u32(bytes, at), line),
+        "s32" => tell(read_s32(bytes, at), line),
+        _ => tell(read_s64(bytes, at), line),
     }
 }
 
-fn told<N: Display + Drop>(
-    alloc: Global,
+fn tell<N: Display + Drop>(
     read: Result<(N, usize), LebFault>,
-) -> Result<String, AllocError> {
+    line: &mut String,
+) -> Result<(), AllocError> {
     match read {
-        Ok((number, next)) => format!(in alloc; "{number} next {next}"),
-        Err(fault) => format!(in alloc; "{fault:?}"),
+        Ok((number, next)) => write!(line, "{number} next {next}"),
+        Err(fault) => write!(line, "{fault:?}"),
     }
 }
 
-fn written(alloc: Global, kind: &str, number: i64) -> Result<String, AllocError> {
+fn tell_written(
+    alloc: Global,
+    kind: &str,
+    number: i64,
+    line: &mut String,
+) -> Result<(), AllocError> {
     let mut bytes = Vec::new(alloc);
     write_number(kind, number, &mut bytes)?;
-    shown_bytes(alloc, bytes.as_slice())
+    tell_bytes(bytes.as_slice(), line)
 }
 
 // Writes a number, or 0 if it is out of range.
@@ -57,11 +60,10 @@ fn write_number(kind: &str, number: i64, bytes: &mut Vec<u8>) -> Result<(), Allo
     }
 }
 
-fn shown_bytes(alloc: Global, bytes: &[u8]) -> Result<String, AllocError> {
-    let mut text = String::new(alloc);
+fn tell_bytes(bytes: &[u8], line: &mut String) -> Result<(), AllocError> {
     for (place, byte) in bytes.iter().enumerate() {
         let gap = if place == 0 { "" } else { " " };
-        write!(text, "{gap}{byte:02x}")?;
+        write!(line, "{gap}{byte:02x}")?;
     }
-    Ok(text)
+    Ok(())
 }

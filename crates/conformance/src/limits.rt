@@ -1,23 +1,11 @@
 //! The limits of a module's size, from both sides. A case prints whether the module is within the limits, and the number of
 //! its parts.
 
-use crate::modules::of_module;
-use anyhow::Result;
-use conformance_cases::show_texts;
-use std::alloc::{AllocError, Global};
-use std::rt::Files;
+use std::alloc::AllocError;
 use wasm_ast::{Module, within_limits};
 
-pub fn show(rt: &(impl Files + Print + AllocGlobal)) -> Result<()> {
-    show_texts(rt, "wasm_ast/limits.txt", answer)
-}
-
-fn answer(alloc: Global, text: &str) -> Result<String, AllocError> {
-    of_module(alloc, text, sizes)
-}
-
-// Shows the sizes of a module. Instructions inside of others are not counted.
-fn sizes(alloc: Global, module: &Module) -> Result<String, AllocError> {
+/// Writes the sizes of a module. Instructions inside of others are not counted.
+pub fn tell_sizes(module: &Module, line: &mut String) -> Result<(), AllocError> {
     let limits = if within_limits(module) {
         "within"
     } else {
@@ -29,7 +17,8 @@ fn sizes(alloc: Global, module: &Module) -> Result<String, AllocError> {
     let instructions = functions.iter().fold(0usize, |sum, function| {
         sum.saturating_add(function.body.as_slice().len())
     });
-    format!(in alloc;
+    write!(
+        line,
         "{limits} the limits, types {types}, functions {count}, instructions {instructions}"
     )
 }

@@ -5,6 +5,7 @@
 //! + STEP and so on, and prints what becomes of it.
 #![tactic(auto)]
 
+mod answers;
 mod binary;
 mod calls;
 mod checkpoints;
@@ -31,8 +32,6 @@ use crate::binary::sweep::Places;
 use anyhow::Result;
 use std::env;
 use std::num::ParseIntError;
-use std::rt::Files;
-use std::thread::Threads;
 
 fn main(rt: HostRuntime) -> Result<()> {
     let words: Vec<String> = env::args(&rt)?.collect(rt.alloc())?;
@@ -41,7 +40,7 @@ fn main(rt: HostRuntime) -> Result<()> {
             let places = places_of(first.as_str(), step.as_str())?;
             samples::show_damaged(&rt, file.as_str(), places)
         }
-        _ => show(&rt),
+        _ => answers::show(&rt),
     }
 }
 
@@ -50,54 +49,4 @@ fn places_of(first: &str, step: &str) -> Result<Places, ParseIntError> {
         first: first.parse()?,
         step: step.parse()?,
     })
-}
-
-// Shows all cases.
-fn show(rt: &(impl Files + Print + AllocGlobal + Threads + Sync)) -> Result<()> {
-    syntax(rt)?;
-    formats(rt)?;
-    judgements(rt)?;
-    runs(rt)?;
-    states(rt)
-}
-
-// Shows values, and copies of the syntax.
-fn syntax(rt: &(impl Files + Print + AllocGlobal)) -> Result<()> {
-    numeric::show(rt)?;
-    widths::show(rt)?;
-    limits::show(rt)?;
-    copies::show(rt)
-}
-
-// Shows modules as bytes and as text.
-fn formats(rt: &(impl Files + Print + AllocGlobal)) -> Result<()> {
-    leb_numbers::show(rt)?;
-    binary::show(rt)?;
-    texts::show(rt)?;
-    samples::show(rt)
-}
-
-// Shows which modules are valid, which are in the bounded profile, and what calls can cost.
-fn judgements(rt: &(impl Files + Print + AllocGlobal)) -> Result<()> {
-    validation::show(rt)?;
-    profile::show(rt)?;
-    costs::show(rt)
-}
-
-// Shows compute calls, graphs, inboxes, and inputs of calls.
-fn runs(rt: &(impl Files + Print + AllocGlobal + Threads + Sync)) -> Result<()> {
-    host_functions::show(rt)?;
-    calls::show(rt)?;
-    calls::alike::show(rt)?;
-    calls::generated::show(rt)?;
-    graphs::show(rt)?;
-    inboxes::show(rt)?;
-    inputs::show(rt)
-}
-
-// Shows jobs on one machine, their states as bytes, and where these are kept.
-fn states(rt: &(impl Files + Print + AllocGlobal + Threads + Sync)) -> Result<()> {
-    jobs::show(rt)?;
-    checkpoints::show(rt)?;
-    keeps::show(rt)
 }

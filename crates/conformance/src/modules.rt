@@ -59,34 +59,6 @@ pub fn verified_of(alloc: Global, text: &str) -> Result<Verified, CommandFault<'
     }
 }
 
-/// Returns the answer for the module that a text spells, or the line of its fault.
-pub fn of_module<F: Fn(Global, &Module) -> Result<String, AllocError>>(
-    alloc: Global,
-    text: &str,
-    answer: F,
-) -> Result<String, AllocError>
-    requires { F.IsAlwaysCallable answer }
-{
-    match module_of(alloc, text) {
-        Ok(module) => answer(alloc, &module),
-        Err(fault) => line_of(alloc, fault),
-    }
-}
-
-/// Returns the answer for the valid module that a text spells, or the line of its fault.
-pub fn of_valid<F: Fn(Global, &Valid) -> Result<String, AllocError>>(
-    alloc: Global,
-    text: &str,
-    answer: F,
-) -> Result<String, AllocError>
-    requires { F.IsAlwaysCallable answer }
-{
-    match valid_of(alloc, text) {
-        Ok(valid) => answer(alloc, &valid),
-        Err(fault) => line_of(alloc, fault),
-    }
-}
-
 /// Returns the instruction that a text spells, if it is one that neither branches nor calls.
 pub fn plain_of(alloc: Global, text: &str) -> Result<Option<Plain>, AllocError> {
     let text = format!(in alloc; "(module (func {text}))")?;
@@ -97,7 +69,10 @@ pub fn plain_of(alloc: Global, text: &str) -> Result<Option<Plain>, AllocError> 
 }
 
 fn only_plain(module: &Module) -> Option<Plain> {
-    match module.functions.as_slice().first()?.body.as_slice() {
+    let [function, ..] = module.functions.as_slice() else {
+        return None;
+    };
+    match function.body.as_slice() {
         [Instr::Plain(plain)] => Some(*plain),
         _ => None,
     }
@@ -126,11 +101,17 @@ pub fn spelling(alloc: Global, module: &Module) -> Result<Vec<u8>, EncodeFault> 
     }
 }
 
-/// Returns the line of a fault, with the words of the fault's own crate if they are others.
-pub fn agreed(alloc: Global, line: String, own: String) -> Result<String, AllocError> {
-    if line.as_str() == own.as_str() {
-        Ok(line)
+/// Writes the line of a fault, with the words of the fault's own crate if they are others.
+pub fn tell_agreed(
+    alloc: Global,
+    fault: CommandFault<'static>,
+    own: &str,
+    line: &mut String,
+) -> Result<(), AllocError> {
+    let told = line_of(alloc, fault)?;
+    if told.as_str() == own {
+        line.push_str(own)
     } else {
-        format!(in alloc; "{line}, in other words {own}")
+        write!(line, "{told}, in other words {own}")
     }
 }

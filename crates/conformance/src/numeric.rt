@@ -7,10 +7,7 @@ mod large;
 mod small;
 
 use crate::modules::plain_of;
-use anyhow::Result;
-use conformance_cases::show_texts;
 use std::alloc::{AllocError, Global};
-use std::rt::Files;
 use wasm_ast::{
     Conversion, Numeric, Plain, ValType, Value, i32_eqz, i32_wrap_i64, i64_eqz, i64_extend_i32_s,
     i64_extend_i32_u,
@@ -33,24 +30,24 @@ impl Given {
     }
 }
 
-pub fn show(rt: &(impl Files + Print + AllocGlobal)) -> Result<()> {
-    show_texts(rt, "wasm_ast/numeric.txt", answer)
-}
-
-fn answer(alloc: Global, case: &str) -> Result<String, AllocError> {
+/// Writes the value of an instruction on its operands.
+pub fn answer(alloc: Global, case: &str, line: &mut String) -> Result<(), AllocError> {
     let (name, operands) = case.split_once(' ').unwrap_or((case, ""));
     match (plain_of(alloc, name)?, operands_in(operands)) {
         (Some(Plain::Numeric(numeric)), Some((first, second))) => {
-            told(alloc, outcome(numeric, first, second))
+            tell(outcome(numeric, first, second), line)
         }
-        _ => String::from_str(alloc, "no numeric instruction with operands"),
+        _ => line.push_str("no numeric instruction with operands"),
     }
 }
 
 // Reads the operands. The second is 0 if there is only one.
 fn operands_in(text: &str) -> Option<(u64, u64)> {
     let (first, second) = text.split_once(' ').unwrap_or((text, "0"));
-    Some((number_of(first)?, number_of(second)?))
+    match (number_of(first), number_of(second)) {
+        (Some(first), Some(second)) => Some((first, second)),
+        _ => None,
+    }
 }
 
 fn number_of(text: &str) -> Option<u64> {
@@ -103,33 +100,27 @@ fn converted(conversion: Conversion, x: u64) -> Value {
     }
 }
 
-// Shows the value, or both values if the function and the enum do not agree.
-fn told(alloc: Global, given: Option<Given>) -> Result<String, AllocError> {
-    let mut text = String::new(alloc);
-    match given {
-        Some(given) => tell(given, &mut text)?,
-        None => text.push_str("trap")?,
+// Writes the value, or both values if the function and the enum do not agree.
+fn tell(given: Option<Given>, line: &mut String) -> Result<(), AllocError> {
+    let Some(given) = given else {
+        return line.push_str("trap");
+    };
+    tell_value(given.by_function, line)?;
+    if given.by_enum == given.by_function {
+        return Ok(());
     }
-    Ok(text)
+    line.push_str(", by the enum ")?;
+    tell_value(given.by_enum, line)
 }
 
-fn tell(given: Given, text: &mut String) -> Result<(), AllocError> {
-    tell_value(given.by_function, text)?;
-    if given.by_enum != given.by_function {
-        text.push_str(", by the enum ")?;
-        tell_value(given.by_enum, text)?;
-    }
-    Ok(())
-}
-
-fn tell_value(value: Value, text: &mut String) -> Result<(), AllocError> {
+fn tell_value(value: Value, line: &mut String) -> Result<(), AllocError> {
     let (signed, unsigned) = match value {
         Value::I32(number) => (i64::from(number.cast_signed()), u64::from(number)),
         Value::I64(number) => (number.cast_signed(), number),
     };
     if (-99..100).contains(&signed) {
-        write!(text, "{signed}")
+        write!(line, "{signed}")
     } else {
-        write!(text, "{unsigned:#x}")
+        write!(line, "{unsigned:#x}")
     }
 }

@@ -2,22 +2,12 @@
 //! and what becomes of its bytes when they are damaged.
 
 use crate::binary::sweep::{ALL, EVERYWHERE, Places, SOME, swept};
-use crate::modules::{assembled, module_of, of_module, printed, spelling};
+use crate::modules::{assembled, module_of, printed, spelling};
 use anyhow::{Result, bail};
-use conformance_cases::show_texts;
 use std::alloc::{AllocError, Global};
 use std::fs;
 use std::rt::Files;
 use wasm_ast::Module;
-
-pub fn show(rt: &(impl Files + Print + AllocGlobal)) -> Result<()> {
-    show_texts(rt, "wat_asm/samples.txt", answer)?;
-    show_texts(rt, "wat_asm/samples-damaged.txt", damaged)
-}
-
-fn answer(alloc: Global, text: &str) -> Result<String, AllocError> {
-    of_module(alloc, text, again_and_length)
-}
 
 /// Prints what becomes of a file's module, damaged at these places. A file whose name ends in `.wat` is text, any other is
 /// binary.
@@ -27,8 +17,9 @@ pub fn show_damaged(
     places: Places,
 ) -> Result<()> {
     let mut bytes = bytes_of(rt, file)?;
-    let answer = swept(rt.alloc(), &mut bytes, places, ALL)?;
-    println!(rt; "{answer}")?;
+    let mut line = String::new(rt.alloc());
+    swept(rt.alloc(), &mut bytes, places, ALL, &mut line)?;
+    println!(rt; "{line}")?;
     Ok(())
 }
 
@@ -50,22 +41,20 @@ fn spelled(alloc: Global, module: &Module) -> Result<Vec<u8>> {
     }
 }
 
-fn damaged(alloc: Global, text: &str) -> Result<String, AllocError> {
-    of_module(alloc, text, swept_in_steps)
-}
-
-fn swept_in_steps(alloc: Global, module: &Module) -> Result<String, AllocError> {
+/// Writes what becomes of a module's bytes, damaged at each place.
+pub fn tell_damaged(alloc: Global, module: &Module, line: &mut String) -> Result<(), AllocError> {
     match spelling(alloc, module) {
-        Ok(mut bytes) => swept(alloc, &mut bytes, EVERYWHERE, SOME),
-        Err(_) => String::from_str(alloc, "not spelled"),
+        Ok(mut bytes) => swept(alloc, &mut bytes, EVERYWHERE, SOME, line),
+        Err(_) => line.push_str("not spelled"),
     }
 }
 
-fn again_and_length(alloc: Global, module: &Module) -> Result<String, AllocError> {
-    let again = again(alloc, module)?;
+/// Writes whether the printed text spells the module, and how long its bytes are.
+pub fn tell_again(alloc: Global, module: &Module, line: &mut String) -> Result<(), AllocError> {
+    line.push_str(again(alloc, module)?)?;
     match spelling(alloc, module) {
-        Ok(bytes) => format!(in alloc; "{again}, {} bytes", bytes.len()),
-        Err(_) => format!(in alloc; "{again}, not spelled"),
+        Ok(bytes) => write!(line, ", {} bytes", bytes.len()),
+        Err(_) => line.push_str(", not spelled"),
     }
 }
 

@@ -1,42 +1,35 @@
 //! Texts of modules (Core 1.0, section 6). It prints the module again, on one line or with `↵` for the end of each line; or
 //! the fault of the text and its place.
 
-use crate::modules::{of_module, printed};
-use anyhow::Result;
-use conformance_cases::{one_line, show_texts};
+use crate::modules::printed;
 use std::alloc::{AllocError, Global};
-use std::rt::Files;
 use wasm_ast::Module;
 
-pub fn show(rt: &(impl Files + Print + AllocGlobal)) -> Result<()> {
-    show_texts(rt, "wat_asm/texts.txt", on_a_line)?;
-    show_texts(rt, "wat_asm/layouts.txt", laid_out)
+/// Writes the printed module with one blank in place of the end of a line and the blanks at the beginning of the next one.
+pub fn tell_on_a_line(alloc: Global, module: &Module, line: &mut String) -> Result<(), AllocError> {
+    let text = printed(alloc, module)?;
+    push_lines(text.as_str(), line)
 }
 
-fn on_a_line(alloc: Global, text: &str) -> Result<String, AllocError> {
-    of_module(alloc, text, printed_on_a_line)
-}
-
-fn laid_out(alloc: Global, text: &str) -> Result<String, AllocError> {
-    of_module(alloc, text, printed_with_ends)
-}
-
-fn printed_on_a_line(alloc: Global, module: &Module) -> Result<String, AllocError> {
-    on_one_line(alloc, printed(alloc, module)?.as_str())
-}
-
-fn printed_with_ends(alloc: Global, module: &Module) -> Result<String, AllocError> {
-    one_line(alloc, printed(alloc, module)?.as_str())
-}
-
-// Writes one blank in place of the end of a line and the blanks at the beginning of the next one.
-fn on_one_line(alloc: Global, printed: &str) -> Result<String, AllocError> {
-    let mut text = String::new(alloc);
-    for line in printed.lines() {
-        if !text.is_empty() {
-            text.push(' ')?;
+fn push_lines(printed: &str, line: &mut String) -> Result<(), AllocError> {
+    for part in printed.lines() {
+        if !line.is_empty() {
+            line.push(' ')?;
         }
-        text.push_str(line.trim_start())?;
+        line.push_str(part.trim_start())?;
     }
-    Ok(text)
+    Ok(())
+}
+
+/// Writes the printed module with `↵` for the end of each line.
+pub fn tell_layout(alloc: Global, module: &Module, line: &mut String) -> Result<(), AllocError> {
+    let text = printed(alloc, module)?;
+    push_with_ends(text.as_str(), line)
+}
+
+fn push_with_ends(printed: &str, line: &mut String) -> Result<(), AllocError> {
+    for character in printed.chars() {
+        line.push(if character == '\n' { '↵' } else { character })?;
+    }
+    Ok(())
 }

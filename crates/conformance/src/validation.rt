@@ -1,54 +1,48 @@
 //! The validity of modules (Core 1.0, section 3): `ok`, or `no valid` with the broken rule and its place.
 
-use crate::modules::{agreed, line_of, module_of};
-use anyhow::Result;
-use conformance_cases::show_texts;
+use crate::modules::{module_of, tell_agreed};
 use sources::CommandFault;
 use std::alloc::{AllocError, Global};
 use std::mem;
-use std::rt::Files;
 use validate::{ValidFault, validate};
 use wasm_ast::{Body, Function, Instr, Module, Sequence};
 
-pub fn show(rt: &(impl Files + Print + AllocGlobal)) -> Result<()> {
-    show_texts(rt, "validate/validation.txt", answer)?;
-    show_texts(rt, "validate/validation-in-a-block.txt", answer_in_a_block)?;
-    let told = told(rt.alloc(), ValidFault::OutOfMemory)?;
-    println!(rt; "want of memory: {told}")?;
-    Ok(())
-}
-
-fn answer(alloc: Global, text: &str) -> Result<String, AllocError> {
+/// Writes whether the module that a text spells is valid.
+pub fn answer(alloc: Global, text: &str, line: &mut String) -> Result<(), AllocError> {
     match module_of(alloc, text) {
-        Ok(module) => validity(alloc, module),
-        Err(fault) => line_of(alloc, fault),
+        Ok(module) => tell_validity(alloc, module, line),
+        Err(fault) => write!(line, "{fault}"),
     }
 }
 
-fn validity(alloc: Global, module: Box<Module>) -> Result<String, AllocError> {
+fn tell_validity(alloc: Global, module: Box<Module>, line: &mut String) -> Result<(), AllocError> {
     match validate(alloc, Box::into_inner(module)) {
-        Ok(_) => String::from_str(alloc, "ok"),
-        Err(fault) => told(alloc, fault),
+        Ok(_) => line.push_str("ok"),
+        Err(fault) => tell_fault(alloc, fault, line),
     }
 }
 
-fn told(alloc: Global, fault: ValidFault) -> Result<String, AllocError> {
+/// Writes a fault's line, and its own words if they are others.
+pub fn tell_fault(alloc: Global, fault: ValidFault, line: &mut String) -> Result<(), AllocError> {
     let own = format!(in alloc; "no valid {fault}")?;
-    let line = format!(in alloc; "{}", CommandFault::from(fault))?;
-    agreed(alloc, line, own)
+    tell_agreed(alloc, CommandFault::from(fault), own.as_str(), line)
 }
 
-// Answers for the module with each body in one block more. So blocks can be nested deeper than any text or bytes allow.
-fn answer_in_a_block(alloc: Global, text: &str) -> Result<String, AllocError> {
+/// Answers for the module with each body in one block more. So blocks can be nested deeper than any text or bytes allow.
+pub fn answer_in_a_block(alloc: Global, text: &str, line: &mut String) -> Result<(), AllocError> {
     match module_of(alloc, text) {
-        Ok(module) => validity_in_blocks(alloc, module),
-        Err(fault) => line_of(alloc, fault),
+        Ok(module) => tell_validity_in_blocks(alloc, module, line),
+        Err(fault) => write!(line, "{fault}"),
     }
 }
 
-fn validity_in_blocks(alloc: Global, mut module: Box<Module>) -> Result<String, AllocError> {
+fn tell_validity_in_blocks(
+    alloc: Global,
+    mut module: Box<Module>,
+    line: &mut String,
+) -> Result<(), AllocError> {
     put_in_blocks(alloc, &mut module)?;
-    validity(alloc, module)
+    tell_validity(alloc, module, line)
 }
 
 fn put_in_blocks(alloc: Global, module: &mut Module) -> Result<(), AllocError> {

@@ -8,11 +8,15 @@ use std::fmt;
 use wasm_ast::Module;
 use wasm_decode::{DecodeFault, DecodeRule, decode};
 
-/// Shows what becomes of the bytes, damaged in each way.
-pub fn damaged(alloc: Global, bytes: &[u8]) -> Result<String, AllocError> {
-    let fronts = Fronts::of(alloc, bytes)?;
+/// Writes what becomes of the bytes, damaged in each way.
+pub fn tell_damaged(alloc: Global, bytes: &[u8], line: &mut String) -> Result<(), AllocError> {
     let fates = fates_of_changes(alloc, bytes)?;
-    format!(in alloc; "{} bytes; fronts: {fronts}; changes: {fates}", bytes.len())
+    let fronts = Fronts::of(alloc, bytes)?;
+    write!(
+        line,
+        "{} bytes; fronts: {fronts}; changes: {fates}",
+        bytes.len()
+    )
 }
 
 // Tries every other byte at each place.

@@ -40,18 +40,19 @@ impl Places {
     }
 }
 
-/// Tries the fronts that end at these places and the changes there. Returns their numbers, and how many are lost.
+/// Tries the fronts that end at these places and the changes there. Writes their numbers, and how many are lost.
 pub fn swept(
     alloc: Global,
     bytes: &mut [u8],
     places: Places,
     others: Others,
-) -> Result<String, AllocError> {
+    line: &mut String,
+) -> Result<(), AllocError> {
     let fronts = fronts(alloc, bytes, places);
     let changes = changes(alloc, bytes, places, others);
     let lost = fronts.lost.saturating_add(changes.lost);
     let (fronts, changes) = (fronts.count(), changes.count());
-    format!(in alloc; "{fronts} fronts and {changes} changes, {lost} lost")
+    write!(line, "{fronts} fronts and {changes} changes, {lost} lost")
 }
 
 fn fronts(alloc: Global, bytes: &[u8], places: Places) -> Fates {

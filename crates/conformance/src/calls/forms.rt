@@ -18,44 +18,38 @@ use wasm_ast::Module;
 // More units than a call of a module in the profile can take.
 const ENOUGH: u128 = 1_000_000;
 
-/// Returns the answer of both forms if the module is in the bounded profile. Otherwise it returns that of the reference
-/// call, which alone stops at a budget.
-pub fn both_answers(
+/// Writes the answer of the reference call, and that of `interp` if the module is in the bounded profile and the answers
+/// differ. The reference call alone stops at a budget.
+pub fn tell_both(
     alloc: Global,
     valid: Valid,
     input: &CallInput,
     budget: u128,
-) -> Result<String, AllocError> {
-    match slow_answer(alloc, valid.module(), input, budget) {
-        Ok(slow) if slow.as_str() != "Budget" => compared_with_fast(alloc, valid, input, slow),
-        slow => slow,
+    line: &mut String,
+) -> Result<(), AllocError> {
+    let slow = reference_call::run(alloc, valid.module(), input, budget);
+    tell(alloc, slow, line)?;
+    if line.as_str() == "Budget" {
+        return Ok(());
     }
-}
-
-// Compares the answer of the reference call, if the module is in the profile.
-fn compared_with_fast(
-    alloc: Global,
-    valid: Valid,
-    input: &CallInput,
-    slow: String,
-) -> Result<String, AllocError> {
     match verify(alloc, valid) {
-        Ok(verified) => compared(alloc, slow, &verified, input),
-        Err(_) => Ok(slow),
+        Ok(verified) => tell_otherwise(alloc, &verified, input, line),
+        Err(_) => Ok(()),
     }
 }
 
-fn compared(
+// Appends the answer of `interp` if it is not the one in the line.
+fn tell_otherwise(
     alloc: Global,
-    slow: String,
     verified: &Verified,
     input: &CallInput,
-) -> Result<String, AllocError> {
+    line: &mut String,
+) -> Result<(), AllocError> {
     let fast = fast_answer(alloc, verified, input)?;
-    if slow.as_str() == fast.as_str() {
-        Ok(slow)
+    if line.as_str() == fast.as_str() {
+        Ok(())
     } else {
-        format!(in alloc; "{slow}, but fast {fast}")
+        write!(line, ", but fast {fast}")
     }
 }
 
@@ -130,13 +124,30 @@ fn told<F: Debug + Drop>(
     alloc: Global,
     ended: Result<CallOutcome, F>,
 ) -> Result<String, AllocError> {
+    let mut line = String::new(alloc);
+    tell(alloc, ended, &mut line)?;
+    Ok(line)
+}
+
+fn tell<F: Debug + Drop>(
+    alloc: Global,
+    ended: Result<CallOutcome, F>,
+    line: &mut String,
+) -> Result<(), AllocError> {
     match ended {
-        Ok(outcome) => on_one_line(alloc, &outcome),
-        Err(fault) => format!(in alloc; "{fault:?}"),
+        Ok(outcome) => tell_outcome(alloc, &outcome, line),
+        Err(fault) => write!(line, "{fault:?}"),
     }
 }
 
-fn on_one_line(alloc: Global, outcome: &CallOutcome) -> Result<String, AllocError> {
+fn tell_outcome(alloc: Global, outcome: &CallOutcome, line: &mut String) -> Result<(), AllocError> {
     let text = outcome_text(alloc, outcome)?;
-    text.as_str().trim_end().replace(alloc, '\n', " ")
+    push_on_one_line(text.as_str().trim_end(), line)
+}
+
+fn push_on_one_line(text: &str, line: &mut String) -> Result<(), AllocError> {
+    for character in text.chars() {
+        line.push(if character == '\n' { ' ' } else { character })?;
+    }
+    Ok(())
 }

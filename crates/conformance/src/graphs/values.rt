@@ -7,12 +7,9 @@
 ghost use Rattle.std.specs.Prelude.{◌≡◌, IfOk, map};
 ghost use Rattle.graph.specs.Entry.{IsProper, entries_of};
 
-use anyhow::Result;
-use conformance_cases::{named, show_cases, spelled};
 use graph::{Graph, PrintFault, Vertex, print_values};
 use std::alloc::{AllocError, Global};
 use std::io::{self, ErrorKind, Write};
-use std::rt::Files;
 
 /// A writer, and the words of its next calls.
 #[derive(Drop)]
@@ -41,19 +38,21 @@ impl Write for Device<'_> {
     }
 }
 
-pub fn show(rt: &(impl Files + Print + AllocGlobal)) -> Result<()> {
-    show_cases(rt, "graph/values.txt", answer)
+/// Writes what a writer takes of the values of a text's graph.
+pub fn answer(alloc: Global, case: &str, line: &mut String) -> Result<(), AllocError> {
+    let (calls, text) = case.split_once('|').unwrap_or(("", case));
+    match Graph::read(alloc, text.trim_start()) {
+        Ok(graph) => print(alloc, calls.trim(), graph.vertices(), line),
+        Err(fault) => write!(line, "{fault}"),
+    }
 }
 
-fn answer(alloc: Global, case: &str) -> Result<String> {
-    let (_, rest) = named(case);
-    let (calls, spelling) = rest.split_once('|').unwrap_or(("", rest));
-    let text = spelled(alloc, spelling.trim())?;
-    let graph = Graph::read(alloc, &text)?;
-    Ok(printed(alloc, calls.trim(), graph.vertices())?)
-}
-
-fn printed(alloc: Global, calls: &str, vertices: &[Vertex]) -> Result<String, AllocError>
+fn print(
+    alloc: Global,
+    calls: &str,
+    vertices: &[Vertex],
+    line: &mut String,
+) -> Result<(), AllocError>
     requires { IsProper (entries_of vertices.now) }
 {
     let values = values_of(alloc, vertices)?;
@@ -62,7 +61,7 @@ fn printed(alloc: Global, calls: &str, vertices: &[Vertex]) -> Result<String, Al
         taken: Vec::new(alloc),
     };
     let outcome = print_values(alloc, &values, &mut device);
-    told(alloc, &device.taken, outcome)
+    tell(&device.taken, outcome, line)
 }
 
 // Returns the vertices without their edges.
@@ -76,21 +75,22 @@ fn values_of(alloc: Global, vertices: &[Vertex]) -> Result<Vec<(u64, i64)>, Allo
         .collect(alloc)
 }
 
-fn told(
-    alloc: Global,
+fn tell(
     taken: &[u8],
     outcome: Result<(), PrintFault>,
-) -> Result<String, AllocError> {
-    let lines = shown_lines(alloc, taken)?;
+    line: &mut String,
+) -> Result<(), AllocError> {
+    tell_taken(str::from_utf8(taken).unwrap_or("no text"), line)?;
     match outcome {
-        Ok(()) => format!(in alloc; "\"{lines}\""),
-        Err(fault) => format!(in alloc; "\"{lines}\", {fault}"),
+        Ok(()) => Ok(()),
+        Err(fault) => write!(line, ", {fault}"),
     }
 }
 
-fn shown_lines(alloc: Global, bytes: &[u8]) -> Result<String, AllocError> {
-    let text = str::from_utf8(bytes).unwrap_or("no text");
-    text.chars()
-        .map(|character| if character == '\n' { '↵' } else { character })
-        .collect(alloc)
+fn tell_taken(text: &str, line: &mut String) -> Result<(), AllocError> {
+    line.push('"')?;
+    for character in text.chars() {
+        line.push(if character == '\n' { '↵' } else { character })?;
+    }
+    line.push('"')
 }

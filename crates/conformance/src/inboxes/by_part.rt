@@ -7,81 +7,103 @@ ghost use Rattle.inbox.specs.Merging.{all_of, are_one};
 
 use super::{are_distinct, are_rising, ids_in, letters_in, tell_inboxes};
 use anyhow::Result;
-use conformance_cases::{named, show_cases, spelled};
+use conformance_cases::show_texts;
 use inbox::{Inbox, Letter, merge_parts};
 use std::alloc::{AllocError, Global};
 use std::rt::Files;
 use std::thread::Threads;
 
+/// Shows the cases of inboxes of parts.
 pub fn show(rt: &(impl Files + Print + AllocGlobal + Threads + Sync)) -> Result<()> {
-    show_cases(
+    show_texts(
         rt,
         "inbox/inboxes-by-part.txt",
         |alloc, case| answer(rt, alloc, case),
     )
 }
 
-fn answer(rt: &(impl Threads + Sync), alloc: Global, case: &str) -> Result<String> {
-    let text = spelled(alloc, named(case).1)?;
-    answer_to(rt, alloc, text.as_str())
+fn answer(rt: &(impl Threads + Sync), alloc: Global, case: &str) -> Result<String, AllocError> {
+    let mut line = String::new(alloc);
+    tell(rt, alloc, case, &mut line)?;
+    Ok(line)
 }
 
-fn answer_to(rt: &(impl Threads + Sync), alloc: Global, text: &str) -> Result<String> {
-    let (ids, letters) = text.split_once(';').unwrap_or((text, ""));
-    let ids = ids_by_part(alloc, ids)?;
-    answer_at(rt, alloc, letters, &ids)
+fn tell(
+    rt: &(impl Threads + Sync),
+    alloc: Global,
+    case: &str,
+    line: &mut String,
+) -> Result<(), AllocError> {
+    let (ids, letters) = case.split_once(';').unwrap_or((case, ""));
+    let mut unread = false;
+    let ids = ids_by_part(alloc, ids, &mut unread)?;
+    deliver(rt, alloc, letters, ids.as_slice(), unread, line)
 }
 
-fn answer_at(
+fn deliver(
     rt: &(impl Threads + Sync),
     alloc: Global,
     letters: &str,
     ids: &[Vec<u64>],
-) -> Result<String> {
-    let lists = lists_of_letters(alloc, letters)?;
-    delivered(rt, alloc, &lists, ids)
+    unread_id: bool,
+    line: &mut String,
+) -> Result<(), AllocError> {
+    let mut unread = unread_id;
+    let lists = lists_of_letters(alloc, letters, &mut unread)?;
+    if unread {
+        line.push_str("no number")
+    } else {
+        tell_delivered(rt, alloc, lists.as_slice(), ids, line)
+    }
 }
 
-fn ids_by_part(alloc: Global, text: &str) -> Result<Vec<Vec<u64>>> {
+fn ids_by_part(alloc: Global, text: &str, unread: &mut bool) -> Result<Vec<Vec<u64>>, AllocError> {
     let mut parts = Vec::new(alloc);
     for part in text.split('|') {
-        parts.push(ids_in(alloc, part)?)?;
+        parts.push(ids_in(alloc, part, unread)?)?;
     }
     Ok(parts)
 }
 
-fn lists_of_letters(alloc: Global, text: &str) -> Result<Vec<Vec<Letter>>> {
+fn lists_of_letters(
+    alloc: Global,
+    text: &str,
+    unread: &mut bool,
+) -> Result<Vec<Vec<Letter>>, AllocError> {
     let mut lists = Vec::new(alloc);
     for list in text.split('|') {
-        lists.push(letters_in(alloc, list)?)?;
+        lists.push(letters_in(alloc, list, unread)?)?;
     }
     Ok(lists)
 }
 
-fn delivered(
+fn tell_delivered(
     rt: &(impl Threads + Sync),
     alloc: Global,
     lists: &[Vec<Letter>],
     ids: &[Vec<u64>],
-) -> Result<String> {
+    line: &mut String,
+) -> Result<(), AllocError> {
     if are_in_order(alloc, lists, ids)? {
-        Ok(merged(rt, alloc, lists, ids)?)
+        tell_merged(rt, alloc, lists, ids, line)
     } else {
-        Ok(String::from_str(alloc, "not in order")?)
+        line.push_str("not in order")
     }
 }
 
-fn merged(
+fn tell_merged(
     rt: &(impl Threads + Sync),
     alloc: Global,
     lists: &[Vec<Letter>],
     ids: &[Vec<u64>],
-) -> Result<String, AllocError>
+    line: &mut String,
+) -> Result<(), AllocError>
     requires ids { IsDistinct nat_eq (all_of ids.now) }
     requires letters { IsDistinct are_one (all_of lists.now) }
 {
     let (parts, dropped) = merge_parts(rt, alloc, lists, ids)?;
-    told(alloc, &parts, dropped)
+    tell_parts(&parts, line)?;
+    write!(line, "dropped {dropped}")
 }
 
 fn are_in_order(alloc: Global, lists: &[Vec<Letter>], ids: &[Vec<u64>]) -> Result<bool, AllocError>
@@ -108,18 +130,11 @@ fn are_distinct_together(alloc: Global, lists: &[Vec<Letter>]) -> Result<bool, A
     Ok(are_distinct(&all))
 }
 
-fn told(alloc: Global, parts: &[Vec<Inbox>], dropped: u128) -> Result<String, AllocError> {
-    let mut text = String::new(alloc);
-    tell_parts(parts, &mut text)?;
-    write!(text, "dropped {dropped}")?;
-    Ok(text)
-}
-
 // Writes the inboxes of each part, with a bar between parts.
-fn tell_parts(parts: &[Vec<Inbox>], text: &mut String) -> Result<(), AllocError> {
+fn tell_parts(parts: &[Vec<Inbox>], line: &mut String) -> Result<(), AllocError> {
     for (place, inboxes) in parts.iter().enumerate() {
-        text.push_str(if place == 0 { "" } else { "| " })?;
-        tell_inboxes(inboxes, text)?;
+        line.push_str(if place == 0 { "" } else { "| " })?;
+        tell_inboxes(inboxes, line)?;
     }
     Ok(())
 }

@@ -4,23 +4,24 @@ ghost use Rattle.std.specs.Prelude.{◌≡◌, ℕ, false, IfOk};
 ghost use Rattle.superstep.specs.Tasks.{IsRow, stamps_of};
 ghost use Rattle.superstep.specs.inside.Running.{slice_of};
 
-use crate::checkpoints::shown_state;
+use crate::checkpoints::tell_state;
 use interp::Scratch;
 use std::alloc::{AllocError, Global};
 use std::marker::Brand;
 use std::thread::Threads;
 use superstep::{Done, Job, Origin, Slice, State, Task, Totals, barrier, run_task, slices};
 
-/// Shows the state after the superstep.
-pub fn first_superstep(
+/// Writes the state after the superstep.
+pub fn tell_first_superstep(
     rt: &(impl Threads + Sync),
     alloc: Global,
     job: &Job,
-) -> Result<String, AllocError> {
+    line: &mut String,
+) -> Result<(), AllocError> {
     let mut scratch = Scratch::new(alloc, job.verified())?;
     let state = state_of_copies::<Brand>(rt, alloc, job, &mut scratch);
     drop(scratch);
-    shown_state(alloc, &state?)
+    tell_state(alloc, &state?, line)
 }
 
 fn state_of_copies<J: Origin>(

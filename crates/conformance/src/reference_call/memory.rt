@@ -12,7 +12,9 @@ pub fn size(memory: &[u8]) -> u32 {
 
 /// Returns the value of a load from a place, if all its bytes exist.
 pub fn load(memory: &[u8], op: Load, place: u64) -> Option<Value> {
-    let number = read(memory, place, op.width())?;
+    let Some(number) = read(memory, place, op.width()) else {
+        return None;
+    };
     Some(match op {
         Load::I32 | Load::I32From8U | Load::I32From16U => Value::I32(i32_wrap_i64(number)),
         Load::I32From8S => Value::I32(i32_wrap_i64(extended(number, 0x80))),
@@ -27,21 +29,38 @@ pub fn load(memory: &[u8], op: Load, place: u64) -> Option<Value> {
 /// Writes the lowest bytes of a number at a place, if all of these exist.
 pub fn store(memory: &mut [u8], op: Store, place: u64, number: u64) -> Option<()> {
     let bytes = number.to_le_bytes();
-    lay(memory, place, bytes.get(..op.width() as usize)?)
+    match bytes.get(..op.width() as usize) {
+        Some(bytes) => lay(memory, place, bytes),
+        None => None,
+    }
 }
 
 /// Writes bytes from a place on, if all of these exist.
 pub fn lay(memory: &mut [u8], place: u64, bytes: &[u8]) -> Option<()> {
-    let start = usize::try_from(place).ok()?;
-    let places = memory.get_mut(start..start.checked_add(bytes.len())?)?;
+    let Ok(start) = usize::try_from(place) else {
+        return None;
+    };
+    let Some(end) = start.checked_add(bytes.len()) else {
+        return None;
+    };
+    let Some(places) = memory.get_mut(start..end) else {
+        return None;
+    };
     places.copy_from_slice(bytes);
     Some(())
 }
 
 // Reads the number in `width` bytes from a place on, the lowest first.
 fn read(memory: &[u8], place: u64, width: u32) -> Option<u64> {
-    let start = usize::try_from(place).ok()?;
-    let bytes = memory.get(start..start.checked_add(width as usize)?)?;
+    let Ok(start) = usize::try_from(place) else {
+        return None;
+    };
+    let Some(end) = start.checked_add(width as usize) else {
+        return None;
+    };
+    let Some(bytes) = memory.get(start..end) else {
+        return None;
+    };
     let mut number = 0u64;
     for byte in bytes.iter().rev() {
         number = (number << 8) | u64::from(*byte);

@@ -86,11 +86,15 @@ fn compute_function(module: &Module) -> Option<&Function> {
     if module.start.is_some() || !module.elements.as_slice().is_empty() {
         return None;
     }
-    let function = defined_function(module, compute_number(module.exports.as_slice())?)?;
-    if is_empty_type(type_of(module, function)?) {
-        Some(function)
-    } else {
-        None
+    let Some(number) = compute_number(module.exports.as_slice()) else {
+        return None;
+    };
+    let Some(function) = defined_function(module, number) else {
+        return None;
+    };
+    match type_of(module, function) {
+        Some(func_type) if is_empty_type(func_type) => Some(function),
+        _ => None,
     }
 }
 
@@ -101,7 +105,9 @@ pub fn type_of<'a>(module: &'a Module, function: &Function) -> Option<&'a FuncTy
 
 /// Returns the function with this index, if the module defines it. Each import is a function.
 pub fn defined_function(module: &Module, number: u32) -> Option<&Function> {
-    let place = (number as usize).checked_sub(module.imports.as_slice().len())?;
+    let Some(place) = (number as usize).checked_sub(module.imports.as_slice().len()) else {
+        return None;
+    };
     module.functions.as_slice().get(place)
 }
 
@@ -126,7 +132,9 @@ fn imported_call(module: &Module, import: &Import) -> Option<HostCall> {
     let ImportDescription::Function(number) = import.description else {
         return None;
     };
-    let func_type = module.types.as_slice().get(number as usize)?;
+    let Some(func_type) = module.types.as_slice().get(number as usize) else {
+        return None;
+    };
     HostCall::of_import(import.module.as_str(), import.name.as_str(), func_type)
 }
 

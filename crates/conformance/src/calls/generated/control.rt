@@ -120,7 +120,10 @@ impl Writer {
     }
 
     fn return_from(&mut self) {
-        let result = self.layers.first().and_then(|layer| layer.result);
+        let result = match self.layers.first() {
+            Some(layer) => layer.result,
+            None => None,
+        };
         self.want_result(result);
         self.word("return");
         self.end_layer();
@@ -173,7 +176,10 @@ impl Writer {
 
     /// Takes the operands of the innermost sequence, so that its result alone is left.
     pub fn settle(&mut self) {
-        let result = self.layers.last().and_then(|layer| layer.result);
+        let result = match self.layers.last() {
+            Some(layer) => layer.result,
+            None => None,
+        };
         self.consume_above(result);
         self.want_result(result);
     }

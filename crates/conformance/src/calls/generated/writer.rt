@@ -100,14 +100,18 @@ impl Writer {
 
     /// Returns what the innermost sequence belongs to.
     pub fn innermost(&self) -> Kind {
-        self.layers
-            .last()
-            .map_or(Kind::Function, |layer| layer.kind)
+        match self.layers.last() {
+            Some(layer) => layer.kind,
+            None => Kind::Function,
+        }
     }
 
     /// Counts the operands below those of the innermost sequence.
     pub fn base(&self) -> usize {
-        self.layers.last().map_or(0, |layer| layer.base)
+        match self.layers.last() {
+            Some(layer) => layer.base,
+            None => 0,
+        }
     }
 
     /// Returns the type of the last operand that the innermost sequence may take, if there is one.

@@ -11,12 +11,10 @@
 
 pub mod lent_files;
 
-use anyhow::{Result, bail};
 use clap::error::ErrorKind;
-use command_line::{Options, options};
-use conformance_cases::{is_case, one_line};
+use command_line::{Options, Request, options};
 use console::{NoView, command};
-use lent_files::{LentFiles, lent_files};
+use lent_files::LentFiles;
 use plain_commands::{RunNotes, call, write_sheets};
 use session::ServeFault;
 use sources::{Source, refusal_line};
@@ -42,77 +40,149 @@ values j
 quit
 ";
 
-pub fn show(rt: &(impl Files + Print + AllocGlobal + Threads + Wait + Sync)) -> Result<()> {
-    let mut files = lent_files(rt)?;
-    show_cases(rt, &mut files)
+// What a case asks for.
+#[derive(Clone, Copy)]
+enum Asked<'a> {
+    // to verify the module of this body
+    Bounds(&'a str),
+    // to call the module with the input
+    Call(&'a str, &'a str),
+    // to execute the line and show the file
+    Kept(&'a str, &'a str),
+    // to execute the line
+    Answer(&'a str),
+    // to execute the line with a writer that has room for so many bytes
+    Front(&'a str, usize),
+    // a number that is none
+    NoNumber,
 }
 
-fn show_cases(
-    rt: &(impl Files + Print + AllocGlobal + Threads + Wait + Sync),
-    files: &mut LentFiles,
-) -> Result<()> {
-    let text = fs::read_to_string(rt, "console/commands.txt")?;
-    for case in text.as_str().lines().filter(|line| is_case(line)) {
-        let answer = answer(rt, rt.alloc(), case, files)?;
-        println!(rt; "{case}: {answer}")?;
-    }
-    Ok(())
-}
-
-fn answer(
-    rt: &(impl Files + AllocGlobal + Threads + Wait + Sync),
-    alloc: Global,
-    case: &str,
-    files: &mut LentFiles,
-) -> Result<String> {
+// Returns what a case asks for.
+fn asked_by(case: &str) -> Asked<'_> {
     if let Some(body) = case.strip_prefix("body ") {
-        let frame = str::from_utf8(files.bytes_of("frame.wat")?)?;
-        return bounds(rt, alloc, frame, body);
+        return Asked::Bounds(body);
     }
     if let Some(names) = case.strip_prefix("engine ") {
-        return called(alloc, names, files);
+        let (module, input) = names.split_once(' ').unwrap_or((names, ""));
+        return Asked::Call(module, input);
     }
     if let Some((line, file)) = case.split_once(" keeps ") {
-        return kept(rt, alloc, line, file, files);
+        return Asked::Kept(line, file);
     }
-    let (line, room) = case.split_once(" into ").unwrap_or((case, ""));
-    carried_out(rt, alloc, line, room, files)
+    match case.split_once(" into ") {
+        Some((line, room)) => match room.parse::<usize>() {
+            Ok(room) => Asked::Front(line, room),
+            Err(_) => Asked::NoNumber,
+        },
+        None => Asked::Answer(case),
+    }
+}
+
+/// Writes the answer to a case.
+pub fn tell(
+    rt: &(impl Files + AllocGlobal + Threads + Wait + Sync),
+    case: &str,
+    files: &mut LentFiles,
+    text: &mut String,
+) -> Result<(), AllocError> {
+    match asked_by(case) {
+        Asked::Bounds(body) => tell_bounds(rt, body, files, text),
+        Asked::Call(module, input) => tell_call(rt.alloc(), module, input, files, text),
+        Asked::Kept(line, file) => tell_kept(rt, line, file, files, text),
+        Asked::Answer(line) => tell_answer(rt, line, files, text),
+        Asked::Front(line, room) => tell_front(rt, line, room, files, text),
+        Asked::NoNumber => text.push_str("no number"),
+    }
 }
 
 // Empties a file, executes a command, and shows the file.
-fn kept(
+fn tell_kept(
     rt: &(impl Files + AllocGlobal + Threads + Wait + Sync),
-    alloc: Global,
     line: &str,
     file: &str,
     files: &mut LentFiles,
-) -> Result<String> {
-    fs::write(rt, file, b"".as_slice())?;
-    let mut told = carried_out(rt, alloc, line, "", files)?;
-    let bytes = fs::read(rt, file)?;
-    files.tell_file(file, bytes.as_slice(), &mut told)?;
-    Ok(told)
-}
-
-fn carried_out(
-    rt: &(impl Files + AllocGlobal + Threads + Wait + Sync),
-    alloc: Global,
-    line: &str,
-    room: &str,
-    files: &mut LentFiles,
-) -> Result<String> {
-    let words: Vec<&str> = iter::once("pregel")
-        .chain(line.split_ascii_whitespace())
-        .collect(alloc)?;
-    if room.is_empty() {
-        told(rt, alloc, &words, files)
-    } else {
-        told_in(rt, alloc, &words, room.parse::<usize>()?, files)
+    text: &mut String,
+) -> Result<(), AllocError> {
+    if fs::write(rt, file, b"".as_slice()).is_err() {
+        return text.push_str("not emptied");
+    }
+    tell_answer(rt, line, files, text)?;
+    match fs::read(rt, file) {
+        Ok(bytes) => files.tell_file(file, &bytes, text),
+        Err(_) => text.push_str(" not read"),
     }
 }
 
-fn refused(alloc: Global, kind: ErrorKind) -> Result<String> {
-    Ok(String::from_str(alloc, word_of(kind))?)
+// Returns the words of a command line, as they are typed.
+fn words_of(alloc: Global, line: &str) -> Result<Vec<&str>, AllocError> {
+    iter::once("pregel")
+        .chain(line.split_ascii_whitespace())
+        .collect(alloc)
+}
+
+// Executes a command. Shows the status, the answer and the files that were written.
+fn tell_answer(
+    rt: &(impl Files + AllocGlobal + Threads + Wait + Sync),
+    line: &str,
+    files: &mut LentFiles,
+    text: &mut String,
+) -> Result<(), AllocError> {
+    let mut out = Vec::new(rt.alloc());
+    let fate = done(rt, line, files, &mut out)?;
+    tell_fate(fate, &out, files, text)
+}
+
+fn tell_fate(
+    fate: Fate,
+    out: &[u8],
+    files: &LentFiles,
+    text: &mut String,
+) -> Result<(), AllocError> {
+    match fate {
+        Fate::Status(status) => tell_status(status, out, files, text),
+        Fate::Fault(fault) => write!(text, "{fault}"),
+        Fate::Refused(kind) => text.push_str(word_of(kind)),
+    }
+}
+
+fn tell_status(
+    status: u8,
+    out: &[u8],
+    files: &LentFiles,
+    text: &mut String,
+) -> Result<(), AllocError> {
+    write!(
+        text,
+        "{status} {}",
+        str::from_utf8(out).unwrap_or("no text")
+    )?;
+    files.tell_written(text)?;
+    files.tell_explained(text)
+}
+
+// Executes a command with a writer that has room for so many bytes. Shows the status, or the fault and the bytes that the
+// writer took.
+fn tell_front(
+    rt: &(impl Files + AllocGlobal + Threads + Wait + Sync),
+    line: &str,
+    room: usize,
+    files: &mut LentFiles,
+    text: &mut String,
+) -> Result<(), AllocError> {
+    let mut taken = vec![in rt.alloc(); 0u8; room]?;
+    let fate = done(rt, line, files, &mut taken.as_mut_slice())?;
+    tell_fate_of_front(fate, &taken, text)
+}
+
+fn tell_fate_of_front(fate: Fate, taken: &[u8], text: &mut String) -> Result<(), AllocError> {
+    match fate {
+        Fate::Status(status) => write!(text, "{status}"),
+        Fate::Fault(fault) => {
+            let begun = str::from_utf8(taken).unwrap_or("no text");
+            write!(text, "{fault} behind `{begun}`")
+        }
+        Fate::Refused(kind) => text.push_str(word_of(kind)),
+    }
 }
 
 fn word_of(kind: ErrorKind) -> &'static str {
@@ -127,21 +197,6 @@ fn word_of(kind: ErrorKind) -> &'static str {
     }
 }
 
-fn told(
-    rt: &(impl Files + AllocGlobal + Threads + Wait + Sync),
-    alloc: Global,
-    words: &[&str],
-    files: &mut LentFiles,
-) -> Result<String> {
-    files.forget_written();
-    let mut out = Vec::new(alloc);
-    match done(rt, alloc, words, files, &mut out) {
-        Fate::Status(status) => shown(alloc, status, &out, files),
-        Fate::Fault(fault) => bail!("{fault}"),
-        Fate::Refused(kind) => refused(alloc, kind),
-    }
-}
-
 // The result of a command line.
 #[derive(Clone, Copy)]
 enum Fate {
@@ -153,96 +208,109 @@ enum Fate {
 // Executes a command.
 fn done<W: Write>(
     rt: &(impl Files + AllocGlobal + Threads + Wait + Sync),
-    alloc: Global,
+    line: &str,
+    files: &mut LentFiles,
+    out: &mut W,
+) -> Result<Fate, AllocError> {
+    files.forget_written();
+    let words = words_of(rt.alloc(), line)?;
+    Ok(done_by(rt, &words, files, out))
+}
+
+fn done_by<W: Write>(
+    rt: &(impl Files + AllocGlobal + Threads + Wait + Sync),
     words: &[&str],
     files: &mut LentFiles,
     out: &mut W,
 ) -> Fate {
-    match options(alloc, words) {
-        Ok(options) => match status_of(rt, alloc, options, files, out) {
-            Ok(status) => Fate::Status(status),
-            Err(fault) => Fate::Fault(fault),
-        },
+    match options(rt.alloc(), words) {
+        Ok(Options::Session) => served(rt, files, out),
+        Ok(Options::Command { request, explains }) => {
+            carried_out(rt, request.on_machine(PROCESSORS), explains, files, out)
+        }
         Err(error) => Fate::Refused(error.kind()),
     }
 }
 
-fn status_of<W: Write>(
+fn served<W: Write>(
     rt: &(impl Files + AllocGlobal + Threads + Wait + Sync),
-    alloc: Global,
-    options: Options<'_>,
     files: &mut LentFiles,
     out: &mut W,
-) -> Result<u8, ServeFault> {
-    match options {
-        Options::Session => {
-            let mut lines = SESSION.as_bytes();
-            serve_in_threads(rt, alloc, &mut lines, out, files, &NoLoss)?;
-            Ok(0)
-        }
-        Options::Command { request, explains } => {
-            let asked = request.on_machine(PROCESSORS);
-            let mut notes = RunNotes::new();
-            let status = command(rt, alloc, asked, explains, &NoView, files, out, &mut notes)?;
-            Ok(write_sheets(alloc, asked, status, &notes, files))
-        }
+) -> Fate {
+    let mut lines = SESSION.as_bytes();
+    match serve_in_threads(rt, rt.alloc(), &mut lines, out, files, &NoLoss) {
+        Ok(()) => Fate::Status(0),
+        Err(fault) => Fate::Fault(fault),
     }
 }
 
-fn shown(alloc: Global, status: u8, out: &[u8], files: &LentFiles) -> Result<String> {
-    let told = one_line(alloc, str::from_utf8(out)?)?;
-    let mut shown = format!(in alloc; "{status} {told}")?;
-    files.tell_written(&mut shown)?;
-    files.tell_explained(&mut shown)?;
-    Ok(shown)
-}
-
-// Executes a command with a writer that has room for so many bytes. Shows the status, or the fault and the bytes that the
-// writer took.
-fn told_in(
+fn carried_out<W: Write>(
     rt: &(impl Files + AllocGlobal + Threads + Wait + Sync),
-    alloc: Global,
-    words: &[&str],
-    room: usize,
+    request: Request<'_>,
+    explains: bool,
     files: &mut LentFiles,
-) -> Result<String> {
-    let mut taken = vec![in alloc; 0u8; room]?;
-    match done(rt, alloc, words, files, &mut taken.as_mut_slice()) {
-        Fate::Status(status) => Ok(format!(in alloc; "{status}")?),
-        Fate::Fault(fault) => shown_fault(alloc, fault, &taken),
-        Fate::Refused(kind) => refused(alloc, kind),
+    out: &mut W,
+) -> Fate {
+    let alloc = rt.alloc();
+    let mut notes = RunNotes::new();
+    match command(
+        rt, alloc, request, explains, &NoView, files, out, &mut notes,
+    ) {
+        Ok(status) => Fate::Status(write_sheets(alloc, request, status, &notes, files)),
+        Err(failure) => Fate::Fault(ServeFault::from(failure)),
     }
 }
 
-fn shown_fault(alloc: Global, fault: ServeFault, taken: &[u8]) -> Result<String> {
-    let begun = str::from_utf8(taken)?;
-    Ok(format!(in alloc; "{fault} behind `{begun}`")?)
-}
-
-fn bounds(
+fn tell_bounds(
     rt: &(impl Files + AllocGlobal + Threads + Wait + Sync),
-    alloc: Global,
-    frame: &str,
     body: &str,
-) -> Result<String> {
+    files: &mut LentFiles,
+    text: &mut String,
+) -> Result<(), AllocError> {
+    lend_built(rt.alloc(), body, files)?;
+    tell_answer(rt, "verify built.wat", files, text)?;
+    files.take_back();
+    Ok(())
+}
+
+// Lends the module that has this body in the frame.
+fn lend_built(alloc: Global, body: &str, files: &mut LentFiles) -> Result<(), AllocError> {
+    let module = framed(alloc, files.text_of("frame.wat"), body)?;
+    files.lend("built.wat", module.as_str().as_bytes())
+}
+
+fn framed(alloc: Global, frame: &str, body: &str) -> Result<String, AllocError> {
     let (before, after) = frame.split_once('□').unwrap_or((frame, ""));
-    let module = format!(in alloc; "{before}{body}{after}")?;
-    let mut files = LentFiles::new(alloc);
-    files.lend("built.wat", module.into_bytes())?;
-    carried_out(rt, alloc, "verify built.wat", "", &mut files)
+    format!(in alloc; "{before}{body}{after}")
 }
 
-fn called(alloc: Global, names: &str, files: &LentFiles) -> Result<String> {
-    let (module, input) = names.split_once(' ').unwrap_or((names, ""));
-    let input = str::from_utf8(files.bytes_of(input)?)?;
-    let module = Source::Binary(Vec::from_slice(alloc, files.bytes_of(module)?)?);
-    answered(alloc, &module, input)
-}
-
-fn answered(alloc: Global, module: &Source, input: &str) -> Result<String> {
-    let told = match call(alloc, module, input) {
-        Ok(lines) => lines,
-        Err(fault) => refusal_line(alloc, &fault)?,
+fn tell_call(
+    alloc: Global,
+    module: &str,
+    input: &str,
+    files: &LentFiles,
+    text: &mut String,
+) -> Result<(), AllocError> {
+    let Some(bytes) = files.bytes_of(module) else {
+        return text.push_str("no file");
     };
-    Ok(one_line(alloc, told.as_str())?)
+    let module = Source::Binary(Vec::from_slice(alloc, bytes)?);
+    tell_outcome(alloc, &module, files.text_of(input), text)
+}
+
+fn tell_outcome(
+    alloc: Global,
+    module: &Source,
+    input: &str,
+    text: &mut String,
+) -> Result<(), AllocError> {
+    let lines = outcome(alloc, module, input)?;
+    text.push_str(lines.as_str())
+}
+
+fn outcome(alloc: Global, module: &Source, input: &str) -> Result<String, AllocError> {
+    match call(alloc, module, input) {
+        Ok(lines) => Ok(lines),
+        Err(fault) => refusal_line(alloc, &fault),
+    }
 }

@@ -8,6 +8,10 @@ mod simulations;
 mod threads;
 
 use anyhow::Result;
+use commands::lent_files::{LentFiles, lend_files};
+use conformance_cases::{is_case, named, one_line};
+use std::alloc::AllocError;
+use std::fs;
 use std::rt::Files;
 use std::sync::Wait;
 use std::thread::Threads;
@@ -19,6 +23,92 @@ fn main(rt: HostRuntime) -> Result<()> {
 fn show(rt: &(impl Files + Print + AllocGlobal + Threads + Wait + Sync)) -> Result<()> {
     simulations::show(rt)?;
     threads::show(rt)?;
-    commands::show(rt)?;
-    sessions::show(rt)
+    let mut files = LentFiles::new(rt.alloc());
+    show_over(rt, &mut files)
+}
+
+// The cases over lent files.
+#[derive(Clone, Copy)]
+enum Cases {
+    Commands,
+    Sessions,
+}
+
+fn show_over(
+    rt: &(impl Files + Print + AllocGlobal + Threads + Wait + Sync),
+    files: &mut LentFiles,
+) -> Result<()> {
+    lend_files(rt, files)?;
+    show_file(rt, "console/commands.txt", Cases::Commands, files)?;
+    show_file(rt, "session/sessions.txt", Cases::Sessions, files)
+}
+
+fn show_file(
+    rt: &(impl Files + Print + AllocGlobal + Threads + Wait + Sync),
+    path: &str,
+    cases: Cases,
+    files: &mut LentFiles,
+) -> Result<()> {
+    let text = fs::read_to_string(rt, path)?;
+    show_lines(rt, text.as_str(), cases, files)
+}
+
+fn show_lines(
+    rt: &(impl Files + Print + AllocGlobal + Threads + Wait + Sync),
+    text: &str,
+    cases: Cases,
+    files: &mut LentFiles,
+) -> Result<()> {
+    for line in text.lines() {
+        if is_case(line) {
+            show_line(rt, line, cases, files)?;
+        }
+    }
+    Ok(())
+}
+
+fn show_line(
+    rt: &(impl Files + Print + AllocGlobal + Threads + Wait + Sync),
+    line: &str,
+    cases: Cases,
+    files: &mut LentFiles,
+) -> Result<()> {
+    let answer = answer(rt, line, cases, files)?;
+    println!(rt; "{}: {answer}", name_of(line, cases))?;
+    Ok(())
+}
+
+// Returns the name of a case. A command is its own name.
+fn name_of(line: &str, cases: Cases) -> &str {
+    match cases {
+        Cases::Commands => line,
+        Cases::Sessions => named(line).0,
+    }
+}
+
+// Returns the answer to a case on one line.
+fn answer(
+    rt: &(impl Files + AllocGlobal + Threads + Wait + Sync),
+    line: &str,
+    cases: Cases,
+    files: &mut LentFiles,
+) -> Result<String, AllocError> {
+    let mut text = String::new(rt.alloc());
+    match tell(rt, line, cases, files, &mut text) {
+        Ok(()) => one_line(rt.alloc(), text.as_str()),
+        Err(error) => Err(error),
+    }
+}
+
+fn tell(
+    rt: &(impl Files + AllocGlobal + Threads + Wait + Sync),
+    line: &str,
+    cases: Cases,
+    files: &mut LentFiles,
+    text: &mut String,
+) -> Result<(), AllocError> {
+    match cases {
+        Cases::Commands => commands::tell(rt, line, files, text),
+        Cases::Sessions => sessions::tell(rt, named(line).1, files, text),
+    }
 }

@@ -11,144 +11,126 @@
 
 mod lines;
 
-use crate::commands::lent_files::{LentFiles, lent_files};
+use crate::commands::lent_files::{LentFiles, spelled_bytes};
 use crate::threads::gates::{Plan, PlannedGate};
-use anyhow::Result;
-use conformance_cases::{bytes, is_case, named, one_line, spelled};
 use console::{Loss, LossGate};
-use lines::{Given, Taken};
+use lines::{Given, Limits, NO_LIMITS, Taken};
 use session::{ServeFault, serve_on_one_machine};
-use std::alloc::{AllocError, Global};
+use std::alloc::AllocError;
 use std::rt::Files;
+use std::str;
 use std::sync::Wait;
 use std::thread::Threads;
-use std::{fs, str};
 use threaded_session::serve_in_threads;
 use workers::{Gate, NoLoss};
 
-pub fn show(rt: &(impl Files + Print + AllocGlobal + Wait + Threads + Sync)) -> Result<()> {
-    let mut files = lent_files(rt)?;
-    show_cases(rt, &mut files)
-}
-
-fn show_cases(
-    rt: &(impl Files + Print + AllocGlobal + Wait + Threads + Sync),
-    files: &mut LentFiles,
-) -> Result<()> {
-    let text = fs::read_to_string(rt, "session/sessions.txt")?;
-    for line in text.as_str().lines().filter(|line| is_case(line)) {
-        show_case(rt, line, files)?;
-    }
-    Ok(())
-}
-
-fn show_case(
-    rt: &(impl Files + Print + AllocGlobal + Wait + Threads + Sync),
-    line: &str,
-    files: &mut LentFiles,
-) -> Result<()> {
-    let (name, case) = named(line);
-    let answer = answer(rt, case, files)?;
-    println!(rt; "{name}: {answer}")?;
-    Ok(())
-}
-
-fn answer(
+/// Writes the answer to a case.
+pub fn tell(
     rt: &(impl Wait + Threads + Sync + Files + AllocGlobal),
     case: &str,
     files: &mut LentFiles,
-) -> Result<String> {
+    text: &mut String,
+) -> Result<(), AllocError> {
     let (way, lines) = case.split_once("; ").unwrap_or((case, ""));
-    let lines = content(rt.alloc(), way, lines)?;
-    answer_to(rt, way, &lines, files)
+    let lines = spelled_bytes(rt.alloc(), way, lines)?;
+    tell_served(rt, way, &lines, files, text)
 }
 
-fn answer_to(
+fn tell_served(
     rt: &(impl Wait + Threads + Sync + Files + AllocGlobal),
     way: &str,
     lines: &[u8],
     files: &mut LentFiles,
-) -> Result<String> {
+    text: &mut String,
+) -> Result<(), AllocError> {
     if let Some(loss) = way.strip_prefix("loses ") {
         let gate = LossGate::new(Loss::read(loss), false);
-        return in_threads(rt, lines, files, &gate);
+        return tell_in_threads(rt, lines, files, &gate, text);
     }
     match way {
-        "threads" => in_threads(rt, lines, files, &NoLoss),
-        "holds" => held(rt, lines, files),
-        _ => on_one_machine(rt, way, lines, files),
+        "threads" => tell_in_threads(rt, lines, files, &NoLoss, text),
+        "holds" => tell_held(rt, lines, files, text),
+        _ => tell_on_one_machine(rt, way, lines, files, text),
     }
 }
 
-fn in_threads<G: Gate + Sync>(
+fn tell_in_threads<G: Gate + Sync>(
     rt: &(impl Wait + Threads + Sync + Files + AllocGlobal),
     lines: &[u8],
     files: &mut LentFiles,
     gate: &G,
-) -> Result<String> {
+    text: &mut String,
+) -> Result<(), AllocError> {
     let alloc = rt.alloc();
-    let mut reader = Given::new(lines);
-    let mut writer = Taken::new(alloc);
+    let mut reader = Given::new(lines, NO_LIMITS);
+    let mut writer = Taken::new(alloc, NO_LIMITS);
     let served = serve_in_threads(rt, alloc, &mut reader, &mut writer, files, gate);
-    told(alloc, "whole", &writer.bytes, served)
+    tell_replies("whole", &writer.bytes, served, text)
 }
 
-fn held(
+fn tell_held(
     rt: &(impl Wait + Threads + Sync + Files + AllocGlobal),
     lines: &[u8],
     files: &mut LentFiles,
-) -> Result<String> {
+    text: &mut String,
+) -> Result<(), AllocError> {
     let gate = PlannedGate::new(Plan::Holds);
-    let told = in_threads(rt, lines, files, &gate)?;
-    Ok(format!(in rt.alloc(); "{told} {}", gate.how_met())?)
+    tell_in_threads(rt, lines, files, &gate, text)?;
+    write!(text, " {}", gate.how_met())
 }
 
-fn content(alloc: Global, way: &str, lines: &str) -> Result<Vec<u8>, AllocError> {
-    if way == "bytes" {
-        return bytes(alloc, lines);
-    }
-    let text = spelled(alloc, lines)?;
-    Ok(text.into_bytes())
-}
-
-fn on_one_machine(
+fn tell_on_one_machine(
     rt: &(impl Threads + Sync + AllocGlobal),
     way: &str,
     lines: &[u8],
     files: &mut LentFiles,
-) -> Result<String> {
-    let (word, number) = way.split_once(' ').unwrap_or((way, "0"));
-    let number = number.parse::<u32>()?;
+    text: &mut String,
+) -> Result<(), AllocError> {
     let alloc = rt.alloc();
-    let mut reader = Given::new(lines);
-    let mut writer = Taken::new(alloc);
+    let Some(limits) = limits_of(way) else {
+        return text.push_str("no number");
+    };
+    let mut reader = Given::new(lines, limits);
+    let mut writer = Taken::new(alloc, limits);
+    let served = serve_on_one_machine(rt, alloc, &mut reader, &mut writer, files);
+    tell_replies(way, &writer.bytes, served, text)
+}
+
+// Returns the limits of a session, or nothing where a number is none.
+fn limits_of(way: &str) -> Option<Limits> {
+    let (word, number) = way.split_once(' ').unwrap_or((way, "0"));
+    let Ok(number) = number.parse::<u32>() else {
+        return None;
+    };
+    let mut limits = NO_LIMITS;
     match word {
-        "by" => {
-            reader.most = number;
-            writer.most = number;
-        }
-        "reads" => reader.left = number,
-        "writes" => writer.left = number,
+        "by" => limits.most = number,
+        "reads" => limits.read = number,
+        "writes" => limits.write = number,
         _ => {}
     }
-    let served = serve_on_one_machine(rt, alloc, &mut reader, &mut writer, files);
-    told(alloc, word, &writer.bytes, served)
+    Some(limits)
 }
 
-fn told(alloc: Global, word: &str, bytes: &[u8], served: Result<(), ServeFault>) -> Result<String> {
-    let told = str::from_utf8(bytes)?;
-    if word == "counted" {
-        return counted(alloc, told);
+fn tell_replies(
+    way: &str,
+    bytes: &[u8],
+    served: Result<(), ServeFault>,
+    text: &mut String,
+) -> Result<(), AllocError> {
+    let replies = str::from_utf8(bytes).unwrap_or("no text");
+    if way == "counted" {
+        return tell_count(replies, text);
     }
-    let line = one_line(alloc, told)?;
+    text.push_str(replies)?;
     match served {
-        Ok(()) => Ok(line),
-        Err(fault) => Ok(format!(in alloc; "{line} {fault}")?),
+        Ok(()) => Ok(()),
+        Err(fault) => write!(text, " {fault}"),
     }
 }
 
-fn counted(alloc: Global, told: &str) -> Result<String> {
-    let count = told.lines().count();
-    let last = told.lines().last().unwrap_or("");
-    Ok(format!(in alloc; "{count} lines, the last of which is {last}")?)
+fn tell_count(replies: &str, text: &mut String) -> Result<(), AllocError> {
+    let count = replies.lines().count();
+    let last = replies.lines().last().unwrap_or("");
+    write!(text, "{count} lines, the last of which is {last}")
 }

@@ -23,70 +23,101 @@ use conformance_cases::{bytes, fault_told, job_in, named, one_line, show_cases, 
 use doubles::doubled;
 use faulty_keep::{FaultyKeep, Wrong};
 use plain_commands::{steps_of, trace_text};
-use rollback::{Step, Trace, simulate};
+use rollback::{Step, simulate};
 use std::alloc::{AllocError, Global};
-use std::num::ParseIntError;
 use std::rt::Files;
 use std::thread::Threads;
-use superstep::{Job, JobFault};
+use superstep::Job;
 use sweeps::{drawn, losses};
+
+// The answer to a case with a number that is none.
+const NO_NUMBER: &str = "no number";
 
 pub fn show(rt: &(impl Files + Print + AllocGlobal + Threads + Sync)) -> Result<()> {
     show_cases(
         rt,
         "rollback/simulations.txt",
-        |_, line| answer(rt, named(line).1),
+        |_, line| Ok(answer(rt, named(line).1)?),
     )
 }
 
-fn answer(rt: &(impl Files + AllocGlobal + Threads + Sync), case: &str) -> Result<String> {
-    let alloc = rt.alloc();
+fn answer(
+    rt: &(impl Files + AllocGlobal + Threads + Sync),
+    case: &str,
+) -> Result<String, AllocError> {
+    let lines = lines_of(rt, case)?;
+    one_line(rt.alloc(), lines.as_str())
+}
+
+// Splits a case into the Keep, the job and the steps.
+fn parts_of(case: &str) -> (&str, &str, &str) {
     let (keep, rest) = case.split_once("; ").unwrap_or((case, ""));
     let (job, steps) = rest.rsplit_once("; ").unwrap_or((rest, ""));
-    match job_in(rt, job)? {
-        Ok(job) => answer_of(rt, alloc, keep, &job, steps),
-        Err(fault) => Ok(fault_told(alloc, fault)?),
+    (keep, job, steps)
+}
+
+fn lines_of(
+    rt: &(impl Files + AllocGlobal + Threads + Sync),
+    case: &str,
+) -> Result<String, AllocError> {
+    let alloc = rt.alloc();
+    let (keep, job, steps) = parts_of(case);
+    match job_in(rt, job) {
+        Ok(Ok(job)) => lines_over(rt, alloc, keep, &job, steps),
+        Ok(Err(fault)) => fault_told(alloc, fault),
+        Err(error) => format!(in alloc; "{error}"),
     }
 }
 
-fn answer_of<R: Files + AllocGlobal + Threads + Sync>(
+fn lines_over<R: Files + AllocGlobal + Threads + Sync>(
     rt: &R,
     alloc: Global,
     keep: &str,
     job: &Job,
     steps: &str,
-) -> Result<String> {
+) -> Result<String, AllocError> {
     let text = spelled(alloc, steps)?;
-    let steps = steps_of(alloc, text.as_str())?;
-    answer_to(rt, alloc, keep, job, steps.as_slice())
+    match steps_of(alloc, text.as_str()) {
+        Ok(steps) => lines_by(rt, alloc, keep, job, &steps),
+        Err(fault) => format!(in alloc; "{fault}"),
+    }
 }
 
-fn answer_to<R: Files + AllocGlobal + Threads + Sync>(
+fn lines_by<R: Files + AllocGlobal + Threads + Sync>(
     rt: &R,
     alloc: Global,
     keep: &str,
     job: &Job,
     steps: &[Step],
-) -> Result<String> {
+) -> Result<String, AllocError> {
     let (word, rest) = keep.split_once(' ').unwrap_or((keep, ""));
     match word {
-        "doubled" => one_line_of(alloc, doubled(rt, alloc, job, steps)?),
+        "doubled" => doubled(rt, alloc, job, steps),
         "losses" => losses(rt, alloc, job, steps),
-        "drawn" => drawn(rt, alloc, job, rest.parse::<u32>()?),
-        _ => simulated(rt, alloc, job, wrong_of(alloc, word, rest)?, steps),
+        "drawn" => match rest.parse::<u32>() {
+            Ok(lists) => drawn(rt, alloc, job, lists),
+            Err(_) => String::from_str(alloc, NO_NUMBER),
+        },
+        _ => match wrong_of(alloc, word, rest)? {
+            Some(wrong) => simulated(rt, alloc, job, wrong, steps),
+            None => String::from_str(alloc, NO_NUMBER),
+        },
     }
 }
 
-fn one_line_of(alloc: Global, text: String) -> Result<String> {
-    Ok(one_line(alloc, text.as_str())?)
-}
-
-fn wrong_of(alloc: Global, word: &str, rest: &str) -> Result<Wrong> {
+// Returns what is wrong with the Keep, or nothing where a number is none.
+fn wrong_of(alloc: Global, word: &str, rest: &str) -> Result<Option<Wrong>, AllocError> {
     Ok(match word {
-        "fails" => Wrong::Fails(rest.parse::<u64>()?),
-        "changes" => Wrong::Changes(rest.parse::<usize>()?),
-        "loads" => Wrong::Loads(bytes(alloc, rest)?),
-        _ => Wrong::Nothing,
+        "fails" => match rest.parse::<u64>() {
+            Ok(calls) => Some(Wrong::Fails(calls)),
+            Err(_) => None,
+        },
+        "changes" => match rest.parse::<usize>() {
+            Ok(place) => Some(Wrong::Changes(place)),
+            Err(_) => None,
+        },
+        "loads" => Some(Wrong::Loads(bytes(alloc, rest)?)),
+        _ => Some(Wrong::Nothing),
     })
 }
 
@@ -96,19 +127,23 @@ fn simulated<R: Files + AllocGlobal + Threads + Sync>(
     job: &Job,
     wrong: Wrong,
     steps: &[Step],
-) -> Result<String> {
+) -> Result<String, AllocError> {
     let mut keep = FaultyKeep::new(alloc, wrong);
-    let end = simulate(rt, alloc, job, &mut keep, steps);
-    told(alloc, &end, keep.last())
+    simulated_with(rt, alloc, job, &mut keep, steps)
 }
 
-fn told(alloc: Global, end: &Result<Trace, JobFault>, saved: &[u8]) -> Result<String> {
-    let lines = match end {
-        Ok(trace) => trace_text(alloc, trace, true),
-        Err(fault) => fault_told(alloc, *fault),
-    };
-    let mut text = one_line(alloc, lines?.as_str())?;
-    tell_saved(saved, &mut text)?;
+fn simulated_with<R: Files + AllocGlobal + Threads + Sync>(
+    rt: &R,
+    alloc: Global,
+    job: &Job,
+    keep: &mut FaultyKeep,
+    steps: &[Step],
+) -> Result<String, AllocError> {
+    let mut text = match simulate(rt, alloc, job, keep, steps) {
+        Ok(trace) => trace_text(alloc, &trace, true),
+        Err(fault) => fault_told(alloc, fault),
+    }?;
+    tell_saved(keep.last(), &mut text)?;
     Ok(text)
 }
 

@@ -39,16 +39,20 @@ pub fn show<R: Files + Print + AllocGlobal + Threads + Wait + Sync>(rt: &R) -> R
     show_cases(
         rt,
         "workers/threads.txt",
-        |_, line| answer(rt, named(line).1),
+        |_, line| Ok(answer(rt, named(line).1)?),
     )
 }
 
-fn answer<R: Files + AllocGlobal + Threads + Wait + Sync>(rt: &R, case: &str) -> Result<String> {
+fn answer<R: Files + AllocGlobal + Threads + Wait + Sync>(
+    rt: &R,
+    case: &str,
+) -> Result<String, AllocError> {
     let alloc = rt.alloc();
     let (gate, job) = case.split_once("; ").unwrap_or((case, ""));
-    match job_in(rt, job)? {
-        Ok(job) => ran(rt, alloc, gate, &job),
-        Err(fault) => Ok(fault_told(alloc, fault)?),
+    match job_in(rt, job) {
+        Ok(Ok(job)) => ran(rt, alloc, gate, &job),
+        Ok(Err(fault)) => fault_told(alloc, fault),
+        Err(error) => format!(in alloc; "{error}"),
     }
 }
 
@@ -105,14 +109,16 @@ impl End {
     }
 
     // Writes the word with the counts of the report.
-    fn counted(self, alloc: Global) -> Result<String, AllocError> {
+    fn counted(self, alloc: Global, before: &str) -> Result<String, AllocError> {
         let word = self.word();
         match self {
             End::Alike(counts) | End::Otherwise(counts) => {
                 let (epoch, missed, restarts) = (counts.epoch, counts.missed, counts.restarts);
-                format!(in alloc; "{word}, epoch {epoch} missed {missed} restarts {restarts}")
+                format!(in alloc;
+                    "{before}{word}, epoch {epoch} missed {missed} restarts {restarts}"
+                )
             }
-            _ => String::from_str(alloc, word),
+            _ => format!(in alloc; "{before}{word}"),
         }
     }
 }
@@ -122,44 +128,79 @@ fn ran<R: Files + AllocGlobal + Threads + Wait + Sync>(
     alloc: Global,
     gate: &str,
     job: &Job,
-) -> Result<String> {
+) -> Result<String, AllocError> {
     let plain = one_machine(rt, alloc, job)?;
     ran_beside(rt, alloc, gate, job, &plain)
+}
+
+// What the words of a gate ask for.
+#[derive(Clone, Copy)]
+enum Asked<'a> {
+    Holds,
+    Ticks,
+    Late,
+    Driven,
+    Led,
+    Losses,
+    // the gate of these words, so many times
+    Times(u32, &'a str),
+    Watched(&'a str),
+    // the gate of these words
+    Ends(&'a str),
+    // a number that is none
+    NoNumber,
+}
+
+// Returns what the words ask for.
+fn asked_by(words: &str) -> Asked<'_> {
+    if let Some((times, gate)) = words.split_once(" times ") {
+        return match times.parse::<u32>() {
+            Ok(times) => Asked::Times(times, gate),
+            Err(_) => Asked::NoNumber,
+        };
+    }
+    if let Some(gate) = words.strip_prefix("watched ") {
+        return Asked::Watched(gate);
+    }
+    match words {
+        "holds" => Asked::Holds,
+        "ticks" => Asked::Ticks,
+        "late" => Asked::Late,
+        "driven" => Asked::Driven,
+        "led" => Asked::Led,
+        "losses" => Asked::Losses,
+        _ => Asked::Ends(words),
+    }
 }
 
 fn ran_beside<R: Files + AllocGlobal + Threads + Wait + Sync>(
     rt: &R,
     alloc: Global,
-    gate: &str,
-    job: &Job,
-    plain: &JobEnd,
-) -> Result<String> {
-    if let Some((times, gate)) = gate.split_once(" times ") {
-        let times = times.parse::<u32>()?;
-        return Ok(repeated(rt, alloc, job, gate, times, plain)?);
-    }
-    if let Some(words) = gate.strip_prefix("watched ") {
-        return Ok(watched(rt, alloc, job, words, plain)?);
-    }
-    Ok(ended_at(rt, alloc, gate, job, plain)?)
-}
-
-fn ended_at<R: Files + AllocGlobal + Threads + Wait + Sync>(
-    rt: &R,
-    alloc: Global,
-    gate: &str,
+    words: &str,
     job: &Job,
     plain: &JobEnd,
 ) -> Result<String, AllocError> {
-    match gate {
-        "holds" => held(rt, alloc, job, plain),
-        "ticks" => ticked(rt, alloc, job, plain),
-        "late" => late(rt, alloc, job, plain),
-        "driven" => driven(rt, alloc, job, plain),
-        "led" => led(rt, alloc, job),
-        "losses" => lost_in_turn(rt, alloc, job, plain),
-        _ => ended_by(rt, alloc, job, gate, plain).counted(alloc),
+    match asked_by(words) {
+        Asked::Holds => held(rt, alloc, job, plain),
+        Asked::Ticks => ticked(rt, alloc, job, plain),
+        Asked::Late => late(rt, alloc, job, plain),
+        Asked::Driven => driven(rt, alloc, job, plain).counted(alloc, ""),
+        Asked::Led => led(rt, alloc, job),
+        Asked::Losses => lost_in_turn(rt, alloc, job, plain),
+        Asked::Times(times, gate) => repeated(rt, alloc, job, gate, times, plain),
+        Asked::Watched(gate) => watched(rt, alloc, job, gate, plain),
+        Asked::Ends(gate) => ended_by(rt, alloc, job, gate, plain).counted(alloc, ""),
+        Asked::NoNumber => String::from_str(alloc, "no number"),
     }
+}
+
+fn driven<R: Files + AllocGlobal + Threads + Wait + Sync>(
+    rt: &R,
+    alloc: Global,
+    job: &Job,
+    plain: &JobEnd,
+) -> End {
+    End::of(&by_hand::driven(rt, alloc, job), plain)
 }
 
 // Runs a job whose states are in this Keep.
@@ -245,14 +286,14 @@ fn watched<R: Files + AllocGlobal + Threads + Wait + Sync>(
 ) -> Result<String, AllocError> {
     let gate = WatchedGate::new(gate_of(words));
     let end = end_of(rt, alloc, job, &gate, plain);
-    format!(in alloc; "{}, {}", came_word(gate.has_come_back()), end.word())
+    format!(in alloc; "{}{}", came_word(gate.has_come_back()), end.word())
 }
 
 fn came_word(has_come_back: bool) -> &'static str {
     if has_come_back {
-        "back again"
+        "back again, "
     } else {
-        "gone for good"
+        "gone for good, "
     }
 }
 
@@ -265,8 +306,7 @@ fn late<R: Files + AllocGlobal + Threads + Wait + Sync>(
 ) -> Result<String, AllocError> {
     let gate = LateGate::new(job.settings().lease as u64);
     let end = end_of(rt, alloc, job, &gate, plain);
-    let counted = end.counted(alloc)?;
-    format!(in alloc; "{}, {counted}", came_word(gate.has_come_back()))
+    end.counted(alloc, came_word(gate.has_come_back()))
 }
 
 // Shows whether a job ends alike, with no save missed, or without workers.
@@ -283,15 +323,6 @@ fn ticked<R: Files + AllocGlobal + Threads + Wait + Sync>(
         _ => "otherwise",
     };
     String::from_str(alloc, word)
-}
-
-fn driven<R: Files + AllocGlobal + Threads + Wait + Sync>(
-    rt: &R,
-    alloc: Global,
-    job: &Job,
-    plain: &JobEnd,
-) -> Result<String, AllocError> {
-    End::of(&by_hand::driven(rt, alloc, job), plain).counted(alloc)
 }
 
 fn led<R: Files + AllocGlobal + Threads + Wait + Sync>(

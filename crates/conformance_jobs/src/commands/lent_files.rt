@@ -2,11 +2,11 @@
 
 ghost use Rattle.sources.specs.Disk.{unknown};
 
-use anyhow::Result;
+use anyhow::{Result, bail};
 use conformance_cases::{bytes, is_case, spelled};
 use sources::{FileFault, Files};
 use std::alloc::{AllocError, Global};
-use std::{fmt, fs};
+use std::{fmt, fs, str};
 
 /// A file with its name.
 #[derive(Drop)]
@@ -15,11 +15,16 @@ struct NamedFile {
     bytes: Vec<u8>,
 }
 
-impl NamedFile {
-    fn new(alloc: Global, name: &str, bytes: Vec<u8>) -> Result<NamedFile, AllocError> {
-        let name = String::from_str(alloc, name)?;
-        Ok(NamedFile { name, bytes })
-    }
+fn push_file(
+    alloc: Global,
+    name: &str,
+    bytes: &[u8],
+    files: &mut Vec<NamedFile>,
+) -> Result<(), AllocError> {
+    let bytes = Vec::from_slice(alloc, bytes)?;
+    let name = String::from_str(alloc, name)?;
+    files.push(NamedFile { name, bytes })?;
+    Ok(())
 }
 
 /// Files to read, the files that were written, and the warnings. `locked.wasm` cannot be written.
@@ -41,16 +46,30 @@ impl LentFiles {
         }
     }
 
-    pub fn lend(&mut self, name: &str, bytes: Vec<u8>) -> Result<(), AllocError> {
-        let file = NamedFile::new(self.alloc, name, bytes)?;
-        self.lent.push(file)?;
-        Ok(())
+    pub fn lend(&mut self, name: &str, bytes: &[u8]) -> Result<(), AllocError> {
+        push_file(self.alloc, name, bytes, &mut self.lent)
     }
 
-    pub fn bytes_of(&self, name: &str) -> Result<&[u8], FileFault> {
-        match self.lent.iter().find(|file| file.name.as_str() == name) {
-            Some(file) => Ok(file.bytes.as_slice()),
-            None => Err(FileFault::Device),
+    /// Takes back the file that was lent last.
+    pub fn take_back(&mut self) {
+        let _ = self.lent.pop();
+    }
+
+    /// Returns the bytes of a lent file, if there is one of this name.
+    pub fn bytes_of(&self, name: &str) -> Option<&[u8]> {
+        for file in &self.lent {
+            if file.name.as_str() == name {
+                return Some(&file.bytes);
+            }
+        }
+        None
+    }
+
+    /// Returns the text of a lent file, or `no text` if there is none of this name.
+    pub fn text_of(&self, name: &str) -> &str {
+        match self.bytes_of(name) {
+            Some(bytes) => str::from_utf8(bytes).unwrap_or("no text"),
+            None => "no text",
         }
     }
 
@@ -61,8 +80,8 @@ impl LentFiles {
 
     /// Writes for each file that was written which lent file it equals.
     pub fn tell_written(&self, text: &mut String) -> Result<(), AllocError> {
-        for file in self.written.as_slice() {
-            self.tell_file(file.name.as_str(), file.bytes.as_slice(), text)?;
+        for file in &self.written {
+            self.tell_file(file.name.as_str(), &file.bytes, text)?;
         }
         Ok(())
     }
@@ -88,10 +107,12 @@ impl LentFiles {
 
     // Returns the name of the first lent file that has these bytes.
     fn name_of(&self, bytes: &[u8]) -> &str {
-        match self.lent.iter().find(|file| file.bytes.as_slice() == bytes) {
-            Some(file) => file.name.as_str(),
-            None => "another",
+        for file in &self.lent {
+            if file.bytes.as_slice() == bytes {
+                return file.name.as_str();
+            }
         }
+        "another"
     }
 }
 
@@ -99,15 +120,21 @@ impl Files for LentFiles {
     ghost disk = { λ _. unknown };
 
     fn read(&mut self, alloc: Global, path: &str) -> Result<Vec<u8>, FileFault> {
-        Vec::from_slice(alloc, self.bytes_of(path)?).map_err(|_| FileFault::OutOfMemory)
+        let Some(bytes) = self.bytes_of(path) else {
+            return Err(FileFault::Device);
+        };
+        match Vec::from_slice(alloc, bytes) {
+            Ok(bytes) => Ok(bytes),
+            Err(_) => Err(FileFault::OutOfMemory),
+        }
     }
 
     fn write(&mut self, path: &str, bytes: &[u8]) -> Result<(), FileFault> {
         if path == "locked.wasm" {
             return Err(FileFault::Device);
         }
-        match written(self.alloc, path, bytes) {
-            Ok(file) => self.written.push(file).map_err(|_| FileFault::OutOfMemory),
+        match push_file(self.alloc, path, bytes, &mut self.written) {
+            Ok(()) => Ok(()),
             Err(_) => Err(FileFault::OutOfMemory),
         }
     }
@@ -117,20 +144,24 @@ impl Files for LentFiles {
     }
 }
 
-fn written(alloc: Global, path: &str, bytes: &[u8]) -> Result<NamedFile, AllocError> {
-    let bytes = Vec::from_slice(alloc, bytes)?;
-    NamedFile::new(alloc, path, bytes)
+/// Lends the files that `console/command-files.txt` names. `NAME at FILE` has the content of that file of `data/`. `NAME as
+/// OTHER` has the content of an earlier file. `NAME text TEXT` and `NAME bytes BYTES` have the content that is spelled.
+pub fn lend_files(rt: &(impl std::rt::Files + AllocGlobal), files: &mut LentFiles) -> Result<()> {
+    let text = fs::read_to_string(rt, "console/command-files.txt")?;
+    lend_lines(rt, text.as_str(), files)
 }
 
-/// Makes the files that `console/command-files.txt` names. `NAME at FILE` has the content of that file of `data/`. `NAME as
-/// OTHER` has the content of an earlier file. `NAME text TEXT` and `NAME bytes BYTES` have the content that is spelled.
-pub fn lent_files(rt: &(impl std::rt::Files + AllocGlobal)) -> Result<LentFiles> {
-    let text = fs::read_to_string(rt, "console/command-files.txt")?;
-    let mut files = LentFiles::new(rt.alloc());
-    for line in text.as_str().lines().filter(|line| is_case(line)) {
-        lend_line(rt, line, &mut files)?;
+fn lend_lines(
+    rt: &(impl std::rt::Files + AllocGlobal),
+    text: &str,
+    files: &mut LentFiles,
+) -> Result<()> {
+    for line in text.lines() {
+        if is_case(line) {
+            lend_line(rt, line, files)?;
+        }
     }
-    Ok(files)
+    Ok(())
 }
 
 fn lend_line(
@@ -140,27 +171,33 @@ fn lend_line(
 ) -> Result<()> {
     let (name, spelling) = line.split_once(' ').unwrap_or((line, ""));
     let bytes = content(rt, spelling, files)?;
-    files.lend(name, bytes)?;
+    files.lend(name, &bytes)?;
     Ok(())
 }
 
 fn content(
     rt: &(impl std::rt::Files + AllocGlobal),
     spelling: &str,
-    files: &mut LentFiles,
+    files: &LentFiles,
 ) -> Result<Vec<u8>> {
     let (kind, rest) = spelling.split_once(' ').unwrap_or((spelling, ""));
-    match kind {
-        "as" => Ok(files.read(rt.alloc(), rest)?),
-        "text" | "bytes" => Ok(spelled_bytes(rt.alloc(), kind, rest)?),
-        _ => Ok(fs::read(rt, rest)?),
-    }
+    Ok(match kind {
+        "at" => fs::read(rt, rest)?,
+        "as" => match files.bytes_of(rest) {
+            Some(bytes) => Vec::from_slice(rt.alloc(), bytes)?,
+            None => bail!("no file {rest} is lent"),
+        },
+        _ => spelled_bytes(rt.alloc(), kind, rest)?,
+    })
 }
 
-fn spelled_bytes(alloc: Global, kind: &str, spelling: &str) -> Result<Vec<u8>, AllocError> {
+/// Spells out bytes in hexadecimal digits where the kind is `bytes`, or else a text.
+pub fn spelled_bytes(alloc: Global, kind: &str, spelling: &str) -> Result<Vec<u8>, AllocError> {
     if kind == "bytes" {
         return bytes(alloc, spelling);
     }
-    let text = spelled(alloc, spelling)?;
-    Ok(text.into_bytes())
+    match spelled(alloc, spelling) {
+        Ok(text) => Ok(text.into_bytes()),
+        Err(error) => Err(error),
+    }
 }

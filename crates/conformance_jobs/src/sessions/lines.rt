@@ -4,23 +4,39 @@ use std::alloc::Global;
 use std::io;
 use std::io::{ErrorKind, Read, Write};
 
+/// The limits of a reader and a writer.
+#[derive(Clone, Copy)]
+pub struct Limits {
+    /// The most bytes of a read or a write.
+    pub most: u32,
+    /// The read that fails, from 1, or 0 where none does.
+    pub read: u32,
+    /// The write or flush that fails, from 1, or 0 where none does.
+    pub write: u32,
+}
+
+pub const NO_LIMITS: Limits = Limits {
+    most: u32::MAX,
+    read: 0,
+    write: 0,
+};
+
 /// A reader that gives at most so many bytes at a time. Each read except the failing one is interrupted before.
 #[derive(Drop)]
 pub struct Given<'a> {
     rest: &'a [u8],
-    /// The most bytes of a read.
-    pub most: u32,
-    /// The read that fails, from 1, or 0 where none does.
-    pub left: u32,
+    most: u32,
+    // the read that fails, from 1, or 0
+    left: u32,
     is_interrupted: bool,
 }
 
 impl<'a> Given<'a> {
-    pub fn new(bytes: &'a [u8]) -> Given<'a> {
+    pub fn new(bytes: &'a [u8], limits: Limits) -> Given<'a> {
         Given {
             rest: bytes,
-            most: u32::MAX,
-            left: 0,
+            most: limits.most,
+            left: limits.read,
             is_interrupted: false,
         }
     }
@@ -47,18 +63,17 @@ impl Read for Given<'_> {
 #[derive(Drop)]
 pub struct Taken {
     pub bytes: Vec<u8>,
-    /// The most bytes of a write.
-    pub most: u32,
-    /// The write or flush that fails, from 1, or 0 where none does.
-    pub left: u32,
+    most: u32,
+    // the write or flush that fails, from 1, or 0
+    left: u32,
 }
 
 impl Taken {
-    pub fn new(alloc: Global) -> Taken {
+    pub fn new(alloc: Global, limits: Limits) -> Taken {
         Taken {
             bytes: Vec::new(alloc),
-            most: u32::MAX,
-            left: 0,
+            most: limits.most,
+            left: limits.write,
         }
     }
 }

@@ -3,8 +3,8 @@
 ghost use Rattle.std.specs.Prelude.{◌≡◌, false};
 ghost use Rattle.rollback.specs.Saving.{KeepsFor};
 
-use anyhow::{Result, bail};
 use checkpoint::{Keep, MemoryKeep};
+use conformance_cases::fault_told;
 use interp::Scratch;
 use plain_commands::trace_text;
 use rollback::{Answer, Book, Event, JobStatus, Outcome, Report, Step, StepAnswer, Trace};
@@ -15,22 +15,20 @@ use std::rt::Files;
 use std::thread::Threads;
 use superstep::{Done, Job, Origin, Task, run_task};
 
-// The tools to do tasks with, the answers so far, and the copies that have not come yet.
+// The tools to do tasks with, the answers so far, and the results that have not come yet.
 #[derive(Drop)]
 struct Hand<'a, J: Origin> {
     alloc: Global,
     job: &'a Job,
     scratch: Scratch<'a>,
     answers: Vec<StepAnswer>,
-    // the copies that come right after their results
-    again: Vec<Copied<J>>,
-    // the copies that come after the next loss
-    late: Vec<Copied<J>>,
+    // the last one comes next
+    results: Vec<Sent<J>>,
 }
 
-// A copy of a worker's result.
+// A worker's result, or a copy of it.
 #[derive(Drop)]
-struct Copied<J: Origin> {
+struct Sent<J: Origin> {
     worker: u32,
     done: Done<J>,
 }
@@ -41,7 +39,7 @@ pub fn doubled<R: Files + AllocGlobal + Threads + Sync>(
     alloc: Global,
     job: &Job,
     steps: &[Step],
-) -> Result<String> {
+) -> Result<String, AllocError> {
     doubled_as::<Brand, MemoryKeep, R>(rt, alloc, job, &mut MemoryKeep::new(alloc), steps)
 }
 
@@ -52,13 +50,13 @@ fn doubled_as<J: Origin, K: Keep, R: Files + AllocGlobal + Threads + Sync>(
     job: &Job,
     keep: &mut K,
     steps: &[Step],
-) -> Result<String>
+) -> Result<String, AllocError>
     requires job { J.work ≡ job.now }
     requires honest { J.honest 1 ≡ false }
 {
     match Book::<J>::open(alloc, job) {
         Ok(book) => doubled_in(rt, alloc, job, book, keep, steps),
-        Err(fault) => bail!("{fault}"),
+        Err(fault) => fault_told(alloc, fault),
     }
 }
 
@@ -70,13 +68,15 @@ fn doubled_in<J: Origin, K: Keep, R: Files + AllocGlobal + Threads + Sync>(
     mut book: Book<J>,
     keep: &mut K,
     steps: &[Step],
-) -> Result<String>
+) -> Result<String, AllocError>
     requires job { J.work ≡ job.now }
     requires keep { KeepsFor J.work J.honest (K.honest keep.old) (K.saved keep.old)
         (K.may_load keep.old) book }
 {
-    let answers = answers_of(rt, alloc, job, &mut book, keep, steps)?;
-    told(alloc, answers, book)
+    match answers_of(rt, alloc, job, &mut book, keep, steps) {
+        Ok(answers) => told(alloc, answers, book),
+        Err(error) => Err(error),
+    }
 }
 
 // Returns the answers to the steps.
@@ -87,7 +87,7 @@ fn answers_of<J: Origin, K: Keep, R: Files + AllocGlobal + Threads + Sync>(
     book: &mut Book<J>,
     keep: &mut K,
     steps: &[Step],
-) -> Result<Vec<StepAnswer>>
+) -> Result<Vec<StepAnswer>, AllocError>
     requires job { J.work ≡ job.now }
     requires keep { KeepsFor J.work J.honest (K.honest keep.old) (K.saved keep.old)
         (K.may_load keep.old) book.old }
@@ -98,8 +98,7 @@ fn answers_of<J: Origin, K: Keep, R: Files + AllocGlobal + Threads + Sync>(
         job,
         scratch,
         answers: Vec::new(alloc),
-        again: Vec::new(alloc),
-        late: Vec::new(alloc),
+        results: Vec::new(alloc),
     };
     let gone = go_over(rt, &mut hand, book, keep, steps);
     let answers = mem::replace(&mut hand.answers, Vec::new(alloc));
@@ -116,7 +115,7 @@ fn go_over<J: Origin, K: Keep, R: Files + AllocGlobal + Threads + Sync>(
     book: &mut Book<J>,
     keep: &mut K,
     steps: &[Step],
-) -> Result<()>
+) -> Result<(), AllocError>
     requires job { J.work ≡ hand.old.job.now }
     requires fits { hand.old.scratch ≡ hand.old.job.now.«module» }
     requires keep { KeepsFor J.work J.honest (K.honest keep.old) (K.saved keep.old)
@@ -139,7 +138,7 @@ fn work<J: Origin, K: Keep, R: Files + AllocGlobal + Threads + Sync>(
     book: &mut Book<J>,
     keep: &mut K,
     worker: u32,
-) -> Result<()>
+) -> Result<(), AllocError>
     requires job { J.work ≡ hand.old.job.now }
     requires fits { hand.old.scratch ≡ hand.old.job.now.«module» }
     requires keep { KeepsFor J.work J.honest (K.honest keep.old) (K.saved keep.old)
@@ -152,10 +151,9 @@ fn work<J: Origin, K: Keep, R: Files + AllocGlobal + Threads + Sync>(
     let Some(task) = book.next_task(worker) else {
         return Ok(());
     };
-    let done = done_with(hand, worker, task)?;
-    tell(rt, hand, book, keep, Event::Done(worker, done))?;
-    let mut again = mem::replace(&mut hand.again, Vec::new(hand.alloc));
-    come(rt, hand, book, keep, &mut again)
+    do_task(hand, worker, task)?;
+    bring(rt, hand, book, keep)?;
+    bring(rt, hand, book, keep)
 }
 
 // Loses the worker. Then the copies that are left come.
@@ -165,7 +163,7 @@ fn lose<J: Origin, K: Keep, R: Files + AllocGlobal + Threads + Sync>(
     book: &mut Book<J>,
     keep: &mut K,
     worker: u32,
-) -> Result<()>
+) -> Result<(), AllocError>
     requires job { J.work ≡ hand.old.job.now }
     requires fits { hand.old.scratch ≡ hand.old.job.now.«module» }
     requires keep { KeepsFor J.work J.honest (K.honest keep.old) (K.saved keep.old)
@@ -175,75 +173,82 @@ fn lose<J: Origin, K: Keep, R: Files + AllocGlobal + Threads + Sync>(
     ensures keep { KeepsFor J.work J.honest (K.honest keep.new) (K.saved keep.new)
         (K.may_load keep.new) book.new }
 {
-    tell(rt, hand, book, keep, Event::Lost(worker))?;
-    let mut late = mem::replace(&mut hand.late, Vec::new(hand.alloc));
-    come(rt, hand, book, keep, &mut late)
-}
-
-// Makes the result of a task, of which two copies are left.
-fn done_with<J: Origin>(hand: &mut Hand<J>, worker: u32, task: Task<J>) -> Result<Done<J>>
-    requires job { J.work ≡ hand.old.job.now }
-    requires fits { hand.old.scratch ≡ hand.old.job.now.«module» }
-    ensures job { J.work ≡ hand.new.job.now }
-    ensures fits { hand.new.scratch ≡ hand.new.job.now.«module» }
-{
-    let alloc = hand.alloc;
-    let Ok(done) = run_task(alloc, hand.job, task, &mut hand.scratch) else {
-        bail!("no memory for a task");
-    };
-    push_copy(alloc, worker, &done, &mut hand.again)?;
-    push_copy(alloc, worker, &done, &mut hand.late)?;
-    Ok(done)
-}
-
-fn push_copy<J: Origin>(
-    alloc: Global,
-    worker: u32,
-    done: &Done<J>,
-    copies: &mut Vec<Copied<J>>,
-) -> Result<(), AllocError> {
-    let done = done.copy(alloc)?;
-    copies.push(Copied { worker, done })?;
-    Ok(())
-}
-
-// Brings the copies, the last one first.
-fn come<J: Origin, K: Keep, R: Files + AllocGlobal + Threads + Sync>(
-    rt: &R,
-    hand: &mut Hand<J>,
-    book: &mut Book<J>,
-    keep: &mut K,
-    copies: &mut Vec<Copied<J>>,
-) -> Result<()>
-    requires job { J.work ≡ hand.old.job.now }
-    requires fits { hand.old.scratch ≡ hand.old.job.now.«module» }
-    requires keep { KeepsFor J.work J.honest (K.honest keep.old) (K.saved keep.old)
-        (K.may_load keep.old) book.old }
-    ensures job { J.work ≡ hand.new.job.now }
-    ensures fits { hand.new.scratch ≡ hand.new.job.now.«module» }
-    ensures keep { KeepsFor J.work J.honest (K.honest keep.new) (K.saved keep.new)
-        (K.may_load keep.new) book.new }
-{
-    while let Some(copy) = copies.pop() {
-        tell(rt, hand, book, keep, Event::Done(copy.worker, copy.done))?;
+    tell(rt, &mut hand.answers, book, keep, Event::Lost(worker))?;
+    for _ in 0..hand.results.len() {
+        bring(rt, hand, book, keep)?;
     }
     Ok(())
 }
 
-// Returns the answer to an event. A fault is the end.
-fn tell<J: Origin, K: Keep, R: Files + AllocGlobal + Threads + Sync>(
+// Does a task. Its result comes next, and two copies of it after it.
+fn do_task<J: Origin>(hand: &mut Hand<J>, worker: u32, task: Task<J>) -> Result<(), AllocError>
+    requires job { J.work ≡ hand.old.job.now }
+    requires fits { hand.old.scratch ≡ hand.old.job.now.«module» }
+    ensures job { J.work ≡ hand.new.job.now }
+    ensures fits { hand.new.scratch ≡ hand.new.job.now.«module» }
+{
+    match run_task(hand.alloc, hand.job, task, &mut hand.scratch) {
+        Ok(done) => push_thrice(hand.alloc, worker, done, &mut hand.results),
+        Err(_) => Err(AllocError),
+    }
+}
+
+fn push_thrice<J: Origin>(
+    alloc: Global,
+    worker: u32,
+    done: Done<J>,
+    results: &mut Vec<Sent<J>>,
+) -> Result<(), AllocError> {
+    let copied = push_copies(alloc, worker, &done, results);
+    results.push(Sent { worker, done })?;
+    copied
+}
+
+fn push_copies<J: Origin>(
+    alloc: Global,
+    worker: u32,
+    done: &Done<J>,
+    results: &mut Vec<Sent<J>>,
+) -> Result<(), AllocError> {
+    for _ in 0..2 {
+        let done = done.copy(alloc)?;
+        results.push(Sent { worker, done })?;
+    }
+    Ok(())
+}
+
+// Brings the next result.
+fn bring<J: Origin, K: Keep, R: Files + AllocGlobal + Threads + Sync>(
     rt: &R,
     hand: &mut Hand<J>,
     book: &mut Book<J>,
     keep: &mut K,
-    event: Event<J>,
-) -> Result<()>
+) -> Result<(), AllocError>
     requires job { J.work ≡ hand.old.job.now }
     requires fits { hand.old.scratch ≡ hand.old.job.now.«module» }
     requires keep { KeepsFor J.work J.honest (K.honest keep.old) (K.saved keep.old)
         (K.may_load keep.old) book.old }
     ensures job { J.work ≡ hand.new.job.now }
     ensures fits { hand.new.scratch ≡ hand.new.job.now.«module» }
+    ensures keep { KeepsFor J.work J.honest (K.honest keep.new) (K.saved keep.new)
+        (K.may_load keep.new) book.new }
+{
+    let Some(Sent { worker, done }) = hand.results.pop() else {
+        return Ok(());
+    };
+    tell(rt, &mut hand.answers, book, keep, Event::Done(worker, done))
+}
+
+// Notes the answer to an event. A fault is the end.
+fn tell<J: Origin, K: Keep, R: Files + AllocGlobal + Threads + Sync>(
+    rt: &R,
+    answers: &mut Vec<StepAnswer>,
+    book: &mut Book<J>,
+    keep: &mut K,
+    event: Event<J>,
+) -> Result<(), AllocError>
+    requires keep { KeepsFor J.work J.honest (K.honest keep.old) (K.saved keep.old)
+        (K.may_load keep.old) book.old }
     ensures keep { KeepsFor J.work J.honest (K.honest keep.new) (K.saved keep.new)
         (K.may_load keep.new) book.new }
 {
@@ -251,25 +256,33 @@ fn tell<J: Origin, K: Keep, R: Files + AllocGlobal + Threads + Sync>(
         Ok(answer) => answer,
         Err(_) => Answer::Ended,
     };
-    hand.answers.push(StepAnswer::Said(answer))?;
+    answers.push(StepAnswer::Said(answer))?;
     Ok(())
 }
 
-fn told<J: Origin>(alloc: Global, answers: Vec<StepAnswer>, book: Book<J>) -> Result<String> {
-    let report = ended(book)?;
-    let trace = Trace {
-        answers,
-        outcome: Outcome::Ended(report),
-    };
-    Ok(trace_text(alloc, &trace, true)?)
+fn told<J: Origin>(
+    alloc: Global,
+    answers: Vec<StepAnswer>,
+    book: Book<J>,
+) -> Result<String, AllocError> {
+    match ended(book) {
+        Ok(report) => {
+            let trace = Trace {
+                answers,
+                outcome: Outcome::Ended(report),
+            };
+            trace_text(alloc, &trace, true)
+        }
+        Err(word) => String::from_str(alloc, word),
+    }
 }
 
-fn ended<J: Origin>(book: Book<J>) -> Result<Report> {
+fn ended<J: Origin>(book: Book<J>) -> Result<Report, &'static str> {
     match book.status().end {
         JobStatus::Finished | JobStatus::Limit => match book.report() {
             Ok(report) => Ok(report),
-            Err(fault) => bail!("{fault}"),
+            Err(fault) => Err(fault.word()),
         },
-        _ => bail!("the job goes on"),
+        _ => Err("the job goes on"),
     }
 }

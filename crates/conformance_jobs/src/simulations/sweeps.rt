@@ -1,6 +1,5 @@
 //! Many lists of steps of one job.
 
-use anyhow::Result;
 use checkpoint::MemoryKeep;
 use rollback::{Outcome, Step, simulate};
 use std::alloc::{AllocError, Global};
@@ -59,7 +58,7 @@ pub fn losses<R: Files + AllocGlobal + Threads + Sync>(
     alloc: Global,
     job: &Job,
     steps: &[Step],
-) -> Result<String> {
+) -> Result<String, AllocError> {
     let plain = one_machine(rt, alloc, job)?;
     losses_beside(rt, alloc, job, steps, &plain)
 }
@@ -70,7 +69,7 @@ fn losses_beside<R: Files + AllocGlobal + Threads + Sync>(
     job: &Job,
     steps: &[Step],
     plain: &JobEnd,
-) -> Result<String> {
+) -> Result<String, AllocError> {
     let mut tally = Tally::new();
     for place in 0..steps.len() {
         for worker in 0..2 {
@@ -78,16 +77,20 @@ fn losses_beside<R: Files + AllocGlobal + Threads + Sync>(
             tally.count(way_of(rt, alloc, job, &lossy, plain));
         }
     }
-    Ok(format!(in alloc; "{} of {} end alike", tally.alike, tally.lists)?)
+    format!(in alloc; "{} of {} end alike", tally.alike, tally.lists)
 }
 
 // Makes a list of the steps, a loss of the worker, and works of the other to the end.
 fn lossy(alloc: Global, steps: &[Step], worker: u32) -> Result<Vec<Step>, AllocError> {
     let mut lossy = Vec::from_slice(alloc, steps)?;
-    lossy.push(Step::Lose(worker))?;
-    let length = lossy.len().saturating_add(STEPS);
-    lossy.resize(length, Step::Work(u32::from(worker == 0)))?;
+    lose(&mut lossy, worker)?;
     Ok(lossy)
+}
+
+fn lose(steps: &mut Vec<Step>, worker: u32) -> Result<(), AllocError> {
+    steps.push(Step::Lose(worker))?;
+    let length = steps.len().saturating_add(STEPS);
+    steps.resize(length, Step::Work(u32::from(worker == 0)))
 }
 
 // Returns where the steps lead, compared with the run on one machine.
@@ -134,9 +137,9 @@ pub fn drawn<R: Files + AllocGlobal + Threads + Sync>(
     alloc: Global,
     job: &Job,
     lists: u32,
-) -> Result<String> {
+) -> Result<String, AllocError> {
     let plain = one_machine(rt, alloc, job)?;
-    Ok(drawn_beside(rt, alloc, job, lists, &plain)?)
+    drawn_beside(rt, alloc, job, lists, &plain)
 }
 
 fn drawn_beside<R: Files + AllocGlobal + Threads + Sync>(

@@ -79,17 +79,17 @@ keeps_proofs() {
 
 # Proves these crates and all that they stand on, in a copy in this folder, as the gate does but with no must-fail edits.
 prove_copy() {
-    local copy=$1 name part
+    local copy=$1 names name part parts=(HANDLES)
     shift
     mkdir "$copy"
-    cp "$top/HANDLES" "$copy/"
-    for name in $(crates_below "$@"); do
-        grep "^$name:" "$top/crates.txt" >>"$copy/crates.txt"
-        mkdir -p "$copy/crates/$name"
+    names=$(crates_below "$@")
+    for name in $names; do
         for part in src specs proofs stdin stdout args status data; do
-            [ ! -e "$top/crates/$name/$part" ] || cp -r "$top/crates/$name/$part" "$copy/crates/$name/"
+            [ ! -e "$top/crates/$name/$part" ] || parts+=("crates/$name/$part")
         done
     done
+    (cd "$top" && cp -r --parents "${parts[@]}" "$copy/")
+    printf '^%s:\n' $names | grep -f - "$top/crates.txt" >"$copy/crates.txt"
     (cd "$copy" && keep_freed_memory && exec rt ci)
 }
 
@@ -222,6 +222,11 @@ prove_program() {
     mv "$program.new" "$program"
     trap - EXIT INT TERM HUP
     rm -rf "$room"
+}
+
+# Succeeds where dist/pregel was built from the sources of this checkout, with the kit of this machine.
+is_of_these_sources() {
+    [ "$(committed sources)" = "$(sources_sum)" ] && [ "$(committed kit)" = "$(rt version)" ]
 }
 
 # Compares dist/pregel with the program that the gate has built. Says what is wrong, if anything is, and fails then.

@@ -11,4 +11,6 @@ pub use coordinator::Coordinator;
 pub use hub::Hub;
 pub use run::{resume_job, run_job};
 pub use threads::{resume_in_threads, run_in_threads};
-pub use worker_threads::{Gate, Message, NoLoss, Sender, TickPass, TickReceipt, Turn, WorkerPass, WorkerReceipt, Worked};
+pub use worker_threads::{
+    Gate, Message, NoLoss, Sender, TickPass, TickReceipt, Turn, Worked, WorkerPass, WorkerReceipt,
+};

@@ -26,7 +26,8 @@ use std::thread;
 use std::thread::Threads;
 use superstep::{Job, JobFault, Origin, Place};
 use worker_threads::{
-    CoordinatorEnds, Gate, HubThreads, Receipts, TickPass, VerdictSender, WorkerPass, settle_all, spawn_all,
+    CoordinatorEnds, Gate, HubThreads, Receipts, TickPass, VerdictSender, WorkerPass, settle_all,
+    spawn_all,
 };
 
 // Returns whether the job was driven to its end.

@@ -15,8 +15,11 @@ module _ {J : Type 0} where
   pub hub_then : {a b c : CoordinatorEnds J} → IsSameHub a b → IsSameHub b c → IsSameHub a c
   hub_then p q = record { channels = q.channels ∙ p.channels; workers = q.workers ∙ p.workers }
 
+  pub handed_len : (a : CoordinatorEnds J) → length (handed a) ≡ staff a
+  handed_len a = omega (arith, a.task_channels.ok.0, length_map sent_on a.task_channels.items)
+
   pub handed_wide : (a b : CoordinatorEnds J) → staff b ≡ staff a → length (handed b) ≡ length (handed a)
-  handed_wide a b e = omega (arith, e, a.task_channels.ok.0, b.task_channels.ok.0, length_map sent_on a.task_channels.items, length_map sent_on b.task_channels.items)
+  handed_wide a b e = omega (arith, e, handed_len a, handed_len b)
 
   pub channels_as : (e e' : Channel (Message J)) (os os' : List (Channel (Order J))) → e' ≡ e → os' ≡ os
       → ◌≡◌ {A = Channels J} (record { events = e'; orders = os' }) (record { events = e; orders = os })

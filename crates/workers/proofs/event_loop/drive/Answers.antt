@@ -1,18 +1,16 @@
 use Rattle.std.proofs.Common.{◌≡◌, length, map, arith, subst, sym, ◌∙◌}
 use Rattle.worker_threads.specs.Hub.{handed, received, staff}
-use Rattle.channels.specs.TaskChannels.{sent_on}
 use Rattle.workers.specs.JobAnswers.{IsLeftBy}
 use Rattle.worker_threads.specs.Verdicts.{told_on}
 use Rattle.workers.proofs.Ending.{drive_fault, has_spent, ran_over, told_from, where_ended}
-use Rattle.worker_threads.proofs.Handing.{hub_then}
-use Rattle.channels.proofs.Handing.{length_map}
+use Rattle.worker_threads.proofs.Handing.{handed_len, hub_then}
 use Rattle.workers.proofs.event_loop.drive.Goals as goal
 
 pub returns-in-Ok-clause-ran : goal.returns-in-Ok-clause-ran
 returns-in-Ok-clause-ran g c =
     let s = c.args.ends.now in
     let t = c.run_out.new.ends in
-    let many : g.J.Origin.work.settings.workers ≡ length (handed s) = omega (arith, c.requires.workers, s.task_channels.ok.0, length_map sent_on s.task_channels.items) in
+    let many : g.J.Origin.work.settings.workers ≡ length (handed s) = omega (arith, c.requires.workers, handed_len s) in
     where_ended c.answer_of.result _
     (ran_over g.K.Keep.honest g.K.Keep.saved g.K.Keep.may_load g.K.Keep.faults g.J.Origin.work g.J.Origin.honest c.args.book c.run_out.new.book (received s) (received t) (handed s) (handed t) c.args.keep.now c.run_out.new.keep c.answer_of.result
     c.in-Ok.ensures.steps.over c.requires.unused.nothing_received c.requires.unused.nothing_handed many c.in-Ok.ensures.keep c.answer_of.ensures)
@@ -21,7 +19,7 @@ pub returns-in-Ok-clause-told : goal.returns-in-Ok-clause-told
 returns-in-Ok-clause-told g c =
     let s = c.args.ends.now in
     let t = c.run_out.new.ends in
-    let many : g.J.Origin.work.settings.workers ≡ length (handed s) = omega (arith, c.requires.workers, s.task_channels.ok.0, length_map sent_on s.task_channels.items) in
+    let many : g.J.Origin.work.settings.workers ≡ length (handed s) = omega (arith, c.requires.workers, handed_len s) in
     where_ended c.answer_of.result _
     (told_from g.J.Origin.work g.J.Origin.honest c.args.book c.run_out.new.book (received s) (received t) (handed s) (handed t) _ c.args.keep.now c.run_out.new.keep (map told_on c.run_out.new.verdicts.items) c.answer_of.result
     c.in-Ok.ensures.steps c.requires.unused.nothing_received c.requires.unused.nothing_handed many c.answer_of.ensures)

@@ -69,7 +69,7 @@ impl LossGate {
 impl Gate for LossGate {
     ghost use Rattle.std.specs.Prelude.{◌≡◌, IsSomeAnd, false, is_some, true};
     ghost use Rattle.console.specs.Loss.{is_due};
-    ghost use Rattle.workers.specs.declared.gate.Turn.TheVariants.{Go, Lose};
+    ghost use Rattle.worker_threads.specs.declared.gate.Turn.TheVariants.{Go, Lose};
 
     ghost loses = { λ gate. is_some gate.loss };
 

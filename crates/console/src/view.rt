@@ -73,7 +73,7 @@ impl<V> RunGate<'_, V> {
 
 impl<V: View> Gate for RunGate<'_, V> {
     ghost use Rattle.std.specs.Prelude.{◌≡◌, false};
-    ghost use Rattle.workers.specs.declared.gate.Turn.TheVariants.{Go};
+    ghost use Rattle.worker_threads.specs.declared.gate.Turn.TheVariants.{Go};
 
     ghost loses = { λ gate. is_some gate.loss.loss };
 

@@ -1,3 +1,4 @@
 pub mod ByPlace
 pub mod Least
 pub mod Sound
+pub mod Stamps

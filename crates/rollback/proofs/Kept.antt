@@ -28,7 +28,8 @@ use Rattle.control.specs.Events.{after_save, loading, saving, slicing}
 use Rattle.rollback.specs.inside.Parts.{IsHome, Placement, Spot, all_home, is_returned, moved, returned}
 use Rattle.rollback.specs.inside.Parts.Spot.{Gone, Home, Returned}
 use Rattle.rollback.specs.Saving.{IsFullStateAt}
-use Rattle.rollback.specs.Book.{IsQuietAt, done_out, has_finished}
+use Rattle.rollback.specs.Book.{IsQuietAt, has_finished}
+use Rattle.control.specs.Stamps.{done_out}
 use Rattle.rollback.specs.inside.Book.{AreIdsOf, AreParts, IsBacked, IsBook, HoldsData, IsReached, StandsAt, WasBusyTo, is_fault}
 use Rattle.rollback.specs.inside.JobData.{HasHome, Runs, FitsPart}
 use Rattle.rollback.specs.inside.Recovery.{IsFirst, IsHeldOf, StandsBack}

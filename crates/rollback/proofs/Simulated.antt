@@ -9,7 +9,7 @@ use Rattle.superstep.specs.declared.fault.JobFault.{JobFault}
 use Rattle.superstep.specs.declared.fault.JobFault.TheVariants.{OutOfMemory}
 use Rattle.superstep.specs.declared.fault.Place.TheVariants.{Report as Reporting}
 use Rattle.superstep.specs.Job.{Work as AnyWork}
-use Rattle.superstep.specs.Tasks.{AreUnitsAt, DoneStamp, TaskStamp}
+use Rattle.superstep.specs.Tasks.{AreUnitsAt, TaskStamp}
 use Rattle.control.specs.declared.control.Out.{Out}
 use Rattle.control.specs.declared.event.Answer.{Answer}
 use Rattle.control.specs.declared.event.Answer.TheVariants.{Ended, Stale}
@@ -28,7 +28,8 @@ use Rattle.rollback.specs.Saving.{IsCaused, IsKeptStep, IsMadeAt, KeepsFor, MayL
 use Rattle.control.specs.Machine.{Machine, hand, handed, has_answer, is_free, is_running, opened, task_of}
 use Rattle.control.specs.Events.{Heard, Stamp, accepted, reply_of}
 use Rattle.control.specs.Events.Stamp.{JoinedBy, LostBy, Ticked}
-use Rattle.rollback.specs.Book.{IsQuietAt, IsReport, IsStep, done_out, task_out}
+use Rattle.rollback.specs.Book.{IsQuietAt, IsReport, IsStep}
+use Rattle.control.specs.Stamps.{task_out}
 use Rattle.rollback.proofs.Keeps.{keeps_same}
 use Rattle.rollback.specs.Simulation.{IsCalm, IsCalmAt, IsEnded, IsOutcomeAt, IsSimStep, IsSimulated, IsSimulatedOver, IsTrace, NeverFails, Ran, RanOver, Sim, StepInput, brought, does, without_task, emptied, held_or_new, holds, while_running, new_task, said, sim_opened, sim_step, taken, takes, work_on, worked}
 use Rattle.rollback.specs.inside.Simulating.{HasSameCounts, LoadsMade, stamps, with_none_held}
@@ -80,9 +81,6 @@ near_held held w lt = below_is w (length (stamps held)) (rw length-map lt)
 
 pub far_held : (held : List (Option TaskStamp)) (w : ℕ) → length held ≤ w → nat_lt w (length (stamps held)) ≡ false
 far_held held w le = above_is w (length (stamps held)) (rw length-map le)
-
-pub done_same : (done : DoneStamp) (task : TaskStamp) → done.epoch ≡ task.epoch → done.superstep ≡ task.superstep → done.part ≡ task.part → done_out done ≡ task_out task
-done_same done task e f g = rw (e, f, g) refl
 
 -- ---- single steps
 

@@ -4,34 +4,14 @@ use Rattle.superstep.specs.declared.fault.JobFault.{JobFault}
 use Rattle.superstep.specs.Job.{Meaning, Work}
 use Rattle.superstep.specs.PlainRun.{state_at}
 use Rattle.superstep.specs.Snapshot.{is_quiet}
-use Rattle.superstep.specs.Tasks.{DoneStamp, TaskStamp}
 use Rattle.superstep.specs.Ending.{IsEndOf, is_finished}
 use Rattle.rollback.specs.declared.report.Report.{Report}
 use Rattle.rollback.specs.declared.report.Status.{Status}
-use Rattle.control.specs.declared.control.Out.{Out}
 use Rattle.control.specs.declared.event.Answer.{Answer}
 use Rattle.control.specs.declared.job_status.JobStatus.{JobStatus}
 use Rattle.control.specs.declared.job_status.JobStatus.TheVariants.{Fault, Finished, Limit, Running}
-use Rattle.control.specs.declared.event.Event.{Event}
-use Rattle.control.specs.declared.event.Event.TheVariants as event
 use Rattle.control.specs.Machine.{Machine, is_alive, is_waiting}
-use Rattle.control.specs.Events.{Heard, Stamp, reply_of}
-use Rattle.control.specs.Events.Stamp.{DoneBy, FailedBy, JoinedBy, LostBy, Ticked}
-
--- ---- tasks and results, in numbers
-
-abbrev pub task_out : TaskStamp → Out
-task_out task = record { epoch = task.epoch; superstep = task.superstep; part = task.part }
-
-abbrev pub done_out : DoneStamp → Out
-done_out done = record { epoch = done.epoch; superstep = done.superstep; part = done.part }
-
-abbrev pub stamp_of : {J : _} → Event J → Stamp
-stamp_of (event.Done w done) = DoneBy w (done_out done) done.units
-stamp_of (event.Failed w place) = FailedBy w place
-stamp_of (event.Lost w) = LostBy w
-stamp_of (event.Joined w) = JoinedBy w
-stamp_of event.Tick = Ticked
+use Rattle.control.specs.Events.{Heard, reply_of}
 
 -- ---- an event
 

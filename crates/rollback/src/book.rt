@@ -5,16 +5,8 @@ ghost use Rattle.superstep.specs.State.{state_id};
 ghost use Rattle.superstep.specs.declared.fault.JobFault.TheVariants.{OutOfMemory};
 ghost use Rattle.superstep.specs.declared.fault.Place.TheVariants.{Open, Report as Reporting};
 ghost use Rattle.control.specs.declared.control.Out.{Out};
-ghost use Rattle.rollback.specs.Book.{
-  IsQuietAt,
-  IsReport,
-  IsStatus,
-  IsStep,
-  done_out,
-  is_gone,
-  stamp_of,
-  task_out,
-};
+ghost use Rattle.rollback.specs.Book.{IsQuietAt, IsReport, IsStatus, IsStep, is_gone};
+ghost use Rattle.control.specs.Stamps.{done_out, stamp_of, task_out};
 ghost use Rattle.control.specs.Events.{accepted, after_end, done_step, on_event, shut};
 ghost use Rattle.control.specs.Events.Stamp.{DoneBy, FailedBy, JoinedBy, LostBy, Ticked};
 ghost use Rattle.rollback.specs.Saving.{HasLeft, IsBegun, IsCaused, IsSavedOrLeft, KeepsFor, MayLoadAfter};

@@ -4,7 +4,8 @@ ghost use Rattle.std.specs.Prelude.{◌≡◌, ◌<◌, ℕ, length, replicate, 
 ghost use Rattle.superstep.specs.Job.{Meaning};
 ghost use Rattle.superstep.specs.Tasks.{AreUnitsAt, trusts};
 ghost use Rattle.superstep.specs.declared.fault.JobFault.{JobFault};
-ghost use Rattle.rollback.specs.Book.{IsStep, stamp_of, task_out};
+ghost use Rattle.rollback.specs.Book.{IsStep};
+ghost use Rattle.control.specs.Stamps.{stamp_of, task_out};
 ghost use Rattle.control.specs.Events.{accepted};
 ghost use Rattle.checkpoint.specs.Keep.{LoadsNothingElse};
 ghost use Rattle.rollback.specs.Saving.{IsKeptStep, KeepsFor};

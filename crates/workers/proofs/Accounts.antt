@@ -5,11 +5,12 @@ use Rattle.control.specs.declared.job_status.JobStatus.{JobStatus}
 use Rattle.control.specs.declared.job_status.JobStatus.TheVariants.{Fault, Finished, Limit, Running}
 use Rattle.control.specs.Events.{Heard, begun}
 use Rattle.control.specs.Machine.{Machine, has_answer, is_running, opened, resumed}
-use Rattle.workers.specs.Steps.{Move, Steps, after, events, moved, stamps_in}
+use Rattle.workers.specs.Steps.{Move, Steps, after, events, moved}
+use Rattle.worker_threads.specs.Numbers.{stamps_in}
 use Rattle.workers.specs.Steps.Move.{Hand, Take}
 use Rattle.workers.specs.Units.{cut, units_by}
 use Rattle.workers.specs.inside.EventLoop.{IsUnspent}
-use Rattle.workers.specs.declared.message.Message.{Message}
+use Rattle.worker_threads.specs.declared.message.Message.{Message}
 use Rattle.channels.specs.declared.order.Order.{Order}
 use Rattle.workers.proofs.Faults.{begun_own, opened_own}
 use Rattle.workers.proofs.Spent.{Account, IsAccount, account, accepted_account, accepted_ending, accounts_after, is_faulty, rolling_account, spent_at, spent_sum}

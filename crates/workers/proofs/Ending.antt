@@ -17,10 +17,11 @@ use Rattle.control.specs.Machine.{Machine, has_answer, opened}
 use Rattle.workers.specs.JobAnswers.{HasSpent, IsAnswerAt, IsCalmReport, IsDriveFault, IsOpened, IsRunFault, IsTold, EndedOver, EndedOverKeep, EndedOverOwn, LoadsMadeAt, RanFrom, RanFromKeep, RanFromOver, RanOn, RanOnOver, RanOnOwn, WhereEnded, WhereOpened, WhereRefused, WhereRun, has_ended}
 use Rattle.channels.specs.Orders.{at}
 use Rattle.workers.specs.Joining.{JoinedFrom, JoinedOn, JoinedOver}
-use Rattle.workers.specs.Steps.{AreMoves, KeptAlong, Steps, after, events, hands, outs_in, stamps_in}
+use Rattle.workers.specs.Steps.{AreMoves, KeptAlong, Steps, after, events, hands}
+use Rattle.worker_threads.specs.Numbers.{outs_in, stamps_in}
 use Rattle.workers.specs.inside.EventLoop.{IsUnspent, StepsOver, is_own, is_own_fault}
-use Rattle.workers.specs.inside.Joins.{StepsTold, ToldFrom}
-use Rattle.workers.specs.declared.message.Message.{Message}
+use Rattle.workers.specs.inside.Told.{StepsTold, ToldFrom}
+use Rattle.worker_threads.specs.declared.message.Message.{Message}
 use Rattle.channels.specs.declared.order.Order.{Order}
 use Rattle.workers.proofs.Accounts.{begun_unspent, opened_unspent, spent_of}
 use Rattle.workers.proofs.Calm.{calm_begun, calm_opened}

@@ -1,8 +1,7 @@
 -- That no new epoch begins where nobody is lost.
 use Rattle.std.proofs.lemmas.Bool.Decides.{eqb_tells, nat_tests}
 use Rattle.std.specs.Prelude.{nat_lt, ◌==◌}
-use Rattle.std.proofs.Common.{◌≡◌, ◌≢◌, ◌∙◌, ℕ, zero, suc, ◌+◌, ◌<◌, ◌≤◌, Bool, true, false, ◌&&◌, ◌||◌, cond, List, [], ◌∷◌, ◌++◌, length, Result, Ok, Err, IfOk, eq-eqb, true≢false, ap, refl, sym, subst, arith, ◌⊎◌, ⊎_elim, inl, inr}
-use Rattle.std.specs.declared.thread.PromisedHandle.{PromisedHandle}
+use Rattle.std.proofs.Common.{◌≡◌, ◌≢◌, ◌∙◌, ℕ, zero, suc, ◌+◌, ◌<◌, ◌≤◌, Bool, true, false, ◌&&◌, ◌||◌, cond, List, [], ◌∷◌, length, Result, Ok, Err, IfOk, eq-eqb, true≢false, ap, refl, sym, subst, arith, ◌⊎◌, ⊎_elim, inl, inr}
 use Rattle.superstep.specs.Job.{Work}
 use Rattle.superstep.specs.declared.fault.JobFault.{JobFault}
 use Rattle.channels.specs.Protocol.{of}
@@ -10,57 +9,26 @@ use Rattle.channels.specs.declared.order.Order.{Order}
 use Rattle.control.specs.declared.control.Out.{Out}
 use Rattle.control.specs.declared.event.Answer.{Answer}
 use Rattle.control.specs.declared.event.Answer.TheVariants.{Ended, Stale}
-use Rattle.control.specs.declared.event.Event.{Event}
 use Rattle.control.specs.declared.job_status.DeviceResult.{DeviceResult}
 use Rattle.control.specs.declared.job_status.DeviceResult.TheVariants.{Failed, Good, NoMemory}
 use Rattle.rollback.specs.declared.report.Report.{Report}
-use Rattle.rollback.specs.Book.{stamp_of}
 use Rattle.control.specs.Events.{Heard, Stamp, accepted, after_end, after_save, closing, done_step, is_known, on_event, saving, shut, slicing, stale_done, step}
 use Rattle.control.specs.Events.Stamp.{DoneBy, FailedBy, JoinedBy, LostBy, Ticked}
 use Rattle.control.specs.Machine.{Machine, all_set, charged, closed, count_set, counts, finished, freed, has_answer, handed, is_busy, is_out, is_running, is_saved_now, joined, welcomed}
-use Rattle.workers.specs.Hub.{HasByes, received, staff}
+use Rattle.worker_threads.specs.Hub.{HasByes, received, staff}
 use Rattle.workers.specs.JobAnswers.{WhereEnded}
-use Rattle.workers.specs.Returns.{stamp_sender}
-use Rattle.workers.specs.Steps.{Move, after, events, stamps_in}
+use Rattle.worker_threads.specs.Returns.{stamp_sender}
+use Rattle.workers.specs.Steps.{Move, after, events}
+use Rattle.worker_threads.specs.Numbers.{stamps_in}
 use Rattle.workers.specs.Steps.Move.{Hand, Take}
-use Rattle.workers.specs.Threads.{AreOfGate, AreSettled, IsSettledHub}
-use Rattle.workers.specs.inside.Epochs.{AreSteady, IsSteady, IsSteadyHub, may_renew, renews}
-use Rattle.workers.specs.inside.Joins.{ToldFrom}
-use Rattle.workers.specs.declared.coordinator.Receipts.{Receipts}
-use Rattle.workers.specs.declared.coordinator_ends.CoordinatorEnds.{CoordinatorEnds}
-use Rattle.workers.specs.declared.message.Message.{Message}
-use Rattle.workers.specs.declared.message.Message.TheVariants as message
-use Rattle.workers.specs.declared.message.Sender.{Sender}
-use Rattle.workers.specs.declared.pass.WorkerReceipt.{WorkerReceipt}
-use Rattle.workers.specs.declared.thread_promises.WorkerPromise.{WorkerPromise}
+use Rattle.worker_threads.specs.Threads.{AreSettled, IsSettledHub}
+use Rattle.worker_threads.specs.inside.Epochs.{AreSteady, IsSteadyHub, may_renew, renews}
+use Rattle.workers.specs.inside.Told.{ToldFrom}
+use Rattle.worker_threads.specs.declared.audit.Receipts.{Receipts}
+use Rattle.worker_threads.specs.declared.coordinator_ends.CoordinatorEnds.{CoordinatorEnds}
+use Rattle.worker_threads.specs.declared.pass.WorkerReceipt.{WorkerReceipt}
 use Rattle.workers.proofs.Ending.{answers_report}
 use Rattle.workers.proofs.Joins.{events_of_sender}
-use Rattle.workers.proofs.Moving.{stamps_bye, stamps_event}
-
--- ---- what a thread sends
-
-renews_more : (xs : List Stamp) (s : Stamp) → may_renew s ≡ false → renews (xs ++ s ∷ []) ≡ renews xs
-renews_more [] s h = ap (λ b. b || false) h
-renews_more (x ∷ xs) s h = ap (λ b. may_renew x || b) (renews_more xs s h)
-
-module _ {J : Type 0} where
-  pub steady_event : (xs ys : List (Message J)) (x : Event J) → ys ≡ xs ++ message.Event x ∷ [] → may_renew (stamp_of x) ≡ false → renews (stamps_in ys) ≡ renews (stamps_in xs)
-  steady_event xs ys x is none = ap (λ l. renews (stamps_in l)) is ∙ ap renews (stamps_event xs x) ∙ renews_more (stamps_in xs) (stamp_of x) none
-
-  -- all that was sent, with the bye
-  pub steady_bye : (xs ys zs : List (Message J)) (sender : Sender) → xs ≡ [] → renews (stamps_in ys) ≡ renews (stamps_in xs) → zs ≡ ys ++ message.Bye sender ∷ []
-      → renews (stamps_in zs) ≡ false
-  steady_bye xs ys zs sender none same is =
-      ap (λ l. renews (stamps_in l)) is ∙ ap renews (stamps_bye ys sender) ∙ same ∙ ap (λ l. renews (stamps_in l)) none
-
-  pub steady_more : (rs : List (WorkerReceipt J)) (r : WorkerReceipt J) → AreSteady rs → IsSteady r → AreSteady (rs ++ r ∷ [])
-  steady_more [] r old new = (new, tt)
-  steady_more (x ∷ xs) r old new = (old.0, steady_more xs r old.1 new)
-
-  pub gate_more : {T : Type 0} (loses : Bool) (hs now : List (PromisedHandle T (WorkerPromise J))) (h : PromisedHandle T (WorkerPromise J)) → now ≡ hs ++ h ∷ []
-      → AreOfGate loses hs → h.promise.loses ≡ loses → AreOfGate loses now
-  gate_more loses [] now h is old new = subst (λ l. AreOfGate loses l) (sym is) (new, tt)
-  gate_more loses (x ∷ xs) now h is old new = subst (λ l. AreOfGate loses l) (sym is) (old.0, gate_more loses xs (xs ++ h ∷ []) h refl old.1 new)
 
 -- ---- one event of the control model
 

@@ -5,20 +5,21 @@ use Rattle.superstep.specs.declared.fault.JobFault.{JobFault}
 use Rattle.control.specs.declared.event.Event.{Event}
 use Rattle.control.specs.declared.event.Event.TheVariants as event
 use Rattle.rollback.specs.declared.report.Report.{Report}
-use Rattle.rollback.specs.Book.{stamp_of}
+use Rattle.control.specs.Stamps.{stamp_of}
 use Rattle.workers.specs.JobAnswers.{HasSpent, WhereEnded}
-use Rattle.workers.specs.Hub.{HasByes, received, staff}
-use Rattle.workers.specs.Messages.{event_sender, sender_of}
-use Rattle.workers.specs.Passes.{handed_in_by}
+use Rattle.worker_threads.specs.Hub.{HasByes, received, staff}
+use Rattle.worker_threads.specs.Messages.{event_sender, sender_of}
+use Rattle.worker_threads.specs.Passes.{handed_in_by}
 use Rattle.channels.specs.Protocol.{of}
-use Rattle.workers.specs.Steps.{stamps_in}
-use Rattle.workers.specs.Threads.{AreCharged, AreSettled, HasHandedIn, HasSettled, IsSettledHub}
+use Rattle.worker_threads.specs.Numbers.{stamps_in}
+use Rattle.workers.specs.Charges.{AreCharged, HasHandedIn}
+use Rattle.worker_threads.specs.Threads.{AreSettled, HasSettled, IsSettledHub}
 use Rattle.workers.specs.Units.{cut, units_by, units_of}
-use Rattle.workers.specs.declared.coordinator.Receipts.{Receipts}
-use Rattle.workers.specs.declared.coordinator_ends.CoordinatorEnds.{CoordinatorEnds}
-use Rattle.workers.specs.declared.message.Message.{Message}
-use Rattle.workers.specs.declared.message.Message.TheVariants as message
-use Rattle.workers.specs.declared.pass.WorkerReceipt.{WorkerReceipt}
+use Rattle.worker_threads.specs.declared.audit.Receipts.{Receipts}
+use Rattle.worker_threads.specs.declared.coordinator_ends.CoordinatorEnds.{CoordinatorEnds}
+use Rattle.worker_threads.specs.declared.message.Message.{Message}
+use Rattle.worker_threads.specs.declared.message.Message.TheVariants as message
+use Rattle.worker_threads.specs.declared.pass.WorkerReceipt.{WorkerReceipt}
 
 none_more : (n : ℕ) → n ≡ 0 + n
 none_more n = omega arith

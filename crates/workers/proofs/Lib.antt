@@ -4,13 +4,8 @@ pub mod Ending
 pub mod Epochs
 pub mod Faults
 pub mod HandedIn
-pub mod Handing
 pub mod Joins
-pub mod SpawnedThreads
 pub mod Moving
-pub mod Opening
 pub mod Over
-pub mod Passing
-pub mod Returning
 pub mod Spent
 pub mod RunAnswers

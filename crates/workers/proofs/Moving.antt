@@ -1,7 +1,7 @@
 -- Lists of hands and events follow one another.
 use Rattle.std.proofs.lemmas.Bool.Decides.{eqb_tells}
 use Rattle.std.proofs.Common.{◌≡◌, ◌≢◌, ℕ, zero, suc, ◌<◌, Bool, cond, Option, Some, None, Result, List, [], ◌∷◌, ◌++◌, map, length, set, sym, refl, ap, ◌∙◌, subst, append_assoc, eq-eqb, ne_eqb, ◌⊎◌, ⊎_elim, inl, inr}
-use mathlib.Core.List.{append-nil, map-append}
+use mathlib.Core.List.{append-nil}
 use Rattle.superstep.specs.Job.{Work}
 use Rattle.superstep.specs.declared.fault.JobFault.{JobFault}
 use Rattle.superstep.specs.declared.task.Task.{Task}
@@ -12,25 +12,26 @@ use Rattle.control.specs.declared.event.Event.TheVariants as happened
 use Rattle.control.specs.Machine.{Machine, hand, handed, task_of}
 use Rattle.control.specs.Events.{Heard, accepted, reply_of}
 use Rattle.control.specs.Events.Stamp.{LostBy}
-use Rattle.rollback.specs.Book.{stamp_of, task_out}
+use Rattle.control.specs.Stamps.{stamp_of, task_out}
 use Rattle.rollback.specs.Saving.{IsKeptStep, KeepsFor}
 use Rattle.rollback.proofs.Keeps.{keeps_same}
 use Rattle.rollback.proofs.Simulated.{kept_still}
 use Rattle.channels.specs.Orders.{at, tasks_in, with_order}
-use Rattle.workers.specs.Hub.{events_in}
 use Rattle.workers.specs.JobAnswers.{IsLeftBy}
-use Rattle.workers.specs.Steps.{AreMoves, IsMove, KeptAlong, Move, Steps, after, event_of, events, hand_of, hands, moved, outs_in, stamps_in}
+use Rattle.workers.specs.Steps.{AreMoves, IsMove, KeptAlong, Move, Steps, after, event_of, events, hand_of, hands, moved}
+use Rattle.worker_threads.specs.Numbers.{outs_in, stamps_in}
 use Rattle.workers.specs.Steps.Move.{Hand, Take}
 use Rattle.workers.specs.Joining.{loss_in, losses}
 use Rattle.workers.specs.inside.EventLoop.{StepsOver}
-use Rattle.workers.specs.inside.Joins.{AreUntold, IsToldNext, StepsDue, StepsTold, due_by, due_to, lost_in}
+use Rattle.worker_threads.specs.inside.Joins.{AreUntold}
+use Rattle.workers.specs.inside.Told.{IsToldNext, StepsDue, StepsTold, due_by, due_to, lost_in}
 use Rattle.workers.specs.declared.event_loop.Due.{Due}
-use Rattle.workers.specs.declared.message.Message.{Message}
-use Rattle.workers.specs.declared.message.Message.TheVariants as message
+use Rattle.worker_threads.specs.declared.message.Message.{Message}
+use Rattle.worker_threads.specs.declared.message.Message.TheVariants as message
 use Rattle.channels.specs.declared.order.Order.{Order}
 use Rattle.channels.specs.declared.order.Order.TheVariants.{Do}
-use Rattle.workers.specs.declared.message.Sender.{Sender}
-use Rattle.channels.proofs.Handing.{at_set_else, at_set_here, tasks-append}
+use Rattle.worker_threads.specs.declared.message.Sender.{Sender}
+use Rattle.channels.proofs.Handing.{at_set_else, at_set_here}
 
 -- ---- lists of moves
 
@@ -49,23 +50,6 @@ events-append (x ∷ xs) ys = ap (λ l. event_of x ++ l) (events-append xs ys) �
 hands-append : (w : ℕ) (xs ys : List Move) → hands w (xs ++ ys) ≡ hands w xs ++ hands w ys
 hands-append w [] ys = refl
 hands-append w (x ∷ xs) ys = ap (λ l. hand_of w x ++ l) (hands-append w xs ys) ∙ sym (append_assoc (hand_of w x) (hands w xs) (hands w ys))
-
--- ---- messages and orders in numbers
-
-module _ {J : Type 0} where
-  events_in-append : (a b : List (Message J)) → events_in (a ++ b) ≡ events_in a ++ events_in b
-  events_in-append [] b = refl
-  events_in-append (message.Event event ∷ a) b = ap (λ l. event ∷ l) (events_in-append a b)
-  events_in-append (message.Bye sender ∷ a) b = events_in-append a b
-
-  pub stamps_event : (a : List (Message J)) (event : Event J) → stamps_in (a ++ message.Event event ∷ []) ≡ stamps_in a ++ stamp_of event ∷ []
-  stamps_event a event = ap (map stamp_of) (events_in-append a (message.Event event ∷ [])) ∙ map-append stamp_of (events_in a) (event ∷ [])
-
-  pub stamps_bye : (a : List (Message J)) (sender : Sender) → stamps_in (a ++ message.Bye sender ∷ []) ≡ stamps_in a
-  stamps_bye a sender = ap (map stamp_of) (events_in-append a (message.Bye sender ∷ []) ∙ append-nil (events_in a))
-
-  pub outs_task : (a : List (Order J)) (task : Task J) → outs_in (a ++ Do task ∷ []) ≡ outs_in a ++ task_out task ∷ []
-  outs_task a task = ap (map task_out) (tasks-append a (Do task ∷ [])) ∙ map-append task_out (tasks_in a) (task ∷ [])
 
 -- ---- one hand
 

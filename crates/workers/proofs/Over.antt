@@ -4,13 +4,13 @@ use Rattle.superstep.specs.Job.{Work}
 use Rattle.control.specs.Machine.{Machine}
 use Rattle.channels.specs.Orders.{at, stops, tasks_in}
 use Rattle.channels.specs.Protocol.{has_bye}
-use Rattle.workers.specs.Hub.{IsSameHub, handed, received}
+use Rattle.worker_threads.specs.Hub.{IsSameHub, handed, received}
 use Rattle.workers.specs.Steps.{Steps}
 use Rattle.workers.specs.inside.EventLoop.{IsOver}
-use Rattle.workers.specs.declared.coordinator_ends.CoordinatorEnds.{CoordinatorEnds}
-use Rattle.workers.specs.declared.message.Message.{Message}
+use Rattle.worker_threads.specs.declared.coordinator_ends.CoordinatorEnds.{CoordinatorEnds}
+use Rattle.worker_threads.specs.declared.message.Message.{Message}
 use Rattle.workers.proofs.Accounts.{steps_over}
-use Rattle.workers.proofs.Handing.{handed_wide}
+use Rattle.worker_threads.proofs.Handing.{handed_wide}
 use Rattle.workers.proofs.Moving.{steps_none, steps_still}
 
 module _ {J : Type 0} (work : Work) (honest : ℕ → Bool) where

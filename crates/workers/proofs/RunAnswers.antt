@@ -10,9 +10,10 @@ use Rattle.rollback.specs.declared.report.Report.{Report}
 use Rattle.control.specs.Machine.{Machine}
 use Rattle.workers.specs.JobAnswers.{EndedOver, EndedOverOwn, IsKeptRun, IsKeptRunOn, RanOn, RanOnOwn, WhereBegun, WhereConnected, WhereOpened, WhereRun}
 use Rattle.workers.specs.Joining.{JoinedFrom, JoinedOn, JoinedOver}
-use Rattle.workers.specs.Returns.{IsWorkOn, events_by}
-use Rattle.workers.specs.Steps.{Move, events, hands, outs_in, stamps_in}
-use Rattle.workers.specs.declared.message.Message.{Message}
+use Rattle.worker_threads.specs.Returns.{IsWorkOn, events_by}
+use Rattle.workers.specs.Steps.{Move, events, hands}
+use Rattle.worker_threads.specs.Numbers.{outs_in, stamps_in}
+use Rattle.worker_threads.specs.declared.message.Message.{Message}
 use Rattle.channels.specs.Orders.{at}
 use Rattle.channels.specs.declared.order.Order.{Order}
 use Rattle.workers.proofs.Ending.{answers_report}

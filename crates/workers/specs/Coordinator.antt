@@ -2,19 +2,20 @@
 use Rattle.std.specs.Prelude.{◌≡◌, ℕ, Option, Some, None, List, [], true}
 use Rattle.std.specs.Global.{Vec}
 use Rattle.rollback.specs.declared.report.Report.{Report}
-use Rattle.workers.specs.Hub as hub
+use Rattle.worker_threads.specs.Hub as hub
 use Rattle.channels.specs.Orders.{at, stops}
 use Rattle.channels.specs.Protocol.{has_bye}
-use Rattle.workers.specs.Threads as threads
+use Rattle.worker_threads.specs.Threads as threads
+use Rattle.workers.specs.Charges as charges
 use Rattle.workers.specs.declared.coordinator.Coordinator.{Coordinator}
-use Rattle.workers.specs.declared.coordinator.Receipts.{Receipts}
-use Rattle.workers.specs.declared.coordinator_ends.CoordinatorEnds.{CoordinatorEnds}
-use Rattle.workers.specs.declared.message.Message.{Message}
+use Rattle.worker_threads.specs.declared.audit.Receipts.{Receipts}
+use Rattle.worker_threads.specs.declared.coordinator_ends.CoordinatorEnds.{CoordinatorEnds}
+use Rattle.worker_threads.specs.declared.message.Message.{Message}
 use Rattle.channels.specs.declared.order.Order.{Order}
-use Rattle.workers.specs.declared.pass.TickPass.{TickPass}
-use Rattle.workers.specs.declared.pass.TickReceipt.{TickReceipt}
-use Rattle.workers.specs.declared.pass.WorkerPass.{WorkerPass}
-use Rattle.workers.specs.declared.pass.WorkerReceipt.{WorkerReceipt}
+use Rattle.worker_threads.specs.declared.pass.TickPass.{TickPass}
+use Rattle.worker_threads.specs.declared.pass.TickReceipt.{TickReceipt}
+use Rattle.worker_threads.specs.declared.pass.WorkerPass.{WorkerPass}
+use Rattle.worker_threads.specs.declared.pass.WorkerReceipt.{WorkerReceipt}
 
 module _ {J : Type 0} where
   abbrev pub received_on : Option (CoordinatorEnds J) → List (Message J)
@@ -128,4 +129,4 @@ module _ {J : Type 0} where
 
   -- the units of each worker are the sum of those that it sent, stale ones too
   abbrev pub HasHandedIn : Coordinator J → Report → Type 0
-  HasHandedIn coordinator report = threads.HasHandedIn coordinator.receipts report
+  HasHandedIn coordinator report = charges.HasHandedIn coordinator.receipts report

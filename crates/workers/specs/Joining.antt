@@ -1,5 +1,5 @@
 -- A worker joins again only after a loss that was counted.
-use Rattle.std.specs.Prelude.{◌≡◌, ◌<◌, ◌==◌, ◌&&◌, ℕ, Bool, true, false, List, [], ◌∷◌, ◌++◌, Result, Ok, Err, if◌then◌else◌}
+use Rattle.std.specs.Prelude.{◌≡◌, ◌<◌, ◌==◌, ℕ, Bool, true, false, List, [], ◌∷◌, ◌++◌, Result, Ok, Err, if◌then◌else◌}
 use Rattle.superstep.specs.Job.{Work}
 use Rattle.superstep.specs.declared.fault.JobFault.{JobFault}
 use Rattle.channels.specs.declared.order.Order.{Order}
@@ -11,10 +11,10 @@ use Rattle.control.specs.Events.{Heard, Stamp, accepted, begun, reply_of}
 use Rattle.control.specs.Events.Stamp.{DoneBy, FailedBy, JoinedBy, LostBy, Ticked}
 use Rattle.control.specs.Machine.{Machine, opened}
 use Rattle.workers.specs.JobAnswers.{RanFrom}
-use Rattle.workers.specs.Returns.{IsWorkOn, events_by}
+use Rattle.worker_threads.specs.Returns.{IsWorkOn, events_by}
 use Rattle.workers.specs.Steps.{Move, events, hands, moved}
 use Rattle.workers.specs.Steps.Move.{Hand, Take}
-use Rattle.workers.specs.declared.message.Message.{Message}
+use Rattle.worker_threads.specs.declared.message.Message.{Message}
 
 -- ---- the losses of a worker
 
@@ -46,26 +46,6 @@ loss_in w m (Take heard stamp) = if is_loss_of w stamp then is_counted (reply_of
 abbrev pub losses : ℕ → Machine → List Move → List Bool
 losses w m [] = []
 losses w m (move ∷ moves) = loss_in w m move ++ losses w (moved m move) moves
-
--- ---- its joins
-
-abbrev pub first_of : List Bool → Bool
-first_of [] = false
-first_of (b ∷ bs) = b
-
-abbrev pub rest_of : List Bool → List Bool
-rest_of [] = []
-rest_of (b ∷ bs) = bs
-
--- Of the events of one worker, each join comes right after a loss that was counted. The list of losses says of each, in order,
--- whether it was; `counted` says it of the event before the first.
-abbrev pub joins_counted : (counted : Bool) → (losses : List Bool) → List Stamp → Bool
-joins_counted counted ls [] = true
-joins_counted counted ls (DoneBy w task units ∷ stamps) = joins_counted false ls stamps
-joins_counted counted ls (FailedBy w place ∷ stamps) = joins_counted false ls stamps
-joins_counted counted ls (LostBy w ∷ stamps) = joins_counted (first_of ls) (rest_of ls) stamps
-joins_counted counted ls (JoinedBy w ∷ stamps) = counted && joins_counted false ls stamps
-joins_counted counted ls (Ticked ∷ stamps) = joins_counted false ls stamps
 
 -- ---- whole runs
 

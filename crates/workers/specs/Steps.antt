@@ -1,13 +1,12 @@
 -- How the book, the received messages, the sent orders and the Keep follow one list of assignments and events.
-use Rattle.std.specs.Prelude.{◌≡◌, ◌<◌, ◌==◌, ℕ, suc, Bool, true, List, [], ◌∷◌, ◌++◌, length, map, Some, if◌then◌else◌}
+use Rattle.std.specs.Prelude.{◌≡◌, ◌<◌, ◌==◌, ℕ, suc, Bool, true, List, [], ◌∷◌, ◌++◌, length, Some, if◌then◌else◌}
 use Rattle.superstep.specs.Job.{Work}
 use Rattle.control.specs.declared.control.Out.{Out}
 use Rattle.control.specs.Machine.{Machine, hand, handed, task_of}
 use Rattle.control.specs.Events.{Heard, Stamp, accepted}
-use Rattle.rollback.specs.Book.{IsQuietAt, stamp_of, task_out}
-use Rattle.channels.specs.Orders.{at, tasks_in}
-use Rattle.workers.specs.Hub.{events_in}
-use Rattle.workers.specs.declared.message.Message.{Message}
+use Rattle.rollback.specs.Book.{IsQuietAt}
+use Rattle.channels.specs.Orders.{at}
+use Rattle.worker_threads.specs.declared.message.Message.{Message}
 use Rattle.channels.specs.declared.order.Order.{Order}
 
 -- ---- assignments and events
@@ -61,14 +60,6 @@ KeptAlong {K} over m keep (move ∷ moves) keep' =
     (mid : K) × over m (moved m move) keep mid × KeptAlong over (moved m move) mid moves keep'
 
 -- ---- what a coordinator did
-
--- what it received, without byes and in numbers
-abbrev pub stamps_in : {J : Type 0} → List (Message J) → List Stamp
-stamps_in messages = map stamp_of (events_in messages)
-
--- what a worker was sent, without stops and in numbers
-abbrev pub outs_in : {J : Type 0} → List (Order J) → List Out
-outs_in orders = map task_out (tasks_in orders)
 
 -- There is one list of assignments and events that leads from one state of the model to the other. Its events are what
 -- was received in between. Its assignments to each worker are what that worker was sent, in order.

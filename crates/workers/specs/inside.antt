@@ -1,5 +1,2 @@
-pub mod Epochs
 pub mod EventLoop
-pub mod Joins
-pub mod Opening
-pub mod Returning
+pub mod Told

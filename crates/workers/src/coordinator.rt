@@ -5,33 +5,17 @@ ghost use Rattle.superstep.specs.declared.fault.JobFault.TheVariants.{Closed};
 ghost use Rattle.checkpoint.specs.Keep.{LoadsNothingElse};
 ghost use Rattle.rollback.specs.Simulation.{NeverFails};
 ghost use Rattle.workers.specs.JobAnswers.{HasSpent, IsCalmReport, IsDriveFault, IsLeftBy, IsOpened, EndedOver, EndedOverKeep, WhereEnded};
-ghost use Rattle.workers.specs.Messages.{sender_of};
+ghost use Rattle.worker_threads.specs.Messages.{sender_of};
 ghost use Rattle.channels.specs.declared.order.Order.TheVariants.{Do};
 
-use crate::coordinator_ends::CoordinatorEnds;
-use crate::message::Message;
-use crate::pass::{TickReceipt, WorkerReceipt};
+use crate::event_loop;
 use checkpoint::Keep;
 use rollback::{Book, Report};
 use std::rt::Files;
 use std::sync::Wait;
 use std::thread::Threads;
 use superstep::{JobFault, Origin, Task};
-
-/// The receipts of all senders to the coordinator.
-pub struct Receipts<J: Origin> {
-    pub(crate) ticker: TickReceipt<J>,
-    pub(crate) workers: Vec<WorkerReceipt<J>>,
-}
-
-impl<J: Origin> Drop for Receipts<J> {
-    fn drop(self) {
-        let Receipts {
-            ticker: _,
-            workers: _,
-        } = self;
-    }
-}
+use worker_threads::{CoordinatorEnds, Message, Receipts, TickReceipt, WorkerReceipt};
 
 /// The coordinator of a job. It sends tasks to workers and receives messages.
 ///
@@ -53,9 +37,9 @@ impl<J: Origin> Drop for Coordinator<J> {
 
 impl<J: Origin> Coordinator<J> {
     ghost use Rattle.workers.specs.Coordinator.{IsReceiptOf, IsSameHub, IsSettledBy, IsStopped, IsTickReceiptOf, IsTickerSettledBy, IsUnused, handed, received, staff};
-    ghost use Rattle.workers.specs.Hub.{HasByes};
+    ghost use Rattle.worker_threads.specs.Hub.{HasByes};
     ghost use Rattle.channels.specs.Orders.{at, tasks_in, with_order};
-    ghost use Rattle.workers.specs.Passes.{handed_in_by, taken_by, ticked_by};
+    ghost use Rattle.worker_threads.specs.Passes.{handed_in_by, taken_by, ticked_by};
 
     /// Sends a task to a worker. It waits while the worker's channel is full. `Closed`: the worker's end is gone, or
     /// the worker was stopped.
@@ -192,7 +176,7 @@ impl<J: Origin> Coordinator<J> {
         match &mut self.ends {
             Some(ends) => {
                 let mut nobody = Vec::new(rt.alloc());
-                ends.drive(rt, book, keep, &mut nobody)
+                event_loop::drive(rt, ends, book, keep, &mut nobody)
             }
             None => {
                 drop(book);

@@ -5,13 +5,13 @@ ghost use Rattle.rollback.specs.Saving.{IsKeptStep, KeepsFor};
 ghost use Rattle.control.specs.Machine.{is_running};
 ghost use Rattle.workers.specs.JobAnswers.{HasSpent, IsAnswerAt, IsDriveFault, IsLeftBy, RanFromOver, WhereEnded};
 ghost use Rattle.workers.specs.Steps.{Steps};
-ghost use Rattle.workers.specs.Verdicts.{sends_on, told_on};
+ghost use Rattle.worker_threads.specs.Verdicts.{sends_on, told_on};
 ghost use Rattle.workers.specs.inside.EventLoop.{IsOver, IsUnspent};
-ghost use Rattle.workers.specs.inside.Joins.{AreUntold, IsToldNext, StepsDue, StepsTold, ToldFrom, due_by, lost_in};
+ghost use Rattle.worker_threads.specs.inside.Joins.{AreUntold};
+ghost use Rattle.workers.specs.inside.Told.{IsToldNext, StepsDue, StepsTold, ToldFrom, due_by, lost_in};
+ghost use Rattle.worker_threads.specs.Hub.{HasByes, IsSameHub, IsStopped, IsUnused, handed, received, staff};
+ghost use Rattle.channels.specs.Orders.{at, tasks_in};
 
-use crate::coordinator_ends::CoordinatorEnds;
-use crate::message::Message;
-use crate::verdict::VerdictSender;
 use channels::Closed;
 use checkpoint::Keep;
 use rollback::{Answer, Book, Event, JobStatus, Report};
@@ -19,6 +19,7 @@ use std::rt::Files;
 use std::sync::Wait;
 use std::thread::Threads;
 use superstep::{JobFault, Origin};
+use worker_threads::{CoordinatorEnds, Message, VerdictSender};
 
 // The workers that may be free once an event was taken.
 #[derive(Clone, Copy)]
@@ -123,206 +124,215 @@ fn answer_of<J: Origin>(book: Book<J>) -> Result<Report, JobFault>
     }
 }
 
-impl<J: Origin> CoordinatorEnds<J> {
-    ghost use Rattle.workers.specs.Hub.{HasByes, IsSameHub, IsStopped, IsUnused, handed, received, staff};
-    ghost use Rattle.channels.specs.Orders.{at, tasks_in};
-
-    // Sends the worker its next task, if the book has one for it.
-    fn offer_next<R: Wait>(&mut self, rt: &R, book: &mut Book<J>, worker: u32) -> Result<(), Closed>
-        requires { worker < staff self.old }
-        ensures steps { OnOk result (Steps J.work J.honest book.old book.new
-            (received self.old) (received self.new) (handed self.old) (handed self.new)) }
-        ensures received { received self.new ≡ received self.old }
-        ensures saved { book.new.saved ≡ book.old.saved }
-        ensures hub { IsSameHub self.old self.new }
-    {
-        match book.next_task(worker) {
-            Some(task) => self.offer(rt, worker as usize, task),
-            None => Ok(()),
-        }
+// Sends the worker its next task, if the book has one for it.
+fn offer_next<J: Origin, R: Wait>(
+    rt: &R,
+    ends: &mut CoordinatorEnds<J>,
+    book: &mut Book<J>,
+    worker: u32,
+) -> Result<(), Closed>
+    requires { worker < staff ends.old }
+    ensures steps { OnOk result (Steps J.work J.honest book.old book.new
+        (received ends.old) (received ends.new) (handed ends.old) (handed ends.new)) }
+    ensures received { received ends.new ≡ received ends.old }
+    ensures saved { book.new.saved ≡ book.old.saved }
+    ensures hub { IsSameHub ends.old ends.new }
+{
+    match book.next_task(worker) {
+        Some(task) => ends.offer(rt, worker as usize, task),
+        None => Ok(()),
     }
+}
 
-    // Sends each worker its next task, if the book has one for it.
-    fn offer_all<R: Wait>(&mut self, rt: &R, book: &mut Book<J>) -> Result<(), Closed>
-        ensures steps { OnOk result (Steps J.work J.honest book.old book.new
-            (received self.old) (received self.new) (handed self.old) (handed self.new)) }
-        ensures received { received self.new ≡ received self.old }
-        ensures saved { book.new.saved ≡ book.old.saved }
-        ensures hub { IsSameHub self.old self.new }
-    {
-        let workers = self.task_channels.len() as u32;
-        for worker in 0..workers {
-            self.offer_next(rt, book, worker)?;
-        }
-        Ok(())
+// Sends each worker its next task, if the book has one for it.
+fn offer_all<J: Origin, R: Wait>(
+    rt: &R,
+    ends: &mut CoordinatorEnds<J>,
+    book: &mut Book<J>,
+) -> Result<(), Closed>
+    ensures steps { OnOk result (Steps J.work J.honest book.old book.new
+        (received ends.old) (received ends.new) (handed ends.old) (handed ends.new)) }
+    ensures received { received ends.new ≡ received ends.old }
+    ensures saved { book.new.saved ≡ book.old.saved }
+    ensures hub { IsSameHub ends.old ends.new }
+{
+    let workers = ends.workers() as u32;
+    for worker in 0..workers {
+        offer_next(rt, ends, book, worker)?;
     }
+    Ok(())
+}
 
-    // Sends free workers their next tasks.
-    fn offer_free<R: Wait>(&mut self, rt: &R, book: &mut Book<J>, free: Free) -> Result<(), Closed>
-        ensures steps { OnOk result (Steps J.work J.honest book.old book.new
-            (received self.old) (received self.new) (handed self.old) (handed self.new)) }
-        ensures received { received self.new ≡ received self.old }
-        ensures saved { book.new.saved ≡ book.old.saved }
-        ensures hub { IsSameHub self.old self.new }
-    {
-        match free {
-            Free::Nobody => Ok(()),
-            Free::One(worker) => {
-                if worker as usize >= self.task_channels.len() {
-                    return Ok(());
-                }
-                self.offer_next(rt, book, worker)
-            }
-            Free::All => self.offer_all(rt, book),
-        }
-    }
-
-    // Takes one message, and gives it to the book if it is an event. Returns who may be free then, and the verdict that is
-    // due if the event is a loss.
-    fn take_one<K: Keep, R: Wait + Threads + Sync + Files + AllocGlobal>(
-        &mut self,
-        rt: &R,
-        book: &mut Book<J>,
-        keep: &mut K,
-    ) -> Result<Taken, Closed>
-        requires keep { KeepsFor J.work J.honest (K.honest keep.old) (K.saved keep.old)
-            (K.may_load keep.old) book.old }
-        ensures steps { IfOk result (λ taken. StepsDue
-            (IsKeptStep K.honest K.saved K.may_load K.faults J.work J.honest)
-            J.work J.honest book.old book.new (received self.old) (received self.new)
-            (handed self.old) (handed self.new) keep.old keep.new taken.due) }
-        ensures keep { KeepsFor J.work J.honest (K.honest keep.new) (K.saved keep.new)
-            (K.may_load keep.new) book.new }
-        ensures err { OnErr result
-            ((received self.new ≡ received self.old) × (keep.new ≡ keep.old)) }
-        ensures handed { handed self.new ≡ handed self.old }
-        ensures hub { IsSameHub self.old self.new }
-    {
-        match self.take_event(rt)? {
-            Message::Event(event) => {
-                let (freed, lost) = named_by(&event);
-                let answer = book.accept(rt, event, keep);
-                let due = verdict_on(lost, &answer);
-                Ok(Taken {
-                    free: free_after(freed, answer),
-                    due,
-                })
-            }
-            Message::Bye(_) => Ok(Taken {
-                free: Free::Nobody,
-                due: None,
-            }),
-        }
-    }
-
-    // Sends free workers their next tasks while the job runs. Once it has ended, stops all, unless they were stopped
-    // before.
-    fn offer_or_stop<R: Wait>(
-        &mut self,
-        rt: &R,
-        book: &mut Book<J>,
-        free: Free,
-        stopped: &mut bool,
-    ) -> Result<(), Closed>
-        requires stopped { stopped.old ≡ true → IsOver book.old self.old }
-        ensures steps { OnOk result (Steps J.work J.honest book.old book.new
-            (received self.old) (received self.new) (handed self.old) (handed self.new)) }
-        ensures received { received self.new ≡ received self.old }
-        ensures saved { book.new.saved ≡ book.old.saved }
-        ensures stopped { OnOk result (stopped.new ≡ true → IsOver book.new self.new) }
-        ensures hub { IsSameHub self.old self.new }
-    {
-        if goes_on(book) {
-            return self.offer_free(rt, book, free);
-        }
-        if !*stopped {
-            self.stop(rt)?;
-            *stopped = true;
-        }
-        Ok(())
-    }
-
-    // Runs the job to its end: sends tasks, takes messages, and tells workers that listen of their losses. Then stops all,
-    // and takes messages until every sender has said bye.
-    fn run_out<K: Keep, R: Wait + Threads + Sync + Files + AllocGlobal>(
-        &mut self,
-        rt: &R,
-        book: &mut Book<J>,
-        keep: &mut K,
-        verdicts: &mut Vec<VerdictSender>,
-    ) -> Result<(), Closed>
-        requires keep { KeepsFor J.work J.honest (K.honest keep.old) (K.saved keep.old)
-            (K.may_load keep.old) book.old }
-        requires untold { AreUntold (map told_on verdicts.old.items) }
-        ensures steps { OnOk result (StepsTold
-            (IsKeptStep K.honest K.saved K.may_load K.faults J.work J.honest)
-            J.work J.honest book.old book.new (received self.old) (received self.new)
-            (handed self.old) (handed self.new) keep.old keep.new
-            (map told_on verdicts.new.items)) }
-        ensures linked { map sends_on verdicts.new.items ≡ map sends_on verdicts.old.items }
-        ensures lines { vec_len verdicts.new ≡ vec_len verdicts.old }
-        ensures keep { OnOk result (KeepsFor J.work J.honest (K.honest keep.new)
-            (K.saved keep.new) (K.may_load keep.new) book.new) }
-        ensures left { IsLeftBy K.honest K.saved K.may_load K.faults J.work J.honest
-            book.old (received self.old) (received self.new) keep.old keep.new }
-        ensures ended { OnOk result (is_running book.new.ending ≡ false) }
-        ensures byes { OnOk result (HasByes (staff self.new) (received self.new)) }
-        ensures stopped { OnOk result ((w : ℕ) → w < staff self.new → IsStopped self.new w) }
-        ensures hub { IsSameHub self.old self.new }
-    {
-        let mut free = Free::All;
-        let mut stopped = false;
-        for _ in rt.forever() {
-            self.offer_or_stop(rt, book, free, &mut stopped)?;
-            if stopped && self.all_gone() {
+// Sends free workers their next tasks.
+fn offer_free<J: Origin, R: Wait>(
+    rt: &R,
+    ends: &mut CoordinatorEnds<J>,
+    book: &mut Book<J>,
+    free: Free,
+) -> Result<(), Closed>
+    ensures steps { OnOk result (Steps J.work J.honest book.old book.new
+        (received ends.old) (received ends.new) (handed ends.old) (handed ends.new)) }
+    ensures received { received ends.new ≡ received ends.old }
+    ensures saved { book.new.saved ≡ book.old.saved }
+    ensures hub { IsSameHub ends.old ends.new }
+{
+    match free {
+        Free::Nobody => Ok(()),
+        Free::One(worker) => {
+            if worker as usize >= ends.workers() {
                 return Ok(());
             }
-            let taken = self.take_one(rt, book, keep)?;
-            tell_due(rt, verdicts, taken.due)?;
-            free = taken.free;
+            offer_next(rt, ends, book, worker)
         }
-        unreachable!()
+        Free::All => offer_all(rt, ends, book),
     }
+}
 
-    /// Drives a job to its end, stops all, waits for every bye, and returns the report. It tells each worker that listens, the
-    /// first ones by their numbers, which of its losses were counted. If a channel is closed, it stops all and returns `Closed`.
-    pub fn drive<K: Keep, R: Wait + Threads + Sync + Files + AllocGlobal>(
-        &mut self,
-        rt: &R,
-        mut book: Book<J>,
-        keep: &mut K,
-        verdicts: &mut Vec<VerdictSender>,
-    ) -> Result<Report, JobFault>
-        requires unused { IsUnused self.old }
-        requires workers { staff self.old ≡ J.work.settings.workers }
-        requires book { IsUnspent J.work book }
-        requires keep { KeepsFor J.work J.honest (K.honest keep.old) (K.saved keep.old)
-            (K.may_load keep.old) book }
-        requires untold { AreUntold (map told_on verdicts.old.items) }
-        ensures ran { WhereEnded result
-            (RanFromOver K.honest K.saved K.may_load K.faults J.work J.honest book.entry
-            (received self.new) (handed self.new) keep.old keep.new result) }
-        ensures told { WhereEnded result
-            (ToldFrom J.work J.honest book.entry (received self.new) (handed self.new)
-            (map told_on verdicts.new.items) result) }
-        ensures linked { map sends_on verdicts.new.items ≡ map sends_on verdicts.old.items }
-        ensures lines { vec_len verdicts.new ≡ vec_len verdicts.old }
-        ensures left { IsLeftBy K.honest K.saved K.may_load K.faults J.work J.honest
-            book.entry (received self.old) (received self.new) keep.old keep.new }
-        ensures byes { WhereEnded result (HasByes (staff self.new) (received self.new)) }
-        ensures stopped { WhereEnded result
-            ((w : ℕ) → w < staff self.new → IsStopped self.new w) }
-        ensures spent { IfOk result (HasSpent (staff self.new) (received self.new)) }
-        ensures refused { IfErr result IsDriveFault }
-        ensures hub { IsSameHub self.old self.new }
-    {
-        match self.run_out(rt, &mut book, keep, verdicts) {
-            Ok(()) => answer_of(book),
-            Err(_) => {
-                drop(book);
-                let _closed = self.stop(rt);
-                Err(JobFault::Closed)
-            }
+// Takes one message, and gives it to the book if it is an event. Returns who may be free then, and the verdict that is
+// due if the event is a loss.
+fn take_one<J: Origin, K: Keep, R: Wait + Threads + Sync + Files + AllocGlobal>(
+    rt: &R,
+    ends: &mut CoordinatorEnds<J>,
+    book: &mut Book<J>,
+    keep: &mut K,
+) -> Result<Taken, Closed>
+    requires keep { KeepsFor J.work J.honest (K.honest keep.old) (K.saved keep.old)
+        (K.may_load keep.old) book.old }
+    ensures steps { IfOk result (λ taken. StepsDue
+        (IsKeptStep K.honest K.saved K.may_load K.faults J.work J.honest)
+        J.work J.honest book.old book.new (received ends.old) (received ends.new)
+        (handed ends.old) (handed ends.new) keep.old keep.new taken.due) }
+    ensures keep { KeepsFor J.work J.honest (K.honest keep.new) (K.saved keep.new)
+        (K.may_load keep.new) book.new }
+    ensures err { OnErr result
+        ((received ends.new ≡ received ends.old) × (keep.new ≡ keep.old)) }
+    ensures handed { handed ends.new ≡ handed ends.old }
+    ensures hub { IsSameHub ends.old ends.new }
+{
+    match ends.take_event(rt)? {
+        Message::Event(event) => {
+            let (freed, lost) = named_by(&event);
+            let answer = book.accept(rt, event, keep);
+            let due = verdict_on(lost, &answer);
+            Ok(Taken {
+                free: free_after(freed, answer),
+                due,
+            })
+        }
+        Message::Bye(_) => Ok(Taken {
+            free: Free::Nobody,
+            due: None,
+        }),
+    }
+}
+
+// Sends free workers their next tasks while the job runs. Once it has ended, stops all, unless they were stopped
+// before.
+fn offer_or_stop<J: Origin, R: Wait>(
+    rt: &R,
+    ends: &mut CoordinatorEnds<J>,
+    book: &mut Book<J>,
+    free: Free,
+    stopped: &mut bool,
+) -> Result<(), Closed>
+    requires stopped { stopped.old ≡ true → IsOver book.old ends.old }
+    ensures steps { OnOk result (Steps J.work J.honest book.old book.new
+        (received ends.old) (received ends.new) (handed ends.old) (handed ends.new)) }
+    ensures received { received ends.new ≡ received ends.old }
+    ensures saved { book.new.saved ≡ book.old.saved }
+    ensures stopped { OnOk result (stopped.new ≡ true → IsOver book.new ends.new) }
+    ensures hub { IsSameHub ends.old ends.new }
+{
+    if goes_on(book) {
+        return offer_free(rt, ends, book, free);
+    }
+    if !*stopped {
+        ends.stop(rt)?;
+        *stopped = true;
+    }
+    Ok(())
+}
+
+// Runs the job to its end: sends tasks, takes messages, and tells workers that listen of their losses. Then stops all,
+// and takes messages until every sender has said bye.
+fn run_out<J: Origin, K: Keep, R: Wait + Threads + Sync + Files + AllocGlobal>(
+    rt: &R,
+    ends: &mut CoordinatorEnds<J>,
+    book: &mut Book<J>,
+    keep: &mut K,
+    verdicts: &mut Vec<VerdictSender>,
+) -> Result<(), Closed>
+    requires keep { KeepsFor J.work J.honest (K.honest keep.old) (K.saved keep.old)
+        (K.may_load keep.old) book.old }
+    requires untold { AreUntold (map told_on verdicts.old.items) }
+    ensures steps { OnOk result (StepsTold
+        (IsKeptStep K.honest K.saved K.may_load K.faults J.work J.honest)
+        J.work J.honest book.old book.new (received ends.old) (received ends.new)
+        (handed ends.old) (handed ends.new) keep.old keep.new
+        (map told_on verdicts.new.items)) }
+    ensures linked { map sends_on verdicts.new.items ≡ map sends_on verdicts.old.items }
+    ensures lines { vec_len verdicts.new ≡ vec_len verdicts.old }
+    ensures keep { OnOk result (KeepsFor J.work J.honest (K.honest keep.new)
+        (K.saved keep.new) (K.may_load keep.new) book.new) }
+    ensures left { IsLeftBy K.honest K.saved K.may_load K.faults J.work J.honest
+        book.old (received ends.old) (received ends.new) keep.old keep.new }
+    ensures ended { OnOk result (is_running book.new.ending ≡ false) }
+    ensures byes { OnOk result (HasByes (staff ends.new) (received ends.new)) }
+    ensures stopped { OnOk result ((w : ℕ) → w < staff ends.new → IsStopped ends.new w) }
+    ensures hub { IsSameHub ends.old ends.new }
+{
+    let mut free = Free::All;
+    let mut stopped = false;
+    for _ in rt.forever() {
+        offer_or_stop(rt, ends, book, free, &mut stopped)?;
+        if stopped && ends.all_gone() {
+            return Ok(());
+        }
+        let taken = take_one(rt, ends, book, keep)?;
+        tell_due(rt, verdicts, taken.due)?;
+        free = taken.free;
+    }
+    unreachable!()
+}
+
+/// Drives a job to its end, stops all, waits for every bye, and returns the report. It tells each worker that listens, the
+/// first ones by their numbers, which of its losses were counted. If a channel is closed, it stops all and returns `Closed`.
+pub fn drive<J: Origin, K: Keep, R: Wait + Threads + Sync + Files + AllocGlobal>(
+    rt: &R,
+    ends: &mut CoordinatorEnds<J>,
+    mut book: Book<J>,
+    keep: &mut K,
+    verdicts: &mut Vec<VerdictSender>,
+) -> Result<Report, JobFault>
+    requires unused { IsUnused ends.old }
+    requires workers { staff ends.old ≡ J.work.settings.workers }
+    requires book { IsUnspent J.work book }
+    requires keep { KeepsFor J.work J.honest (K.honest keep.old) (K.saved keep.old)
+        (K.may_load keep.old) book }
+    requires untold { AreUntold (map told_on verdicts.old.items) }
+    ensures ran { WhereEnded result
+        (RanFromOver K.honest K.saved K.may_load K.faults J.work J.honest book.entry
+        (received ends.new) (handed ends.new) keep.old keep.new result) }
+    ensures told { WhereEnded result
+        (ToldFrom J.work J.honest book.entry (received ends.new) (handed ends.new)
+        (map told_on verdicts.new.items) result) }
+    ensures linked { map sends_on verdicts.new.items ≡ map sends_on verdicts.old.items }
+    ensures lines { vec_len verdicts.new ≡ vec_len verdicts.old }
+    ensures left { IsLeftBy K.honest K.saved K.may_load K.faults J.work J.honest
+        book.entry (received ends.old) (received ends.new) keep.old keep.new }
+    ensures byes { WhereEnded result (HasByes (staff ends.new) (received ends.new)) }
+    ensures stopped { WhereEnded result
+        ((w : ℕ) → w < staff ends.new → IsStopped ends.new w) }
+    ensures spent { IfOk result (HasSpent (staff ends.new) (received ends.new)) }
+    ensures refused { IfErr result IsDriveFault }
+    ensures hub { IsSameHub ends.old ends.new }
+{
+    match run_out(rt, ends, &mut book, keep, verdicts) {
+        Ok(()) => answer_of(book),
+        Err(_) => {
+            drop(book);
+            let _closed = ends.stop(rt);
+            Err(JobFault::Closed)
         }
     }
 }

@@ -8,21 +8,15 @@ ghost use Rattle.checkpoint.specs.Keep.{LoadsNothingElse};
 ghost use Rattle.rollback.specs.Simulation.{NeverFails};
 ghost use Rattle.workers.specs.JobAnswers.{HasSpent, IsCalmReport, IsDriveFault, IsRunFault, EndedOver, EndedOverOwn, LoadsMadeAt, RanFromKeep, RanOn, RanOnOwn, WhereEnded, WhereRefused, WhereRun, has_ended};
 ghost use Rattle.workers.specs.Coordinator as lent;
-ghost use Rattle.workers.specs.Hub.{HasByes, IsNewHubOf, IsSameHub, IsUnused, handed, received, staff};
+ghost use Rattle.worker_threads.specs.Hub.{HasByes, IsNewHubOf, IsSameHub, IsUnused, handed, received, staff};
 ghost use Rattle.workers.specs.Joining.{JoinedFrom, JoinedOn, JoinedOver};
-ghost use Rattle.workers.specs.Threads.{AreThreadsOf, HasSettled, IsIdle};
-ghost use Rattle.workers.specs.Verdicts.{sends_on, told_on};
+ghost use Rattle.worker_threads.specs.Threads.{AreThreadsOf, HasSettled, IsIdle};
+ghost use Rattle.worker_threads.specs.Verdicts.{sends_on, told_on};
 ghost use Rattle.workers.specs.inside.EventLoop.{IsUnspent};
-ghost use Rattle.workers.specs.inside.Joins.{AreLinked, AreUntold};
+ghost use Rattle.worker_threads.specs.inside.Joins.{AreLinked, AreUntold};
 
-use crate::audit::settle_all;
-use crate::coordinator::{Coordinator, Receipts};
-use crate::coordinator_ends::CoordinatorEnds;
-use crate::gate::Gate;
-use crate::pass::{TickPass, WorkerPass};
-use crate::spawning::spawn_all;
-use crate::thread_promises::HubThreads;
-use crate::verdict::VerdictSender;
+use crate::coordinator::Coordinator;
+use crate::event_loop;
 use checkpoint::Keep;
 use rollback::{Book, Report};
 use std::alloc::Global;
@@ -31,6 +25,10 @@ use std::sync::Wait;
 use std::thread;
 use std::thread::Threads;
 use superstep::{Job, JobFault, Origin, Place};
+use worker_threads::{
+    CoordinatorEnds, Gate, HubThreads, Receipts, TickPass, VerdictSender, WorkerPass, settle_all,
+    spawn_all,
+};
 
 // Returns whether the job was driven to its end.
 fn was_driven(answer: &Result<Report, JobFault>) -> bool
@@ -74,7 +72,7 @@ fn drive_all<J: Origin, K: Keep, R: Wait + Threads + Sync + Files + AllocGlobal>
     ensures refused { IfErr result.1 IsDriveFault }
     ensures hub { IsSameHub ends.old ends.new }
 {
-    let answer = ends.drive(rt, book, keep, &mut verdicts);
+    let answer = event_loop::drive(rt, ends, book, keep, &mut verdicts);
     if !was_driven(&answer) {
         drop(spawned);
         return (None, answer);

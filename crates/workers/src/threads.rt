@@ -8,7 +8,6 @@ ghost use Rattle.checkpoint.specs.Keep.{LoadsNothingElse};
 ghost use Rattle.rollback.specs.Simulation.{NeverFails};
 ghost use Rattle.workers.specs.JobAnswers.{IsCalmReport, IsKeptRun, IsKeptRunOn, IsRunFault, LoadsMadeAt, WhereBegun};
 
-use crate::gate::Gate;
 use crate::hub::Hub;
 use crate::run::{resume_job, run_job};
 use checkpoint::Keep;
@@ -19,6 +18,7 @@ use std::rt::Files;
 use std::sync::Wait;
 use std::thread::Threads;
 use superstep::{Job, JobFault, Origin};
+use worker_threads::Gate;
 
 // Does the same for a job that a type names.
 fn run_as<

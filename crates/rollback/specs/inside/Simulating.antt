@@ -6,7 +6,7 @@ use Rattle.control.specs.declared.control.Out.{Out}
 use Rattle.rollback.specs.declared.simulation.Step.{Step}
 use Rattle.rollback.specs.declared.simulation.StepAnswer.{StepAnswer}
 use Rattle.rollback.specs.declared.simulation.TaskRunner.{TaskRunner}
-use Rattle.rollback.specs.Book.{task_out}
+use Rattle.control.specs.Stamps.{task_out}
 use Rattle.control.specs.Machine.{Machine}
 use Rattle.rollback.specs.Saving.{IsMadeAt}
 use Rattle.rollback.specs.Simulation.{RanOver, Sim}

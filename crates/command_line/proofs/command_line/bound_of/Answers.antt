@@ -1,4 +1,3 @@
-use Rattle.std.proofs.Common.{}
 use Rattle.command_line.specs.inside.Commands.{rows_in}
 use Rattle.command_line.proofs.Entries.{bound_found, none_given, text_given}
 use Rattle.command_line.proofs.command_line.bound_of.Goals as goal

@@ -1,6 +1,6 @@
 use Rattle.std.proofs.Common.{◌≡◌, sym, rules, refl, ◌∙◌, ap, Some, None, get_or}
 use Rattle.std.specs.Prelude.{option_map}
-use Rattle.rollback.specs.Book.{task_out}
+use Rattle.control.specs.Stamps.{task_out}
 use Rattle.rollback.specs.inside.Simulating.{sim_of, stamps}
 use Rattle.rollback.proofs.Simulated
 use Rattle.rollback.proofs.simulation.work.Goals as goal

@@ -4,7 +4,7 @@ use Rattle.control.specs.declared.control.Out.{Out}
 use Rattle.control.specs.declared.event.Answer.TheVariants.{Stale, Taken}
 use Rattle.control.specs.Machine.{Machine, all_set, counts, finished, freed, is_running}
 use Rattle.control.specs.Events.{Heard, done_step, stale_done}
-use Rattle.rollback.specs.Book.{done_out}
+use Rattle.control.specs.Stamps.{done_out}
 use Rattle.rollback.proofs.Kept
 use Rattle.control.proofs.Sound.{stale_is, taken_is}
 use Rattle.rollback.proofs.Steps.{counted_on_event, on_event_steady, plain, plain_step, reply_running}

@@ -6,7 +6,7 @@ use Rattle.control.specs.declared.event.Event.TheVariants as event
 use Rattle.control.specs.Machine.{Machine}
 use Rattle.control.specs.Events.{Heard, accepted, after_end, reply_of}
 use Rattle.control.specs.Events.Stamp.{DoneBy}
-use Rattle.rollback.specs.Book.{done_out, stamp_of}
+use Rattle.control.specs.Stamps.{done_out, stamp_of}
 use Rattle.rollback.proofs.Steps.{accepted_over, plain, plain_step}
 use Rattle.rollback.proofs.book.Book.note_after_end.Goals as goal
 

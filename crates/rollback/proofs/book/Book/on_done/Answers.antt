@@ -4,7 +4,7 @@ use Rattle.control.specs.declared.event.Answer.TheVariants.{Stale}
 use Rattle.control.specs.Machine.{Machine, charged}
 use Rattle.control.specs.Events.{Heard, on_event}
 use Rattle.control.specs.Events.Stamp.{DoneBy}
-use Rattle.rollback.specs.Book.{done_out}
+use Rattle.control.specs.Stamps.{done_out}
 use Rattle.rollback.proofs.Keeps.{keeps_same}
 use Rattle.rollback.proofs.Kept
 use Rattle.rollback.proofs.Steps.{above_is, below_is, charged_on_event, on_event_steady, plain_step, reply_running}

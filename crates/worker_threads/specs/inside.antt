@@ -1,0 +1,4 @@
+pub mod Epochs
+pub mod Joins
+pub mod Opening
+pub mod Returning

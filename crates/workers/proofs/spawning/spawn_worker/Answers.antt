@@ -1,9 +1,0 @@
-use denote.Param.Send.{sendable}
-use Rattle.std.proofs.Crossing.{crosses}
-use Rattle.channels.proofs.Crossing.{job_sync}
-use Rattle.workers.proofs.pass.WorkerPass.TheSendSync as pass
-use Rattle.workers.proofs.verdict.VerdictReader.TheSendSync as reader
-use Rattle.workers.proofs.spawning.spawn_worker.Goals as goal
-
-pub spawn_with-requires-send-F : goal.spawn_with-requires-send-F
-spawn_with-requires-send-F g c κs within = search (sendable, crosses, job_sync, pass.the_send, reader.the_send) depth 24

@@ -4,8 +4,7 @@ use Rattle.std.specs.Str.{bytes_eq}
 use Rattle.std.proofs.lemmas.List.{drop_at, length-append, take_at}
 use Rattle.std.proofs.lemmas.Slice.Eq.{bytes_eq-Decides}
 use Rattle.superstep.specs.State.{Standing}
-use Rattle.checkpoint.specs.Checkpoint.{IsCheckpointOf, digest, head_bytes, sealed, told_bytes, vertices_bytes}
-use Rattle.checkpoint.specs.Files.{Collide, content_of, seal_of}
+use Rattle.checkpoint.specs.Checkpoint.{Collide, IsCheckpointOf, content_of, digest, head_bytes, seal_of, sealed, told_bytes, vertices_bytes}
 use Rattle.checkpoint.proofs.Again.{length_digest}
 
 front_is : (content : List ℕ) → length (sealed content) - 32 ≡ length content

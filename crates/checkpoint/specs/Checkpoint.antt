@@ -1,6 +1,6 @@
 -- How a state is spelled. A state has one spelling, of version 2. Version 1, without units of single supersteps, is
 -- still read.
-use Rattle.std.specs.Prelude.{◌≡◌, ◌<◌, ◌^◌, ◌⊎◌, ◌++◌, ◌∷◌, [], ℕ, Bool, FitsSigned, List, length, if◌then◌else◌}
+use Rattle.std.specs.Prelude.{◌≡◌, ◌<◌, ◌^◌, ◌-◌, ◌⊎◌, ◌++◌, ◌∷◌, [], ℕ, Bool, FitsSigned, List, length, take, drop, if◌then◌else◌}
 use Rattle.std.specs.Int.{w64}
 use Rattle.std.specs.List.{AllByRecursion, flat_map}
 use Rattle.sha2.specs.Sha256.{sha256}
@@ -76,3 +76,18 @@ pub record IsCheckpointOf (bytes : List ℕ) (state : Standing) : Type 0 where
   pub is_state : IsState state
   pub fits : Fits state
   pub spelled : Spells bytes state
+
+-- ---- seals
+
+-- the last 32 bytes, or all if there are fewer: the digest of a checkpoint
+abbrev pub seal_of : List ℕ → List ℕ
+seal_of bytes = drop (length bytes - 32) bytes
+
+-- the bytes before the seal
+abbrev pub content_of : List ℕ → List ℕ
+content_of bytes = take (length bytes - 32) bytes
+
+-- two contents that differ and have one SHA-256
+pub record Collide (one other : List ℕ) : Type 0 where
+  pub differ : one ≡ other → ⊥
+  pub digest_is : digest one ≡ digest other

@@ -4,7 +4,6 @@ pub mod Checkpoint
 -- what reading returns, with the fault that is reported, and the fault's word
 pub mod Reading
 pub mod Faults
--- what a Keep's calls leave behind, in memory and on disk
+-- what a Keep's calls leave behind, also of the one in memory
 pub mod Keep
 pub mod Memory
-pub mod Files

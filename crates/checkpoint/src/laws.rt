@@ -2,8 +2,7 @@
 
 ghost use Rattle.std.specs.Prelude.{◌≡◌, ◌+◌, ◌*◌, ◌⊎◌, ℕ, List, Ok, length};
 ghost use Rattle.std.specs.List.{sum_by};
-ghost use Rattle.checkpoint.specs.Checkpoint.{Fits, IsCheckpointOf, checkpoint_bytes, older_bytes};
-ghost use Rattle.checkpoint.specs.Files.{Collide, content_of, seal_of};
+ghost use Rattle.checkpoint.specs.Checkpoint.{Collide, Fits, IsCheckpointOf, checkpoint_bytes, content_of, older_bytes, seal_of};
 ghost use Rattle.checkpoint.specs.Keep.{LoadsNothingElse};
 ghost use Rattle.checkpoint.specs.Memory.{IsHeld, superstep_in};
 ghost use Rattle.checkpoint.specs.Reading.{state_of};

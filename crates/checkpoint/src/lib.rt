@@ -1,21 +1,17 @@
-//! Checkpoints: states as bytes, and the places where those bytes are kept.
+//! Checkpoints: states as bytes, and Keeps, the places where those bytes are kept. One in memory is here.
 #![tactic(auto)]
 
 mod digest;
 mod fault;
-mod files;
 mod keep;
 mod laws;
-mod listing;
 mod memory;
 mod numbers;
 mod reading;
-mod replacing;
 mod vertices;
 mod writing;
 
 pub use fault::CheckpointFault;
-pub use files::FileKeep;
 pub use keep::{Keep, KeepFault};
 pub use laws::{
     a_checkpoint_is_of_one_state, a_checkpoint_is_so_long, a_memory_keep_loads_nothing_else,
@@ -23,5 +19,4 @@ pub use laws::{
 };
 pub use memory::MemoryKeep;
 pub use reading::read;
-pub use replacing::replace;
 pub use writing::write;

@@ -3,7 +3,7 @@
 ghost use Rattle.std.specs.Prelude.{◌≡◌, List, ℕ, false, is_some, true, IfOk, IfErr, IsSome, OnErr};
 ghost use Rattle.std.specs.Io.KnownBytes.{Appends};
 ghost use Rattle.sources.specs.Disk.{Stays};
-ghost use Rattle.checkpoint.specs.Files.{superstep_on};
+ghost use Rattle.keeps.specs.Files.{superstep_on};
 ghost use Rattle.console.specs.Jobs.{AreEndLines, AreJobLines, AreKeptLines, AreRunLines, IsFaultOfRun};
 ghost use Rattle.sources.specs.OutputLines.{IfText};
 ghost use Rattle.console.specs.Loss.{NamesLoss, RefusesLoss};
@@ -17,8 +17,9 @@ use crate::jobs::{resume, run};
 use crate::loss::{Loss, LossGate};
 use crate::view::{RunGate, View};
 use crate::warnings::warn_of_run;
-use checkpoint::{FileKeep, MemoryKeep};
+use checkpoint::MemoryKeep;
 use command_line::{Progress, Request, RunRequest};
+use keeps::FileKeep;
 use line_text::{Output, WriteFailure};
 use plain_commands::{
     RunNotes, Watch, assemble_file, call_files, explain_refusal, fit_file, import_file, job_of,

@@ -1,26 +1,13 @@
 -- What a Keep on disk knows.
-use Rattle.std.specs.Prelude.{◌≡◌, ℕ, ◌-◌, List, length, take, drop, Option, IfSome, MatchOption, option_map}
+use Rattle.std.specs.Prelude.{◌≡◌, ℕ, List, length, Option, IfSome, MatchOption, option_map}
 use Rattle.superstep.specs.State.{Standing}
-use Rattle.checkpoint.specs.Checkpoint.{IsCheckpointOf, digest}
-use Rattle.checkpoint.specs.declared.files.FileKeep.{FileKeep}
-use Rattle.checkpoint.specs.declared.files.Saved.{Saved}
+use Rattle.checkpoint.specs.Checkpoint.{IsCheckpointOf, seal_of}
+use Rattle.keeps.specs.declared.files.FileKeep.{FileKeep}
+use Rattle.keeps.specs.declared.files.Saved.{Saved}
 
 -- the superstep of the last good save
 abbrev pub superstep_on : FileKeep → Option ℕ
 superstep_on keep = option_map (λ saved. saved.superstep) keep.saved
-
--- the last 32 bytes, or all if there are fewer: the digest of a checkpoint
-abbrev pub seal_of : List ℕ → List ℕ
-seal_of bytes = drop (length bytes - 32) bytes
-
--- the bytes before the seal
-abbrev pub content_of : List ℕ → List ℕ
-content_of bytes = take (length bytes - 32) bytes
-
--- two contents that differ and have one SHA-256
-pub record Collide (one other : List ℕ) : Type 0 where
-  pub differ : one ≡ other → ⊥
-  pub digest_is : digest one ≡ digest other
 
 -- the bytes have the length and the seal of what was saved
 pub record IsSealedAs (saved : Saved) (bytes : List ℕ) : Type 0 where

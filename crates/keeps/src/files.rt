@@ -1,13 +1,12 @@
 //! A Keep on disk.
 
 ghost use Rattle.std.specs.Prelude.{◌≡◌, ◌≤◌, None, IfOk, IfSome};
-ghost use Rattle.checkpoint.specs.Files.{IsOfCheckpoint, IsOfCheckpointAt, IsSealedAs, seal_of};
+ghost use Rattle.checkpoint.specs.Checkpoint.{seal_of};
+ghost use Rattle.keeps.specs.Files.{IsOfCheckpoint, IsOfCheckpointAt, IsSealedAs};
 
-use crate::fault::CheckpointFault;
-use crate::keep::{Keep, KeepFault};
 use crate::listing::supersteps_in;
-use crate::reading::read;
 use crate::replacing::replace;
+use checkpoint::{CheckpointFault, Keep, KeepFault, read};
 use std::alloc::{AllocError, Global};
 use std::fs::{File, OpenFile};
 use std::io::Read;
@@ -47,8 +46,8 @@ struct Saved {
 }
 
 impl FileKeep {
-    ghost use Rattle.checkpoint.specs.Files.{HasCheckpoint, failures_of, superstep_on};
     ghost use Rattle.checkpoint.specs.Keep.{HasFailed};
+    ghost use Rattle.keeps.specs.Files.{HasCheckpoint, failures_of, superstep_on};
 
     /// Makes a Keep without a save in this directory, which has to exist.
     pub fn new(alloc: Global, directory: &str) -> Result<FileKeep, AllocError>
@@ -260,8 +259,8 @@ fn read_saved<F: Read + OpenFile>(alloc: Global, file: &mut F, saved: &Saved) ->
 
 impl Keep for FileKeep {
     ghost use Rattle.std.specs.Prelude.{false, ℕ, List, Some, OnErr, OnOk};
-    ghost use Rattle.checkpoint.specs.Files.{IsSealedOn, failures_of, superstep_on};
     ghost use Rattle.checkpoint.specs.Keep.{HasCause, IsKeptOrNone};
+    ghost use Rattle.keeps.specs.Files.{IsSealedOn, failures_of, superstep_on};
 
     ghost saved = { superstep_on };
 

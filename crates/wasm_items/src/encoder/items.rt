@@ -8,7 +8,9 @@ use super::parts::{Part, write_byte, write_sized, write_vector};
 use super::types::write_table_type;
 use leb::write_u32;
 use std::alloc::AllocError;
-use wasm_ast::{Data, Element, Export, ExportDescription, Function, Global, Import, ImportDescription};
+use wasm_ast::{
+    Data, Element, Export, ExportDescription, Function, Global, Import, ImportDescription,
+};
 
 /// Writes an import (Core 1.0, 5.5.5).
 impl Part for Import {

@@ -5,7 +5,7 @@ use Rattle.std.specs.Str.Lines.{lines}
 use Rattle.wasm_ast.specs.declared.module.Module.{Module}
 use Rattle.wat_syntax.specs.declared.fault.TextFault.TheVariants as text
 use Rattle.wat_syntax.specs.Layout.{layout}
-use Rattle.wasm_decode.specs.declared.fault.DecodeFault.TheVariants as decode
+use Rattle.wasm_items.specs.declared.fault.DecodeFault.TheVariants as decode
 use Rattle.validate.specs.declared.fault.Place.{Place}
 use Rattle.validate.specs.declared.fault.ValidFault.TheVariants as valid
 use Rattle.bounded_profile.specs.FaultText.{rule_word}

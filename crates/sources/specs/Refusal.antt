@@ -1,7 +1,8 @@
 -- How a fault is reported: the status of the process, and the line without its line feed.
 use Rattle.std.specs.Prelude.{ℕ, List, ◌++◌, codes}
 use Rattle.std.specs.Fmt.{decimal}
-use Rattle.wasm_decode.specs.Faults.{fault_text as decode_text, encode_word}
+use Rattle.wasm_items.specs.Faults.{fault_text as decode_text}
+use Rattle.wasm_decode.specs.Faults.{encode_word}
 use Rattle.wat_syntax.specs.Faults.{fault_text as text_fault_text}
 use Rattle.validate.specs.Faults.{fault_text as invalid_text}
 use Rattle.bounded_profile.specs.FaultText.{fault_text as unbounded_text}

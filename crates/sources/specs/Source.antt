@@ -2,8 +2,8 @@
 use Rattle.std.specs.Prelude.{◌≡◌, ◌⊎◌, ℕ, Bool, true, false, List, string_bytes}
 use Rattle.wasm_ast.specs.declared.module.Module.{Module}
 use Rattle.wasm_ast.specs.Limits.{IsWithinLimits}
+use Rattle.wasm_items.specs.declared.fault.DecodeFault.TheVariants as decode
 use Rattle.wasm_decode.specs.Grammar.{Spells}
-use Rattle.wasm_decode.specs.declared.fault.DecodeFault.TheVariants as decode
 use Rattle.wasm_decode.specs.declared.encoder.fault.EncodeFault.TheVariants as encode
 use Rattle.wat_syntax.specs.declared.fault.TextFault.TheVariants as text_fault
 use Rattle.validate.specs.declared.fault.ValidFault.TheVariants as valid

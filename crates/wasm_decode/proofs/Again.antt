@@ -8,19 +8,21 @@ use Rattle.wasm_ast.specs.declared.module.Import.{Import}
 use Rattle.wasm_ast.specs.declared.module.Function.{Function}
 use Rattle.wasm_ast.specs.declared.module.Module.{Module}
 use Rattle.wasm_ast.specs.Limits.{max_module_bytes, max_functions, IsBodyWithin, IsTypeWithin, IsFunctionWithin, imported_functions, IsWithinLimits}
-use Rattle.wasm_decode.specs.Bytes.{Then, U32, Vector}
-use Rattle.wasm_decode.specs.Types.{SpellsFuncType, SpellsLimits, SpellsTableType}
-use Rattle.wasm_decode.specs.Grammar.{SpellsImport, SpellsGlobal, SpellsExport, SpellsElement, SpellsFunction, SpellsData, type_numbers, Customs, VectorSection, StartSection, magic, version, SpellsSections, Spells}
-use Rattle.wasm_decode.specs.inside.Reading.{Reads, any_count, u32_at, vector_at, func_type_at, limits_at, table_type_at}
-use Rattle.wasm_decode.specs.inside.ReadingModule.{import_at, imports_at, global_at, export_at, start_at, element_at, data_at, functions_at, customs_at, skip_customs, no_bodies, types_at, numbers_at, spaces_at, exports_at, contents_at, remaining_at, filled_at, sections_at, after_bytes, module_at}
+use Rattle.wasm_items.specs.Bytes.{Then, U32, Vector}
+use Rattle.wasm_items.specs.Types.{SpellsFuncType, SpellsLimits, SpellsTableType}
+use Rattle.wasm_items.specs.Items.{SpellsImport, SpellsGlobal, SpellsExport, SpellsElement, SpellsData}
+use Rattle.wasm_items.specs.inside.Reading.{Reads, any_count, u32_at, vector_at, func_type_at, limits_at, table_type_at}
+use Rattle.wasm_items.specs.inside.ReadingItems.{import_at, global_at, export_at, element_at, data_at}
+use Rattle.wasm_decode.specs.Grammar.{SpellsFunction, type_numbers, Customs, VectorSection, StartSection, magic, version, SpellsSections, Spells}
+use Rattle.wasm_decode.specs.inside.ReadingModule.{imports_at, start_at, functions_at, customs_at, skip_customs, no_bodies, types_at, numbers_at, spaces_at, exports_at, contents_at, remaining_at, filled_at, sections_at, after_bytes, module_at}
+use Rattle.wasm_items.proofs.AgainItems.{import_again, global_again, export_again, element_again, data_again}
+use Rattle.wasm_items.proofs.AgainParts.{u32_again, vector_again, length-Vector, func_type_again, limits_again, table_type_again}
+use Rattle.wasm_items.proofs.Tools.{Spelling, Within, IsRead, IsComplete}
 use Rattle.wasm_decode.proofs.AgainFunctions.{functions_again}
-use Rattle.wasm_decode.proofs.AgainItems.{import_again, global_again, export_again, element_again, data_again}
-use Rattle.wasm_decode.proofs.AgainParts.{u32_again, vector_again, length-Vector, func_type_again, limits_again, table_type_again}
 use Rattle.wasm_decode.proofs.AgainSections.{Skips, customs_before, Leads, IsSectionRead, section_again}
 use Rattle.wasm_decode.proofs.Limited.{Vector-together, VectorSection-together}
 use Rattle.wasm_decode.proofs.SectionParts.{MaySpell, Section-map, length-type_numbers}
 use Rattle.wasm_decode.proofs.TakesFunctions.{FunctionWithin}
-use Rattle.wasm_decode.proofs.Tools.{Spelling, Within, IsRead, IsComplete}
 
 -- ---- single sections
 

@@ -6,16 +6,16 @@ use Rattle.wasm_ast.specs.declared.types.ValType.{ValType}
 use Rattle.wasm_ast.specs.declared.types.FuncType.{FuncType}
 use Rattle.wasm_ast.specs.declared.module.Function.{Function}
 use Rattle.wasm_ast.specs.Limits.{max_locals, parameters_of, IsBodyWithin}
-use Rattle.wasm_decode.specs.Bytes.{Then, Items, Vector}
-use Rattle.wasm_decode.specs.Instructions.{SpellsExpression}
+use Rattle.wasm_items.specs.Bytes.{Then, Items, Vector}
+use Rattle.wasm_items.specs.Instructions.{SpellsExpression}
+use Rattle.wasm_items.specs.inside.Reading.{u32_at, val_type_at}
 use Rattle.wasm_decode.specs.Grammar.{SpellsGroup, locals_of, SpellsLocals, type_numbers}
-use Rattle.wasm_decode.specs.inside.Reading.{u32_at, val_type_at}
 use Rattle.wasm_decode.specs.inside.ReadingModule.{groups_at, locals_at, function_in, function_at, bodies_at, functions_at}
-use Rattle.wasm_decode.proofs.AgainCode.{expression_again}
-use Rattle.wasm_decode.proofs.AgainParts.{u32_again, val_type_again, part_again}
+use Rattle.wasm_items.proofs.AgainCode.{expression_again}
+use Rattle.wasm_items.proofs.AgainParts.{u32_again, val_type_again, part_again}
+use Rattle.wasm_items.proofs.Tools.{IsRead, Then-assoc, Then_again}
 use Rattle.wasm_decode.proofs.SectionParts.{length-type_numbers}
 use Rattle.wasm_decode.proofs.TakesFunctions.{FunctionWithin}
-use Rattle.wasm_decode.proofs.Tools.{IsRead, Then-assoc, Then_again}
 
 groups_again : (groups : List (ℕ × ValType)) (room : ℕ) → length (locals_of groups) ≤ room
     → IsRead (groups_at (length groups) room) (locals_of groups) (Items SpellsGroup groups)

@@ -2,13 +2,13 @@
 use Rattle.std.proofs.Common.{◌≡◌, ℕ, zero, suc, ◌≤◌, ◌<◌, ◌&&◌, nat_le, inl, inr, Bool, true, List, [], ◌∷◌, ◌++◌, length, Option, Some, None, refl, sym, ap, ◌∙◌, arith, length-append}
 use Rattle.std.proofs.lemmas.Bool.{eq-eqb, ne_eqb, le-leb, leb-true, lt-ltb, and_from, and_parts}
 use Rattle.std.proofs.lemmas.List.{append-nil}
-use Rattle.wasm_decode.specs.Bytes.{Then, Items}
+use Rattle.wasm_items.specs.Bytes.{Then, Items}
+use Rattle.wasm_items.specs.inside.Reading.{Reads}
 use Rattle.wasm_decode.specs.Grammar.{SpellsCustom, Customs, Section}
-use Rattle.wasm_decode.specs.inside.Reading.{Reads}
 use Rattle.wasm_decode.specs.inside.ReadingModule.{customs_at, skip_customs, section_at, section_with}
-use Rattle.wasm_decode.proofs.AgainParts.{part_again, name_again}
+use Rattle.wasm_items.proofs.AgainParts.{part_again, name_again}
+use Rattle.wasm_items.proofs.Tools.{IsRead, Then-append, Then-Byte}
 use Rattle.wasm_decode.proofs.SectionParts.{MaySpell}
-use Rattle.wasm_decode.proofs.Tools.{IsRead, Then-append, Then-Byte}
 
 -- without the custom sections in front of the bytes these are left, by any bound above the number of bytes
 abbrev pub Skips : List ℕ → List ℕ → Type 0

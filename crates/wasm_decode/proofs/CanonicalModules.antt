@@ -7,13 +7,15 @@ use Rattle.wasm_ast.specs.declared.types.FuncType.{FuncType}
 use Rattle.wasm_ast.specs.declared.module.Function.{Function}
 use Rattle.wasm_ast.specs.declared.module.Module.{Module}
 use Rattle.wasm_ast.specs.Limits.{max_module_bytes, IsFunctionWithin, IsWithinLimits}
-use Rattle.wasm_decode.specs.Bytes.{U32, Vector}
+use Rattle.wasm_items.specs.Bytes.{U32, Vector}
+use Rattle.wasm_items.specs.Canonical.{sized, vector, func_type_bytes, import_bytes, type_number_bytes, table_bytes, limits_bytes, global_bytes, export_bytes, element_bytes, data_bytes}
 use Rattle.wasm_decode.specs.Grammar.{type_numbers, Customs, Section, VectorSection, StartSection, AfterCustoms, SpellsSections, Spells}
-use Rattle.wasm_decode.specs.Canonical.{sized, vector, section, vector_section, func_type_bytes, import_bytes, type_number_bytes, table_bytes, limits_bytes, global_bytes, export_bytes, start_section, element_bytes, function_bytes, data_bytes, sections_bytes, canonical}
+use Rattle.wasm_decode.specs.Canonical.{section, vector_section, start_section, function_bytes, sections_bytes, canonical}
 use Rattle.wasm_ast.specs.Representable.{IsU32, IsOptionalU32, IsFunctionHeld, IsRepresentable}
-use Rattle.wasm_decode.proofs.CanonicalParts.{IsSmall, IsSpelled, u32_spelled, u32_is_spelled, some_u32, joined, behind, small_front, small_back, sized_spelled, small_sized, vector_spelled}
-use Rattle.wasm_decode.proofs.CanonicalInstructions.{func_type_is_spelled, some_func_type, limits_are_spelled, some_limits, table_is_spelled, all_held}
-use Rattle.wasm_decode.proofs.CanonicalItems.{import_is_spelled, some_import, global_is_spelled, some_global, export_is_spelled, some_export, element_is_spelled, some_element, data_is_spelled, some_data, IsFunctionSpelled, function_is_spelled, some_function}
+use Rattle.wasm_items.proofs.CanonicalParts.{IsSmall, IsSpelled, u32_spelled, u32_is_spelled, some_u32, joined, behind, small_front, small_back, sized_spelled, small_sized, vector_spelled}
+use Rattle.wasm_items.proofs.CanonicalInstructions.{func_type_is_spelled, some_func_type, limits_are_spelled, some_limits, table_is_spelled, all_held}
+use Rattle.wasm_items.proofs.CanonicalItems.{import_is_spelled, some_import, global_is_spelled, some_global, export_is_spelled, some_export, element_is_spelled, some_element, data_is_spelled, some_data}
+use Rattle.wasm_decode.proofs.CanonicalFunctions.{IsFunctionSpelled, function_is_spelled, some_function}
 
 -- ---- sections
 

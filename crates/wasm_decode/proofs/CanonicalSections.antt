@@ -2,7 +2,7 @@
 use Rattle.std.proofs.Common.{◌≡◌, ℕ, List, ◌++◌, append_assoc}
 use Rattle.wasm_ast.specs.declared.module.Module.{Module}
 use Rattle.wasm_decode.specs.Canonical.{sections_bytes}
-use Rattle.wasm_decode.specs.inside.Writing.{declarations_bytes, spaces_bytes, contents_bytes}
+use Rattle.wasm_decode.specs.inside.WritingModule.{declarations_bytes, spaces_bytes, contents_bytes}
 
 pub three_in_order : (o a b o1 o2 c : List ℕ) → o1 ≡ o ++ a → o2 ≡ o1 ++ b → o2 ++ c ≡ o ++ (a ++ (b ++ c))
 three_in_order o a b o1 o2 c e1 e2 = rw (e2, e1) (simp append_assoc)

@@ -1,12 +1,28 @@
 -- Skipping custom sections one after another.
-use Rattle.std.proofs.Common.{◌≡◌, ℕ, zero, suc, ◌≤◌, ◌<◌, ◌==◌, true, false, List, [], ◌∷◌, length, drop, slice_get, Option, Some, None, refl, sym, ap, ◌∙◌, arith}
+use Rattle.std.proofs.Common.{◌≡◌, ℕ, zero, suc, ◌≤◌, ◌<◌, ◌==◌, true, false, List, [], ◌∷◌, length, drop, slice_get, Option, Some, None, IfSome, refl, sym, ap, ◌∙◌, arith}
 use Rattle.std.specs.Option.{option_eq}
 use Rattle.std.proofs.lemmas.Bool.{eqb-true, false≢true, ne_eqb}
-use Rattle.wasm_decode.specs.declared.fault.DecodeFault.{DecodeFault}
-use Rattle.wasm_decode.specs.inside.Reading.{◌>>=◌, Fails, part_at, name_at}
+use Rattle.wasm_items.specs.declared.fault.DecodeFault.{DecodeFault}
+use Rattle.wasm_items.specs.inside.Reading.{◌>>=◌, Fails, part_at, name_at}
 use Rattle.wasm_decode.specs.inside.ReadingModule.{custom_at, customs_at}
-use Rattle.wasm_decode.proofs.Loops.{Fails-then}
-use Rattle.wasm_decode.proofs.Shrinks.{custom_leaves}
+use Rattle.wasm_items.proofs.Loops.{Fails-then}
+use Rattle.wasm_items.proofs.Shrinks.{LeavesAtMost, part_leaves}
+
+-- ---- one custom section leaves no more than it was given
+
+named_leaves : {A : Type 0} (n : ℕ) (rest : List ℕ) (name : Option A) → length rest ≤ n → IfSome (name >>= λ _. Some rest) (λ left. length left ≤ n)
+named_leaves n rest None le = tt
+named_leaves n rest (Some name) le = le
+
+inside_leaves : (n : ℕ) (read : Option (List ℕ × List ℕ)) → LeavesAtMost n read → IfSome (read >>= λ inside. name_at inside.0 >>= λ _. Some inside.1) (λ left. length left ≤ n)
+inside_leaves n None h = tt
+inside_leaves n (Some inside) h = named_leaves n inside.1 (name_at inside.0) h
+
+custom_leaves : (bytes : List ℕ) → IfSome (custom_at bytes) (λ left. length left ≤ length bytes)
+unfolding custom_at
+custom_leaves bytes = inside_leaves (length bytes) (part_at bytes) (part_leaves bytes)
+
+-- ---- all of them
 
 -- reading the rest, with some bound that is large enough, gives what reading all gives
 abbrev pub Skips : List ℕ → Option (List ℕ) → Type 0

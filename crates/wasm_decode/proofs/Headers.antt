@@ -2,11 +2,11 @@
 use Rattle.std.proofs.Common.{◌≡◌, ℕ, ◌+◌, ◌<◌, ◌==◌, List, [], ◌∷◌, length, drop, get_or, Option, Some, None, refl, sym, ap, ◌∙◌}
 use Rattle.std.proofs.lemmas.Bool.{eq-eqb, ne_eqb}
 use Rattle.std.proofs.lemmas.List.{drop_more}
-use Rattle.wasm_decode.specs.declared.fault.DecodeFault.{DecodeFault}
-use Rattle.wasm_decode.specs.inside.Reading.{◌>>=◌, Fails, IsRefusal, guarded, byte_at}
+use Rattle.wasm_items.specs.declared.fault.DecodeFault.{DecodeFault}
+use Rattle.wasm_items.specs.inside.Reading.{◌>>=◌, Fails, IsRefusal, guarded, byte_at}
 use Rattle.wasm_decode.specs.inside.ReadingModule.{after_bytes}
-use Rattle.wasm_decode.proofs.Loops.{Fails-then}
-use Rattle.wasm_decode.proofs.Parts.{Fails-refusal}
+use Rattle.wasm_items.proofs.Loops.{Fails-then}
+use Rattle.wasm_items.proofs.Parts.{Fails-refusal}
 
 after_bytes-byte : (w : ℕ) (ws bytes : List ℕ) → after_bytes (w ∷ ws) bytes ≡ (byte_at bytes >>= λ b. guarded (b.0 == w) (after_bytes ws b.1))
 unfolding byte_at after_bytes

@@ -3,10 +3,10 @@ use Rattle.std.proofs.Common.{ℕ, zero, suc, ◌≤◌, inl, inr, List, [], ◌
 use Rattle.std.specs.List.{AllByRecursion}
 use Rattle.wasm_ast.specs.declared.types.FuncType.{FuncType}
 use Rattle.wasm_ast.specs.Limits.{IsTypeWithin, parameters_of, max_locals}
-use Rattle.wasm_decode.specs.Bytes.{Items, Vector}
+use Rattle.wasm_items.specs.Bytes.{Items, Vector}
 use Rattle.wasm_decode.specs.Grammar.{VectorSection}
+use Rattle.wasm_items.proofs.Tools.{Spelling, Within}
 use Rattle.wasm_decode.proofs.SectionParts.{Section-map}
-use Rattle.wasm_decode.proofs.Tools.{Spelling, Within}
 
 -- no type has more parameters than a function may have
 pub are_few : (types : List FuncType) → AllByRecursion IsTypeWithin types → (t : ℕ) → parameters_of types t ≤ max_locals

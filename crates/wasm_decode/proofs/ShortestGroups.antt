@@ -5,12 +5,12 @@ use Rattle.std.specs.List.{flat_map}
 use Rattle.leb.specs.Spelling.{u32_spelling}
 use Rattle.wasm_ast.specs.declared.types.ValType.{ValType}
 use Rattle.wasm_ast.specs.declared.types.ValType.TheVariants.{I32, I64}
-use Rattle.wasm_decode.specs.Types.{val_type_byte}
+use Rattle.wasm_items.specs.Types.{val_type_byte}
 use Rattle.wasm_decode.specs.Grammar.{locals_of}
 use Rattle.wasm_decode.specs.Canonical.{is_same_type, groups_from, groups_of, group_bytes}
+use Rattle.wasm_items.proofs.ShortestParts.{u32_sum}
 use Rattle.wasm_decode.proofs.CanonicalGroups.{length-groups_from}
-use Rattle.wasm_decode.proofs.CanonicalItems.{same_types}
-use Rattle.wasm_decode.proofs.ShortestParts.{u32_sum}
+use Rattle.wasm_decode.proofs.CanonicalFunctions.{same_types}
 
 abbrev pub bytes_of : List (ℕ × ValType) → ℕ
 bytes_of gs = length (flat_map group_bytes gs)

@@ -5,14 +5,17 @@ use Rattle.std.specs.List.{AllByRecursion}
 use Rattle.leb.specs.Spelling.{u32_spelling}
 use Rattle.wasm_ast.specs.declared.module.Function.{Function}
 use Rattle.wasm_ast.specs.declared.module.Module.{Module}
-use Rattle.wasm_decode.specs.Bytes.{U32, Vector}
-use Rattle.wasm_decode.specs.Types.{SpellsFuncType, SpellsLimits, SpellsTableType}
-use Rattle.wasm_decode.specs.Grammar.{SpellsImport, SpellsGlobal, SpellsExport, SpellsElement, SpellsFunction, SpellsData, type_numbers, Section, VectorSection, StartSection, AfterCustoms, SpellsSections, Spells}
-use Rattle.wasm_decode.specs.Canonical.{vector, section, vector_section, func_type_bytes, import_bytes, type_number_bytes, table_bytes, limits_bytes, global_bytes, export_bytes, start_section, element_bytes, function_bytes, data_bytes, sections_bytes, canonical}
+use Rattle.wasm_items.specs.Bytes.{U32, Vector}
+use Rattle.wasm_items.specs.Types.{SpellsFuncType, SpellsLimits, SpellsTableType}
+use Rattle.wasm_items.specs.Items.{SpellsImport, SpellsGlobal, SpellsExport, SpellsElement, SpellsData}
+use Rattle.wasm_items.specs.Canonical.{vector, func_type_bytes, import_bytes, type_number_bytes, table_bytes, limits_bytes, global_bytes, export_bytes, element_bytes, data_bytes}
+use Rattle.wasm_decode.specs.Grammar.{SpellsFunction, type_numbers, Section, VectorSection, StartSection, AfterCustoms, SpellsSections, Spells}
+use Rattle.wasm_decode.specs.Canonical.{section, vector_section, start_section, function_bytes, sections_bytes, canonical}
 use Rattle.wasm_ast.specs.Representable.{IsU32, IsOptionalU32, AreLimitsHeld, IsFunctionHeld, IsImportHeld, IsGlobalHeld, IsExportHeld, IsElementHeld, IsDataHeld, IsRepresentable}
-use Rattle.wasm_decode.proofs.ShortestParts.{IsShortest, u32_is_shortest, Then_length, sized_shortest, vector_is_shortest}
-use Rattle.wasm_decode.proofs.ShortestInstructions.{behind_byte, func_type_is_shortest, limits_are_shortest, table_is_shortest}
-use Rattle.wasm_decode.proofs.ShortestItems.{import_is_shortest, global_is_shortest, export_is_shortest, element_is_shortest, data_is_shortest, IsBodyHeld, function_is_shortest}
+use Rattle.wasm_items.proofs.ShortestParts.{IsShortest, u32_is_shortest, Then_length, sized_shortest, vector_is_shortest}
+use Rattle.wasm_items.proofs.ShortestInstructions.{behind_byte, func_type_is_shortest, limits_are_shortest, table_is_shortest}
+use Rattle.wasm_items.proofs.ShortestItems.{import_is_shortest, global_is_shortest, export_is_shortest, element_is_shortest, data_is_shortest}
+use Rattle.wasm_decode.proofs.ShortestFunctions.{IsBodyHeld, function_is_shortest}
 use Rattle.wasm_decode.proofs.CanonicalModules.{numbers_section, canonical_spelled}
 
 -- ---- sections

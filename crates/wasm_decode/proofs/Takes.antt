@@ -14,18 +14,20 @@ use Rattle.wasm_ast.specs.declared.module.Data.{Data}
 use Rattle.wasm_ast.specs.declared.module.Module.{Module}
 use Rattle.wasm_ast.specs.Modules.{empty_module}
 use Rattle.wasm_ast.specs.Limits.{max_module_bytes, max_functions, IsBodyWithin, IsTypeWithin, IsFunctionWithin, imported_functions, IsWithinLimits}
-use Rattle.wasm_decode.specs.Bytes.{Then, U32, Vector}
-use Rattle.wasm_decode.specs.Types.{SpellsFuncType, SpellsLimits, SpellsTableType}
-use Rattle.wasm_decode.specs.Grammar.{SpellsImport, SpellsGlobal, SpellsExport, SpellsElement, SpellsFunction, SpellsData, type_numbers, Customs, VectorSection, StartSection, magic, version, SpellsSections, Spells}
-use Rattle.wasm_decode.specs.inside.Reading.{Reads, is_empty, any_count, vector_at}
-use Rattle.wasm_decode.specs.inside.ReadingModule.{import_at, imports_at, start_at, functions_at, skip_customs, no_bodies, section_with, items_in, types_at, numbers_at, spaces_at, exports_at, contents_at, remaining_at, filled_at, sections_at, after_bytes, module_at}
+use Rattle.wasm_items.specs.Bytes.{Then, U32, Vector}
+use Rattle.wasm_items.specs.Types.{SpellsFuncType, SpellsLimits, SpellsTableType}
+use Rattle.wasm_items.specs.Items.{SpellsImport, SpellsGlobal, SpellsExport, SpellsElement, SpellsData}
+use Rattle.wasm_items.specs.inside.Reading.{Reads, is_empty, any_count, vector_at}
+use Rattle.wasm_items.specs.inside.ReadingItems.{import_at}
+use Rattle.wasm_decode.specs.Grammar.{SpellsFunction, type_numbers, Customs, VectorSection, StartSection, magic, version, SpellsSections, Spells}
+use Rattle.wasm_decode.specs.inside.ReadingModule.{imports_at, start_at, functions_at, skip_customs, no_bodies, section_with, items_in, types_at, numbers_at, spaces_at, exports_at, contents_at, remaining_at, filled_at, sections_at, after_bytes, module_at}
+use Rattle.wasm_items.proofs.TakesItems.{import_takes, global_takes, export_takes, element_takes, data_takes}
+use Rattle.wasm_items.proofs.TakesParts.{u32_takes, vector_takes, func_type_takes, limits_takes, table_type_takes}
+use Rattle.wasm_items.proofs.Tools.{Spelling, Within, bind_some, guarded_some, some_is, never, IsBytes-back, Takes, IsSound, Takes-all, Takes-map, Takes-back, Takes-after, Then_takes, made_takes, Then-joined, Then-assoc, Then-two, Then-three}
 use Rattle.wasm_decode.proofs.Limited.{are_few, Vector-apart, VectorSection-apart}
 use Rattle.wasm_decode.proofs.SectionParts.{MaySpell, Section-map, length-type_numbers}
 use Rattle.wasm_decode.proofs.TakesFunctions.{AreFew, AreBodies, functions_take}
-use Rattle.wasm_decode.proofs.TakesItems.{import_takes, global_takes, export_takes, element_takes, data_takes}
-use Rattle.wasm_decode.proofs.TakesParts.{u32_takes, vector_takes, func_type_takes, limits_takes, table_type_takes}
 use Rattle.wasm_decode.proofs.TakesSections.{skip_customs_takes, section_takes, vector_section_takes}
-use Rattle.wasm_decode.proofs.Tools.{Spelling, Within, bind_some, guarded_some, some_is, never, IsBytes-back, Takes, IsSound, Takes-all, Takes-map, Takes-back, Takes-after, Then_takes, made_takes, Then-joined, Then-assoc, Then-two, Then-three}
 
 -- ---- single sections, and the custom ones behind them
 

@@ -8,17 +8,17 @@ use Rattle.wasm_ast.specs.declared.types.ValType.{ValType}
 use Rattle.wasm_ast.specs.declared.types.FuncType.{FuncType}
 use Rattle.wasm_ast.specs.declared.module.Function.{Function}
 use Rattle.wasm_ast.specs.Limits.{max_locals, parameters_of, IsBodyWithin, IsFunctionWithin}
-use Rattle.wasm_decode.specs.Bytes.{Then, U32, Items, Vector}
-use Rattle.wasm_decode.specs.Types.{SpellsValType}
-use Rattle.wasm_decode.specs.Instructions.{SpellsExpression}
+use Rattle.wasm_items.specs.Bytes.{Then, U32, Items, Vector}
+use Rattle.wasm_items.specs.Types.{SpellsValType}
+use Rattle.wasm_items.specs.Instructions.{SpellsExpression}
+use Rattle.wasm_items.specs.inside.Reading.{is_empty}
+use Rattle.wasm_items.specs.inside.ReadingCode.{expression_at}
 use Rattle.wasm_decode.specs.Grammar.{SpellsGroup, locals_of, SpellsLocals, SpellsFunction, type_numbers}
-use Rattle.wasm_decode.specs.inside.Reading.{is_empty}
-use Rattle.wasm_decode.specs.inside.ReadingCode.{expression_at}
 use Rattle.wasm_decode.specs.inside.ReadingModule.{groups_at, locals_at, function_in, function_at, bodies_at, functions_at}
+use Rattle.wasm_items.proofs.TakesCode.{expression_takes}
+use Rattle.wasm_items.proofs.TakesParts.{u32_takes, val_type_takes, part_takes, Sized-part}
+use Rattle.wasm_items.proofs.Tools.{bind_some, guarded_some, some_is, IsSound, Takes-all, Takes-map, Takes-back, Then_takes, made_takes, Then-joined}
 use Rattle.wasm_decode.proofs.SectionParts.{length-type_numbers}
-use Rattle.wasm_decode.proofs.TakesCode.{expression_takes}
-use Rattle.wasm_decode.proofs.TakesParts.{u32_takes, val_type_takes, part_takes, Sized-part}
-use Rattle.wasm_decode.proofs.Tools.{bind_some, guarded_some, some_is, IsSound, Takes-all, Takes-map, Takes-back, Then_takes, made_takes, Then-joined}
 
 -- ---- locals
 

@@ -1,13 +1,13 @@
 -- What is read is spelled so: sections, and the custom ones between them.
 use Rattle.std.proofs.Common.{◌≡◌, ℕ, zero, suc, ◌≤◌, inl, inr, List, [], ◌∷◌, ◌++◌, length, Option, Some, None, refl, sym, arith}
 use Rattle.leb.specs.inside.Bytes.{IsBytes}
-use Rattle.wasm_decode.specs.Bytes.{Then, Byte}
+use Rattle.wasm_items.specs.Bytes.{Then, Byte}
+use Rattle.wasm_items.specs.inside.Reading.{Reads, is_empty, name_at, vector_at}
 use Rattle.wasm_decode.specs.Grammar.{Section, IsCustom, Customs, VectorSection}
-use Rattle.wasm_decode.specs.inside.Reading.{Reads, is_empty, name_at, vector_at}
 use Rattle.wasm_decode.specs.inside.ReadingModule.{customs_at, skip_customs, is_later, section_at, present_or, section_with}
+use Rattle.wasm_items.proofs.TakesParts.{IsPart, part_takes, Sized-part, name_takes, Limited, vector_takes}
+use Rattle.wasm_items.proofs.Tools.{Spelling, bind_some, guarded_some, some_is, never, by_byte, all_bytes, Takes, IsSound, Takes-cons, Takes-all, Takes-map, Takes-back, Then_takes, made_takes, Then-joined}
 use Rattle.wasm_decode.proofs.SectionParts.{MaySpell, Section-map, Customs-nil}
-use Rattle.wasm_decode.proofs.TakesParts.{IsPart, part_takes, Sized-part, name_takes, Limited, vector_takes}
-use Rattle.wasm_decode.proofs.Tools.{Spelling, bind_some, guarded_some, some_is, never, by_byte, all_bytes, Takes, IsSound, Takes-cons, Takes-all, Takes-map, Takes-back, Then_takes, made_takes, Then-joined}
 
 -- ---- custom sections
 

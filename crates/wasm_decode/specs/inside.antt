@@ -1,6 +1,4 @@
 -- Reading from left to right, on lists: each reader is proved equal to one of these functions.
-pub mod Reading
-pub mod ReadingCode
 pub mod ReadingModule
 -- the bytes that the writers append
-pub mod Writing
+pub mod WritingModule

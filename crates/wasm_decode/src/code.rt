@@ -1,15 +1,12 @@
 //! Readers of the locals and bodies of functions (Core 1.0, 5.5.13).
 
 ghost use Rattle.std.specs.Prelude.{◌≡◌, ◌++◌, replicate, OnOk};
-ghost use Rattle.wasm_decode.specs.inside.Reading.{Gives, GivesAndLeaves};
+ghost use Rattle.wasm_items.specs.inside.Reading.{Gives, GivesAndLeaves};
 ghost use Rattle.wasm_decode.specs.inside.ReadingModule.{groups_at, locals_at, function_in, function_at, bodies_at, functions_at};
 
-use crate::body::expression;
-use crate::fault::{DecodeFault, DecodeRule};
-use crate::reader::Reader;
-use crate::types::val_type;
 use std::alloc::{AllocError, Global};
 use wasm_ast::{FuncType, Function, MAX_LOCALS, Sequence, ValType, parameter_count};
+use wasm_items::{DecodeFault, DecodeRule, Reader, expression, val_type};
 
 /// Reads the content of the code section: a body for each function, whose type index is given.
 #[tactic(auto, unfolding(crate::specs::inside::ReadingModule::functions_at))]

@@ -2,13 +2,9 @@
 
 mod fault;
 mod functions;
-mod instructions;
-mod items;
 mod laws;
 mod modules;
-mod opcodes;
-mod parts;
-mod types;
+mod sections;
 
 pub use fault::EncodeFault;
 pub use laws::{canonical_is_shortest, canonical_spells_its_module};

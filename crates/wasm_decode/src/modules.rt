@@ -3,22 +3,20 @@
 ghost use Rattle.std.specs.Prelude.{◌≡◌, IfOk, MatchResult};
 ghost use Rattle.wasm_ast.specs.declared.module.Module.{Module as AnyModule};
 ghost use Rattle.wasm_decode.specs.Grammar.{Spells};
-ghost use Rattle.wasm_decode.specs.inside.Reading.{Gives, GivesAndLeaves, IsRefusal};
+ghost use Rattle.wasm_items.specs.inside.Reading.{Gives, GivesAndLeaves, IsRefusal};
 ghost use Rattle.wasm_decode.specs.inside.ReadingModule.{types_at, numbers_at, spaces_at, exports_at, contents_at, remaining_at, filled_at, sections_at, after_bytes, module_at};
 
-use crate::fault::{DecodeFault, DecodeRule};
 use crate::imports::imported_functions;
-use crate::reader::Reader;
 use crate::sections::{
     DATA, ELEMENT, EXPORT, FUNCTION, GLOBAL, MEMORY, TABLE, TYPE, code_section, end_of_sections,
     import_section, skip_customs, start_section, vector_section,
 };
-use crate::types::TableType;
 use std::alloc::Global;
 use wasm_ast::{
     Data, Element, Export, FuncType, Global as ModuleGlobal, Limits, MAX_FUNCTIONS,
     MAX_MODULE_BYTES, Module, Sequence,
 };
+use wasm_items::{DecodeFault, DecodeRule, Reader, TableType};
 
 pub const MAGIC: [u8; 4] = *b"\0asm";
 

@@ -1,17 +1,14 @@
 //! Readers of sections (Core 1.0, 5.5.2), and of the custom sections between them.
 
 ghost use Rattle.std.specs.Prelude.{◌≡◌, Some, None, [], true, false, OnOk, IfErr};
-ghost use Rattle.wasm_decode.specs.inside.Reading.{Gives, GivesAndLeaves, IsRefusal, found, is_empty};
+ghost use Rattle.wasm_items.specs.inside.Reading.{Gives, GivesAndLeaves, IsRefusal, found, is_empty};
 ghost use Rattle.wasm_decode.specs.inside.ReadingModule.{skip_customs as customs_skipped, custom_at, section_at, vector_in, imports_in, start_in, code_in, closed as closed_behind, is_later as may_follow};
 
 use crate::code::code;
-use crate::fault::{DecodeFault, DecodeRule};
 use crate::imports::imports;
-use crate::item::{Item, vector};
-use crate::names::text;
-use crate::reader::Reader;
 use std::alloc::Global;
 use wasm_ast::{Data, FuncType, Function, Import, Sequence};
+use wasm_items::{DecodeFault, DecodeRule, Item, Reader, text, vector};
 
 // The ids of the sections (Core 1.0, 5.5.2).
 const CUSTOM: u8 = 0;

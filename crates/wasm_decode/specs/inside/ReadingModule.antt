@@ -2,44 +2,17 @@
 use Rattle.std.specs.Prelude.{ℕ, zero, suc, ◌-◌, Bool, ◌&&◌, List, [], ◌∷◌, ◌++◌, length, replicate, nat_le, nat_lt, Option, Some, None, ◌==◌, if◌then◌else◌}
 use Rattle.wasm_ast.specs.declared.types.ValType.{ValType}
 use Rattle.wasm_ast.specs.declared.types.FuncType.{FuncType}
-use Rattle.wasm_ast.specs.declared.module.ImportDescription.{ImportDescription}
-use Rattle.wasm_ast.specs.declared.module.ImportDescription.TheVariants as import
 use Rattle.wasm_ast.specs.declared.module.Import.{Import}
 use Rattle.wasm_ast.specs.declared.module.Function.{Function}
-use Rattle.wasm_ast.specs.declared.module.Global.{Global}
-use Rattle.wasm_ast.specs.declared.module.ExportDescription.{ExportDescription}
-use Rattle.wasm_ast.specs.declared.module.ExportDescription.TheVariants as export
-use Rattle.wasm_ast.specs.declared.module.Export.{Export}
-use Rattle.wasm_ast.specs.declared.module.Element.{Element}
-use Rattle.wasm_ast.specs.declared.module.Data.{Data}
 use Rattle.wasm_ast.specs.declared.module.Module.{Module}
 use Rattle.wasm_ast.specs.Modules.{empty_module}
 use Rattle.wasm_ast.specs.Limits.{max_module_bytes, max_functions, max_locals, parameters_of, imported_functions}
+use Rattle.wasm_items.specs.inside.Reading.{◌>>=◌, guarded, Reads, u32_at, part_at, vector_at, name_at, is_empty, any_count, val_type_at, func_type_at, limits_at, table_type_at}
+use Rattle.wasm_items.specs.inside.ReadingCode.{expression_at}
+use Rattle.wasm_items.specs.inside.ReadingItems.{import_at, global_at, export_at, element_at, data_at}
 use Rattle.wasm_decode.specs.Grammar.{magic, version}
-use Rattle.wasm_decode.specs.inside.Reading.{◌>>=◌, guarded, Reads, byte_at, u32_at, part_at, vector_at, name_at, is_empty, any_count, val_type_at, func_type_at, limits_at, table_type_at, global_type_at}
-use Rattle.wasm_decode.specs.inside.ReadingCode.{expression_at}
 
--- ---- the items of the sections
-
--- what follows the byte of a kind of import
-unfoldable pub import_of : (kind : ℕ) → Reads ImportDescription
-import_of kind bytes =
-    if kind == 0x00 then (u32_at bytes >>= λ t. Some (import.Function t.0, t.1))
-    else (if kind == 0x01 then (table_type_at bytes >>= λ l. Some (import.Table l.0, l.1))
-    else (if kind == 0x02 then (limits_at bytes >>= λ l. Some (import.Memory l.0, l.1))
-    else (if kind == 0x03 then (global_type_at bytes >>= λ t. Some (import.Global t.0, t.1)) else None)))
-
-unfoldable pub import_description_at : Reads ImportDescription
-import_description_at bytes = do
-  kind ← byte_at bytes
-  import_of kind.0 kind.1
-
-unfoldable pub import_at : Reads Import
-import_at bytes = do
-  from ← name_at bytes
-  name ← name_at from.1
-  description ← import_description_at name.1
-  Some (record { «module» = from.0; name = name.0; description = description.0 }, description.1)
+-- ---- the contents of sections
 
 -- imports; at most as many are functions as a module may have
 unfoldable pub imports_at : Reads (List Import)
@@ -47,52 +20,10 @@ imports_at bytes = do
   imports ← vector_at import_at any_count bytes
   guarded (nat_le (imported_functions imports.0) max_functions) (Some imports)
 
-unfoldable pub global_at : Reads Global
-global_at bytes = do
-  t ← global_type_at bytes
-  initial ← expression_at t.1
-  Some (record { global_type = t.0; initial = initial.0 }, initial.1)
-
--- the export of this kind and index
-abbrev pub export_of : ℕ → ℕ → Option ExportDescription
-export_of kind x =
-    if kind == 0x00 then Some (export.Function x)
-    else (if kind == 0x01 then Some (export.Table x)
-    else (if kind == 0x02 then Some (export.Memory x)
-    else (if kind == 0x03 then Some (export.Global x) else None)))
-
-unfoldable pub export_description_at : Reads ExportDescription
-export_description_at bytes = do
-  kind ← byte_at bytes
-  guarded (nat_le kind.0 0x03) (do
-    x ← u32_at kind.1
-    description ← export_of kind.0 x.0
-    Some (description, x.1))
-
-unfoldable pub export_at : Reads Export
-export_at bytes = do
-  name ← name_at bytes
-  description ← export_description_at name.1
-  Some (record { name = name.0; description = description.0 }, description.1)
-
 unfoldable pub start_at : Reads (Option ℕ)
 start_at bytes = do
   f ← u32_at bytes
   Some (Some f.0, f.1)
-
-unfoldable pub element_at : Reads Element
-element_at bytes = do
-  table ← u32_at bytes
-  offset ← expression_at table.1
-  functions ← vector_at u32_at any_count offset.1
-  Some (record { table = table.0; offset = offset.0; functions = functions.0 }, functions.1)
-
-unfoldable pub data_at : Reads Data
-data_at bytes = do
-  memory ← u32_at bytes
-  offset ← expression_at memory.1
-  content ← part_at offset.1
-  Some (record { memory = memory.0; offset = offset.0; bytes = content.0 }, content.1)
 
 -- ---- functions
 

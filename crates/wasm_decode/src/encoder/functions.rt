@@ -1,25 +1,14 @@
-//! Writers of functions: the indices of their types, their locals and their bodies (Core 1.0, 5.5.6 and 5.5.13).
+//! Writers of functions: their locals and their bodies (Core 1.0, 5.5.13).
 
 ghost use Rattle.std.specs.Prelude.{◌≡◌, ◌++◌, OnOk, length, flat_map};
-ghost use Rattle.wasm_decode.specs.Canonical.{vector, vector_section, type_number_bytes, function_bytes, locals_bytes, group_bytes, groups_of, groups_from};
+ghost use Rattle.wasm_items.specs.Canonical.{vector};
+ghost use Rattle.wasm_decode.specs.Canonical.{vector_section, function_bytes, locals_bytes, group_bytes, groups_of, groups_from};
 
-use super::instructions::write_expression;
-use super::opcodes::val_type_byte;
-use super::parts::{Part, write_byte, write_count, write_section, write_sized};
+use super::sections::write_section;
 use crate::sections::CODE;
-use leb::write_u32;
 use std::alloc::AllocError;
 use wasm_ast::{Function, ValType};
-
-/// Writes a function's entry in the function section: the index of its type (Core 1.0, 5.5.6).
-impl Part for Function {
-    ghost spelling = { type_number_bytes };
-
-    #[tactic(auto, unfolding(crate::specs::Canonical::type_number_bytes))]
-    fn write(&self, out: &mut Vec<u8>) -> Result<(), AllocError> {
-        write_u32(out, self.type_number)
-    }
-}
+use wasm_items::{val_type_byte, write_byte, write_count, write_expression, write_sized};
 
 /// Appends the code section, or nothing where there are no functions. `content` is a buffer for the section's content,
 /// and `scratch` one for each body. Both are cleared first.
@@ -69,7 +58,7 @@ fn write_function(
     write_sized(out, scratch)
 }
 
-#[tactic(auto, unfolding(crate::specs::Canonical::locals_bytes, crate::specs::Canonical::vector))]
+#[tactic(auto, unfolding(crate::specs::Canonical::locals_bytes, wasm_items::specs::Canonical::vector))]
 fn write_locals(out: &mut Vec<u8>, locals: &[ValType]) -> Result<(), AllocError>
     ensures { OnOk result (out.new.items ≡ out.old.items ++ locals_bytes locals.now) }
 {

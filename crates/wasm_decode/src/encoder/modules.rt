@@ -2,13 +2,13 @@
 
 ghost use Rattle.std.specs.Prelude.{◌≡◌, ◌++◌, ◌<◌, ◌≤◌, length, OnOk, IfOk, IsOkUnless};
 ghost use Rattle.wasm_ast.specs.Limits.{max_module_bytes, IsWithinLimits};
-ghost use Rattle.wasm_decode.specs.Canonical.{canonical, sections_bytes, vector_section, table_bytes, vector, start_section};
-ghost use Rattle.wasm_decode.specs.inside.Writing.{declarations_bytes, spaces_bytes, contents_bytes};
+ghost use Rattle.wasm_items.specs.Canonical.{table_bytes, vector};
+ghost use Rattle.wasm_decode.specs.Canonical.{canonical, sections_bytes, vector_section, start_section};
+ghost use Rattle.wasm_decode.specs.inside.WritingModule.{declarations_bytes, spaces_bytes, contents_bytes};
 
 use super::fault::EncodeFault;
 use super::functions::write_code_section;
-use super::parts::{write_count, write_section, write_vector_section};
-use super::types::write_table_type;
+use super::sections::{write_section, write_vector_section};
 use crate::modules::{MAGIC, VERSION};
 use crate::sections::{
     DATA, ELEMENT, EXPORT, FUNCTION, GLOBAL, IMPORT, MEMORY, START, TABLE, TYPE,
@@ -16,6 +16,7 @@ use crate::sections::{
 use leb::write_u32;
 use std::alloc::{AllocError, Global};
 use wasm_ast::{Limits, MAX_MODULE_BYTES, Module};
+use wasm_items::{write_count, write_table_type};
 
 /// Encodes a module in its canonical spelling, the shortest of all its spellings (Core 1.0, section
 /// 5).
@@ -61,7 +62,7 @@ fn write_sections(alloc: Global, out: &mut Vec<u8>, module: &Module) -> Result<(
 }
 
 // Appends types, imports, the types of functions, and tables.
-#[tactic(auto, unfolding(crate::specs::inside::Writing::declarations_bytes))]
+#[tactic(auto, unfolding(crate::specs::inside::WritingModule::declarations_bytes))]
 fn write_declarations(
     out: &mut Vec<u8>,
     content: &mut Vec<u8>,
@@ -76,7 +77,7 @@ fn write_declarations(
 }
 
 // Appends memories, globals, exports, and the start function.
-#[tactic(auto, unfolding(crate::specs::inside::Writing::spaces_bytes))]
+#[tactic(auto, unfolding(crate::specs::inside::WritingModule::spaces_bytes))]
 fn write_spaces(out: &mut Vec<u8>, content: &mut Vec<u8>, module: &Module) -> Result<(), AllocError>
     ensures { OnOk result (out.new.items ≡ out.old.items ++ spaces_bytes «module».now) }
 {
@@ -87,7 +88,7 @@ fn write_spaces(out: &mut Vec<u8>, content: &mut Vec<u8>, module: &Module) -> Re
 }
 
 // Appends elements, functions and data.
-#[tactic(auto, unfolding(crate::specs::inside::Writing::contents_bytes))]
+#[tactic(auto, unfolding(crate::specs::inside::WritingModule::contents_bytes))]
 fn write_contents(
     alloc: Global,
     out: &mut Vec<u8>,

@@ -1,6 +1,6 @@
 use Rattle.std.proofs.lemmas.Result.{err_from_is_err_and}
 use Rattle.wasm_decode.specs.inside.ReadingModule.{bodies_at}
-use Rattle.wasm_decode.proofs.Loops.{bodies_go_on, bodies_fail, bodies_done}
+use Rattle.wasm_decode.proofs.FunctionLoops.{bodies_go_on, bodies_fail, bodies_done}
 use Rattle.wasm_decode.proofs.code.bodies.Goals as goal
 
 pub returns-in_err-function : goal.returns-in_err-function

@@ -1,6 +1,6 @@
 use Rattle.std.proofs.Common.{◌≡◌, drop}
 use Rattle.wasm_decode.specs.inside.ReadingModule.{bodies_at}
-use Rattle.wasm_decode.proofs.Loops.{behind}
+use Rattle.wasm_items.proofs.Loops.{behind}
 use Rattle.wasm_decode.proofs.code.bodies.Given as goal
 
 abbrev pub invariant-loop-type_number : goal.invariant-loop-type_number

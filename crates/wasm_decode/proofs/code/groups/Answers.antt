@@ -1,6 +1,6 @@
 use Rattle.std.proofs.lemmas.Result.{err_from_is_err_and}
 use Rattle.wasm_decode.specs.inside.ReadingModule.{groups_at}
-use Rattle.wasm_decode.proofs.Loops.{groups_go_on, groups_fail_at_len, groups_too_many, groups_fail_at_type, groups_done}
+use Rattle.wasm_decode.proofs.FunctionLoops.{groups_go_on, groups_fail_at_len, groups_too_many, groups_fail_at_type, groups_done}
 use Rattle.wasm_decode.proofs.code.groups.Goals as goal
 
 pub returns-in_err-len : goal.returns-in_err-len

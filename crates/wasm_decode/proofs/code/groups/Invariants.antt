@@ -1,6 +1,6 @@
 use Rattle.std.proofs.Common.{◌≡◌, ◌-◌}
 use Rattle.wasm_decode.specs.inside.ReadingModule.{groups_at}
-use Rattle.wasm_decode.proofs.Loops.{behind}
+use Rattle.wasm_items.proofs.Loops.{behind}
 use Rattle.wasm_decode.proofs.code.groups.Given as goal
 
 abbrev pub invariant-loop : goal.invariant-loop

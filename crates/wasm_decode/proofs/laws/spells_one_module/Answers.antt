@@ -1,5 +1,5 @@
 use Rattle.std.proofs.Common.{◌≡◌, sym, ◌∙◌}
-use Rattle.wasm_decode.specs.inside.Reading.{found}
+use Rattle.wasm_items.specs.inside.Reading.{found}
 use Rattle.wasm_decode.proofs.Again.{module_again}
 use Rattle.wasm_decode.proofs.laws.spells_one_module.Goals as goal
 

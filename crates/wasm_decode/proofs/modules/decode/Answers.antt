@@ -2,10 +2,10 @@ use Rattle.std.proofs.Common.{◌≡◌, ℕ, List, Option, Result, Ok, Err, IfO
 use Rattle.std.specs.Prelude.{MatchResult}
 use Rattle.leb.specs.inside.Bytes.{IsBytes}
 use Rattle.wasm_ast.specs.declared.module.Module.{Module}
-use Rattle.wasm_decode.specs.declared.fault.DecodeFault.{DecodeFault}
-use Rattle.wasm_decode.specs.declared.fault.DecodeFault.TheVariants as fault
+use Rattle.wasm_items.specs.declared.fault.DecodeFault.{DecodeFault}
+use Rattle.wasm_items.specs.declared.fault.DecodeFault.TheVariants as fault
+use Rattle.wasm_items.specs.inside.Reading.{Gives, found}
 use Rattle.wasm_decode.specs.Grammar.{Spells}
-use Rattle.wasm_decode.specs.inside.Reading.{Gives, found}
 use Rattle.wasm_decode.specs.inside.ReadingModule.{module_at}
 use Rattle.wasm_decode.proofs.Takes.{module_takes}
 use Rattle.wasm_decode.proofs.Again.{module_again}

@@ -1,7 +1,7 @@
 use Rattle.std.proofs.Common.{◌++◌, ap, ◌∙◌}
 use Rattle.wasm_ast.specs.declared.module.Function.{Function}
 use Rattle.wasm_decode.specs.Canonical.{function_bytes}
-use Rattle.wasm_decode.proofs.Listed.{one_more, all_written}
+use Rattle.wasm_items.proofs.Listed.{one_more, all_written}
 use Rattle.wasm_decode.proofs.encoder.functions.write_functions.Goals as goal
 
 pub loop-function-preserved : goal.loop-function-preserved

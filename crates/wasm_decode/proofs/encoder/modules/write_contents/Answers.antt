@@ -1,6 +1,7 @@
 use Rattle.std.proofs.Common.{◌≡◌, ℕ, List, OnOk, subst}
-use Rattle.wasm_decode.specs.Canonical.{vector_section, data_bytes}
-use Rattle.wasm_decode.specs.inside.Writing.{contents_bytes}
+use Rattle.wasm_items.specs.Canonical.{data_bytes}
+use Rattle.wasm_decode.specs.Canonical.{vector_section}
+use Rattle.wasm_decode.specs.inside.WritingModule.{contents_bytes}
 use Rattle.wasm_decode.proofs.CanonicalSections.{three_in_order}
 use Rattle.wasm_decode.proofs.encoder.modules.write_contents.Goals as goal
 

@@ -1,6 +1,7 @@
 use Rattle.std.proofs.Common.{◌≡◌, ℕ, List, OnOk, subst}
-use Rattle.wasm_decode.specs.Canonical.{vector_section, table_bytes}
-use Rattle.wasm_decode.specs.inside.Writing.{declarations_bytes}
+use Rattle.wasm_items.specs.Canonical.{table_bytes}
+use Rattle.wasm_decode.specs.Canonical.{vector_section}
+use Rattle.wasm_decode.specs.inside.WritingModule.{declarations_bytes}
 use Rattle.wasm_decode.proofs.CanonicalSections.{four_in_order}
 use Rattle.wasm_decode.proofs.encoder.modules.write_declarations.Goals as goal
 

@@ -1,6 +1,6 @@
 use Rattle.std.proofs.Common.{◌≡◌, ℕ, List, OnOk, subst}
 use Rattle.wasm_decode.specs.Canonical.{start_section}
-use Rattle.wasm_decode.specs.inside.Writing.{spaces_bytes}
+use Rattle.wasm_decode.specs.inside.WritingModule.{spaces_bytes}
 use Rattle.wasm_decode.proofs.CanonicalSections.{four_in_order}
 use Rattle.wasm_decode.proofs.encoder.modules.write_spaces.Goals as goal
 

@@ -1,5 +1,5 @@
-use Rattle.wasm_decode.specs.Canonical.{table_bytes}
-use Rattle.wasm_decode.proofs.Listed.{one_more, all_written}
+use Rattle.wasm_items.specs.Canonical.{table_bytes}
+use Rattle.wasm_items.proofs.Listed.{one_more, all_written}
 use Rattle.wasm_decode.proofs.encoder.modules.write_tables.Goals as goal
 
 pub loop-limits-preserved : goal.loop-limits-preserved

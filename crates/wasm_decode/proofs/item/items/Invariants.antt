@@ -1,8 +1,0 @@
-use Rattle.std.proofs.Common.{◌≡◌, ◌-◌}
-use Rattle.wasm_decode.specs.inside.Reading.{items_at}
-use Rattle.wasm_decode.proofs.Loops.{behind}
-use Rattle.wasm_decode.proofs.item.items.Given as goal
-
-abbrev pub invariant-loop : goal.invariant-loop
-invariant-loop g l =
-    behind l.all.items (items_at g.T.Item.item_at (l.count - l.counter) l.reader) ≡ items_at g.T.Item.item_at l.count l.fn.reader

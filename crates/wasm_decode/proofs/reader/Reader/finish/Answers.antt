@@ -1,5 +1,0 @@
-use Rattle.wasm_decode.proofs.Parts.{is_empty-drop}
-use Rattle.wasm_decode.proofs.reader.Reader.finish.Goals as goal
-
-pub returns-then-self-clause-err : goal.returns-then-self-clause-err
-returns-then-self-clause-err c = (tt, rw (← c.self.view_is) (is_empty-drop c.self.inside.bytes.now c.self.inside.at c.if-self.true))

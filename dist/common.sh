@@ -108,12 +108,13 @@ prove_side_by_side() {
         prove_row "$room/costs" cost
         prove_row "$room/verifier" bounded_profile
         wait_for "$room/past_checkpoint"
+        prove_row "$room/keeps" keeps
         prove_row "$room/sources" sources
         prove_row "$room/faults" explain
         wait_for "$room/past_rollback"
         prove_row "$room/session" session
         wait_for "$room/past_workers"
-        prove_row "$room/threads" threaded_session
+        prove_row "$room/threaded_session" threaded_session
     } &
     rows+=($!)
     {
@@ -129,6 +130,7 @@ prove_side_by_side() {
         prove_row "$room/binary" wasm_decode
         prove_row "$room/import" graph_import job_file
         wait_for "$room/past_superstep"
+        prove_row "$room/threads" worker_threads
         prove_row "$room/words" command_line
     } &
     rows+=($!)

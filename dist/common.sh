@@ -108,7 +108,6 @@ prove_side_by_side() {
         prove_row "$room/costs" cost
         prove_row "$room/verifier" bounded_profile
         wait_for "$room/past_checkpoint"
-        prove_row "$room/keeps" keeps
         prove_row "$room/sources" sources
         prove_row "$room/faults" explain
         wait_for "$room/past_rollback"

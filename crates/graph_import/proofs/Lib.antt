@@ -1,3 +1,4 @@
 pub mod Meaning
+pub mod Both
 pub mod Lines
 pub mod Whole

@@ -18,3 +18,6 @@ returns-in_ok-high-clause-below t c =
     let read = c.in_ok-high in
     let low : c.from-byte.result - 128 < 128 = omega (arith, c.type_inv.bytes c.args.at) in
     omega (arith, below_seven_more c.args.bits read.high (c.from-byte.result - 128) (omega arith) read.ensures.below low)
+
+pub returns-then-from-bits-clause-below : goal.returns-then-from-bits-clause-below
+returns-then-from-bits-clause-below t c = omega (arith, c.from.ensures, c.if-from-bits.true)

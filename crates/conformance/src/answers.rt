@@ -3,7 +3,7 @@
 use crate::modules::module_of;
 use crate::{
     binary, calls, checkpoints, copies, costs, graphs, host_functions, inboxes, inputs, jobs,
-    keeps, leb_numbers, limits, numeric, profile, samples, texts, validation, widths,
+    leb_numbers, limits, numeric, profile, samples, saves, texts, validation, widths,
 };
 use anyhow::Result;
 use bounded_profile::ProfileFault;
@@ -81,7 +81,7 @@ fn show_file(
         "graph/parts.txt" => graphs::parts::show(rt),
         "inbox/inboxes-by-part.txt" => inboxes::by_part::show(rt),
         "superstep/jobs.txt" => jobs::show(rt),
-        "checkpoint/keeps.txt" => keeps::show(rt),
+        "checkpoint/keeps.txt" => saves::show(rt),
         _ => show_texts(rt, file, |alloc, text| answer(alloc, file, text)),
     }
 }

@@ -32,6 +32,7 @@ use Rattle.channels.specs.declared.order.Order.{Order}
 use Rattle.channels.specs.declared.order.Order.TheVariants.{Do}
 use Rattle.worker_threads.specs.declared.message.Sender.{Sender}
 use Rattle.channels.proofs.Handing.{at_set_else, at_set_here}
+use Rattle.worker_threads.proofs.Numbers.{outs_task, stamps_bye, stamps_event}
 
 -- ---- lists of moves
 

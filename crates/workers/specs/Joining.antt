@@ -12,6 +12,7 @@ use Rattle.control.specs.Events.Stamp.{DoneBy, FailedBy, JoinedBy, LostBy, Ticke
 use Rattle.control.specs.Machine.{Machine, opened}
 use Rattle.workers.specs.JobAnswers.{RanFrom}
 use Rattle.worker_threads.specs.Returns.{IsWorkOn, events_by}
+use Rattle.worker_threads.specs.Counted.{joins_counted}
 use Rattle.workers.specs.Steps.{Move, events, hands, moved}
 use Rattle.workers.specs.Steps.Move.{Hand, Take}
 use Rattle.worker_threads.specs.declared.message.Message.{Message}

@@ -13,7 +13,7 @@ use Rattle.worker_threads.proofs.SpawnedThreads.{threads_same}
 use Rattle.workers.proofs.run.drive_all.Goals as goal
 
 pub settle_all-requires-clause-spawned : goal.settle_all-requires-clause-spawned
-settle_all-requires-clause-spawned g c = threads_same c.args.ends.now c.drive-answer.new.self c.args.spawned c.drive-answer.ensures.hub c.requires.spawned
+settle_all-requires-clause-spawned g c = threads_same c.args.ends.now c.drive-answer.new.ends c.args.spawned c.drive-answer.ensures.hub c.requires.spawned
 
 pub returns-then-not-was_driven-clause-settled : goal.returns-then-not-was_driven-clause-settled
 returns-then-not-was_driven-clause-settled g c =
@@ -36,7 +36,7 @@ returns-then-not-was_driven-clause-ran g c =
 pub returns-in-Ok-clause-ran : goal.returns-in-Ok-clause-ran
 returns-in-Ok-clause-ran g c =
     let r = c.drive-answer.result in
-    let e = c.drive-answer.new.self in
+    let e = c.drive-answer.new.ends in
     let f = c.settle_all.new.ends in
     let k = c.args.keep.now in
     subst (λ l. WhereEnded r (RanFromKeep g.K.Keep.honest g.K.Keep.saved g.K.Keep.may_load g.K.Keep.faults g.J.Origin.work g.J.Origin.honest c.args.book l (handed f) k r)) (sym c.settle_all.ensures.received)
@@ -46,7 +46,7 @@ returns-in-Ok-clause-ran g c =
 pub returns-in-Ok-clause-joins : goal.returns-in-Ok-clause-joins
 returns-in-Ok-clause-joins g c =
     let r = c.drive-answer.result in
-    let e = c.drive-answer.new.self in
+    let e = c.drive-answer.new.ends in
     let f = c.settle_all.new.ends in
     let verdicts = c.drive-answer.new.verdicts in
     let told = map told_on verdicts.items in
@@ -62,7 +62,7 @@ returns-in-Ok-clause-joins g c =
 pub returns-in-Ok-clause-epoch : goal.returns-in-Ok-clause-epoch
 returns-in-Ok-clause-epoch g c = λ never none.
     let r = c.drive-answer.result in
-    let e = c.drive-answer.new.self in
+    let e = c.drive-answer.new.ends in
     let f = c.settle_all.new.ends in
     let told = map told_on c.drive-answer.new.verdicts.items in
     let width = c.requires.book.width ∙ sym (c.settle_all.ensures.hub.workers ∙ c.drive-answer.ensures.hub.workers ∙ c.requires.workers) in
@@ -74,7 +74,7 @@ returns-in-Ok-clause-epoch g c = λ never none.
 pub returns-in-Ok-clause-byes : goal.returns-in-Ok-clause-byes
 returns-in-Ok-clause-byes g c =
     let r = c.drive-answer.result in
-    let e = c.drive-answer.new.self in
+    let e = c.drive-answer.new.ends in
     let f = c.settle_all.new.ends in
     subst (λ (n : ℕ). WhereEnded r (HasByes n (received f))) (sym c.settle_all.ensures.hub.workers)
     (subst (λ l. WhereEnded r (HasByes (staff e) l)) (sym c.settle_all.ensures.received) c.drive-answer.ensures.byes)
@@ -82,7 +82,7 @@ returns-in-Ok-clause-byes g c =
 pub returns-in-Ok-clause-spent : goal.returns-in-Ok-clause-spent
 returns-in-Ok-clause-spent g c =
     let r = c.drive-answer.result in
-    let e = c.drive-answer.new.self in
+    let e = c.drive-answer.new.ends in
     let f = c.settle_all.new.ends in
     subst (λ (n : ℕ). IfOk r (HasSpent n (received f))) (sym c.settle_all.ensures.hub.workers)
     (subst (λ l. IfOk r (HasSpent (staff e) l)) (sym c.settle_all.ensures.received) c.drive-answer.ensures.spent)

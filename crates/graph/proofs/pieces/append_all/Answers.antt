@@ -7,6 +7,7 @@ pub loop-piece-preserved : goal.loop-piece-preserved
 loop-piece-preserved c =
     let piece = c.in-Some.piece in
     let pieces = c.loop-piece.yielded in
-    let before = c.loop-piece.invariant in
-    (c.in_ok-append.ensures.vertices ∙ ap (λ vertices. vertices ++ piece.vertices.items) before.0 ∙ flat_map_more piece_vertices [] pieces piece,
-    c.in_ok-append.ensures.edges ∙ ap (λ edges. edges ++ piece.edges.items) before.1 ∙ flat_map_more piece_edges [] pieces piece)
+    let before = c.loop-piece.invariant in (
+      c.in_ok-append.ensures.vertices ∙ ap (λ vertices. vertices ++ piece.vertices.items) before.0 ∙ flat_map_more piece_vertices [] pieces piece,
+      c.in_ok-append.ensures.edges ∙ ap (λ edges. edges ++ piece.edges.items) before.1 ∙ flat_map_more piece_edges [] pieces piece,
+    )

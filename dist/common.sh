@@ -93,96 +93,21 @@ prove_copy() {
     (cd "$copy" && keep_freed_memory && exec rt ci)
 }
 
-# Proves what the program stands on, in copies in this folder, on four processors.
-#
-# rt gives a check two processors only where no other crate of its run is ready, and where the memory that was free at the start
-# of the run is enough for both. So each dear crate of the longest chain has a run of its own. The crates at its side are proved
-# beside it in three rows, one processor a row, those first that the others wait for longest. What is left of them is proved by
-# the run of plain_commands. A run takes over what another has proved, or waits for it.
-prove_side_by_side() {
-    local room=$1 chain row rows=()
-    prove_in_turn "$room" verified interp superstep checkpoint rollback workers plain_commands console &
-    chain=$!
-    {
-        prove_row "$room/inboxes" inbox
-        prove_row "$room/costs" cost
-        prove_row "$room/verifier" bounded_profile
-        wait_for "$room/past_checkpoint"
-        prove_row "$room/sources" sources
-        prove_row "$room/faults" explain
-        wait_for "$room/past_rollback"
-        prove_row "$room/session" session
-        wait_for "$room/past_workers"
-        prove_row "$room/threaded_session" threaded_session
-    } &
-    rows+=($!)
-    {
-        prove_row "$room/numbers" leb
-        prove_row "$room/text" wat_asm
-        prove_row "$room/fit" fit
-        prove_row "$room/reports" run_report
-    } &
-    rows+=($!)
-    {
-        prove_row "$room/graphs" graph
-        prove_row "$room/validity" validate
-        prove_row "$room/binary" wasm_decode
-        prove_row "$room/import" graph_import job_file
-        wait_for "$room/past_superstep"
-        prove_row "$room/threads" worker_threads
-        prove_row "$room/words" command_line
-    } &
-    rows+=($!)
-    wait "$chain" || true
-    for row in "${rows[@]}"; do wait "$row" || true; done
-}
-
-# Proves these crates in a copy in the folder $1, on one processor.
-prove_row() {
-    RT_JOBS=1 prove_copy "$@"
-}
-
-# Proves these crates one after another, each in a run of its own in a copy in the folder $1, and marks each that is done.
-#
-# A run begins a few seconds after the proof of the crate before its own has begun, or once that crate is found to be kept, and waits
-# for that proof. So no time is lost between them, and the memory that rt sees as free is not yet in use.
-prove_in_turn() {
-    local room=$1 crate next pause last= before=
-    shift
-    for crate in "$@"; do
-        prove_copy "$room/$crate" "$crate" &
-        next=$!
-        if [ -n "$last" ]; then
-            wait "$before" || break
-            touch "$room/past_$last"
-        fi
-        before=$next
-        last=$crate
-        for pause in 1 2 3 4 5; do
-            kill -0 "$next" 2>/dev/null || break
-            sleep 1
-        done
-    done
-    wait
-    for crate in "$@"; do touch "$room/past_$crate"; done
-}
-
-# Waits until there is this file.
-wait_for() {
-    until [ -e "$1" ]; do sleep 1; done
-}
-
 # Proves all that the program stands on, and builds it in the folder $1/whole.
+#
+# A run of rt reckons with more memory than its checks take, and so with few at a time. Where RT_JOBS is set it does not, but then each
+# check has one processor. So there are two runs: four checks side by side, and then the last two crates, each of which waits for the
+# one before and gets two processors.
 prove_in_stages() {
-    local job
+    local job last=(console pregel)
     # (each job in a process group of its own, which ends with all that it has started)
     set -m
     trap 'for job in $(jobs -p); do kill -- "-$job" 2>/dev/null || true; done; wait; exit 143' TERM
     if [ "$(free_memory)" -lt 20 ]; then
-        # rt reckons with more memory than there may be
         export RT_JOBS=${RT_JOBS:-$(checks_that_fit)}
     elif [ -z "${RT_JOBS:-}" ] && [ "$(nproc)" -ge 4 ] && keeps_proofs; then
-        prove_side_by_side "$1"
+        RT_JOBS=$(checks_that_fit) prove_copy "$1/below" $(crates_below pregel | grep -vxF "$(printf '%s\n' "${last[@]}")") &
+        wait $! || return
     fi
     prove_copy "$1/whole" pregel &
     wait $!

@@ -8,9 +8,9 @@ use Rattle.std.specs.Prelude.{MatchResult}
 use Rattle.std.specs.Str.{bytes_eq}
 use Rattle.std.proofs.lemmas.Slice.Eq.{bytes_eq-Decides}
 use Rattle.sha2.proofs.Facts256.{length-sha256}
-use Rattle.superstep.specs.declared.state.State.{State}
-use Rattle.superstep.specs.declared.state.VertexState.{VertexState}
-use Rattle.superstep.specs.State.{IsState, Standing}
+use Rattle.job_state.specs.declared.state.State.{State}
+use Rattle.job_state.specs.declared.state.VertexState.{VertexState}
+use Rattle.job_state.specs.State.{IsState, Standing}
 use Rattle.checkpoint.specs.Numbers.{number, signed}
 use Rattle.checkpoint.specs.Checkpoint.{Fits, HeadFits, IsCheckpointOf, VertexFits, checkpoint_bytes, digest, flag, head_bytes, magic, older_bytes, sealed, told_bytes, vertex_bytes, vertices_bytes}
 use Rattle.checkpoint.specs.Reading.{Gives, content_at, head_at, is_sound, items_at, number_at, sealed_at, signed_at, state_of, told_at, vertex_at, vertices_at}

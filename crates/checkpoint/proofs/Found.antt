@@ -6,9 +6,9 @@ use Rattle.std.proofs.lemmas.Bool.{cases_eq, eqb-true, leb-true, ltb-false, ne_e
 use Rattle.std.proofs.lemmas.List.{append-nil, nil_from_length, take-append-drop}
 use Rattle.std.specs.Str.{bytes_eq}
 use Rattle.std.proofs.lemmas.Slice.Eq.{bytes_eq-Decides}
-use Rattle.superstep.specs.declared.state.State.{State}
-use Rattle.superstep.specs.declared.state.VertexState.{VertexState}
-use Rattle.superstep.specs.State.{IsState, Standing}
+use Rattle.job_state.specs.declared.state.State.{State}
+use Rattle.job_state.specs.declared.state.VertexState.{VertexState}
+use Rattle.job_state.specs.State.{IsState, Standing}
 use Rattle.checkpoint.specs.Numbers.{number, signed}
 use Rattle.checkpoint.specs.Checkpoint.{Fits, IsCheckpointOf, VertexFits, digest, flag, head_bytes, magic, sealed, told_bytes, vertex_bytes, vertices_bytes}
 use Rattle.checkpoint.specs.Reading.{◌>>=◌, Gives, content_at, head_at, in_order, is_sound, number_at, sealed_at, signed_at, state_of, told_at, vertex_at, vertices_at}

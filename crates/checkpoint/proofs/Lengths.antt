@@ -5,8 +5,8 @@ use Rattle.std.proofs.lemmas.List.{length-append}
 use Rattle.std.proofs.lemmas.List.Concat.{flat_map-cons, length-flat_map}
 use Rattle.std.proofs.Math.Nat.{add_comm, mul-suc, mul-zero}
 use Rattle.std.specs.Int.{cast_unsigned, w64}
-use Rattle.superstep.specs.declared.state.VertexState.{VertexState}
-use Rattle.superstep.specs.State.{Standing}
+use Rattle.job_state.specs.declared.state.VertexState.{VertexState}
+use Rattle.job_state.specs.State.{Standing}
 use Rattle.checkpoint.specs.Numbers.{number, signed}
 use Rattle.checkpoint.specs.Checkpoint.{checkpoint_bytes, flag, head_bytes, older_bytes, told_bytes, vertex_bytes, vertices_bytes}
 use Rattle.checkpoint.proofs.Again.{length_digest, length_magic}

@@ -3,7 +3,7 @@ use Rattle.std.proofs.Common.{◌≡◌, ℕ, ◌+◌, ◌-◌, Bool, true, fals
 use Rattle.std.specs.Str.{bytes_eq}
 use Rattle.std.proofs.lemmas.List.{drop_at, length-append, take_at}
 use Rattle.std.proofs.lemmas.Slice.Eq.{bytes_eq-Decides}
-use Rattle.superstep.specs.State.{Standing}
+use Rattle.job_state.specs.State.{Standing}
 use Rattle.checkpoint.specs.Checkpoint.{Collide, IsCheckpointOf, content_of, digest, head_bytes, seal_of, sealed, told_bytes, vertices_bytes}
 use Rattle.checkpoint.proofs.Again.{length_digest}
 

@@ -2,9 +2,8 @@
 use Rattle.std.proofs.Common.{◌≡◌, ℕ, zero, suc, ◌+◌, ◌-◌, ◌^◌, ◌<◌, Bool, true, false, cond, eqb, ltb, ◌&&◌, ◌||◌, not, List, [], ◌∷◌, length, map, Ok, refl, sym, ap, ◌∙◌, arith}
 use Rattle.std.specs.List.{sum}
 use Rattle.std.proofs.lemmas.Bool.{eq-eqb, eqb-true, le-leb, leb-true, ltb-false, ne_eqb}
-use Rattle.superstep.specs.declared.state.VertexState.{VertexState}
-use Rattle.superstep.specs.Folds.{capped}
-use Rattle.superstep.specs.State.{IsState, Standing, state_id}
+use Rattle.job_state.specs.declared.state.VertexState.{VertexState}
+use Rattle.job_state.specs.State.{IsState, Standing, capped, state_id}
 use Rattle.checkpoint.specs.Reading.{◌>>=◌, Reads, adds_up, is_rising, is_sound, items_at, number_at, told_at, vertex_at, vertices_at}
 use Rattle.checkpoint.specs.declared.fault.CheckpointFault.TheVariants.{Order, Truncated}
 use Rattle.checkpoint.proofs.Tools.{bind_ok, both_true, ok_is, unless}

@@ -4,8 +4,8 @@ use Rattle.std.specs.Prelude.{◌≡◌, ◌<◌, ◌^◌, ◌-◌, ◌⊎◌, �
 use Rattle.std.specs.Int.{w64}
 use Rattle.std.specs.List.{AllByRecursion, flat_map}
 use Rattle.sha2.specs.Sha256.{sha256}
-use Rattle.superstep.specs.declared.state.VertexState.{VertexState}
-use Rattle.superstep.specs.State.{IsState, Standing}
+use Rattle.job_state.specs.declared.state.VertexState.{VertexState}
+use Rattle.job_state.specs.State.{IsState, Standing}
 use Rattle.checkpoint.specs.Numbers.{number, signed}
 
 -- the SHA-256 of these bytes

@@ -1,6 +1,6 @@
 -- What the calls of a Keep leave behind.
 use Rattle.std.specs.Prelude.{◌≡◌, ◌<◌, ◌≤◌, ◌⊎◌, ◌^◌, ℕ, suc, List, Option, Some, None, Result, IsErrOf}
-use Rattle.superstep.specs.State.{Standing}
+use Rattle.job_state.specs.State.{Standing}
 use Rattle.checkpoint.specs.Checkpoint.{IsCheckpointOf}
 use Rattle.checkpoint.specs.declared.keep.KeepFault.{KeepFault}
 use Rattle.checkpoint.specs.declared.keep.KeepFault.TheVariants.{Device}

@@ -6,9 +6,8 @@ use Rattle.std.specs.Int.{cast_signed, w64}
 use Rattle.std.specs.List.{sum}
 use Rattle.std.specs.Str.{bytes_eq}
 use Rattle.byteorder.specs.Endian.{little_number}
-use Rattle.superstep.specs.declared.state.VertexState.{VertexState}
-use Rattle.superstep.specs.Folds.{capped}
-use Rattle.superstep.specs.State.{Standing, state_id}
+use Rattle.job_state.specs.declared.state.VertexState.{VertexState}
+use Rattle.job_state.specs.State.{Standing, capped, state_id}
 use Rattle.checkpoint.specs.Checkpoint.{digest, magic}
 use Rattle.checkpoint.specs.declared.fault.CheckpointFault.{CheckpointFault}
 use Rattle.checkpoint.specs.declared.reading.Head.{Head}

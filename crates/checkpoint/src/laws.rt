@@ -6,7 +6,7 @@ ghost use Rattle.checkpoint.specs.Checkpoint.{Collide, Fits, IsCheckpointOf, che
 ghost use Rattle.checkpoint.specs.Keep.{LoadsNothingElse};
 ghost use Rattle.checkpoint.specs.Memory.{IsHeld, superstep_in};
 ghost use Rattle.checkpoint.specs.Reading.{state_of};
-ghost use Rattle.superstep.specs.State.{IsState, Standing};
+ghost use Rattle.job_state.specs.State.{IsState, Standing};
 
 /// Proves that the checkpoint of a state is read as that state. In version 1 this holds if the state has no units of
 /// single supersteps.

@@ -4,16 +4,15 @@ ghost use Rattle.std.specs.Prelude.{◌≡◌, ◌+◌, ◌^◌, ◌<◌, ◌≤
 ghost use Rattle.checkpoint.specs.Checkpoint.{IsCheckpointOf};
 ghost use Rattle.checkpoint.specs.Reading.{Gives, adds_up, content_at, head_at, in_order, sealed_at, state_of, told_at};
 ghost use Rattle.std.specs.List.{sum};
-ghost use Rattle.superstep.specs.Folds.{capped};
-ghost use Rattle.superstep.specs.State.{Standing};
-ghost use Rattle.superstep.specs.Totals.{standing_of};
+ghost use Rattle.job_state.specs.State.{Standing, capped};
+ghost use Rattle.job_state.specs.Totals.{standing_of};
 
 use crate::digest::digest_of;
 use crate::fault::CheckpointFault;
 use crate::numbers::{Item, aggregators, items, u32_at};
 use crate::vertices::{are_rising, read_vertices};
+use job_state::{State, Totals, VertexState};
 use std::alloc::Global;
-use superstep::{State, Totals, VertexState};
 
 // The first four bytes of each checkpoint.
 const MAGIC: [u8; 4] = *b"PGCK";

@@ -2,13 +2,13 @@
 
 ghost use Rattle.std.specs.Prelude.{◌≡◌, map};
 ghost use Rattle.checkpoint.specs.Reading.{Gives, is_rising, items_at, signed_at, vertex_at, vertices_at};
-ghost use Rattle.superstep.specs.State.{state_id};
+ghost use Rattle.job_state.specs.State.{state_id};
 
 use crate::fault::CheckpointFault;
 use crate::numbers::{Item, items, u8_at, u64_at};
 use inbox::Inbox;
+use job_state::VertexState;
 use std::alloc::Global;
-use superstep::VertexState;
 
 // An inbox holds this many messages without an allocation.
 const FEW: u64 = 4;

@@ -8,8 +8,8 @@ ghost use Rattle.checkpoint.specs.Checkpoint.{Fits, HeadFits, IsCheckpointOf, Ve
 
 use crate::digest::digest_of;
 use byteorder::{ByteOrder, LittleEndian};
+use job_state::{State, VertexState};
 use std::alloc::{AllocError, Global};
-use superstep::{State, VertexState};
 
 /// A value with a spelling in checkpoints.
 pub trait Spelled {

@@ -1,6 +1,6 @@
 -- What a Keep on disk knows.
 use Rattle.std.specs.Prelude.{◌≡◌, ℕ, List, length, Option, IfSome, MatchOption, option_map}
-use Rattle.superstep.specs.State.{Standing}
+use Rattle.job_state.specs.State.{Standing}
 use Rattle.checkpoint.specs.Checkpoint.{IsCheckpointOf, seal_of}
 use Rattle.keeps.specs.declared.files.FileKeep.{FileKeep}
 use Rattle.keeps.specs.declared.files.Saved.{Saved}

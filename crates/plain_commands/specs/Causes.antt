@@ -8,7 +8,7 @@ use Rattle.valid.specs.Modules.{IsTyped}
 use Rattle.validate.specs.declared.fault.ValidFault.TheVariants as valid
 use Rattle.fit.specs.Fit.{IsFitOf}
 use Rattle.superstep.specs.Job.{Work}
-use Rattle.superstep.specs.State.{Standing}
+use Rattle.job_state.specs.State.{Standing}
 use Rattle.rollback.specs.declared.simulation.Step.{Step}
 use Rattle.checkpoint.specs.Reading.{Fails, state_of}
 use Rattle.sources.specs.declared.fault.CommandFault.{CommandFault}

@@ -11,7 +11,7 @@ use Rattle.verified.specs.Profile.{HasCompute}
 use Rattle.fit.specs.Fit.{IsFitOf}
 use Rattle.line_text.specs.Output.{HasBegun}
 use Rattle.superstep.specs.Job.{Work}
-use Rattle.superstep.specs.State.{Standing}
+use Rattle.job_state.specs.State.{Standing}
 use Rattle.rollback.specs.declared.simulation.Step.{Step}
 use Rattle.checkpoint.specs.Checkpoint.{IsCheckpointOf, checkpoint_bytes}
 use Rattle.command_line.specs.declared.request.JobRequest.{JobRequest}

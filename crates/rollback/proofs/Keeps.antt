@@ -6,7 +6,8 @@ use Rattle.checkpoint.specs.Keep.{HasFailed, IsKeptOrNone}
 use Rattle.superstep.specs.declared.fault.JobFault.TheVariants.{OutOfMemory}
 use Rattle.superstep.specs.declared.fault.Place.TheVariants.{Slice}
 use Rattle.superstep.specs.Job.{Work}
-use Rattle.superstep.specs.State.{HasIdsOf, Standing}
+use Rattle.job_state.specs.State.{Standing}
+use Rattle.superstep.specs.State.{HasIdsOf}
 use Rattle.control.specs.declared.job_status.DeviceResult.{DeviceResult}
 use Rattle.control.specs.declared.job_status.DeviceResult.TheVariants.{Failed, Good, NoMemory}
 use Rattle.control.specs.Machine.{Machine, count_set, ended_by, is_running, is_saved_now, joined, saved_or_first, welcomed}

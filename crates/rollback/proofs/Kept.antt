@@ -10,10 +10,11 @@ use Rattle.superstep.specs.declared.settings.Settings.{Settings}
 use Rattle.superstep.specs.Job.{Work}
 use Rattle.superstep.specs.PlainRun.{state_at}
 use Rattle.superstep.specs.Snapshot.{Row, is_called, is_quiet}
-use Rattle.superstep.specs.declared.state.VertexState.{VertexState}
+use Rattle.job_state.specs.declared.state.VertexState.{VertexState}
 use Rattle.superstep.specs.Tasks.{DoneStamp}
 use Rattle.std.specs.List.{list_any}
-use Rattle.superstep.specs.State.{HasIdsOf, Standing, bare, is_due, is_settled}
+use Rattle.job_state.specs.State.{Standing, is_due, is_settled}
+use Rattle.superstep.specs.State.{HasIdsOf, bare}
 use Rattle.superstep.specs.Ending.{WasBusy}
 use Rattle.superstep.proofs.Trusting.{Lasts}
 use Rattle.control.specs.declared.control.Out.{Out}

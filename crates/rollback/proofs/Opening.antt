@@ -3,7 +3,8 @@ use Rattle.std.proofs.Common.{◌≡◌, ◌<◌, ◌≤◌, ◌^◌, ℕ, List,
 use Rattle.superstep.specs.declared.settings.Settings.{Settings}
 use Rattle.superstep.specs.Settings.{first_bad}
 use Rattle.superstep.specs.Job.{HasGraph, Work}
-use Rattle.superstep.specs.State.{HasIdsOf, IsStateAt, Standing, state_id}
+use Rattle.job_state.specs.State.{Standing, state_id}
+use Rattle.superstep.specs.State.{HasIdsOf, IsStateAt}
 use Rattle.rollback.specs.Saving.{IsFullStateAt}
 use Rattle.rollback.specs.inside.Book.{AreIdsOf}
 

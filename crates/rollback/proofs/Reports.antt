@@ -1,9 +1,8 @@
 -- What a job that has an answer ended with.
 use Rattle.std.proofs.Common.{◌≡◌, ◌≤◌, ℕ, Bool, true, false, sym, ◌∙◌, subst, arith}
-use Rattle.superstep.specs.Ending.{HasStopped}
+use Rattle.superstep.specs.Ending.{HasStopped, WasBusy}
 use Rattle.superstep.specs.Job.{Work}
-use Rattle.superstep.specs.State.{Standing}
-use Rattle.superstep.specs.Ending.{WasBusy}
+use Rattle.job_state.specs.State.{Standing}
 use Rattle.control.specs.declared.job_status.JobStatus.{JobStatus}
 use Rattle.control.specs.declared.job_status.JobStatus.TheVariants.{Fault, Finished, Limit, Running}
 use Rattle.rollback.specs.declared.job_data.JobData.{JobData}

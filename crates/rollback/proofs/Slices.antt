@@ -5,7 +5,7 @@ use Rattle.checkpoint.specs.Keep.{HasFailed}
 use Rattle.superstep.specs.declared.fault.JobFault.TheVariants.{OutOfMemory}
 use Rattle.superstep.specs.declared.fault.Place.TheVariants.{Slice}
 use Rattle.superstep.specs.Job.{Work}
-use Rattle.superstep.specs.State.{Standing}
+use Rattle.job_state.specs.State.{Standing, state_id}
 use Rattle.rollback.specs.declared.job_data.JobData.{JobData}
 use Rattle.rollback.specs.declared.job_data.JobData.TheVariants.{Nothing, Parts, Whole}
 use Rattle.control.specs.Machine.{Machine, ended_by, is_running}
@@ -13,8 +13,7 @@ use Rattle.control.specs.Events.{slicing}
 use Rattle.rollback.specs.inside.Parts.{all_home}
 use Rattle.rollback.specs.Saving.{IsOther, MayLoadOther}
 use Rattle.rollback.specs.inside.Book.{AreIdsOf}
-use Rattle.superstep.specs.State.{state_id}
-use Rattle.superstep.specs.declared.state.VertexState.{VertexState}
+use Rattle.job_state.specs.declared.state.VertexState.{VertexState}
 use Rattle.std.proofs.lemmas.List.{length-map}
 use Rattle.rollback.specs.inside.Loading.{HasIds, IsNotOf}
 use Rattle.rollback.specs.inside.Recovery.{IsHeldOf, StandsBack}

@@ -4,7 +4,8 @@ use Rattle.checkpoint.specs.Checkpoint.{IsCheckpointOf, checkpoint_bytes}
 use Rattle.checkpoint.specs.Keep.{HasFailed}
 use Rattle.superstep.specs.Ending.{WasBusy}
 use Rattle.superstep.specs.Job.{Work}
-use Rattle.superstep.specs.State.{HasIdsOf, IsStateAt, Standing}
+use Rattle.job_state.specs.State.{Standing}
+use Rattle.superstep.specs.State.{HasIdsOf, IsStateAt}
 use Rattle.control.specs.declared.job_status.DeviceResult.{DeviceResult}
 use Rattle.control.specs.declared.job_status.DeviceResult.TheVariants.{Failed}
 use Rattle.control.specs.Machine.{Machine}

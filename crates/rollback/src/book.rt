@@ -1,7 +1,7 @@
 //! The book of a running job.
 
 ghost use Rattle.std.specs.Prelude.{◌≡◌, ◌<◌, true, false, length, map, Bool, None, Some, IfOk, IfErr, IfSome};
-ghost use Rattle.superstep.specs.State.{state_id};
+ghost use Rattle.job_state.specs.State.{state_id};
 ghost use Rattle.superstep.specs.declared.fault.JobFault.TheVariants.{OutOfMemory};
 ghost use Rattle.superstep.specs.declared.fault.Place.TheVariants.{Open, Report as Reporting};
 ghost use Rattle.control.specs.declared.control.Out.{Out};
@@ -26,7 +26,7 @@ use std::marker::Model;
 use std::mem;
 use std::rt::Files;
 use std::thread::Threads;
-use superstep::{Done, Job, JobFault, Origin, Place, State, Task, VertexState};
+use superstep::{Done, Job, JobFault, Origin, Place, State, Task, VertexState, first_state};
 
 /// The book of a running job. It assigns the parts of a superstep to workers, takes their results, and closes the
 /// superstep when all are done. It saves states, and goes back to the last one when workers are lost. In contracts its
@@ -68,7 +68,7 @@ fn open_book<'a, J: Origin>(alloc: Global, job: &'a Job) -> Result<Book<'a, J>, 
     ensures { IfOk result (λ book. (quiet : Bool) × IsQuietAt J.work 0 quiet
         × (book ≡ opened job.now.settings quiet)) }
 {
-    let state = State::first(alloc, job)?;
+    let state = first_state(alloc, job)?;
     let ids = ids_of(alloc, &state.in_order(alloc)?)?;
     let quiet = state.is_quiet();
     let control = Control::new(alloc, job.settings(), quiet)?;
@@ -93,7 +93,7 @@ fn ids_of_job(alloc: Global, job: &Job) -> Result<Vec<u64>, AllocError>
     ensures { IfOk result (λ ids. AreIdsOf job.now ids.items) }
 {
     job.settings();
-    let state = State::first(alloc, job)?;
+    let state = first_state(alloc, job)?;
     let vertices = state.in_order(alloc)?;
     ids_of(alloc, &vertices)
 }

@@ -16,7 +16,7 @@ use checkpoint::{Keep, a_checkpoint_is_of_one_state};
 use control::{Control, JobStatus};
 use std::alloc::{AllocError, Global};
 use std::rt::Files;
-use superstep::{Job, Origin, Place, State};
+use superstep::{Job, Origin, Place, State, first_state};
 
 /// Turns a state into the book's data: its parts if the job goes on, and all of it otherwise.
 pub fn hold<J: Origin>(alloc: Global, job: &Job, control: &mut Control, state: State) -> JobData<J>
@@ -47,7 +47,7 @@ fn hold_first<J: Origin>(alloc: Global, job: &Job, control: &mut Control) -> Job
     ensures control { control.new ≡ slicing (has_room result) control.old }
     ensures held { StandsBack job.now.settings.parts 0 control.new result }
 {
-    match State::first(alloc, job) {
+    match first_state(alloc, job) {
         Ok(state) => hold(alloc, job, control, state),
         Err(_) => {
             control.fail(Place::Slice);

@@ -7,14 +7,14 @@ use Rattle.std.specs.List.{AllByRecursion}
 use Rattle.graph.specs.declared.vertex.Vertex.{Vertex}
 use Rattle.graph.specs.Entry.{Entry, entries_of, entry_of, ids}
 use Rattle.superstep.specs.declared.part_output.PartOutput.{PartOutput}
-use Rattle.superstep.specs.declared.state.VertexState.{VertexState}
+use Rattle.job_state.specs.declared.state.VertexState.{VertexState}
 use Rattle.superstep.specs.declared.task.Shared.{Shared}
-use Rattle.superstep.specs.State.{is_due, state_id}
+use Rattle.job_state.specs.State.{is_due, state_id}
 use Rattle.superstep.specs.Superstep.{idle}
-use Rattle.superstep.specs.inside.DueRows.{due_rows}
+use Rattle.job_state.specs.inside.DueRows.{due_rows}
 use Rattle.superstep.specs.inside.DueRuns.{IsRunning, RunsUpto}
 use Rattle.superstep.specs.inside.PartOutput.{CallsPart, CallsVertex, row_of}
-use Rattle.superstep.proofs.DueRows.{Idle, due_rows_more, first_due, none_due, row_if}
+use Rattle.job_state.proofs.DueRows.{Idle, due_rows_more, first_due, none_due, row_if}
 use Rattle.superstep.proofs.PartCalls.{adds_idle, as_many, at_rest, part_end, part_step, rest_step}
 use Rattle.superstep.proofs.VertexCalls.{idle_stays, idle_told}
 

@@ -8,33 +8,34 @@ use Rattle.graph.specs.Entry.{Entry, ids}
 use Rattle.graph.specs.Partition.{joined}
 use Rattle.superstep.specs.Job.{IsGraphOf, Work}
 use Rattle.host_calls.specs.Aggregators.{aggregator_starts}
-use Rattle.superstep.specs.Ordering.{by_key}
-use Rattle.superstep.specs.State.{IsState, ShowsAt, Standing, bare, in_order, state_id}
+use Rattle.job_state.specs.Ordering.{by_key}
+use Rattle.job_state.specs.State.{IsState, Standing, in_order, state_id}
+use Rattle.superstep.specs.State.{ShowsAt, bare}
 use Rattle.superstep.specs.PlainRun.{first_row, state_at}
-use Rattle.superstep.specs.inside.Rows.{first_state, first_states}
+use Rattle.superstep.specs.inside.Rows.{first_vertex, first_vertices}
 use Rattle.superstep.proofs.Graphs.{few_states, whole}
 use Rattle.superstep.proofs.Letters.{joined_map}
-use Rattle.superstep.proofs.Ordering.{by_key_is}
+use Rattle.job_state.proofs.Ordering.{by_key_is}
 
-pub first_ids : (graph : List Entry) → map state_id (first_states graph) ≡ ids graph
+pub first_ids : (graph : List Entry) → map state_id (first_vertices graph) ≡ ids graph
 first_ids [] = refl
 first_ids (entry ∷ graph) = ap (λ xs. entry.id ∷ xs) (first_ids graph)
 
-pub first_rows : (graph : List Entry) → first_states graph ≡ map bare (map first_row graph)
+pub first_rows : (graph : List Entry) → first_vertices graph ≡ map bare (map first_row graph)
 first_rows [] = refl
-first_rows (entry ∷ graph) = ap (λ xs. first_state entry ∷ xs) (first_rows graph)
+first_rows (entry ∷ graph) = ap (λ xs. first_vertex entry ∷ xs) (first_rows graph)
 
-pub parts_ids : (parts : List (List Entry)) → map (map state_id) (map first_states parts) ≡ map ids parts
+pub parts_ids : (parts : List (List Entry)) → map (map state_id) (map first_vertices parts) ≡ map ids parts
 parts_ids [] = refl
-parts_ids (part ∷ parts) = ap (λ xs. xs ∷ map (map state_id) (map first_states parts)) (first_ids part) ∙ ap (λ rest. ids part ∷ rest) (parts_ids parts)
+parts_ids (part ∷ parts) = ap (λ xs. xs ∷ map (map state_id) (map first_vertices parts)) (first_ids part) ∙ ap (λ rest. ids part ∷ rest) (parts_ids parts)
 
 -- those of all parts, by rising id, are those of the graph
 pub firsts_in_order : (work : Work) (graph : List Entry) → 0 < work.settings.parts → IsGraphOf work graph
-    → in_order (map first_states work.parts) ≡ first_states graph
+    → in_order (map first_vertices work.parts) ≡ first_vertices graph
 firsts_in_order work graph some is =
-    ap (by_key state_id) (joined_map first_state work.parts)
-    ∙ by_key_is state_id (first_states (joined work.parts)) (first_states graph)
-    (IsPermutation-map first_state (joined work.parts) graph (whole work graph some is))
+    ap (by_key state_id) (joined_map first_vertex work.parts)
+    ∙ by_key_is state_id (first_vertices (joined work.parts)) (first_vertices graph)
+    (IsPermutation-map first_vertex (joined work.parts) graph (whole work graph some is))
     (subst (λ (numbers : List ℕ). IsStrictlyIncreasing numbers) (sym (first_ids graph)) is.proper.rising)
 
 -- A state before superstep 0.
@@ -45,7 +46,7 @@ pub record IsFirst (graph : List Entry) (state : Standing) : Type 0 where
   pub units : state.units ≡ 0
   pub dropped : state.dropped ≡ 0
   pub aggregates : state.aggregates ≡ aggregator_starts
-  pub vertices : state.vertices ≡ first_states graph
+  pub vertices : state.vertices ≡ first_vertices graph
 
 pub first_is_state : (work : Work) (graph : List Entry) (state : Standing) → IsGraphOf work graph → IsFirst graph state → IsState state
 first_is_state work graph state of is = record {

@@ -4,9 +4,10 @@ use Rattle.std.specs.Prelude.{count_by, nat_lt, sum_by, if◌then◌else◌}
 use Rattle.std.specs.List.{fold}
 use Rattle.std.proofs.lemmas.Bool.{lt-ltb}
 use Rattle.std.proofs.lemmas.List.Sums.{sum_by-cons}
-use Rattle.superstep.specs.declared.found.Found.{Found}
-use Rattle.superstep.specs.declared.state.VertexState.{VertexState}
-use Rattle.superstep.specs.Found.{IsFoundAt, IsFoundIn, capped_count, messages_at, nothing_found, with_vertex}
+use Rattle.job_state.specs.declared.found.Found.{Found}
+use Rattle.job_state.specs.declared.state.VertexState.{VertexState}
+use Rattle.job_state.specs.Found.{capped_count, nothing_found, with_vertex}
+use Rattle.superstep.specs.Found.{IsFoundAt, IsFoundIn, messages_at}
 use Rattle.superstep.specs.Job.{Work}
 use Rattle.superstep.specs.PlainRun.{state_at}
 use Rattle.superstep.specs.Snapshot.{Row, is_called}

@@ -10,12 +10,12 @@ use Rattle.interp.specs.Call.{Outcome}
 use Rattle.graph.specs.Partition.{joined}
 use Rattle.inbox.specs.declared.letters.Letter.{Letter}
 use Rattle.superstep.specs.declared.barrier_step.Gathered.{Gathered}
-use Rattle.superstep.specs.declared.state.VertexState.{VertexState}
-use Rattle.superstep.specs.Folds.{aggregated, capped}
+use Rattle.job_state.specs.declared.state.VertexState.{VertexState}
+use Rattle.job_state.specs.State.{capped, state_id}
+use Rattle.superstep.specs.Folds.{aggregated}
 use Rattle.host_calls.specs.Aggregators.{aggregator_starts}
 use Rattle.superstep.specs.Superstep.{contributions_of, units_left}
 use Rattle.superstep.specs.Job.{Work}
-use Rattle.superstep.specs.State.{state_id}
 use Rattle.superstep.specs.Tasks.{DoneStamp, IsDone, VertexOutcome, emptied, letters_from, letters_of, outcomes_in}
 use Rattle.superstep.specs.inside.Barrier.{IsGathered, IsPartLeft, PartLeft, left_ids, spread}
 use Rattle.superstep.specs.inside.Uniting.{united}

@@ -17,10 +17,10 @@ use Rattle.graph.specs.inside.Partitioned.{parts_by-map, parts_whole}
 use Rattle.graph.specs.inside.Rising.{rising_same}
 use Rattle.superstep.specs.Job.{IsGraphOf, Work}
 use Rattle.superstep.specs.Settings.{first_bad}
-use Rattle.superstep.specs.State.{in_order, state_id}
-use Rattle.superstep.specs.declared.state.VertexState.{VertexState}
+use Rattle.job_state.specs.State.{in_order, state_id}
+use Rattle.job_state.specs.declared.state.VertexState.{VertexState}
 use Rattle.superstep.specs.declared.settings.Settings.{Settings}
-use Rattle.superstep.proofs.Ordering.{parts_are_kept}
+use Rattle.job_state.proofs.Ordering.{parts_are_kept}
 
 -- there is a part
 pub some_parts : (settings : Settings) → first_bad settings ≡ None → 0 < settings.parts

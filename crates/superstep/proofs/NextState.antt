@@ -11,24 +11,28 @@ use Rattle.interp.specs.Call.{Outcome}
 use Rattle.graph.specs.Entry.{ids}
 use Rattle.graph.specs.Partition.{joined}
 use Rattle.superstep.specs.declared.barrier_step.Gathered.{Gathered}
-use Rattle.superstep.specs.declared.state.VertexState.{VertexState}
-use Rattle.superstep.specs.declared.totals.Totals.{Totals}
-use Rattle.superstep.specs.Folds.{aggregated, capped}
+use Rattle.job_state.specs.declared.state.VertexState.{VertexState}
+use Rattle.job_state.specs.declared.totals.Totals.{Totals}
+use Rattle.job_state.specs.State.{IsState, capped, in_order, state_id}
+use Rattle.superstep.specs.Folds.{aggregated}
 use Rattle.superstep.specs.Snapshot.{row_ids}
 use Rattle.superstep.specs.Superstep.{all_left, contributions_of, dropped_by, messages_to, left_by, row_after, units_left}
 use Rattle.superstep.specs.PlainRun.{state_at, units_at}
 use Rattle.superstep.specs.Job.{HasGraph, IsGraphOf, Meaning, Work}
 use Rattle.superstep.specs.Settings.{first_bad}
-use Rattle.superstep.specs.Ordering.{by_key}
-use Rattle.superstep.specs.State.{HasIdsOf, IsState, ShowsAt, bare, in_order, state_id}
+use Rattle.job_state.specs.Ordering.{by_key}
+use Rattle.superstep.specs.State.{HasIdsOf, ShowsAt, bare}
 use Rattle.superstep.specs.Tasks.{AreTrusted, DoneStamp, IsRow, VertexOutcome, emptied, outcomes_in}
-use Rattle.superstep.specs.Totals.{AreTotals, SumsAt, standing_of}
-use Rattle.superstep.specs.inside.Barrier.{Follows, IsGathered, IsSpread, all_filled, filled, left_id, left_ids}
-use Rattle.superstep.specs.inside.Rows.{IsKept}
+use Rattle.job_state.specs.Totals.{AreTotals, standing_of}
+use Rattle.superstep.specs.Totals.{SumsAt}
+use Rattle.job_state.specs.inside.Following.{Follows}
+use Rattle.job_state.specs.inside.Filled.{filled}
+use Rattle.superstep.specs.inside.Barrier.{IsGathered, IsSpread, all_filled, left_id, left_ids}
+use Rattle.job_state.specs.inside.Rows.{IsKept}
 use Rattle.superstep.proofs.Aggregating.{contributions_permuted}
 use Rattle.superstep.proofs.Graphs.{few_states, lie_in_parts, one_graph, some_parts}
 use Rattle.superstep.proofs.Letters.{joined_map}
-use Rattle.superstep.proofs.Ordering.{by_key_is}
+use Rattle.job_state.proofs.Ordering.{by_key_is}
 use Rattle.superstep.proofs.Rejoining.{is_spread, joined_spread, leaving, ordered, ordered_left, part_left, parts_ids}
 use Rattle.superstep.proofs.Spreading.{ids_found}
 

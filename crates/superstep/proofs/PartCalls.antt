@@ -11,13 +11,13 @@ use Rattle.graph.specs.declared.vertex.Vertex.{Vertex}
 use Rattle.graph.specs.Entry.{Entry, entries_of, entry_of, id_at, ids, vertex_id}
 use Rattle.inbox.specs.declared.letters.Letter.{Letter}
 use Rattle.superstep.specs.declared.part_output.PartOutput.{PartOutput}
-use Rattle.superstep.specs.declared.state.VertexState.{VertexState}
+use Rattle.job_state.specs.declared.state.VertexState.{VertexState}
 use Rattle.superstep.specs.declared.task.Shared.{Shared}
-use Rattle.superstep.specs.Folds.{aggregated, capped, give}
+use Rattle.job_state.specs.State.{capped, state_id}
+use Rattle.superstep.specs.Folds.{aggregated, give}
 use Rattle.host_calls.specs.Aggregators.{aggregator_starts}
 use Rattle.superstep.specs.Snapshot.{Row}
 use Rattle.superstep.specs.Superstep.{contributions_of, idle, units_left}
-use Rattle.superstep.specs.State.{state_id}
 use Rattle.superstep.specs.Tasks.{ComesBack, VertexOutcome, emptied, letters_from, letters_of, outcomes_in}
 use Rattle.superstep.specs.inside.Barrier.{left_id}
 use Rattle.superstep.specs.inside.PartOutput.{Adds, CallsPart, CallsVertex, HasProperIds, IsNothing, left_in, row_of, rows_of}

@@ -15,14 +15,14 @@ use Rattle.graph.specs.Entry.{Entry, entries_of, id_at, ids, part_of_graph}
 use Rattle.graph.specs.inside.Partitioned.{part_at}
 use Rattle.inbox.specs.declared.letters.Letter.{Letter}
 use Rattle.superstep.specs.declared.part_output.PartOutput.{PartOutput}
-use Rattle.superstep.specs.declared.state.VertexState.{VertexState}
+use Rattle.job_state.specs.declared.state.VertexState.{VertexState}
 use Rattle.superstep.specs.declared.task.Shared.{Shared}
 use Rattle.superstep.specs.Snapshot.{Row, Snapshot}
-use Rattle.superstep.specs.Folds.{capped}
+use Rattle.job_state.specs.State.{capped, state_id}
 use Rattle.superstep.specs.Superstep.{all_left, left_by, row_after, units_left}
 use Rattle.superstep.specs.PlainRun.{first_row, state_at}
 use Rattle.superstep.specs.Job.{HasGraph, IsCount, IsGraphOf, Meaning, Work}
-use Rattle.superstep.specs.State.{bare, state_id}
+use Rattle.superstep.specs.State.{bare}
 use Rattle.superstep.specs.Tasks.{AreAggregatesAt, AreUnitsAt, DoneStamp, FitsPart, IsDone, IsLeftAt, IsPartAt, VertexOutcome, emptied, outcomes_in, part_rows}
 use Rattle.superstep.specs.inside.Barrier.{left_id}
 use Rattle.superstep.specs.inside.PartOutput.{CallsPart, HasProperIds, Tells, left_in, row_of, rows_of}

@@ -7,10 +7,11 @@ use Rattle.std.proofs.lemmas.Option.{slice_get-get_or, slice_get-map}
 use Rattle.graph.specs.Entry.{Entry, id_at, ids, part_of_graph, parts_of}
 use Rattle.graph.specs.Partition.{part_by}
 use Rattle.graph.specs.inside.Partitioned.{part_at, part_by-map}
-use Rattle.superstep.specs.declared.state.VertexState.{VertexState}
+use Rattle.job_state.specs.declared.state.VertexState.{VertexState}
 use Rattle.superstep.specs.PlainRun.{state_at}
 use Rattle.superstep.specs.Job.{IsGraphOf, Work}
-use Rattle.superstep.specs.State.{IsStateAt, Standing, bare, state_id}
+use Rattle.job_state.specs.State.{Standing, state_id}
+use Rattle.superstep.specs.State.{IsStateAt, bare}
 use Rattle.superstep.specs.Tasks.{FitsPart, IsPartAt}
 
 pub either_way : (b : Bool) (P : Bool → Type 0) → P true → P false → P b

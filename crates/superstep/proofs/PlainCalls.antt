@@ -14,7 +14,8 @@ use Rattle.host_calls.specs.Aggregators.{aggregator_starts}
 use Rattle.superstep.specs.declared.plain_run.Held.{Held}
 use Rattle.superstep.specs.declared.plain_run.Sent.{Sent}
 use Rattle.superstep.specs.declared.task.Shared.{Shared}
-use Rattle.superstep.specs.Folds.{aggregated, capped, give}
+use Rattle.job_state.specs.State.{capped}
+use Rattle.superstep.specs.Folds.{aggregated, give}
 use Rattle.superstep.specs.Snapshot.{Row, is_called}
 use Rattle.superstep.specs.Superstep.{contributions_of, idle, units_left}
 use Rattle.superstep.specs.inside.PartOutput.{HasProperIds, left_in}

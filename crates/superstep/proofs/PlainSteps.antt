@@ -18,7 +18,8 @@ use Rattle.superstep.specs.declared.plain_run.Sent.{Sent}
 use Rattle.superstep.specs.declared.ending.JobEnd.{JobEnd}
 use Rattle.superstep.specs.declared.task.Shared.{Shared}
 use Rattle.superstep.specs.Ending.{Ends, IsEndOf}
-use Rattle.superstep.specs.Folds.{aggregated, capped}
+use Rattle.job_state.specs.State.{capped}
+use Rattle.superstep.specs.Folds.{aggregated}
 use Rattle.superstep.specs.Job.{IsGraphOf, Meaning, Work}
 use Rattle.superstep.specs.PlainRun.{state_at, units_at}
 use Rattle.superstep.specs.Snapshot.{Row, Snapshot, is_called, is_quiet, row_id, row_ids, values_of}

@@ -5,17 +5,18 @@ use Rattle.std.specs.List.{list_any, range_with_len}
 use Rattle.std.proofs.lemmas.List.{get_or-map, length-map}
 use Rattle.std.proofs.lemmas.List.FromFn.{get_or-map-range_with_len, length-map-range_with_len}
 use Rattle.superstep.specs.declared.ending.JobEnd.{JobEnd}
-use Rattle.superstep.specs.declared.state.VertexState.{VertexState}
+use Rattle.job_state.specs.declared.state.VertexState.{VertexState}
 use Rattle.superstep.specs.Snapshot.{Row, Snapshot, is_called, is_quiet, values_of}
 use Rattle.superstep.specs.PlainRun.{state_at}
 use Rattle.superstep.specs.Job.{Meaning, Work}
-use Rattle.superstep.specs.State.{IsStateAt, ShowsAt, Standing, bare}
+use Rattle.job_state.specs.State.{Standing, is_due, is_settled}
+use Rattle.superstep.specs.State.{IsStateAt, ShowsAt, bare}
 use Rattle.superstep.specs.Tasks.{DoneStamp, IsRow, SliceStamp, stamps_of}
-use Rattle.superstep.specs.declared.totals.Totals.{Totals}
-use Rattle.superstep.specs.Totals.{IsTotalsOf, SumsAt}
+use Rattle.job_state.specs.declared.totals.Totals.{Totals}
+use Rattle.job_state.specs.Totals.{IsTotalsOf}
+use Rattle.superstep.specs.Totals.{SumsAt}
 use Rattle.superstep.specs.Ending.{HasStopped, IsEndIn, IsEndOf, states_values}
 use Rattle.superstep.specs.inside.Running.{slice_of}
-use Rattle.superstep.specs.State.{is_due, is_settled}
 
 abbrev stamp_at : ℕ → ℕ → ℕ → SliceStamp
 stamp_at epoch s part = record { epoch = epoch; superstep = s; part = part }

@@ -1,8 +1,7 @@
 -- The call of a vertex, and a vertex that is not called.
-use Rattle.std.proofs.Common.{◌≡◌, ◌⊎◌, inl, inr, ℕ, ℤ, ◌<◌, ◌≤◌, Bool, true, false, not, List, [], ◌∷◌, length, eqb, refl, ap, sym, ◌∙◌, arith}
+use Rattle.std.proofs.Common.{◌≡◌, ◌⊎◌, inl, inr, ℕ, ℤ, ◌<◌, ◌≤◌, Bool, true, false, not, List, [], ◌∷◌, length, refl, ap, ◌∙◌, arith}
 use Rattle.std.proofs.Math.Bool.{or-true}
-use Rattle.std.proofs.lemmas.Bool.{eqb-false, lt-ltb}
-use Rattle.std.proofs.lemmas.Map.Views.{exact_unsigned_eq}
+use Rattle.std.proofs.lemmas.Bool.{lt-ltb}
 use Rattle.std.proofs.lemmas.List.Elements.{All-weaker, recursion_from_All}
 use Rattle.std.specs.List.{All, AllByRecursion}
 use Rattle.host_calls.specs.declared.call.CallInput.{CallInput}
@@ -12,7 +11,7 @@ use Rattle.interp.specs.Bounded.{max_id}
 use Rattle.interp.specs.Call.{IsOutcome, Outcome, shown}
 use Rattle.interp.specs.Outcomes.{Given}
 use Rattle.graph.specs.Entry.{Entry, is_in_range}
-use Rattle.superstep.specs.declared.state.VertexState.{VertexState}
+use Rattle.job_state.specs.declared.state.VertexState.{VertexState}
 use Rattle.superstep.specs.declared.task.Shared.{Shared}
 use Rattle.superstep.specs.Snapshot.{Row, is_called}
 use Rattle.superstep.specs.Superstep.{idle}
@@ -25,15 +24,6 @@ called_true row (inr some) = rw (lt-ltb 0 (length row.inbox) some) (or-true row.
 
 pub called_false : (row : Row) → row.active ≡ false → length row.inbox ≡ 0 → is_called row ≡ false
 called_false row halted empty = rw (halted, empty) refl
-
--- what the test of an inbox tells
-pub test_true : (seen inbox : List ℤ) (result : Bool) → seen ≡ inbox → result ≡ eqb (length seen) 0 → result ≡ true → length inbox ≡ 0
-test_true seen inbox result same is told = ap length (sym same) ∙ exact_unsigned_eq (length seen) 0 (sym is ∙ told)
-
-pub test_false : (seen inbox : List ℤ) (result : Bool) → seen ≡ inbox → result ≡ eqb (length seen) 0 → result ≡ false → 0 < length inbox
-test_false seen inbox result same is told =
-    let some = eqb-false (length seen) 0 (sym is ∙ told) in
-    omega (arith, ap length same, some)
 
 none : {X : Type 0} (xs : List X) → length xs ≡ 0 → xs ≡ []
 none [] e = refl

@@ -4,11 +4,12 @@ use Rattle.std.specs.List.{range_with_len}
 use Rattle.superstep.specs.declared.ending.JobEnd.{JobEnd}
 use Rattle.superstep.specs.declared.ending.EndReason.{EndReason}
 use Rattle.superstep.specs.declared.ending.EndReason.TheVariants.{Finished, Limit}
-use Rattle.superstep.specs.declared.state.VertexState.{VertexState}
+use Rattle.job_state.specs.declared.state.VertexState.{VertexState}
 use Rattle.superstep.specs.Snapshot.{is_quiet}
 use Rattle.superstep.specs.PlainRun.{Answer, IsAnswer, state_at, units_at}
 use Rattle.superstep.specs.Job.{Meaning, Work}
-use Rattle.superstep.specs.State.{HasIdsOf, IsStateAt, Standing, is_settled}
+use Rattle.job_state.specs.State.{Standing, is_settled}
+use Rattle.superstep.specs.State.{HasIdsOf, IsStateAt}
 
 abbrev pub is_finished : EndReason → Bool
 is_finished Finished = true

@@ -1,5 +1,5 @@
--- Aggregation of contributions in aggregators (Pregel 2010, 3.3), and the greatest total.
-use Rattle.std.specs.Prelude.{ℕ, ℤ, pos, List, ◌-◌, ◌^◌, nat_lt, if◌then◌else◌, min, slice_index_or, slice_set}
+-- Aggregation of contributions in aggregators (Pregel 2010, 3.3).
+use Rattle.std.specs.Prelude.{ℕ, ℤ, pos, List, nat_lt, if◌then◌else◌, slice_index_or, slice_set}
 use Rattle.std.specs.List.{fold}
 use Rattle.std.specs.Int.{w64, int_wrapping_add, int_min, int_max, int_bit_or}
 use Rattle.host_calls.specs.Aggregators.{aggregator_starts}
@@ -20,7 +20,3 @@ give aggregators given = slice_set aggregators given.0 (combined given.0 (slice_
 -- the aggregators after all contributions, in order
 abbrev pub aggregated : List (ℕ × ℤ) → List ℤ
 aggregated contributions = fold give aggregator_starts contributions
-
--- totals stop at the greatest number of 128 bits
-abbrev pub capped : ℕ → ℕ
-capped total = min total (2 ^ 128 - 1)

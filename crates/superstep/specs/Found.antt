@@ -1,26 +1,11 @@
 -- What a task finds in its part.
-use Rattle.std.specs.Prelude.{◌≡◌, ℕ, List, ◌+◌, ◌-◌, ◌^◌, count_by, length, min, sum_by, if◌then◌else◌}
-use Rattle.superstep.specs.declared.found.Found.{Found}
-use Rattle.superstep.specs.declared.state.VertexState.{VertexState}
+use Rattle.std.specs.Prelude.{◌≡◌, ℕ, List, count_by, length, sum_by}
+use Rattle.job_state.specs.declared.found.Found.{Found}
+use Rattle.job_state.specs.Found.{capped_count}
 use Rattle.superstep.specs.Job.{Meaning, Work}
 use Rattle.superstep.specs.PlainRun.{state_at}
 use Rattle.superstep.specs.Snapshot.{Row, is_called}
-use Rattle.superstep.specs.State.{is_due}
 use Rattle.superstep.specs.Tasks.{part_rows}
-
--- nothing, before the first vertex
-abbrev pub nothing_found : Found
-nothing_found = record { called = 0; received = 0 }
-
--- counts stop at the greatest number of 64 bits
-abbrev pub capped_count : ℕ → ℕ
-capped_count count = min count (2 ^ 64 - 1)
-
--- what is found with one more vertex: it is called where it is active or has messages
-abbrev pub with_vertex : Found → VertexState → Found
-with_vertex found vertex = if is_due vertex
-    then record { called = capped_count (found.called + 1); received = capped_count (found.received + length vertex.inbox) }
-    else found
 
 -- the number of messages to a vertex
 abbrev pub messages_at : Row → ℕ

@@ -7,8 +7,7 @@ pub mod PlainRun
 -- the settings of a job, and its meaning
 pub mod Settings
 pub mod Job
--- the state of a job between two supersteps
-pub mod Ordering
+-- which states are those of a job
 pub mod State
 -- the parts of a state that move, and the results of their supersteps
 pub mod Tasks

@@ -4,7 +4,8 @@ use Rattle.std.specs.List.{flat_map, list_any, sum_by}
 use Rattle.std.specs.Ordering.{int_eq}
 use Rattle.interp.specs.Call.{Outcome}
 use Rattle.interp.specs.Outcomes.{Given}
-use Rattle.superstep.specs.Folds.{aggregated, capped}
+use Rattle.job_state.specs.State.{capped}
+use Rattle.superstep.specs.Folds.{aggregated}
 use Rattle.superstep.specs.Snapshot.{Row, Snapshot, is_called, row_ids}
 
 -- the input of a vertex's call

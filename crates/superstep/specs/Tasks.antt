@@ -6,13 +6,14 @@ use Rattle.interp.specs.Call.{Outcome}
 use Rattle.graph.specs.Entry.{ids}
 use Rattle.inbox.specs.declared.letters.Letter.{Letter}
 use Rattle.inbox.specs.Merging.{letters_sent}
-use Rattle.superstep.specs.declared.state.VertexState.{VertexState}
-use Rattle.superstep.specs.Folds.{aggregated, capped}
+use Rattle.job_state.specs.declared.state.VertexState.{VertexState}
+use Rattle.job_state.specs.State.{capped, state_id}
+use Rattle.superstep.specs.Folds.{aggregated}
 use Rattle.superstep.specs.Snapshot.{Row, Snapshot}
 use Rattle.superstep.specs.Superstep.{contributions_of, left_by, sends_left, units_left}
 use Rattle.superstep.specs.PlainRun.{state_at}
 use Rattle.superstep.specs.Job.{Meaning, Work}
-use Rattle.superstep.specs.State.{bare, state_id}
+use Rattle.superstep.specs.State.{bare}
 
 -- the rows of one part: those whose id has this remainder
 abbrev pub part_rows : ℕ → Snapshot → ℕ → List Row

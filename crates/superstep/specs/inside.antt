@@ -1,8 +1,6 @@
 pub mod Barrier
 pub mod Codes
-pub mod DueRows
 pub mod DueRuns
-pub mod Handed
 pub mod PartOutput
 pub mod Opening
 pub mod OneMachine

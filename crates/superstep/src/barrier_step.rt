@@ -10,24 +10,24 @@ ghost use Rattle.superstep.specs.Job.{Meaning};
 ghost use Rattle.superstep.specs.State.{HasIdsOf, IsStateAt};
 ghost use Rattle.superstep.specs.Superstep.{dropped_by, messages_to};
 ghost use Rattle.superstep.specs.Tasks.{AreTrusted, DoneStamp, IsRow, VertexOutcome, emptied, outcomes_in};
-ghost use Rattle.superstep.specs.Totals.{AreTotals, AreTotalsOf};
-ghost use Rattle.superstep.specs.inside.Barrier.{AreSpread, IsGathered, all_filled, filled, left_ids};
-ghost use Rattle.superstep.specs.inside.Handed.{HasNoInbox};
+ghost use Rattle.job_state.specs.Totals.{AreTotals};
+ghost use Rattle.superstep.specs.Totals.{AreTotalsOf};
+ghost use Rattle.job_state.specs.inside.Filled.{filled};
+ghost use Rattle.superstep.specs.inside.Barrier.{AreSpread, IsGathered, all_filled, left_ids};
+ghost use Rattle.job_state.specs.inside.Handed.{HasNoInbox};
 ghost use Rattle.superstep.specs.inside.Uniting.{united};
 
 use crate::job::Job;
 use crate::part_output::combined;
-use crate::part_states::PartStates;
 use crate::slice::Origin;
-use crate::state::State;
 use crate::task::Done;
-use crate::totals::Totals;
 use host_calls::aggregator_starts;
 use inbox::{
     Arrival, Inbox, Outbox, drops_add_up_over_sources, inboxes_are_concatenated_by_source,
     letter_count, letters_drop_alike_in_any_order, letters_keep_their_order_in_any_lists,
     merge_few, merge_own_parts, sources_send_in_any_order,
 };
+use job_state::{PartStates, State, Totals};
 use rayon::prelude::*;
 use std::alloc::{AllocError, Global};
 use std::thread::Threads;

@@ -4,7 +4,7 @@ ghost use Rattle.std.specs.Prelude.{◌≡◌, map, IfOk};
 ghost use Rattle.superstep.specs.Ending.{HasStopped, IsEndIn, IsEndOf, states_values};
 ghost use Rattle.superstep.specs.Job.{Work};
 
-use crate::state::{State, VertexState};
+use job_state::{State, VertexState};
 use std::alloc::{AllocError, Global};
 
 /// The reason for which a job ended.

@@ -10,25 +10,21 @@
 mod barrier_step;
 mod ending;
 mod fault;
-mod found;
 mod job;
 mod part_output;
-mod part_states;
 mod plain_run;
 mod settings;
 mod slice;
-mod state;
+mod states;
 mod task;
-mod totals;
 
 pub use barrier_step::barrier;
 pub use ending::{EndReason, JobEnd, tell_end};
 pub use fault::{JobFault, Place};
-pub use found::Found;
 pub use job::Job;
+pub use job_state::{Found, State, Totals, VertexState};
 pub use plain_run::one_machine;
 pub use settings::{Setting, Settings};
 pub use slice::{Apart, Origin, Slice, slices, take_apart};
-pub use state::{State, VertexState};
+pub use states::{first_state, totals_of};
 pub use task::{Done, Task, TaskLost, run_task};
-pub use totals::Totals;

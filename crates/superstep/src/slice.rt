@@ -5,14 +5,12 @@ ghost use Rattle.superstep.specs.Found.{IsFoundAt};
 ghost use Rattle.superstep.specs.Job.{Work};
 ghost use Rattle.superstep.specs.State.{HasIdsOf, IsStateAt};
 ghost use Rattle.superstep.specs.Tasks.{stamps_of};
-ghost use Rattle.superstep.specs.Totals.{AreTotals, AreTotalsOf, IsTotalsOf};
+ghost use Rattle.job_state.specs.Totals.{AreTotals, IsTotalsOf};
+ghost use Rattle.superstep.specs.Totals.{AreTotalsOf};
 ghost use Rattle.superstep.specs.inside.Rows.{AreSlices};
 
-use crate::found::Found;
 use crate::job::Job;
-use crate::part_states::PartStates;
-use crate::state::State;
-use crate::totals::Totals;
+use job_state::{Found, PartStates, State, Totals};
 use std::alloc::{AllocError, Global};
 use std::marker::{Brand, Model, PhantomData};
 
@@ -21,7 +19,7 @@ use std::marker::{Brand, Model, PhantomData};
 ///
 /// A caller names a job by a generic function that requires `J.work ≡ job.now` and is called with `Brand`.
 pub trait Origin {
-    ghost use Rattle.std.specs.Prelude.{◌≡◌, ◌<◌, ℕ, Bool, true};
+    ghost use Rattle.std.specs.Prelude.{Bool, false, true, ℕ, ◌<◌, ◌≡◌};
     ghost use Rattle.superstep.specs.Job.{Work};
 
     ghost work: { Work };
@@ -33,7 +31,6 @@ pub trait Origin {
 }
 
 impl Origin for Brand {
-    ghost use Rattle.std.specs.Prelude.{false};
     ghost use Rattle.superstep.specs.inside.Codes.{no_work};
 
     ghost work = { no_work };

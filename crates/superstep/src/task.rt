@@ -3,23 +3,21 @@
 ghost use Rattle.std.specs.Prelude.{◌≡◌, All, true, map, IfOk, IfErr, OnOk};
 ghost use Rattle.graph.specs.Entry.{entries_of, entry_of, ids};
 ghost use Rattle.superstep.specs.Found.{IsFoundAt};
-ghost use Rattle.superstep.specs.State.{state_id};
+ghost use Rattle.job_state.specs.State.{state_id};
 ghost use Rattle.superstep.specs.Tasks.{AreAggregatesAt, AreUnitsAt, IsDone, IsSentAt};
 ghost use Rattle.superstep.specs.declared.fault.Place.TheVariants.{Call};
-ghost use Rattle.superstep.specs.inside.DueRows.{due_rows};
+ghost use Rattle.job_state.specs.inside.DueRows.{due_rows};
 ghost use Rattle.superstep.specs.inside.PartOutput.{CallsPart, CallsVertex, HasProperIds};
 
 use crate::fault::Place;
-use crate::found::Found;
 use crate::job::Job;
 use crate::part_output::PartOutput;
-use crate::part_states::PartStates;
 use crate::slice::{Origin, Slice};
-use crate::state::VertexState;
 use graph::Vertex;
 use host_calls::CallInput;
 use inbox::{Inbox, Outbox};
 use interp::{Scratch, calls_are_a_function, run};
+use job_state::{Found, PartStates, VertexState};
 use std::alloc::{AllocError, Global};
 use std::marker::{Model, PhantomData};
 use verified::Verified;
@@ -34,7 +32,7 @@ pub struct Task<J: Origin> {
 
 impl<J: Origin> Model for Task<J> {
     ghost use Rattle.std.specs.Prelude.{◌≡◌, true};
-    ghost use Rattle.superstep.specs.Tasks.{AreAggregatesAt, TaskStamp};
+    ghost use Rattle.superstep.specs.Tasks.{AreAggregatesAt, DoneStamp, IsDone, TaskStamp};
 
     ghost Value = { TaskStamp };
 
@@ -123,8 +121,6 @@ impl<J: Origin> Drop for Done<J> {
 }
 
 impl<J: Origin> Model for Done<J> {
-    ghost use Rattle.superstep.specs.Tasks.{DoneStamp, IsDone};
-
     ghost Value = { DoneStamp };
 
     ghost view = { λ done. record {
@@ -272,15 +268,13 @@ pub fn run_task<J: Origin>(
         aggregators,
         units,
     } = left;
+    let vertices = PartStates::of_due(vertices, active);
     Ok(Done {
         epoch,
         superstep,
         part,
         units,
-        vertices: PartStates {
-            vertices,
-            due: active,
-        },
+        vertices,
         letters,
         aggregators,
         origin,

@@ -9,7 +9,9 @@ use interp::Scratch;
 use std::alloc::{AllocError, Global};
 use std::marker::Brand;
 use std::thread::Threads;
-use superstep::{Done, Job, Origin, Slice, State, Task, Totals, barrier, run_task, slices};
+use superstep::{
+    Done, Job, Origin, Slice, State, Task, barrier, first_state, run_task, slices, totals_of,
+};
 
 /// Writes the state after the superstep.
 pub fn tell_first_superstep(
@@ -36,8 +38,8 @@ fn state_of_copies<J: Origin>(
 {
     // Each setting is in its range, so superstep 0 comes before the limit.
     let _settings = job.settings();
-    let state = State::first(alloc, job)?;
-    let totals = Totals::of(alloc, &state)?;
+    let state = first_state(alloc, job)?;
+    let totals = totals_of(alloc, &state)?;
     let aggregates = state.aggregates();
     let slices = slices::<J>(alloc, job, state)?;
     let copies = copies(alloc, job, slices, aggregates, scratch)?;

@@ -1,7 +1,8 @@
 -- What a book holds, as it is kept.
 use Rattle.std.specs.Prelude.{◌≡◌, ◌<◌, ◌≤◌, ℕ, suc, Bool, true, false, List, length, map, slice_index_or, Option, Some, None}
 use Rattle.superstep.specs.Job.{Work}
-use Rattle.superstep.specs.State.{HasIdsOf, Standing, is_settled, state_id}
+use Rattle.job_state.specs.State.{Standing, is_settled, state_id}
+use Rattle.superstep.specs.State.{HasIdsOf}
 use Rattle.superstep.specs.Ending.{WasBusy}
 use Rattle.control.specs.declared.control.Out.{Out}
 use Rattle.control.specs.declared.job_status.JobStatus.{JobStatus}

@@ -2,7 +2,7 @@
 use Rattle.std.specs.Prelude.{◌≡◌, ℕ, List, Bool, true, Option, Some}
 use Rattle.checkpoint.specs.Checkpoint.{IsCheckpointOf, checkpoint_bytes}
 use Rattle.checkpoint.specs.Keep.{HasFailed, IsKeptOrNone}
-use Rattle.superstep.specs.State.{Standing}
+use Rattle.job_state.specs.State.{Standing}
 use Rattle.control.specs.declared.job_status.DeviceResult.{DeviceResult}
 use Rattle.control.specs.declared.job_status.DeviceResult.TheVariants.{Failed, Good}
 

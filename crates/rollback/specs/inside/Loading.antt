@@ -1,8 +1,8 @@
 -- What was loaded, as the code looks at it.
 use Rattle.std.specs.Prelude.{◌≡◌, ◌<◌, ℕ, List, length, map, slice_index_or}
 use Rattle.checkpoint.specs.Checkpoint.{IsCheckpointOf}
-use Rattle.superstep.specs.declared.state.VertexState.{VertexState}
-use Rattle.superstep.specs.State.{Standing, state_id}
+use Rattle.job_state.specs.declared.state.VertexState.{VertexState}
+use Rattle.job_state.specs.State.{Standing, state_id}
 
 -- these are the ids of the vertices, one by one
 abbrev pub HasIds : List VertexState → List ℕ → Type 0

@@ -2,8 +2,9 @@
 use Rattle.std.specs.Prelude.{◌≡◌, ◌<◌, ◌≤◌, ℕ, ℤ, List, length, map, slice_index_or, Bool, true, false}
 use Rattle.superstep.specs.Job.{Work}
 use Rattle.superstep.specs.Tasks.{AreAggregatesAt}
-use Rattle.superstep.specs.Totals.{AreTotals, AreTotalsOf}
-use Rattle.superstep.specs.declared.totals.Totals.{Totals}
+use Rattle.job_state.specs.Totals.{AreTotals}
+use Rattle.superstep.specs.Totals.{AreTotalsOf}
+use Rattle.job_state.specs.declared.totals.Totals.{Totals}
 use Rattle.rollback.specs.declared.part_slots.PartSlot.{PartSlot}
 use Rattle.rollback.specs.declared.part_slots.PartSlot.TheVariants.{Away, Back, Here}
 use Rattle.rollback.specs.inside.Parts.{Spot}

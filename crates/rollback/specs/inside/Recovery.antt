@@ -1,6 +1,6 @@
 -- What a book holds when it goes on with a state.
 use Rattle.std.specs.Prelude.{◌≡◌, ℕ, Bool, true, false}
-use Rattle.superstep.specs.State.{Standing}
+use Rattle.job_state.specs.State.{Standing}
 use Rattle.rollback.specs.declared.job_data.JobData.{JobData}
 use Rattle.rollback.specs.declared.job_data.JobData.TheVariants.{Nothing, Parts, Whole}
 use Rattle.control.specs.Machine.{Machine, has_answer, is_running}

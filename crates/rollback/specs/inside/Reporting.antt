@@ -2,7 +2,7 @@
 use Rattle.std.specs.Prelude.{◌≡◌}
 use Rattle.superstep.specs.Ending.{HasStopped, IsEndIn, IsEndOf}
 use Rattle.superstep.specs.Job.{Work}
-use Rattle.superstep.specs.State.{Standing}
+use Rattle.job_state.specs.State.{Standing}
 use Rattle.rollback.specs.declared.report.Report.{Report}
 use Rattle.control.specs.Machine.{Machine}
 

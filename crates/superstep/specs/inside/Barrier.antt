@@ -1,5 +1,5 @@
 -- The next state from the results of all parts, as the code has it.
-use Rattle.std.specs.Prelude.{◌≡◌, ◌+◌, ◌++◌, ◌∷◌, ℕ, ℤ, Bool, true, List, [], Option, None, Some, map, slice_get, vec_items}
+use Rattle.std.specs.Prelude.{◌≡◌, ℕ, ℤ, Bool, true, List, Some, map, slice_get, vec_items}
 use Rattle.std.specs.Global.{Vec}
 use Rattle.std.specs.List.{AllByRecursion, flat_map, zip}
 use Rattle.std.specs.List.Sorted.{IsPermutation, IsStrictlyIncreasing}
@@ -7,20 +7,13 @@ use Rattle.graph.specs.Entry.{ids}
 use Rattle.graph.specs.Partition.{joined}
 use Rattle.inbox.specs.declared.letters.Letter.{Letter}
 use Rattle.superstep.specs.declared.barrier_step.Gathered.{Gathered}
-use Rattle.superstep.specs.declared.state.VertexState.{VertexState}
-use Rattle.superstep.specs.declared.totals.Totals.{Totals}
-use Rattle.superstep.specs.Folds.{aggregated, capped}
+use Rattle.job_state.specs.declared.state.VertexState.{VertexState}
+use Rattle.job_state.specs.State.{capped}
+use Rattle.job_state.specs.inside.Filled.{filled}
+use Rattle.superstep.specs.Folds.{aggregated}
 use Rattle.superstep.specs.Superstep.{contributions_of, units_left}
 use Rattle.superstep.specs.Job.{Work}
 use Rattle.superstep.specs.Tasks.{DoneStamp, IsLeftAt, VertexOutcome, emptied, letters_of, outcomes_in}
-
--- the totals after one more superstep, whose calls took `took` units and of whose messages `lost` went to no vertex
-pub record Follows (took lost : ℕ) (old new : Totals) : Type 0 where
-  pub superstep : new.superstep ≡ old.superstep + 1
-  pub since : new.since ≡ old.since
-  pub by_superstep : new.by_superstep.items ≡ old.by_superstep.items ++ took ∷ []
-  pub units : new.units ≡ capped (old.units + took)
-  pub dropped : new.dropped ≡ capped (old.dropped + lost)
 
 abbrev pub left_id : VertexOutcome → ℕ
 left_id one = one.0
@@ -60,18 +53,6 @@ pub record IsSpread (all_ids : List (List ℕ)) (all_letters : List (List Letter
 -- the same, where each part has a vector of ids
 abbrev pub AreSpread : List (Vec ℕ) → List (List Letter) → List (List VertexOutcome) → List VertexOutcome → Type 0
 AreSpread ids letters lefts ordered = IsSpread (map vec_items ids) letters lefts ordered
-
-abbrev pub with_inbox : VertexState × List ℤ → VertexState
-with_inbox given = record { id = given.0.id; value = given.0.value; active = given.0.active; inbox = given.1 }
-
--- the vertex with this inbox, if there is one
-abbrev pub with_some_inbox : VertexState → Option (List ℤ) → VertexState
-with_some_inbox vertex None = vertex
-with_some_inbox vertex (Some inbox) = with_inbox (vertex, inbox)
-
--- the vertices of a part, each with its inbox
-abbrev pub filled : List VertexState × List (List ℤ) → List VertexState
-filled given = map with_inbox (zip given.0 given.1)
 
 -- the vertices of each part, each with its inbox
 abbrev pub all_filled : List (List VertexState) → List (List (List ℤ)) → List (List VertexState)

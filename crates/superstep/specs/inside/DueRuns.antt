@@ -2,9 +2,9 @@
 use Rattle.std.specs.Prelude.{◌≡◌, ℕ, List, take, drop}
 use Rattle.graph.specs.Entry.{Entry}
 use Rattle.superstep.specs.declared.part_output.PartOutput.{PartOutput}
-use Rattle.superstep.specs.declared.state.VertexState.{VertexState}
+use Rattle.job_state.specs.declared.state.VertexState.{VertexState}
 use Rattle.superstep.specs.declared.task.Shared.{Shared}
-use Rattle.superstep.specs.inside.DueRows.{due_rows}
+use Rattle.job_state.specs.inside.DueRows.{due_rows}
 use Rattle.superstep.specs.inside.PartOutput.{CallsPart}
 
 -- The vertices below a row are called, where they are due, and those from it on stay as they are.

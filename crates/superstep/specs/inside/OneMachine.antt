@@ -10,7 +10,8 @@ use Rattle.superstep.specs.declared.plain_run.Held.{Held}
 use Rattle.superstep.specs.declared.plain_run.OneMachine.{OneMachine}
 use Rattle.superstep.specs.declared.plain_run.Sent.{Sent}
 use Rattle.superstep.specs.declared.ending.JobEnd.{JobEnd}
-use Rattle.superstep.specs.Folds.{aggregated, capped, give}
+use Rattle.job_state.specs.State.{capped}
+use Rattle.superstep.specs.Folds.{aggregated, give}
 use Rattle.superstep.specs.Snapshot.{Row, Snapshot, is_called, is_quiet, values_of}
 use Rattle.superstep.specs.Superstep.{all_left, contributions_of, is_sent_to, superstep, units_left}
 use Rattle.superstep.specs.PlainRun.{first, first_row, state_at, units_at}

@@ -8,13 +8,13 @@ use Rattle.interp.specs.Call.{IsOutcome, Outcome, shown}
 use Rattle.interp.specs.Outcomes.{Given, given_of}
 use Rattle.graph.specs.Entry.{Entry, is_in_range}
 use Rattle.superstep.specs.declared.part_output.PartOutput.{PartOutput}
-use Rattle.superstep.specs.declared.state.VertexState.{VertexState}
+use Rattle.job_state.specs.declared.state.VertexState.{VertexState}
 use Rattle.superstep.specs.declared.task.Shared.{Shared}
-use Rattle.superstep.specs.Folds.{capped, give}
+use Rattle.job_state.specs.State.{capped, state_id}
+use Rattle.superstep.specs.Folds.{give}
 use Rattle.host_calls.specs.Aggregators.{aggregator_starts}
 use Rattle.superstep.specs.Snapshot.{Row, is_called}
 use Rattle.superstep.specs.Superstep.{idle}
-use Rattle.superstep.specs.State.{state_id}
 use Rattle.superstep.specs.Tasks.{ComesBack, VertexOutcome, emptied, letters_from}
 use Rattle.superstep.specs.inside.Barrier.{left_id}
 

@@ -1,5 +1,5 @@
 use Rattle.std.proofs.Common.{◌≡◌, ◌-◌, drop, map}
-use Rattle.superstep.specs.State.{state_id}
+use Rattle.job_state.specs.State.{state_id}
 use Rattle.checkpoint.specs.Reading.{is_rising}
 use Rattle.checkpoint.proofs.vertices.are_rising.Given as goal
 

@@ -1,7 +1,7 @@
 use Rattle.std.proofs.Common.{◌≡◌, ◌++◌, Bor, List, append_assoc, ap, arith, inl, length, map, subst, ◌∙◌}
 use Rattle.std.specs.List.{AllByRecursion}
 use Rattle.std.proofs.lemmas.List.{length-map}
-use Rattle.superstep.specs.declared.state.VertexState.{VertexState}
+use Rattle.job_state.specs.declared.state.VertexState.{VertexState}
 use Rattle.checkpoint.specs.Checkpoint.{VertexFits, checkpoint_bytes, head_bytes, sealed, told_bytes, vertices_bytes}
 use Rattle.checkpoint.proofs.writing.write.Goals.{In_ok-extend_from_slice}
 use Rattle.checkpoint.proofs.writing.write.Goals as goal

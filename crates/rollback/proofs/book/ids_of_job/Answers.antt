@@ -1,8 +1,8 @@
 use Rattle.std.proofs.Common.{ℕ, Bor, sym, ap, ◌∙◌, map}
 use Rattle.std.proofs.lemmas.Simd.{map-map}
 use Rattle.std.proofs.lemmas.Result.{IfOk-weaker}
-use Rattle.superstep.specs.State.{state_id}
-use Rattle.superstep.specs.declared.state.VertexState.{VertexState}
+use Rattle.job_state.specs.State.{state_id}
+use Rattle.job_state.specs.declared.state.VertexState.{VertexState}
 use Rattle.rollback.proofs.Opening.{first_ids}
 use Rattle.rollback.proofs.book.ids_of_job.Goals as goal
 

@@ -1,8 +1,9 @@
 use Rattle.std.proofs.Common.{◌≡◌, ◌<◌, ℕ, Bor, sym, ap, ◌∙◌, subst, map}
 use Rattle.std.proofs.lemmas.Simd.{map-map}
 use Rattle.superstep.specs.Job.{Work}
-use Rattle.superstep.specs.State.{HasIdsOf, state_id}
-use Rattle.superstep.specs.declared.state.VertexState.{VertexState}
+use Rattle.job_state.specs.State.{state_id}
+use Rattle.superstep.specs.State.{HasIdsOf}
+use Rattle.job_state.specs.declared.state.VertexState.{VertexState}
 use Rattle.rollback.specs.Book.{IsQuietAt}
 use Rattle.rollback.specs.Saving.{IsFullStateAt}
 use Rattle.rollback.specs.inside.Book.{AreIdsOf}

@@ -1,8 +1,8 @@
 use Rattle.std.proofs.Common.{◌≡◌, ◌<◌, ℕ, Bor, List, ap, below_more, get_or, length, map, sym, ◌∙◌}
 use Rattle.std.proofs.lemmas.List.{get_or-map, length-map}
 use Rattle.std.proofs.lemmas.Simd.{map-map}
-use Rattle.superstep.specs.State.{state_id}
-use Rattle.superstep.specs.declared.state.VertexState.{VertexState}
+use Rattle.job_state.specs.State.{state_id}
+use Rattle.job_state.specs.declared.state.VertexState.{VertexState}
 use Rattle.rollback.proofs.saving.have_ids.Goals as goal
 
 -- the id of the vertex at this place

@@ -1,5 +1,5 @@
 use Rattle.std.proofs.Common.{◌≡◌, ◌<◌, ℕ, get_or, map}
-use Rattle.superstep.specs.State.{state_id}
+use Rattle.job_state.specs.State.{state_id}
 use Rattle.rollback.proofs.saving.have_ids.Given as goal
 
 abbrev pub invariant-loop-i : goal.invariant-loop-i

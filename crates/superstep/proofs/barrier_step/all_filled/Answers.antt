@@ -6,8 +6,9 @@ use Rattle.std.proofs.lemmas.Iterator.Consumers.{YieldsList-at}
 use Rattle.std.proofs.lemmas.Result.{IfOk-at_ok}
 use Rattle.rayon.specs.Lists.{vec_items as list_of}
 use Rattle.inbox.proofs.Collected.{IfOk-from_match, all_collected}
-use Rattle.superstep.specs.declared.state.VertexState.{VertexState}
-use Rattle.superstep.specs.inside.Barrier.{all_filled, filled}
+use Rattle.job_state.specs.declared.state.VertexState.{VertexState}
+use Rattle.job_state.specs.inside.Filled.{filled}
+use Rattle.superstep.specs.inside.Barrier.{all_filled}
 use Rattle.superstep.proofs.barrier_step.all_filled.Goals as goal
 
 abbrev Pair : Type 0

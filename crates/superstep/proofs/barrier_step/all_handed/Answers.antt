@@ -5,7 +5,7 @@ use Rattle.std.proofs.lemmas.Iterator.Adapters.{YieldsList-from_vec}
 use Rattle.std.proofs.lemmas.Iterator.Consumers.{YieldsList-at, YieldsList-end}
 use Rattle.std.proofs.lemmas.List.{map-id}
 use Rattle.std.proofs.lemmas.Slice.Zip.{all_zipped_more}
-use Rattle.superstep.proofs.Handing.{Delivery, IsHanded, pairs_handed}
+use Rattle.superstep.proofs.Deliveries.{Delivery, IsHanded, pairs_handed}
 use Rattle.superstep.proofs.barrier_step.all_handed.Goals as goal
 
 pub loop-pair-init : goal.loop-pair-init

@@ -1,5 +1,5 @@
 use Rattle.std.specs.List.{AllZip}
-use Rattle.superstep.proofs.Handing.{IsHanded}
+use Rattle.superstep.proofs.Deliveries.{IsHanded}
 use Rattle.superstep.proofs.barrier_step.all_handed.Given as goal
 
 abbrev pub invariant-loop-pair : goal.invariant-loop-pair

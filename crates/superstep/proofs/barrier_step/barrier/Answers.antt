@@ -1,5 +1,5 @@
 use Rattle.std.proofs.Common.{ℤ, List, map, refl, ap, ◌∙◌}
-use Rattle.superstep.specs.State.{Standing, state_id}
+use Rattle.job_state.specs.State.{Standing, state_id}
 use Rattle.superstep.specs.Superstep.{messages_to}
 use Rattle.superstep.specs.Tasks.{outcomes_in}
 use Rattle.superstep.specs.inside.Barrier.{left_ids}

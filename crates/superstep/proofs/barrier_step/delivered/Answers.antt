@@ -1,6 +1,6 @@
 use Rattle.std.proofs.Common.{◌∙◌}
 use Rattle.std.proofs.lemmas.Result.{IfOk-weaker}
-use Rattle.superstep.proofs.Handing.{all_inboxes}
+use Rattle.superstep.proofs.Deliveries.{all_inboxes}
 use Rattle.superstep.proofs.barrier_step.delivered.Goals as goal
 
 pub merge_own_parts-requires-clause-apart : goal.merge_own_parts-requires-clause-apart

@@ -1,6 +1,6 @@
 use Rattle.std.proofs.Common.{◌∙◌}
 use Rattle.std.proofs.lemmas.Result.{IfOk-weaker}
-use Rattle.superstep.proofs.Handing.{all_arrivals}
+use Rattle.superstep.proofs.Deliveries.{all_arrivals}
 use Rattle.superstep.proofs.barrier_step.few_delivered.Goals as goal
 
 pub merge_few-requires-clause-apart : goal.merge_few-requires-clause-apart

@@ -1,11 +1,11 @@
 use Rattle.std.proofs.Common.{List, ap, map, length, sym, subst, ◌∙◌}
 use Rattle.std.specs.List.{AllByRecursion}
-use Rattle.superstep.specs.declared.state.VertexState.{VertexState}
+use Rattle.job_state.specs.declared.state.VertexState.{VertexState}
 use Rattle.superstep.specs.Superstep.{messages_to}
 use Rattle.superstep.specs.Tasks.{outcomes_in}
 use Rattle.superstep.specs.inside.Barrier.{all_filled, left_ids}
-use Rattle.superstep.specs.inside.Handed.{HasNoInbox}
-use Rattle.superstep.proofs.Handing.{no_inboxes}
+use Rattle.job_state.specs.inside.Handed.{HasNoInbox}
+use Rattle.superstep.proofs.Deliveries.{no_inboxes}
 use Rattle.superstep.proofs.NextState.{along}
 use Rattle.superstep.proofs.barrier_step.handed_out.Goals as goal
 

@@ -3,9 +3,9 @@ use Rattle.std.proofs.lemmas.List.FromFn.{length-map-range_with_len}
 use Rattle.graph.specs.Partition.{part_by, parts_by}
 use Rattle.graph.specs.inside.Partitioned.{part_at}
 use Rattle.superstep.specs.Job.{IsGraphOf, Work}
-use Rattle.superstep.specs.State.{state_id}
+use Rattle.job_state.specs.State.{state_id}
 use Rattle.superstep.specs.Tasks.{stamps_of}
-use Rattle.superstep.specs.declared.state.VertexState.{VertexState}
+use Rattle.job_state.specs.declared.state.VertexState.{VertexState}
 use Rattle.superstep.proofs.Graphs.{few_parts, some_parts}
 use Rattle.superstep.proofs.PartStates.{part_fits, part_stands}
 use Rattle.superstep.proofs.Runs.{sums}

@@ -1,8 +1,8 @@
 use Rattle.std.proofs.Common.{◌≡◌, ◌∙◌, ◌+◌, ◌++◌, drop, get_or, vec_items, append-nil, arith, ap, rules, sym}
 use Rattle.std.proofs.lemmas.List.{drop_all}
 use Rattle.graph.specs.Entry.{entries_of, entry_of}
-use Rattle.superstep.specs.State.{is_due}
-use Rattle.superstep.proofs.DueRows.{row_if}
+use Rattle.job_state.specs.State.{is_due}
+use Rattle.job_state.proofs.DueRows.{row_if}
 use Rattle.superstep.proofs.DueRuns.{all_run, as_long, called_due, next_row, not_begun, one_upto}
 use Rattle.superstep.proofs.PartCalls.{entry_at, has_entry, none_called, proper_at, same_id}
 use Rattle.superstep.proofs.task.run_part.Goals.{then-vertex+in_ok-push, else-vertex}

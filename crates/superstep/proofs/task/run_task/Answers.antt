@@ -1,12 +1,12 @@
 use Rattle.std.proofs.Common.{◌≡◌, ℕ, true, List, All, length, map, ap, sym, ◌∙◌, subst, arith}
 use Rattle.wasm_ast.specs.declared.module.Module.{Module}
 use Rattle.graph.specs.Entry.{Entry, entries_of, ids}
-use Rattle.superstep.specs.declared.state.VertexState.{VertexState}
+use Rattle.job_state.specs.declared.state.VertexState.{VertexState}
 use Rattle.superstep.specs.declared.task.Shared.{Shared}
 use Rattle.superstep.specs.Job.{HasGraph, IsCount, Work}
-use Rattle.superstep.specs.State.{state_id}
+use Rattle.job_state.specs.State.{state_id}
 use Rattle.superstep.specs.Tasks.{AreAggregatesAt, AreUnitsAt, IsDone, SliceStamp, TaskStamp}
-use Rattle.superstep.specs.inside.DueRows.{due_rows}
+use Rattle.job_state.specs.inside.DueRows.{due_rows}
 use Rattle.superstep.specs.inside.PartOutput.{CallsPart, HasProperIds, Tells}
 use Rattle.superstep.proofs.PartLeft.{done_here, entries_here, fits_below, fits_ids, proper_here, units_here, whole_slice}
 use Rattle.superstep.proofs.task.run_task.Goals as goal
@@ -38,15 +38,15 @@ run_part-ran-requires-clause-proper g c =
     c.slice.invariant.fits c.index-parts-part.is c.deref.ensures.value))
     (proper_here work part graph (fits_below work part vertices c.slice.invariant.fits))
 
-pub invariant_of-result : goal.invariant_of-result
-invariant_of-result g c =
+pub of_due-vertices-requires : goal.of_due-vertices-requires
+of_due-vertices-requires g c =
     let whole =
     whole_slice c.into_parts-vertices.result.0.items c.run_part-ran.new.vertices c.into_parts-vertices.result.0.len (c.run_part-ran.auto.vertices ∙ ap length c.deref_mut.ensures.value)
     (omega (arith, c.into_parts-vertices.result.0.ok.0)) in
     c.in-Ok.ensures.active ∙ ap (due_rows 0) (sym whole)
 
-pub invariant_of-result-2 : goal.invariant_of-result-2
-invariant_of-result-2 g c =
+pub invariant_of-result : goal.invariant_of-result
+invariant_of-result g c =
     let work = g.J.Origin.work in
     let job = c.args.job.now in
     let part = c.slice.inside.part in
@@ -75,7 +75,7 @@ invariant_of-result-2 g c =
     (λ outcomes are. subst (λ (m : Module). Tells m outcomes) (sym known) (c.calls_are_a_function.ensures.told work.«module» outcomes are)) in
     let whole = whole_slice c.into_parts-vertices.result.0.items after c.into_parts-vertices.result.0.len (c.run_part-ran.auto.vertices ∙ ap length c.deref_mut.ensures.value) (omega (arith, c.into_parts-vertices.result.0.ok.0)) in
     subst (λ (states : List VertexState). IsDone work g.J.Origin.honest (record { epoch = c.task.inside.epoch; superstep = shared.superstep; part = part; units = left.units }) states left.letters left.aggregators)
-    (sym whole) done
+    (sym (c.of_due-vertices.ensures ∙ whole)) done
 
 pub returns-clause-units : goal.returns-clause-units
 returns-clause-units g c = λ sure.

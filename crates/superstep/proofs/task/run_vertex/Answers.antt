@@ -5,7 +5,8 @@ use Rattle.graph.specs.Entry.{entry_of}
 use Rattle.superstep.specs.Superstep.{idle}
 use Rattle.superstep.specs.inside.PartOutput.{row_of}
 use Rattle.superstep.proofs.PartCalls.{adds_idle}
-use Rattle.superstep.proofs.VertexCalls.{call_keeps, call_told, called_true, idle_stays, idle_told, targets_small, test_false, test_true}
+use Rattle.job_state.proofs.Tests.{test_false, test_true}
+use Rattle.superstep.proofs.VertexCalls.{call_keeps, call_told, called_true, idle_stays, idle_told, targets_small}
 use Rattle.superstep.proofs.task.run_vertex.Goals as goal
 use Rattle.superstep.proofs.task.run_vertex.Goals.{else-not-vertex-via-then-not-vertex+else-is_empty, else-not-vertex-via-else-not-vertex}
 

@@ -1,5 +1,5 @@
 use Rattle.std.proofs.Common.{◌+◌, ℕ, ap, ◌∙◌}
-use Rattle.superstep.specs.Folds.{capped}
+use Rattle.job_state.specs.State.{capped}
 use Rattle.superstep.proofs.Gathering.{gathered_more}
 use Rattle.superstep.proofs.barrier_step.Gathered.add.Goals as goal
 

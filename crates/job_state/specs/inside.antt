@@ -1,0 +1,5 @@
+pub mod DueRows
+pub mod Filled
+pub mod Following
+pub mod Handed
+pub mod Rows

@@ -1,6 +1,0 @@
-use Rattle.std.proofs.Common.{drop}
-use Rattle.superstep.proofs.DueFound.{IsCounting}
-use Rattle.superstep.proofs.found.found_in.Given as goal
-
-abbrev pub invariant-loop-row : goal.invariant-loop-row
-invariant-loop-row l = IsCounting l.vertices (drop l.row-index l.due) l.found

@@ -1,6 +1,0 @@
-use Rattle.std.proofs.Common.{◌≡◌, take}
-use Rattle.superstep.specs.inside.DueRows.{due_rows}
-use Rattle.superstep.proofs.part_states.due_among.Given as goal
-
-abbrev pub invariant-loop-row : goal.invariant-loop-row
-invariant-loop-row l = l.due.items ≡ due_rows 0 (take l.row l.vertices)

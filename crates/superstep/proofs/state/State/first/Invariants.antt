@@ -1,7 +1,0 @@
-use Rattle.std.proofs.Common.{◌≡◌, map, take}
-use Rattle.graph.specs.Parts.{part_entries}
-use Rattle.superstep.specs.inside.Rows.{first_states}
-use Rattle.superstep.proofs.state.State.first.Given as goal
-
-abbrev pub invariant-loop-part : goal.invariant-loop-part
-invariant-loop-part l = l.parts.items ≡ map first_states (map part_entries (take l.part-index l.part-items))

@@ -1,7 +1,0 @@
-use Rattle.std.proofs.Common.{◌≡◌, map, take}
-use Rattle.graph.specs.Entry.{entry_of}
-use Rattle.superstep.specs.inside.Rows.{first_states}
-use Rattle.superstep.proofs.state.first_states.Given as goal
-
-abbrev pub invariant-loop-vertex : goal.invariant-loop-vertex
-invariant-loop-vertex l = l.vertices.items ≡ first_states (map entry_of (take l.vertex-index l.vertex-items))

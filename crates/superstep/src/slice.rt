@@ -19,7 +19,7 @@ use std::marker::{Brand, Model, PhantomData};
 ///
 /// A caller names a job by a generic function that requires `J.work ≡ job.now` and is called with `Brand`.
 pub trait Origin {
-    ghost use Rattle.std.specs.Prelude.{Bool, false, true, ℕ, ◌<◌, ◌≡◌};
+    ghost use Rattle.std.specs.Prelude.{◌≡◌, ◌<◌, ℕ, Bool, true};
     ghost use Rattle.superstep.specs.Job.{Work};
 
     ghost work: { Work };
@@ -31,6 +31,7 @@ pub trait Origin {
 }
 
 impl Origin for Brand {
+    ghost use Rattle.std.specs.Prelude.{false};
     ghost use Rattle.superstep.specs.inside.Codes.{no_work};
 
     ghost work = { no_work };

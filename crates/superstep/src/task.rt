@@ -32,7 +32,7 @@ pub struct Task<J: Origin> {
 
 impl<J: Origin> Model for Task<J> {
     ghost use Rattle.std.specs.Prelude.{◌≡◌, true};
-    ghost use Rattle.superstep.specs.Tasks.{AreAggregatesAt, DoneStamp, IsDone, TaskStamp};
+    ghost use Rattle.superstep.specs.Tasks.{AreAggregatesAt, TaskStamp};
 
     ghost Value = { TaskStamp };
 
@@ -121,6 +121,8 @@ impl<J: Origin> Drop for Done<J> {
 }
 
 impl<J: Origin> Model for Done<J> {
+    ghost use Rattle.superstep.specs.Tasks.{DoneStamp, IsDone};
+
     ghost Value = { DoneStamp };
 
     ghost view = { λ done. record {

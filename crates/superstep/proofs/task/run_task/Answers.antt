@@ -88,5 +88,5 @@ returns-clause-units g c = λ sure.
     subst (λ (n : ℕ). AreUnitsAt work n c.args.task.part units) superstep
     (subst (λ (n : ℕ). AreUnitsAt work c.slice.inside.superstep n units) part
     (units_here work g.J.Origin.honest (record { epoch = c.task.inside.epoch; superstep = c.slice.inside.superstep; part = c.slice.inside.part; units = units })
-    _ _ _ (invariant_of-result-2 g c.before)
+    _ _ _ (invariant_of-result g c.before)
     (subst (λ (n : ℕ). g.J.Origin.honest n ≡ true) (ap (λ (stamp : TaskStamp). stamp.epoch) (sym c.task.view_is)) sure)))

@@ -52,7 +52,7 @@ use Rattle.verified.proofs.cells.Cells.TheSendSync as cells
 use Rattle.verified.proofs.facts.Facts.TheSendSync as facts
 use Rattle.verified.proofs.extents.Extent.TheSendSync as extent
 use Rattle.graph.proofs.parts.Part.TheSendSync as part
-use Rattle.superstep.proofs.settings.Settings.TheSendSync as settings
+use Rattle.job_state.proofs.settings.Settings.TheSendSync as settings
 use Rattle.wasm_ast.proofs.plain.Branch.TheSendSync as branch
 use Rattle.wasm_ast.proofs.plain.Plain.TheSendSync as plain
 use Rattle.flat_code.specs.contracts.body.FlatBody as FlatBody

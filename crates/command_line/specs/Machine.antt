@@ -1,6 +1,6 @@
 -- The request on a machine with this many processors.
 use Rattle.std.specs.Prelude.{ℕ, ◌*◌, Bool, min, if◌then◌else◌}
-use Rattle.superstep.specs.declared.settings.Settings.{Settings}
+use Rattle.job_state.specs.declared.settings.Settings.{Settings}
 use Rattle.command_line.specs.declared.request.Cores.{Cores}
 use Rattle.command_line.specs.declared.request.Options.{Options}
 use Rattle.command_line.specs.declared.request.Options.TheVariants as options

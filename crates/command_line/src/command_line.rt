@@ -13,9 +13,9 @@ use crate::request::{
 use clap::error::ErrorKind;
 use clap::parser::ValueSource;
 use clap::{ArgMatches, Command, Error};
+use job_state::Settings;
 use std::alloc::Global;
 use std::convert::AsStr;
-use superstep::Settings;
 
 // The names of the options with a number, which `clap` reads.
 static NUMBERS: [&str; 6] = ["parts", "workers", "every", "limit", "lease", "max-size"];

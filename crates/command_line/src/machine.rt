@@ -4,7 +4,7 @@ ghost use Rattle.std.specs.Prelude.{◌≡◌};
 ghost use Rattle.command_line.specs.Machine.{chosen, request_on, run_on, settings_on};
 
 use crate::request::{Cores, JobRequest, Request, RunRequest};
-use superstep::Settings;
+use job_state::Settings;
 
 // The most workers that a job may have.
 const MOST_WORKERS: u32 = 64;

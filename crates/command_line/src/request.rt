@@ -1,6 +1,6 @@
 //! The requests that the command line may make.
 
-use superstep::Settings;
+use job_state::Settings;
 
 /// A request: a session, or one command.
 #[derive(Clone, Copy)]

@@ -9,10 +9,11 @@ mod by_hand;
 use anyhow::Result;
 use by_hand::tell_first_superstep;
 use conformance_cases::{fault_told, job_in, named, show_cases};
+use plain_run::one_machine;
 use std::alloc::{AllocError, Global};
 use std::rt::Files;
 use std::thread::Threads;
-use superstep::{EndReason, Job, JobEnd, one_machine};
+use superstep::{EndReason, Job, JobEnd};
 
 /// Shows the cases of jobs.
 pub fn show(rt: &(impl Files + Print + AllocGlobal + Threads + Sync)) -> Result<()> {

@@ -24,12 +24,13 @@ use checkpoint::{Keep, MemoryKeep};
 use conformance_cases::{fault_told, job_in, named, show_cases};
 use console::{Loss, LossGate};
 use gates::{LateGate, Plan, PlannedGate, WatchedGate};
+use plain_run::one_machine;
 use rollback::Report;
 use std::alloc::{AllocError, Global};
 use std::rt::Files;
 use std::sync::Wait;
 use std::thread::Threads;
-use superstep::{Job, JobEnd, JobFault, one_machine};
+use superstep::{Job, JobEnd, JobFault};
 use workers::{Gate, NoLoss, run_in_threads};
 
 // How many calls of a device fail in turn.

@@ -1,7 +1,7 @@
 -- The lines of what a job ended with.
 use Rattle.std.proofs.Common.{◌≡◌, ℕ, ◌-◌, Bool, List, map, refl, ap, sym, ◌∙◌, arith, subst}
 use Rattle.std.specs.List.{range_with_len}
-use Rattle.superstep.specs.declared.fault.JobFault.{JobFault}
+use Rattle.job_state.specs.declared.fault.JobFault.{JobFault}
 use Rattle.superstep.specs.declared.ending.JobEnd.{JobEnd}
 use Rattle.superstep.specs.Ending.{Ends, IsEndOf, answer_of}
 use Rattle.superstep.specs.Job.{Meaning, Work}

@@ -2,7 +2,7 @@
 use Rattle.std.proofs.Common.{inl, inr, ◌≡◌, ◌⊎◌, ℕ, Bool, true, false, IfErr, List, Option, Some, None, Result, Ok, Err, arith, refl}
 use Rattle.std.specs.Prelude.{String}
 use Rattle.wasm_ast.specs.declared.module.Module.{Module}
-use Rattle.superstep.specs.declared.fault.JobFault.{JobFault}
+use Rattle.job_state.specs.declared.fault.JobFault.{JobFault}
 use Rattle.superstep.specs.Job.{Work}
 use Rattle.command_line.specs.declared.request.JobRequest.{JobRequest}
 use Rattle.command_line.specs.declared.request.ModuleRequest.{ModuleRequest}

@@ -1,6 +1,6 @@
 -- What a command over files prints and writes.
 use Rattle.std.specs.Prelude.{◌≡◌, ℕ, ◌⊎◌, Bool, true, false, List, Option, Result, Err}
-use Rattle.superstep.specs.declared.fault.JobFault.{JobFault}
+use Rattle.job_state.specs.declared.fault.JobFault.{JobFault}
 use Rattle.superstep.specs.Job.{Work}
 use Rattle.rollback.specs.declared.report.Report.{Report}
 use Rattle.sources.specs.declared.fault.CommandFault.{CommandFault}

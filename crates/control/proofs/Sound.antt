@@ -3,13 +3,13 @@ use Rattle.std.proofs.Common.{◌≡◌, ◌≢◌, ℕ, zero, suc, ◌+◌, ◌
 use Rattle.std.proofs.Common.{replicate}
 use Rattle.std.proofs.Math.ListN.{length-set, set}
 use Rattle.std.proofs.lemmas.List.{length-replicate}
-use Rattle.superstep.specs.declared.settings.Settings.{Settings}
+use Rattle.job_state.specs.declared.settings.Settings.{Settings}
 use Rattle.control.specs.declared.job_status.JobStatus.{JobStatus}
 use Rattle.std.proofs.lemmas.Grind.{common_steps}
 use Rattle.std.specs.Prelude.{◌==◌, not, ◌⊎◌}
 use Rattle.std.proofs.Common.{inl, inr}
 use Rattle.control.specs.declared.control.Out.{Out}
-use Rattle.control.specs.declared.event.Answer.TheVariants.{Stale, Taken}
+use Rattle.control.specs.declared.answer.Answer.TheVariants.{Stale, Taken}
 use Rattle.control.specs.Machine.{Machine, all_set, closed, count_set, counts, finished, freed, hand, handed, is_alive, is_free, is_out, is_running, is_that, least, opened, restarted, resumed, task_of}
 use Rattle.control.specs.Events.{Heard, done_step, shut, stale_done}
 use Rattle.control.specs.inside.Sound.{IsOpen, IsSound, IsSoundOut}

@@ -1,6 +1,6 @@
 -- Tasks and their results, in numbers.
 use Rattle.std.proofs.Common.{◌≡◌, refl}
-use Rattle.superstep.specs.Tasks.{DoneStamp, TaskStamp}
+use Rattle.job_state.specs.Stamps.{DoneStamp, TaskStamp}
 use Rattle.control.specs.Stamps.{done_out, task_out}
 
 pub done_same : (done : DoneStamp) (task : TaskStamp) → done.epoch ≡ task.epoch → done.superstep ≡ task.superstep → done.part ≡ task.part → done_out done ≡ task_out task

@@ -1,17 +1,17 @@
 -- What the control model does on events, and what it answers.
 use Rattle.std.specs.Prelude.{ℕ, length, Bool, true, ◌&&◌, not, nat_lt, if◌then◌else◌, Option, Some, None, Result, Ok, Err}
-use Rattle.superstep.specs.declared.fault.JobFault.{JobFault}
-use Rattle.superstep.specs.declared.fault.JobFault.TheVariants.{NoWorkers, OutOfMemory}
-use Rattle.superstep.specs.declared.fault.Place.{Place}
-use Rattle.superstep.specs.declared.fault.Place.TheVariants.{Load, Merge, Save, Slice}
-use Rattle.superstep.specs.declared.settings.Settings.{Settings}
+use Rattle.job_state.specs.declared.fault.JobFault.{JobFault}
+use Rattle.job_state.specs.declared.fault.JobFault.TheVariants.{NoWorkers, OutOfMemory}
+use Rattle.job_state.specs.declared.fault.Place.{Place}
+use Rattle.job_state.specs.declared.fault.Place.TheVariants.{Load, Merge, Save, Slice}
+use Rattle.job_state.specs.declared.settings.Settings.{Settings}
 use Rattle.control.specs.declared.control.Out.{Out}
 use Rattle.control.specs.declared.job_status.JobStatus.{JobStatus}
 use Rattle.control.specs.declared.job_status.JobStatus.TheVariants.{Running, Finished, Limit, Fault}
 use Rattle.control.specs.declared.job_status.DeviceResult.{DeviceResult}
 use Rattle.control.specs.declared.job_status.DeviceResult.TheVariants.{Failed, Good, NoMemory}
-use Rattle.control.specs.declared.event.Answer.{Answer}
-use Rattle.control.specs.declared.event.Answer.TheVariants.{Advanced, Ended, RolledBack, Stale, Taken}
+use Rattle.control.specs.declared.answer.Answer.{Answer}
+use Rattle.control.specs.declared.answer.Answer.TheVariants.{Advanced, Ended, RolledBack, Stale, Taken}
 use Rattle.control.specs.Machine.{Machine, aged, all_set, begun_anew, charged, closed, count_set, counts, ended_by, expired, finished, freed, has_answer, is_alive, is_busy, is_out, is_running, is_saved_now, joined, lost, may_join, one_more, restarted, resumed, waits, welcomed}
 
 -- What the control model hears of the data in one event: whether the next superstep is quiet, how a save and a load

@@ -1,7 +1,7 @@
 //! The control of a book: the control model in code, with a method for each of its operations.
 
 ghost use Rattle.std.specs.Prelude.{◌≡◌, ◌<◌, ◌≤◌, ◌^◌, ◌||◌, not, nat_lt, true, length, IfOk, IfSome};
-ghost use Rattle.superstep.specs.declared.fault.JobFault.TheVariants.{OutOfMemory};
+ghost use Rattle.job_state.specs.declared.fault.JobFault.TheVariants.{OutOfMemory};
 ghost use Rattle.control.specs.Machine.{
   aged,
   all_set,
@@ -38,9 +38,9 @@ ghost use Rattle.control.specs.inside.Sound.{IsOpen};
 use crate::flags::{are_all_set, clear, count_set, join};
 use crate::job_status::{DeviceResult, JobStatus};
 use crate::leases::{count_in_time, keep_in_time, least_part, make_older};
+use job_state::{JobFault, Place, Settings};
 use std::alloc::{AllocError, Global};
 use std::marker::Model;
-use superstep::{JobFault, Place, Settings};
 
 /// A task that was assigned to a worker.
 #[derive(Clone, Copy)]

@@ -1,6 +1,6 @@
 //! The status of a job, and the results of its saves and loads.
 
-use superstep::JobFault;
+use job_state::JobFault;
 
 /// The status of a job: it goes on, or has ended in one of three ways.
 #[derive(Clone, Copy)]

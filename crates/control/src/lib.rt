@@ -2,12 +2,12 @@
 //! the numbers of workers, epochs and supersteps, without data.
 #![tactic(auto)]
 
+mod answer;
 mod control;
-mod event;
 mod flags;
 mod job_status;
 mod leases;
 
+pub use answer::Answer;
 pub use control::{Control, Out};
-pub use event::{Answer, Event};
 pub use job_status::{DeviceResult, JobStatus};

@@ -1,9 +1,9 @@
 -- A job that was not opened.
 use Rattle.std.proofs.Common.{◌≡◌, ◌-◌, refl}
-use Rattle.superstep.specs.declared.fault.JobFault.{JobFault}
-use Rattle.superstep.specs.declared.settings.Settings.{Settings}
-use Rattle.superstep.specs.declared.settings.Setting.{Setting}
-use Rattle.superstep.specs.Settings.{Refuses, first_bad}
+use Rattle.job_state.specs.declared.fault.JobFault.{JobFault}
+use Rattle.job_state.specs.declared.settings.Settings.{Settings}
+use Rattle.job_state.specs.declared.settings.Setting.{Setting}
+use Rattle.job_state.specs.Settings.{Refuses, first_bad}
 use Rattle.std.specs.Prelude.{None, Option, Some}
 use Rattle.sources.specs.Jobs.{RefusesSettings}
 use Rattle.plain_commands.specs.inside.Answering.{opening_fault}

@@ -7,10 +7,10 @@ use Rattle.run_report.specs.declared.report.RunReport.{RunReport}
 use Rattle.run_report.specs.declared.report.RunSettings.{RunSettings}
 use Rattle.run_tally.specs.declared.tally.Ended.{Ended}
 use Rattle.run_tally.specs.declared.tally.Tally.{Tally}
-use Rattle.superstep.specs.declared.fault.JobFault.{JobFault}
-use Rattle.superstep.specs.declared.settings.Settings.{Settings}
+use Rattle.job_state.specs.declared.fault.JobFault.{JobFault}
+use Rattle.job_state.specs.declared.settings.Settings.{Settings}
 use Rattle.superstep.specs.Ending.{is_finished}
-use Rattle.superstep.specs.Faults.{fault_word}
+use Rattle.job_state.specs.Faults.{fault_word}
 use Rattle.superstep.specs.Job.{IsCount, IsEdgeCount, Work}
 use Rattle.rollback.specs.declared.report.Report.{Report}
 use Rattle.sources.specs.OutputLines.{end_word, ended_lines}

@@ -5,9 +5,9 @@ use Rattle.std.specs.Fmt.{decimal}
 use Rattle.superstep.specs.Job.{Work}
 use Rattle.superstep.specs.Tasks.{trusts}
 use Rattle.rollback.specs.Simulation.{IsCalm, IsRun, IsSimulated}
-use Rattle.control.specs.declared.event.Answer.{Answer}
-use Rattle.control.specs.declared.event.Answer.TheVariants.{Advanced, RolledBack, Stale, Taken}
-use Rattle.control.specs.declared.event.Answer.TheVariants as answer
+use Rattle.control.specs.declared.answer.Answer.{Answer}
+use Rattle.control.specs.declared.answer.Answer.TheVariants.{Advanced, RolledBack, Stale, Taken}
+use Rattle.control.specs.declared.answer.Answer.TheVariants as answer
 use Rattle.rollback.specs.declared.report.Report.{Report}
 use Rattle.rollback.specs.declared.simulation.Outcome.{Outcome}
 use Rattle.rollback.specs.declared.simulation.Outcome.TheVariants as outcome

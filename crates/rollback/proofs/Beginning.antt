@@ -1,6 +1,6 @@
 -- What a book that goes on begins with.
 use Rattle.std.proofs.Common.{◌≡◌, ℕ, List, Bool, true, Option, Some, refl, sym, ap, ◌∙◌, subst}
-use Rattle.superstep.specs.declared.settings.Settings.{Settings}
+use Rattle.job_state.specs.declared.settings.Settings.{Settings}
 use Rattle.superstep.specs.Job.{Work}
 use Rattle.control.specs.declared.job_status.DeviceResult.{DeviceResult}
 use Rattle.control.specs.declared.job_status.DeviceResult.TheVariants.{Good}

@@ -5,7 +5,8 @@ use Rattle.std.specs.List.{range_with_len}
 use Rattle.std.proofs.Math.ListN.{length-set, set}
 use Rattle.std.proofs.lemmas.List.{get_or-map, get_or-replicate, length-map, length-replicate, same_lists}
 use Rattle.std.proofs.lemmas.List.FromFn.{get_or-map-range_with_len, get_or-range_with_len, length-map-range_with_len, length-range_with_len}
-use Rattle.superstep.specs.Tasks.{AreTrusted, DoneStamp, IsRow, SliceStamp, stamps_of}
+use Rattle.job_state.specs.Stamps.{DoneStamp}
+use Rattle.superstep.specs.Tasks.{AreTrusted, IsRow, SliceStamp, stamps_of}
 use Rattle.superstep.proofs.Trusting.{Lasts, earlier}
 use Rattle.rollback.specs.declared.part_slots.PartSlot.{PartSlot}
 use Rattle.rollback.specs.declared.part_slots.PartSlot.TheVariants.{Away, Back, Here}

@@ -3,8 +3,8 @@ use Rattle.std.proofs.Common.{◌≡◌, ℕ, suc, ◌+◌, ◌<◌, List, Bool,
 use Rattle.std.specs.Prelude.{◌⊎◌, ◌&&◌, not, nat_lt}
 use Rattle.checkpoint.specs.Checkpoint.{checkpoint_bytes}
 use Rattle.checkpoint.specs.Keep.{HasFailed, IsKeptOrNone}
-use Rattle.superstep.specs.declared.fault.JobFault.TheVariants.{OutOfMemory}
-use Rattle.superstep.specs.declared.fault.Place.TheVariants.{Slice}
+use Rattle.job_state.specs.declared.fault.JobFault.TheVariants.{OutOfMemory}
+use Rattle.job_state.specs.declared.fault.Place.TheVariants.{Slice}
 use Rattle.superstep.specs.Job.{Work}
 use Rattle.job_state.specs.State.{Standing}
 use Rattle.superstep.specs.State.{HasIdsOf}

@@ -3,15 +3,15 @@ use Rattle.std.proofs.Common.{◌≡◌, ◌≢◌, ℕ, zero, suc, ◌+◌, ◌
 use Rattle.std.specs.Prelude.{nat_lt, not, ◌||◌}
 use Rattle.std.proofs.Math.ListN.{length-set, set}
 use Rattle.std.proofs.lemmas.List.{length-replicate}
-use Rattle.superstep.specs.declared.fault.JobFault.{JobFault}
-use Rattle.superstep.specs.declared.fault.JobFault.TheVariants.{NoWorkers, OutOfMemory}
-use Rattle.superstep.specs.declared.fault.Place.TheVariants.{Load, Save, Slice}
-use Rattle.superstep.specs.declared.settings.Settings.{Settings}
+use Rattle.job_state.specs.declared.fault.JobFault.{JobFault}
+use Rattle.job_state.specs.declared.fault.JobFault.TheVariants.{NoWorkers, OutOfMemory}
+use Rattle.job_state.specs.declared.fault.Place.TheVariants.{Load, Save, Slice}
+use Rattle.job_state.specs.declared.settings.Settings.{Settings}
 use Rattle.superstep.specs.Job.{Work}
 use Rattle.superstep.specs.PlainRun.{state_at}
 use Rattle.superstep.specs.Snapshot.{Row, is_called, is_quiet}
 use Rattle.job_state.specs.declared.state.VertexState.{VertexState}
-use Rattle.superstep.specs.Tasks.{DoneStamp}
+use Rattle.job_state.specs.Stamps.{DoneStamp}
 use Rattle.std.specs.List.{list_any}
 use Rattle.job_state.specs.State.{Standing, is_due, is_settled}
 use Rattle.superstep.specs.State.{HasIdsOf, bare}

@@ -1,7 +1,7 @@
 -- The settings and the ids that a book begins with.
 use Rattle.std.proofs.Common.{◌≡◌, ◌<◌, ◌≤◌, ◌^◌, ℕ, List, map, None, sym, subst, ◌∙◌, rules, arith}
-use Rattle.superstep.specs.declared.settings.Settings.{Settings}
-use Rattle.superstep.specs.Settings.{first_bad}
+use Rattle.job_state.specs.declared.settings.Settings.{Settings}
+use Rattle.job_state.specs.Settings.{first_bad}
 use Rattle.superstep.specs.Job.{HasGraph, Work}
 use Rattle.job_state.specs.State.{Standing, state_id}
 use Rattle.superstep.specs.State.{HasIdsOf, IsStateAt}

@@ -5,14 +5,15 @@ use Rattle.std.proofs.lemmas.List.{length-map, map-set, take_more_set}
 use Rattle.std.proofs.Math.Seq.{take-append_seam, take-suc}
 use Rattle.std.proofs.Math.ListN.{set, get_or-map}
 use Rattle.checkpoint.specs.Keep.{HasFailed, LoadsNothingElse}
-use Rattle.superstep.specs.declared.fault.JobFault.{JobFault}
-use Rattle.superstep.specs.declared.fault.JobFault.TheVariants.{OutOfMemory}
-use Rattle.superstep.specs.declared.fault.Place.TheVariants.{Report as Reporting}
+use Rattle.job_state.specs.declared.fault.JobFault.{JobFault}
+use Rattle.job_state.specs.declared.fault.JobFault.TheVariants.{OutOfMemory}
+use Rattle.job_state.specs.declared.fault.Place.TheVariants.{Report as Reporting}
 use Rattle.superstep.specs.Job.{Work as AnyWork}
-use Rattle.superstep.specs.Tasks.{AreUnitsAt, TaskStamp}
+use Rattle.job_state.specs.Stamps.{TaskStamp}
+use Rattle.superstep.specs.Tasks.{AreUnitsAt}
 use Rattle.control.specs.declared.control.Out.{Out}
-use Rattle.control.specs.declared.event.Answer.{Answer}
-use Rattle.control.specs.declared.event.Answer.TheVariants.{Ended, Stale}
+use Rattle.control.specs.declared.answer.Answer.{Answer}
+use Rattle.control.specs.declared.answer.Answer.TheVariants.{Ended, Stale}
 use Rattle.control.specs.declared.job_status.DeviceResult.TheVariants.{Good}
 use Rattle.rollback.specs.declared.simulation.Step.{Step}
 use Rattle.rollback.specs.declared.simulation.Step.TheVariants.{Join, Lose, Take, Tick, Work}

@@ -2,8 +2,8 @@
 use Rattle.std.proofs.Common.{◌≡◌, ◌<◌, ℕ, suc, List, [], ◌∷◌, length, get_or, map, arith, Bool, true, false, ◌&&◌, cond, Some, None, refl, sym, ap, ◌∙◌, subst, inl, inr}
 use Rattle.std.specs.Prelude.{not, ◌⊎◌, MatchOption, Option}
 use Rattle.checkpoint.specs.Keep.{HasFailed}
-use Rattle.superstep.specs.declared.fault.JobFault.TheVariants.{OutOfMemory}
-use Rattle.superstep.specs.declared.fault.Place.TheVariants.{Slice}
+use Rattle.job_state.specs.declared.fault.JobFault.TheVariants.{OutOfMemory}
+use Rattle.job_state.specs.declared.fault.Place.TheVariants.{Slice}
 use Rattle.superstep.specs.Job.{Work}
 use Rattle.job_state.specs.State.{Standing, state_id}
 use Rattle.rollback.specs.declared.job_data.JobData.{JobData}

@@ -1,17 +1,17 @@
 -- Steps of the control model.
 use Rattle.std.proofs.Common.{◌≡◌, ℕ, ◌<◌, ◌≤◌, List, length, Bool, true, false, ◌&&◌, cond, Option, Some, None, refl, sym, ap, ◌∙◌, subst, arith, inl}
 use Rattle.std.specs.Prelude.{not, nat_lt, Result, Ok, Err}
-use Rattle.superstep.specs.declared.fault.JobFault.{JobFault}
-use Rattle.superstep.specs.declared.fault.JobFault.TheVariants.{NoWorkers, OutOfMemory}
-use Rattle.superstep.specs.declared.fault.Place.TheVariants.{Slice}
+use Rattle.job_state.specs.declared.fault.JobFault.{JobFault}
+use Rattle.job_state.specs.declared.fault.JobFault.TheVariants.{NoWorkers, OutOfMemory}
+use Rattle.job_state.specs.declared.fault.Place.TheVariants.{Slice}
 use Rattle.superstep.specs.Job.{Work}
 use Rattle.control.specs.declared.control.Out.{Out}
 use Rattle.control.specs.declared.job_status.JobStatus.{JobStatus}
 use Rattle.control.specs.declared.job_status.JobStatus.TheVariants.{Fault, Finished, Limit, Running}
 use Rattle.control.specs.declared.job_status.DeviceResult.{DeviceResult}
 use Rattle.control.specs.declared.job_status.DeviceResult.TheVariants.{Failed, Good, NoMemory}
-use Rattle.control.specs.declared.event.Answer.{Answer}
-use Rattle.control.specs.declared.event.Answer.TheVariants.{Ended, Stale}
+use Rattle.control.specs.declared.answer.Answer.{Answer}
+use Rattle.control.specs.declared.answer.Answer.TheVariants.{Ended, Stale}
 use Rattle.control.specs.Machine.{Machine, all_set, begun_anew, charged, count_set, counts, ended_by, finished, freed, is_alive, is_running, joined, may_join, saved_or_first}
 use Rattle.control.specs.Events.{Heard, Stamp, accepted, after_end, after_loss, done_step, on_event, is_known, loading, loss, reply_by, reply_of, rolled, rolling, shut, slicing, step}
 use Rattle.control.specs.Events.Stamp.{DoneBy}

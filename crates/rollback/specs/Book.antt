@@ -1,13 +1,13 @@
 -- A book between two events, and what an event changes.
 use Rattle.std.specs.Prelude.{◌≡◌, ℕ, suc, length, Bool, true, false, ◌&&◌, ◌||◌, not, nat_lt, Result}
-use Rattle.superstep.specs.declared.fault.JobFault.{JobFault}
+use Rattle.job_state.specs.declared.fault.JobFault.{JobFault}
 use Rattle.superstep.specs.Job.{Meaning, Work}
 use Rattle.superstep.specs.PlainRun.{state_at}
 use Rattle.superstep.specs.Snapshot.{is_quiet}
 use Rattle.superstep.specs.Ending.{IsEndOf, is_finished}
 use Rattle.rollback.specs.declared.report.Report.{Report}
 use Rattle.rollback.specs.declared.report.Status.{Status}
-use Rattle.control.specs.declared.event.Answer.{Answer}
+use Rattle.control.specs.declared.answer.Answer.{Answer}
 use Rattle.control.specs.declared.job_status.JobStatus.{JobStatus}
 use Rattle.control.specs.declared.job_status.JobStatus.TheVariants.{Fault, Finished, Limit, Running}
 use Rattle.control.specs.Machine.{Machine, is_alive, is_waiting}

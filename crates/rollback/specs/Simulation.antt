@@ -7,16 +7,16 @@ use Rattle.verified.specs.Facts.{AreFactsAt}
 use Rattle.verified.specs.Profile.{HasCompute}
 use Rattle.interp.specs.Bounded.{Ends, items_of}
 use Rattle.checkpoint.specs.Keep.{LoadsNothingElse}
-use Rattle.superstep.specs.declared.fault.JobFault.{JobFault}
-use Rattle.superstep.specs.declared.fault.JobFault.TheVariants.{OutOfMemory}
-use Rattle.superstep.specs.declared.fault.Place.TheVariants.{Call, Open, Report as Reporting}
+use Rattle.job_state.specs.declared.fault.JobFault.{JobFault}
+use Rattle.job_state.specs.declared.fault.JobFault.TheVariants.{OutOfMemory}
+use Rattle.job_state.specs.declared.fault.Place.TheVariants.{Call, Open, Report as Reporting}
 use Rattle.superstep.specs.Job.{Work}
 use Rattle.superstep.specs.Tasks.{AreUnitsAt}
 use Rattle.control.specs.declared.control.Out.{Out}
 use Rattle.control.specs.declared.job_status.JobStatus.{JobStatus}
 use Rattle.control.specs.declared.job_status.JobStatus.TheVariants.{Fault, Finished, Limit, Running}
-use Rattle.control.specs.declared.event.Answer.{Answer}
-use Rattle.control.specs.declared.event.Answer.TheVariants.{Ended, Stale}
+use Rattle.control.specs.declared.answer.Answer.{Answer}
+use Rattle.control.specs.declared.answer.Answer.TheVariants.{Ended, Stale}
 use Rattle.rollback.specs.declared.simulation.Outcome.{Outcome}
 use Rattle.rollback.specs.declared.simulation.Outcome.TheVariants as outcome
 use Rattle.rollback.specs.declared.simulation.Step.{Step}

@@ -2,11 +2,12 @@
 
 ghost use Rattle.std.specs.Prelude.{◌≡◌, ◌<◌, true, false, length, map, Bool, None, Some, IfOk, IfErr, IfSome};
 ghost use Rattle.job_state.specs.State.{state_id};
-ghost use Rattle.superstep.specs.declared.fault.JobFault.TheVariants.{OutOfMemory};
-ghost use Rattle.superstep.specs.declared.fault.Place.TheVariants.{Open, Report as Reporting};
+ghost use Rattle.job_state.specs.declared.fault.JobFault.TheVariants.{OutOfMemory};
+ghost use Rattle.job_state.specs.declared.fault.Place.TheVariants.{Open, Report as Reporting};
 ghost use Rattle.control.specs.declared.control.Out.{Out};
 ghost use Rattle.rollback.specs.Book.{IsQuietAt, IsReport, IsStatus, IsStep, is_gone};
-ghost use Rattle.control.specs.Stamps.{done_out, stamp_of, task_out};
+ghost use Rattle.events.specs.Events.{stamp_of};
+ghost use Rattle.control.specs.Stamps.{done_out, task_out};
 ghost use Rattle.control.specs.Events.{accepted, after_end, done_step, on_event, shut};
 ghost use Rattle.control.specs.Events.Stamp.{DoneBy, FailedBy, JoinedBy, LostBy, Ticked};
 ghost use Rattle.rollback.specs.Saving.{HasLeft, IsBegun, IsCaused, IsSavedOrLeft, KeepsFor, MayLoadAfter};
@@ -20,7 +21,8 @@ use crate::replies::{advanced_reply, ended_reply, rolled_reply};
 use crate::report::{Report, Status, report_of};
 use crate::saving::save_if_due;
 use checkpoint::Keep;
-use control::{Answer, Control, Event, Out};
+use control::{Answer, Control, Out};
+use events::Event;
 use std::alloc::{AllocError, Global};
 use std::marker::Model;
 use std::mem;

@@ -12,6 +12,7 @@ mod saving;
 mod simulation;
 
 pub use book::Book;
-pub use control::{Answer, Event, JobStatus};
+pub use control::{Answer, JobStatus};
+pub use events::Event;
 pub use report::{Report, Status};
 pub use simulation::{Outcome, Step, StepAnswer, Trace, simulate};

@@ -2,7 +2,7 @@
 
 ghost use Rattle.std.specs.Prelude.{◌≡◌};
 ghost use Rattle.control.specs.Events.{advanced, reply_of, rolled};
-ghost use Rattle.control.specs.declared.event.Answer.TheVariants.{Ended};
+ghost use Rattle.control.specs.declared.answer.Answer.TheVariants.{Ended};
 
 use control::{Answer, Control, JobStatus};
 use superstep::JobFault;

@@ -3,22 +3,24 @@
 ghost use Rattle.std.specs.Prelude.{◌≡◌, ◌<◌, ℕ, length, replicate, slice_index_or, slice_set, Bool, true, None, Result, option_map, IfErr, IfOk};
 ghost use Rattle.superstep.specs.Job.{Meaning};
 ghost use Rattle.superstep.specs.Tasks.{AreUnitsAt, trusts};
-ghost use Rattle.superstep.specs.declared.fault.JobFault.{JobFault};
+ghost use Rattle.job_state.specs.declared.fault.JobFault.{JobFault};
 ghost use Rattle.rollback.specs.Book.{IsStep};
-ghost use Rattle.control.specs.Stamps.{stamp_of, task_out};
+ghost use Rattle.events.specs.Events.{stamp_of};
+ghost use Rattle.control.specs.Stamps.{task_out};
 ghost use Rattle.control.specs.Events.{accepted};
 ghost use Rattle.checkpoint.specs.Keep.{LoadsNothingElse};
 ghost use Rattle.rollback.specs.Saving.{IsKeptStep, KeepsFor};
 ghost use Rattle.control.specs.Machine.{is_free};
 ghost use Rattle.rollback.specs.Simulation.{CallsStayWithin, IsCalm, IsOutcomeAt, IsSimStep, IsSimulated, IsSimulatedOver, NeverFails, RanOver, brought, emptied, said};
 ghost use Rattle.rollback.specs.inside.Simulating.{AreAnswersTo, HasSameCounts, IsRunnerOf, sim_of, stamps};
-ghost use Rattle.control.specs.declared.event.Answer.{Answer};
+ghost use Rattle.control.specs.declared.answer.Answer.{Answer};
 ghost use Rattle.rollback.specs.declared.simulation.Step.TheVariants.{Join, Take, Work};
 
 use crate::book::Book;
 use crate::report::Report;
 use checkpoint::Keep;
-use control::{Answer, Event, JobStatus};
+use control::{Answer, JobStatus};
+use events::Event;
 use interp::{Scratch, calls_are_a_function, calls_end};
 use std::alloc::{AllocError, Global};
 use std::marker::Brand;

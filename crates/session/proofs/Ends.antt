@@ -6,7 +6,7 @@ use Rattle.interp.specs.Call.{Outcome}
 use Rattle.interp.specs.Outcomes.{AreOutcomes, Given}
 use Rattle.graph.specs.Entry.{Entry}
 use Rattle.superstep.specs.declared.ending.JobEnd.{JobEnd}
-use Rattle.superstep.specs.declared.settings.Settings.{Settings}
+use Rattle.job_state.specs.declared.settings.Settings.{Settings}
 use Rattle.superstep.specs.Ending.{IsEndOf, answer_of}
 use Rattle.superstep.specs.Job.{Meaning, Work}
 use Rattle.superstep.specs.PlainRun.{Answer, IsAnswer, IsEnd, state_at}

@@ -5,10 +5,10 @@ use Rattle.std.specs.Str.{bytes_eq}
 use Rattle.serde_json.specs.Data.{Data, null, string, number, unsigned, object, member, no_members}
 use Rattle.serde_json.specs.Written.{compact_text}
 use Rattle.graph.specs.Print.{value_lines}
-use Rattle.superstep.specs.declared.fault.JobFault.{JobFault}
+use Rattle.job_state.specs.declared.fault.JobFault.{JobFault}
 use Rattle.superstep.specs.declared.ending.JobEnd.{JobEnd}
 use Rattle.superstep.specs.Ending.{is_finished}
-use Rattle.superstep.specs.Faults.{fault_word}
+use Rattle.job_state.specs.Faults.{fault_word}
 use Rattle.sources.specs.declared.fault.CommandFault.{CommandFault}
 use Rattle.sources.specs.declared.fault.CommandFault.TheVariants as command
 use Rattle.sources.specs.OutputLines.{end_word, line}

@@ -2,8 +2,8 @@
 use Rattle.std.specs.Prelude.{◌≡◌, [], Result, Ok, Err}
 use Rattle.std.specs.Borrow.{Bor}
 use Rattle.std.specs.Fn.{Shared}
-use Rattle.superstep.specs.declared.fault.JobFault.{JobFault}
-use Rattle.superstep.specs.declared.fault.JobFault.TheVariants as job_fault
+use Rattle.job_state.specs.declared.fault.JobFault.{JobFault}
+use Rattle.job_state.specs.declared.fault.JobFault.TheVariants as job_fault
 use Rattle.superstep.specs.Ending.{IsEndOf}
 use Rattle.superstep.specs.Job.{Work}
 use Rattle.rollback.specs.declared.report.Report.{Report}

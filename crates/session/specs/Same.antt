@@ -2,7 +2,7 @@
 use Rattle.std.specs.Prelude.{◌≡◌, List, ℕ, Some}
 use Rattle.wasm_ast.specs.declared.module.Module.{Module}
 use Rattle.graph.specs.Entry.{Entry}
-use Rattle.superstep.specs.declared.settings.Settings.{Settings}
+use Rattle.job_state.specs.declared.settings.Settings.{Settings}
 use Rattle.sources.specs.Disk.{Disk}
 use Rattle.sources.specs.Jobs.{IsJobOf}
 use Rattle.session.specs.declared.held_job.HeldJob.{HeldJob}

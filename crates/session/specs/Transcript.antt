@@ -3,8 +3,8 @@ use Rattle.std.specs.Prelude.{◌≡◌, ◌≢◌, ◌⊎◌, ℕ, Bool, true, 
 use Rattle.wasm_ast.specs.declared.module.Module.{Module}
 use Rattle.verified.specs.Facts.{IsSizeOfCompute}
 use Rattle.graph.specs.Entry.{Entry, edge_count}
-use Rattle.superstep.specs.declared.settings.Settings.{Settings}
-use Rattle.superstep.specs.declared.fault.JobFault.{JobFault}
+use Rattle.job_state.specs.declared.settings.Settings.{Settings}
+use Rattle.job_state.specs.declared.fault.JobFault.{JobFault}
 use Rattle.superstep.specs.Ending.{IsEndOf}
 use Rattle.sources.specs.declared.fault.CommandFault.{CommandFault}
 use Rattle.sources.specs.Disk.{Disk}

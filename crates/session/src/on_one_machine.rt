@@ -7,12 +7,13 @@ ghost use Rattle.session.specs.Serving.{Serves};
 
 use crate::runner::PlainRunner;
 use crate::serving::{ServeFault, serve};
+use plain_run::one_machine;
 use rollback::Report;
 use sources::Files;
 use std::alloc::Global;
 use std::io::{Read, Write};
 use std::thread::Threads;
-use superstep::{Job, JobFault, Place, one_machine};
+use superstep::{Job, JobFault, Place};
 
 /// Serves a session as `serve` does. Each job runs on this machine, superstep after superstep. It waits for nobody.
 ///

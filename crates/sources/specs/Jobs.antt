@@ -4,8 +4,8 @@ use Rattle.wasm_ast.specs.declared.module.Module.{Module}
 use Rattle.graph.specs.Entry.{Entry}
 use Rattle.graph.specs.Graph.{IsGraphText, IsWithinLimits}
 use Rattle.graph.specs.declared.fault.GraphFault.TheVariants as graph_fault
-use Rattle.superstep.specs.declared.settings.Settings.{Settings}
-use Rattle.superstep.specs.Settings.{first_bad}
+use Rattle.job_state.specs.declared.settings.Settings.{Settings}
+use Rattle.job_state.specs.Settings.{first_bad}
 use Rattle.superstep.specs.Job.{IsGraphOf, Work}
 use Rattle.sources.specs.declared.fault.CommandFault.{CommandFault}
 use Rattle.sources.specs.declared.fault.CommandFault.TheVariants as command

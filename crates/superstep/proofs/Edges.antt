@@ -9,7 +9,7 @@ use Rattle.graph.specs.Partition.{joined}
 use Rattle.graph.specs.declared.parts.Part.{Part}
 use Rattle.graph.specs.declared.vertex.Vertex.{Vertex}
 use Rattle.superstep.specs.Job.{IsGraphOf, Work}
-use Rattle.superstep.specs.Settings.{first_bad}
+use Rattle.job_state.specs.Settings.{first_bad}
 use Rattle.superstep.specs.inside.Opening.{edges_at}
 use Rattle.superstep.proofs.Graphs.{some_parts, whole}
 

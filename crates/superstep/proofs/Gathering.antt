@@ -16,7 +16,8 @@ use Rattle.superstep.specs.Folds.{aggregated}
 use Rattle.host_calls.specs.Aggregators.{aggregator_starts}
 use Rattle.superstep.specs.Superstep.{contributions_of, units_left}
 use Rattle.superstep.specs.Job.{Work}
-use Rattle.superstep.specs.Tasks.{DoneStamp, IsDone, VertexOutcome, emptied, letters_from, letters_of, outcomes_in}
+use Rattle.job_state.specs.Stamps.{DoneStamp}
+use Rattle.superstep.specs.Tasks.{IsDone, VertexOutcome, emptied, letters_from, letters_of, outcomes_in}
 use Rattle.superstep.specs.inside.Barrier.{IsGathered, IsPartLeft, PartLeft, left_ids, spread}
 use Rattle.superstep.specs.inside.Uniting.{united}
 use Rattle.superstep.proofs.Aggregating.{contributions_joined}

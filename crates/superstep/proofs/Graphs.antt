@@ -16,10 +16,10 @@ use Rattle.graph.specs.Partition.{joined, part_by, parts_by}
 use Rattle.graph.specs.inside.Partitioned.{parts_by-map, parts_whole}
 use Rattle.graph.specs.inside.Rising.{rising_same}
 use Rattle.superstep.specs.Job.{IsGraphOf, Work}
-use Rattle.superstep.specs.Settings.{first_bad}
+use Rattle.job_state.specs.Settings.{first_bad}
 use Rattle.job_state.specs.State.{in_order, state_id}
 use Rattle.job_state.specs.declared.state.VertexState.{VertexState}
-use Rattle.superstep.specs.declared.settings.Settings.{Settings}
+use Rattle.job_state.specs.declared.settings.Settings.{Settings}
 use Rattle.job_state.proofs.Ordering.{parts_are_kept}
 
 -- there is a part

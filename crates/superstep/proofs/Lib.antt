@@ -1,6 +1,5 @@
 pub mod Aggregating
 pub mod Deliveries
-pub mod Delivering
 pub mod DueRuns
 pub mod Edges
 pub mod Firsts
@@ -12,8 +11,6 @@ pub mod NextState
 pub mod PartCalls
 pub mod PartLeft
 pub mod PartStates
-pub mod PlainCalls
-pub mod PlainSteps
 pub mod Rejoining
 pub mod Runs
 pub mod SentLetters

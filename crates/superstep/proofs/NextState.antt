@@ -19,10 +19,11 @@ use Rattle.superstep.specs.Snapshot.{row_ids}
 use Rattle.superstep.specs.Superstep.{all_left, contributions_of, dropped_by, messages_to, left_by, row_after, units_left}
 use Rattle.superstep.specs.PlainRun.{state_at, units_at}
 use Rattle.superstep.specs.Job.{HasGraph, IsGraphOf, Meaning, Work}
-use Rattle.superstep.specs.Settings.{first_bad}
+use Rattle.job_state.specs.Settings.{first_bad}
 use Rattle.job_state.specs.Ordering.{by_key}
 use Rattle.superstep.specs.State.{HasIdsOf, ShowsAt, bare}
-use Rattle.superstep.specs.Tasks.{AreTrusted, DoneStamp, IsRow, VertexOutcome, emptied, outcomes_in}
+use Rattle.job_state.specs.Stamps.{DoneStamp}
+use Rattle.superstep.specs.Tasks.{AreTrusted, IsRow, VertexOutcome, emptied, outcomes_in}
 use Rattle.job_state.specs.Totals.{AreTotals, standing_of}
 use Rattle.superstep.specs.Totals.{SumsAt}
 use Rattle.job_state.specs.inside.Following.{Follows}

@@ -23,7 +23,8 @@ use Rattle.superstep.specs.Superstep.{all_left, left_by, row_after, units_left}
 use Rattle.superstep.specs.PlainRun.{first_row, state_at}
 use Rattle.superstep.specs.Job.{HasGraph, IsCount, IsGraphOf, Meaning, Work}
 use Rattle.superstep.specs.State.{bare}
-use Rattle.superstep.specs.Tasks.{AreAggregatesAt, AreUnitsAt, DoneStamp, FitsPart, IsDone, IsLeftAt, IsPartAt, VertexOutcome, emptied, outcomes_in, part_rows}
+use Rattle.job_state.specs.Stamps.{DoneStamp}
+use Rattle.superstep.specs.Tasks.{AreAggregatesAt, AreUnitsAt, FitsPart, IsDone, IsLeftAt, IsPartAt, VertexOutcome, emptied, outcomes_in, part_rows}
 use Rattle.superstep.specs.inside.Barrier.{left_id}
 use Rattle.superstep.specs.inside.PartOutput.{CallsPart, HasProperIds, Tells, left_in, row_of, rows_of}
 

@@ -19,7 +19,8 @@ use Rattle.superstep.specs.Snapshot.{Row, row_id, row_ids}
 use Rattle.superstep.specs.Superstep.{all_left, left_by, row_after}
 use Rattle.superstep.specs.PlainRun.{first_row, state_at}
 use Rattle.superstep.specs.Job.{IsGraphOf, Meaning, Work}
-use Rattle.superstep.specs.Tasks.{AreTrusted, DoneStamp, IsRow, VertexOutcome, letters_of, part_rows}
+use Rattle.job_state.specs.Stamps.{DoneStamp}
+use Rattle.superstep.specs.Tasks.{AreTrusted, IsRow, VertexOutcome, letters_of, part_rows}
 use Rattle.superstep.specs.inside.Barrier.{IsGathered, IsPartLeft, IsSpread, PartLeft, left_id, left_ids, spread}
 use Rattle.superstep.proofs.Graphs.{whole}
 use Rattle.superstep.proofs.Letters.{joined_map}

@@ -11,7 +11,8 @@ use Rattle.superstep.specs.PlainRun.{state_at}
 use Rattle.superstep.specs.Job.{Meaning, Work}
 use Rattle.job_state.specs.State.{Standing, is_due, is_settled}
 use Rattle.superstep.specs.State.{IsStateAt, ShowsAt, bare}
-use Rattle.superstep.specs.Tasks.{DoneStamp, IsRow, SliceStamp, stamps_of}
+use Rattle.job_state.specs.Stamps.{DoneStamp}
+use Rattle.superstep.specs.Tasks.{IsRow, SliceStamp, stamps_of}
 use Rattle.job_state.specs.declared.totals.Totals.{Totals}
 use Rattle.job_state.specs.Totals.{IsTotalsOf}
 use Rattle.superstep.specs.Totals.{SumsAt}

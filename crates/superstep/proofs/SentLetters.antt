@@ -14,7 +14,8 @@ use Rattle.superstep.specs.Job.{Work}
 use Rattle.superstep.specs.PlainRun.{state_at}
 use Rattle.superstep.specs.Snapshot.{Row}
 use Rattle.superstep.specs.Superstep.{left_by, sends_left}
-use Rattle.superstep.specs.Tasks.{DoneStamp, IsDone, IsSentAt, VertexOutcome, letters_from, letters_of, outcomes_in, part_rows}
+use Rattle.job_state.specs.Stamps.{DoneStamp}
+use Rattle.superstep.specs.Tasks.{IsDone, IsSentAt, VertexOutcome, letters_from, letters_of, outcomes_in, part_rows}
 
 -- one letter for each message
 letters_long : (left : List VertexOutcome) → length (letters_of left) ≡ sends_left (outcomes_in left)

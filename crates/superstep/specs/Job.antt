@@ -4,7 +4,7 @@ use Rattle.wasm_ast.specs.declared.module.Module.{Module}
 use Rattle.interp.specs.Call.{Outcome}
 use Rattle.interp.specs.Outcomes.{AreOutcomes, Given}
 use Rattle.graph.specs.Entry.{Entry, FitsLimits, IsProper, edge_count, parts_of}
-use Rattle.superstep.specs.declared.settings.Settings.{Settings}
+use Rattle.job_state.specs.declared.settings.Settings.{Settings}
 
 -- the model of a job: its module, its graph's parts, each as the list of its vertices, and its settings
 pub record Work : Type 0 where

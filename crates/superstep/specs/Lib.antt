@@ -4,8 +4,7 @@ pub mod Snapshot
 pub mod Folds
 pub mod Superstep
 pub mod PlainRun
--- the settings of a job, and its meaning
-pub mod Settings
+-- the meaning of a job
 pub mod Job
 -- which states are those of a job
 pub mod State
@@ -15,8 +14,7 @@ pub mod Tasks
 pub mod Found
 -- the totals of a job before a superstep
 pub mod Totals
--- the end of a job, and the words of its faults
+-- the end of a job
 pub mod Ending
-pub mod Faults
 -- for proofs only: definitions that follow the code
 pub mod inside

@@ -6,6 +6,7 @@ use Rattle.interp.specs.Call.{Outcome}
 use Rattle.graph.specs.Entry.{ids}
 use Rattle.inbox.specs.declared.letters.Letter.{Letter}
 use Rattle.inbox.specs.Merging.{letters_sent}
+use Rattle.job_state.specs.Stamps.{DoneStamp}
 use Rattle.job_state.specs.declared.state.VertexState.{VertexState}
 use Rattle.job_state.specs.State.{capped, state_id}
 use Rattle.superstep.specs.Folds.{aggregated}
@@ -54,19 +55,6 @@ stamps_of epoch s parts = map (λ part. record { epoch = epoch; superstep = s; p
 pub record IsSlice (work : Work) (honest : ℕ → Bool) (stamp : SliceStamp) (vertices : List VertexState) : Type 0 where
   pub fits : FitsPart work stamp.part vertices
   pub at : honest stamp.epoch ≡ true → IsPartAt work stamp.superstep stamp.part vertices
-
--- the model of a task
-pub record TaskStamp : Type 0 where
-  pub epoch : ℕ
-  pub superstep : ℕ
-  pub part : ℕ
-
--- the model of a result
-pub record DoneStamp : Type 0 where
-  pub epoch : ℕ
-  pub superstep : ℕ
-  pub part : ℕ
-  pub units : ℕ
 
 -- a vertex's id, and the outcome of its call
 abbrev pub VertexOutcome : Type 0

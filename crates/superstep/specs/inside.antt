@@ -3,7 +3,6 @@ pub mod Codes
 pub mod DueRuns
 pub mod PartOutput
 pub mod Opening
-pub mod OneMachine
 pub mod Rows
 pub mod Running
 pub mod Uniting

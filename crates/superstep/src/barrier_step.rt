@@ -9,7 +9,8 @@ ghost use Rattle.inbox.specs.Merging.{IsBySource, all_of, sent_in, are_one, drop
 ghost use Rattle.superstep.specs.Job.{Meaning};
 ghost use Rattle.superstep.specs.State.{HasIdsOf, IsStateAt};
 ghost use Rattle.superstep.specs.Superstep.{dropped_by, messages_to};
-ghost use Rattle.superstep.specs.Tasks.{AreTrusted, DoneStamp, IsRow, VertexOutcome, emptied, outcomes_in};
+ghost use Rattle.job_state.specs.Stamps.{DoneStamp};
+ghost use Rattle.superstep.specs.Tasks.{AreTrusted, IsRow, VertexOutcome, emptied, outcomes_in};
 ghost use Rattle.job_state.specs.Totals.{AreTotals};
 ghost use Rattle.superstep.specs.Totals.{AreTotalsOf};
 ghost use Rattle.job_state.specs.inside.Filled.{filled};

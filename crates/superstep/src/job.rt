@@ -4,15 +4,14 @@ ghost use Rattle.std.specs.Prelude.{◌≡◌, ◌<◌, ◌-◌, ◌^◌, None, 
 ghost use Rattle.graph.specs.Entry.{ids, parts_of, vertex_id};
 ghost use Rattle.graph.specs.Parts.{part_entries};
 ghost use Rattle.superstep.specs.Job.{HasGraph, IsCount, IsEdgeCount, IsGraphOf, Meaning};
-ghost use Rattle.superstep.specs.Settings.{Refuses, first_bad};
-ghost use Rattle.superstep.specs.declared.fault.JobFault.TheVariants.{OutOfMemory};
-ghost use Rattle.superstep.specs.declared.fault.Place.TheVariants.{Open};
+ghost use Rattle.job_state.specs.Settings.{Refuses, first_bad};
+ghost use Rattle.job_state.specs.declared.fault.JobFault.TheVariants.{OutOfMemory};
+ghost use Rattle.job_state.specs.declared.fault.Place.TheVariants.{Open};
 ghost use Rattle.superstep.specs.inside.Opening.{IsOpen, edges_at};
 
-use crate::fault::{JobFault, Place};
-use crate::settings::Settings;
 use graph::{Graph, Part, Vertex, split};
 use interp::calls_are_a_function;
+use job_state::{JobFault, Place, Settings};
 use std::alloc::{AllocError, Global};
 use std::marker::Model;
 use verified::Verified;

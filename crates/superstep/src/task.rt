@@ -5,11 +5,10 @@ ghost use Rattle.graph.specs.Entry.{entries_of, entry_of, ids};
 ghost use Rattle.superstep.specs.Found.{IsFoundAt};
 ghost use Rattle.job_state.specs.State.{state_id};
 ghost use Rattle.superstep.specs.Tasks.{AreAggregatesAt, AreUnitsAt, IsDone, IsSentAt};
-ghost use Rattle.superstep.specs.declared.fault.Place.TheVariants.{Call};
+ghost use Rattle.job_state.specs.declared.fault.Place.TheVariants.{Call};
 ghost use Rattle.job_state.specs.inside.DueRows.{due_rows};
 ghost use Rattle.superstep.specs.inside.PartOutput.{CallsPart, CallsVertex, HasProperIds};
 
-use crate::fault::Place;
 use crate::job::Job;
 use crate::part_output::PartOutput;
 use crate::slice::{Origin, Slice};
@@ -17,7 +16,7 @@ use graph::Vertex;
 use host_calls::CallInput;
 use inbox::{Inbox, Outbox};
 use interp::{Scratch, calls_are_a_function, run};
-use job_state::{Found, PartStates, VertexState};
+use job_state::{Found, PartStates, Place, VertexState};
 use std::alloc::{AllocError, Global};
 use std::marker::{Model, PhantomData};
 use verified::Verified;
@@ -32,7 +31,8 @@ pub struct Task<J: Origin> {
 
 impl<J: Origin> Model for Task<J> {
     ghost use Rattle.std.specs.Prelude.{◌≡◌, true};
-    ghost use Rattle.superstep.specs.Tasks.{AreAggregatesAt, TaskStamp};
+    ghost use Rattle.job_state.specs.Stamps.{TaskStamp};
+    ghost use Rattle.superstep.specs.Tasks.{AreAggregatesAt};
 
     ghost Value = { TaskStamp };
 
@@ -121,7 +121,8 @@ impl<J: Origin> Drop for Done<J> {
 }
 
 impl<J: Origin> Model for Done<J> {
-    ghost use Rattle.superstep.specs.Tasks.{DoneStamp, IsDone};
+    ghost use Rattle.job_state.specs.Stamps.{DoneStamp};
+    ghost use Rattle.superstep.specs.Tasks.{IsDone};
 
     ghost Value = { DoneStamp };
 
@@ -283,9 +284,9 @@ pub fn run_task<J: Origin>(
     })
 }
 
-// The input that all calls of a superstep share.
+/// The input that all calls of a superstep share.
 #[derive(Clone, Copy)]
-pub(crate) struct Shared<'a> {
+pub struct Shared<'a> {
     pub verified: &'a Verified,
     pub superstep: u32,
     pub count: u32,

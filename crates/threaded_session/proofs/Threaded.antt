@@ -2,7 +2,7 @@
 use Rattle.std.proofs.Common.{◌≡◌, Err, IfOk, Ok, refl, true}
 use Rattle.std.specs.Prelude.{IfErr, Result}
 use Rattle.rollback.specs.declared.report.Report.{Report}
-use Rattle.superstep.specs.declared.fault.JobFault.{JobFault}
+use Rattle.job_state.specs.declared.fault.JobFault.{JobFault}
 use Rattle.superstep.specs.Ending.{IsEndOf}
 use Rattle.superstep.specs.Job.{Work}
 use Rattle.superstep.specs.Tasks.{trusts}

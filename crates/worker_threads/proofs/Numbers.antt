@@ -2,8 +2,9 @@
 use Rattle.std.proofs.Common.{◌≡◌, List, [], ◌∷◌, ◌++◌, map, refl, ap, ◌∙◌}
 use mathlib.Core.List.{append-nil, map-append}
 use Rattle.superstep.specs.declared.task.Task.{Task}
-use Rattle.control.specs.declared.event.Event.{Event}
-use Rattle.control.specs.Stamps.{stamp_of, task_out}
+use Rattle.events.specs.declared.event.Event.{Event}
+use Rattle.events.specs.Events.{stamp_of}
+use Rattle.control.specs.Stamps.{task_out}
 use Rattle.channels.specs.Orders.{tasks_in}
 use Rattle.worker_threads.specs.Hub.{events_in}
 use Rattle.worker_threads.specs.Numbers.{outs_in, stamps_in}

@@ -1,10 +1,10 @@
 -- Passes that are used one after another.
 use Rattle.std.proofs.lemmas.Bool.{and_from, and_parts}
 use Rattle.std.proofs.Common.{◌≡◌, ◌∙◌, Bool, true, false, List, [], ◌∷◌, ◌++◌, append_assoc, ap, refl, sym, Result, Ok, Err, IfOk}
-use Rattle.superstep.specs.declared.fault.JobFault.{JobFault}
+use Rattle.job_state.specs.declared.fault.JobFault.{JobFault}
 use mathlib.Core.List.{append-nil}
 use Rattle.std.specs.Prelude.{◌||◌, not}
-use Rattle.control.specs.declared.event.Event.{Event}
+use Rattle.events.specs.declared.event.Event.{Event}
 use Rattle.worker_threads.specs.Messages.{AddsJoins, is_joined, is_lost, joins_follow}
 use Rattle.worker_threads.specs.declared.message.Message.{Message}
 use Rattle.worker_threads.specs.declared.message.Message.TheVariants as message

@@ -2,12 +2,14 @@
 use Rattle.std.proofs.Common.{◌≡◌, ◌∙◌, ℕ, Bool, true, Option, Some, None, List, [], ◌∷◌, ◌++◌, map, append_assoc, ap, refl, sym, subst}
 use mathlib.Core.List.{IsPrefix, append-nil, map-append}
 use Rattle.superstep.specs.Job.{Work}
-use Rattle.superstep.specs.Tasks.{AreUnitsAt, DoneStamp, TaskStamp}
+use Rattle.job_state.specs.Stamps.{DoneStamp, TaskStamp}
+use Rattle.superstep.specs.Tasks.{AreUnitsAt}
 use Rattle.superstep.specs.declared.task.Task.{Task}
 use Rattle.control.specs.declared.control.Out.{Out}
-use Rattle.control.specs.declared.event.Event.{Event}
-use Rattle.control.specs.declared.event.Event.TheVariants as happened
-use Rattle.control.specs.Stamps.{done_out, stamp_of, task_out}
+use Rattle.events.specs.declared.event.Event.{Event}
+use Rattle.events.specs.declared.event.Event.TheVariants as happened
+use Rattle.events.specs.Events.{stamp_of}
+use Rattle.control.specs.Stamps.{done_out, task_out}
 use Rattle.control.specs.Events.{Stamp}
 use Rattle.control.specs.Events.Stamp.{DoneBy, JoinedBy, LostBy}
 use Rattle.channels.specs.Orders.{coordinator, order_of, tasks_in}

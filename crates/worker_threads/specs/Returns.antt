@@ -3,7 +3,7 @@ use Rattle.std.specs.Prelude.{◌≡◌, ℕ, ◌+◌, Bool, true, List, [], ◌
 use mathlib.Core.List.{IsPrefix}
 use Rattle.superstep.specs.Job.{Work}
 use Rattle.superstep.specs.Tasks.{AreUnitsAt}
-use Rattle.superstep.specs.declared.fault.Place.TheVariants.{Call}
+use Rattle.job_state.specs.declared.fault.Place.TheVariants.{Call}
 use Rattle.channels.specs.Protocol.{of}
 use Rattle.control.specs.declared.control.Out.{Out}
 use Rattle.control.specs.Events.{Stamp}

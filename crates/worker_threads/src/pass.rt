@@ -1,8 +1,8 @@
 //! The passes of workers and the ticker, which are their channel ends, and their receipts after a bye.
 
 ghost use Rattle.std.specs.Prelude.{◌≡◌, ◌+◌, ◌++◌, ◌∷◌, [], false, IfOk, IfErr, OnOk, OnErr};
-ghost use Rattle.superstep.specs.declared.fault.JobFault.TheVariants.{Closed};
-ghost use Rattle.control.specs.declared.event.Event.TheVariants.{Tick};
+ghost use Rattle.job_state.specs.declared.fault.JobFault.TheVariants.{Closed};
+ghost use Rattle.events.specs.declared.event.Event.TheVariants.{Tick};
 ghost use Rattle.channels.specs.ChannelEnds.{number_of, sent_by};
 ghost use Rattle.worker_threads.specs.Messages.{closes, event_sender};
 ghost use Rattle.channels.specs.Orders.{order_of};
@@ -12,7 +12,7 @@ ghost use Rattle.worker_threads.specs.declared.message.Sender.TheVariants.{Ticke
 
 use crate::message::{Message, Sender};
 use channels::{Order, ReceivingEnd, SendingEnd};
-use control::Event;
+use events::Event;
 use std::alloc::Global;
 use std::sync::atomic::{AtomicBool, Ordering};
 use std::sync::{Arc, Wait};

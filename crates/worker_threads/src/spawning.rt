@@ -1,7 +1,7 @@
 //! Starting the threads of a hub.
 
 ghost use Rattle.std.specs.Prelude.{◌≡◌, [], false, map, vec_len, IfErr, IfOk};
-ghost use Rattle.superstep.specs.declared.fault.JobFault.TheVariants.{ThreadRefused};
+ghost use Rattle.job_state.specs.declared.fault.JobFault.TheVariants.{ThreadRefused};
 ghost use Rattle.worker_threads.specs.Hub.{AreNewPasses, IsNewPass, IsNewTicker, channels_of, staff};
 ghost use Rattle.worker_threads.specs.Passes.{IsReceipt, IsTickReceipt, handed_in, taken, ticked};
 ghost use Rattle.worker_threads.specs.Threads.{AreOfGate, AreSpawned, AreThreadsOf, IsSpawned, IsSpawnedTicker, JoinsAfterLoss};

@@ -2,10 +2,11 @@
 
 ghost use Rattle.std.specs.Prelude.{◌≡◌, ◌+◌, ◌∷◌, [], false, true, IfErr, IfOk, IfSome, OnOk};
 ghost use Rattle.superstep.specs.Tasks.{AreUnitsAt};
-ghost use Rattle.superstep.specs.declared.fault.JobFault.TheVariants.{Closed};
-ghost use Rattle.superstep.specs.declared.fault.Place.TheVariants.{Call};
+ghost use Rattle.job_state.specs.declared.fault.JobFault.TheVariants.{Closed};
+ghost use Rattle.job_state.specs.declared.fault.Place.TheVariants.{Call};
 ghost use Rattle.control.specs.declared.control.Out.{Out};
-ghost use Rattle.control.specs.Stamps.{stamp_of, task_out};
+ghost use Rattle.events.specs.Events.{stamp_of};
+ghost use Rattle.control.specs.Stamps.{task_out};
 ghost use Rattle.worker_threads.specs.Messages.{AddsJoins, event_sender, is_joined, is_lost};
 ghost use Rattle.worker_threads.specs.Passes.{IsReceipt, IsSamePass, IsTickReceipt, handed_in, taken, ticked};
 ghost use Rattle.worker_threads.specs.Returns.{IsReturnOf};
@@ -19,7 +20,7 @@ ghost use Rattle.worker_threads.specs.inside.Returning.{AddsReturn, AddsReturns,
 use crate::gate::{Gate, Turn, Worked};
 use crate::pass::{TickPass, TickReceipt, WorkerPass, WorkerReceipt};
 use crate::verdict::VerdictReader;
-use control::Event;
+use events::Event;
 use interp::Scratch;
 use std::alloc::Global;
 use std::sync::Wait;

@@ -2,7 +2,7 @@
 use Rattle.std.proofs.Common.{◌≡◌, ℕ, List, [], ◌∷◌, Bool, Option, Some, refl, sym, ◌∙◌, subst, inl, inr}
 use Rattle.checkpoint.specs.Keep.{LoadsNothingElse}
 use Rattle.superstep.specs.Job.{Work}
-use Rattle.superstep.specs.declared.settings.Settings.{Settings}
+use Rattle.job_state.specs.declared.settings.Settings.{Settings}
 use Rattle.control.specs.declared.job_status.DeviceResult.{DeviceResult}
 use Rattle.control.specs.declared.job_status.DeviceResult.TheVariants.{Failed, Good, NoMemory}
 use Rattle.control.specs.Events.{Heard, after_load, begun}

@@ -1,10 +1,10 @@
 -- What the end of a list of hands and events says of the answer.
 use Rattle.std.proofs.Common.{◌≡◌, ◌<◌, ℕ, Bool, true, false, Option, Some, List, [], ◌++◌, length, slice_index_or, Result, Ok, Err, IfErr, IfOk, refl, sym, ap, ◌∙◌, subst}
 use Rattle.superstep.specs.Job.{Work}
-use Rattle.superstep.specs.declared.fault.JobFault.{JobFault}
-use Rattle.superstep.specs.declared.fault.JobFault.TheVariants.{Closed, NoWorkers, OutOfMemory, Settings, ThreadRefused}
-use Rattle.superstep.specs.declared.fault.Place.{Place}
-use Rattle.superstep.specs.declared.fault.Place.TheVariants as place
+use Rattle.job_state.specs.declared.fault.JobFault.{JobFault}
+use Rattle.job_state.specs.declared.fault.JobFault.TheVariants.{Closed, NoWorkers, OutOfMemory, Settings, ThreadRefused}
+use Rattle.job_state.specs.declared.fault.Place.{Place}
+use Rattle.job_state.specs.declared.fault.Place.TheVariants as place
 use Rattle.control.specs.declared.job_status.JobStatus.{JobStatus}
 use Rattle.control.specs.declared.job_status.JobStatus.TheVariants.{Fault, Finished, Limit, Running}
 use Rattle.rollback.specs.declared.report.Report.{Report}

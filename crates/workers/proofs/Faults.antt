@@ -1,16 +1,16 @@
 -- By which faults the control model ends a job.
 use Rattle.std.proofs.Common.{◌≡◌, ℕ, ◌+◌, Bool, true, false, ◌&&◌, not, cond, Option, Some, None, List, [], ◌∷◌, sym, refl, ap, ◌∙◌}
 use Rattle.std.specs.Prelude.{nat_lt}
-use Rattle.superstep.specs.declared.fault.JobFault.TheVariants.{NoWorkers}
-use Rattle.superstep.specs.declared.fault.Place.{Place}
-use Rattle.superstep.specs.declared.settings.Settings as settings
+use Rattle.job_state.specs.declared.fault.JobFault.TheVariants.{NoWorkers}
+use Rattle.job_state.specs.declared.fault.Place.{Place}
+use Rattle.job_state.specs.declared.settings.Settings as settings
 use Rattle.superstep.specs.Job.{Work}
 use Rattle.control.specs.declared.control.Out.{Out}
 use Rattle.control.specs.declared.job_status.JobStatus.TheVariants.{Finished, Limit, Running}
 use Rattle.control.specs.declared.job_status.DeviceResult.{DeviceResult}
 use Rattle.control.specs.declared.job_status.DeviceResult.TheVariants.{Failed, Good, NoMemory}
-use Rattle.control.specs.declared.event.Answer.{Answer}
-use Rattle.control.specs.declared.event.Answer.TheVariants.{Ended, Stale, Taken}
+use Rattle.control.specs.declared.answer.Answer.{Answer}
+use Rattle.control.specs.declared.answer.Answer.TheVariants.{Ended, Stale, Taken}
 use Rattle.control.specs.Machine.{Machine, aged, all_set, begun_anew, charged, closed, count_set, counts, ended_by, expired, finished, freed, has_answer, is_alive, is_busy, is_out, is_running, is_saved_now, joined, lost, may_join, opened, resumed, welcomed}
 use Rattle.control.specs.Events.{Heard, Stamp, after_end, after_load, after_loss, after_save, begun, closing, done_step, failed_step, on_event, joined_step, loading, loss, lost_step, rolling, saving, shut, slicing, stale_done, tick_step}
 use Rattle.control.specs.Events.Stamp.{DoneBy, FailedBy, JoinedBy, LostBy, Ticked}

@@ -1,11 +1,11 @@
 -- The units that were received of a worker are those that it handed in.
 use Rattle.std.proofs.lemmas.Bool.Decides.{eqb_tells}
 use Rattle.std.proofs.Common.{◌≡◌, ◌≢◌, ℕ, ◌+◌, ◌<◌, List, [], ◌∷◌, Result, Ok, Err, IfOk, Option, Some, None, cond, eq-eqb, ne_eqb, refl, sym, ap, ◌∙◌, arith, ◌⊎◌, ⊎_elim, inl, inr, length}
-use Rattle.superstep.specs.declared.fault.JobFault.{JobFault}
-use Rattle.control.specs.declared.event.Event.{Event}
-use Rattle.control.specs.declared.event.Event.TheVariants as event
+use Rattle.job_state.specs.declared.fault.JobFault.{JobFault}
+use Rattle.events.specs.declared.event.Event.{Event}
+use Rattle.events.specs.declared.event.Event.TheVariants as event
 use Rattle.rollback.specs.declared.report.Report.{Report}
-use Rattle.control.specs.Stamps.{stamp_of}
+use Rattle.events.specs.Events.{stamp_of}
 use Rattle.workers.specs.JobAnswers.{HasSpent, WhereEnded}
 use Rattle.worker_threads.specs.Hub.{HasByes, received, staff}
 use Rattle.worker_threads.specs.Messages.{event_sender, sender_of}

@@ -4,11 +4,11 @@ use Rattle.std.proofs.Common.{◌≡◌, ◌≢◌, ◌∙◌, ℕ, ◌+◌, ◌
 use Rattle.std.specs.Prelude.{◌==◌}
 use mathlib.Core.List.{append-nil}
 use Rattle.superstep.specs.Job.{Work}
-use Rattle.superstep.specs.declared.fault.JobFault.{JobFault}
-use Rattle.control.specs.declared.event.Event.{Event}
-use Rattle.control.specs.declared.event.Event.TheVariants as happened
+use Rattle.job_state.specs.declared.fault.JobFault.{JobFault}
+use Rattle.events.specs.declared.event.Event.{Event}
+use Rattle.events.specs.declared.event.Event.TheVariants as happened
 use Rattle.rollback.specs.declared.report.Report.{Report}
-use Rattle.control.specs.Stamps.{stamp_of}
+use Rattle.events.specs.Events.{stamp_of}
 use Rattle.control.specs.Machine.{Machine}
 use Rattle.channels.specs.Orders.{at}
 use Rattle.channels.specs.Protocol.{of}

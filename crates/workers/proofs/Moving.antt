@@ -3,16 +3,17 @@ use Rattle.std.proofs.lemmas.Bool.Decides.{eqb_tells}
 use Rattle.std.proofs.Common.{◌≡◌, ◌≢◌, ℕ, zero, suc, ◌<◌, Bool, cond, Option, Some, None, Result, List, [], ◌∷◌, ◌++◌, map, length, set, sym, refl, ap, ◌∙◌, subst, append_assoc, eq-eqb, ne_eqb, ◌⊎◌, ⊎_elim, inl, inr}
 use mathlib.Core.List.{append-nil}
 use Rattle.superstep.specs.Job.{Work}
-use Rattle.superstep.specs.declared.fault.JobFault.{JobFault}
+use Rattle.job_state.specs.declared.fault.JobFault.{JobFault}
 use Rattle.superstep.specs.declared.task.Task.{Task}
 use Rattle.control.specs.declared.control.Out.{Out}
-use Rattle.control.specs.declared.event.Answer.{Answer}
-use Rattle.control.specs.declared.event.Event.{Event}
-use Rattle.control.specs.declared.event.Event.TheVariants as happened
+use Rattle.control.specs.declared.answer.Answer.{Answer}
+use Rattle.events.specs.declared.event.Event.{Event}
+use Rattle.events.specs.declared.event.Event.TheVariants as happened
 use Rattle.control.specs.Machine.{Machine, hand, handed, task_of}
 use Rattle.control.specs.Events.{Heard, accepted, reply_of}
 use Rattle.control.specs.Events.Stamp.{LostBy}
-use Rattle.control.specs.Stamps.{stamp_of, task_out}
+use Rattle.events.specs.Events.{stamp_of}
+use Rattle.control.specs.Stamps.{task_out}
 use Rattle.rollback.specs.Saving.{IsKeptStep, KeepsFor}
 use Rattle.rollback.proofs.Keeps.{keeps_same}
 use Rattle.rollback.proofs.Simulated.{kept_still}

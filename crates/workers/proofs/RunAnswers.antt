@@ -2,10 +2,10 @@
 use Rattle.std.proofs.Common.{◌≡◌, ◌∙◌, ℕ, ◌<◌, Bool, true, List, Option, Result, Ok, Err, IfOk, subst, sym}
 use Rattle.superstep.specs.Ending.{IsEndOf}
 use Rattle.superstep.specs.Job.{Work}
-use Rattle.superstep.specs.declared.fault.JobFault.{JobFault}
-use Rattle.superstep.specs.declared.fault.JobFault.TheVariants.{Closed, NoWorkers, OutOfMemory, Settings, ThreadRefused}
-use Rattle.superstep.specs.declared.fault.Place.{Place}
-use Rattle.superstep.specs.declared.fault.Place.TheVariants as place
+use Rattle.job_state.specs.declared.fault.JobFault.{JobFault}
+use Rattle.job_state.specs.declared.fault.JobFault.TheVariants.{Closed, NoWorkers, OutOfMemory, Settings, ThreadRefused}
+use Rattle.job_state.specs.declared.fault.Place.{Place}
+use Rattle.job_state.specs.declared.fault.Place.TheVariants as place
 use Rattle.rollback.specs.declared.report.Report.{Report}
 use Rattle.control.specs.Machine.{Machine}
 use Rattle.workers.specs.JobAnswers.{EndedOver, EndedOverOwn, IsKeptRun, IsKeptRunOn, RanOn, RanOnOwn, WhereBegun, WhereConnected, WhereOpened, WhereRun}

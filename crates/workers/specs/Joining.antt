@@ -1,10 +1,10 @@
 -- A worker joins again only after a loss that was counted.
 use Rattle.std.specs.Prelude.{◌≡◌, ◌<◌, ◌==◌, ℕ, Bool, true, false, List, [], ◌∷◌, ◌++◌, Result, Ok, Err, if◌then◌else◌}
 use Rattle.superstep.specs.Job.{Work}
-use Rattle.superstep.specs.declared.fault.JobFault.{JobFault}
+use Rattle.job_state.specs.declared.fault.JobFault.{JobFault}
 use Rattle.channels.specs.declared.order.Order.{Order}
-use Rattle.control.specs.declared.event.Answer.{Answer}
-use Rattle.control.specs.declared.event.Answer.TheVariants.{Advanced, Ended, RolledBack, Stale, Taken}
+use Rattle.control.specs.declared.answer.Answer.{Answer}
+use Rattle.control.specs.declared.answer.Answer.TheVariants.{Advanced, Ended, RolledBack, Stale, Taken}
 use Rattle.rollback.specs.declared.report.Report.{Report}
 use Rattle.rollback.specs.Book.{IsQuietAt}
 use Rattle.control.specs.Events.{Heard, Stamp, accepted, begun, reply_of}

@@ -1,7 +1,7 @@
 //! The coordinator of a job.
 
 ghost use Rattle.std.specs.Prelude.{◌≡◌, ◌<◌, ◌+◌, ◌++◌, ◌∷◌, [], ℕ, true, IfOk, IfErr, OnOk, OnErr};
-ghost use Rattle.superstep.specs.declared.fault.JobFault.TheVariants.{Closed};
+ghost use Rattle.job_state.specs.declared.fault.JobFault.TheVariants.{Closed};
 ghost use Rattle.checkpoint.specs.Keep.{LoadsNothingElse};
 ghost use Rattle.rollback.specs.Simulation.{NeverFails};
 ghost use Rattle.workers.specs.JobAnswers.{HasSpent, IsCalmReport, IsDriveFault, IsLeftBy, IsOpened, EndedOver, EndedOverKeep, WhereEnded};

@@ -1,8 +1,8 @@
 //! A hub: the channels of a job, and all their ends.
 
 ghost use Rattle.std.specs.Prelude.{◌≡◌, ◌⊎◌, true, IfOk, IfErr};
-ghost use Rattle.superstep.specs.declared.fault.JobFault.TheVariants.{OutOfMemory};
-ghost use Rattle.superstep.specs.declared.fault.Place.TheVariants.{Channel, Open};
+ghost use Rattle.job_state.specs.declared.fault.JobFault.TheVariants.{OutOfMemory};
+ghost use Rattle.job_state.specs.declared.fault.Place.TheVariants.{Channel, Open};
 
 use crate::coordinator::Coordinator;
 use checkpoint::Keep;

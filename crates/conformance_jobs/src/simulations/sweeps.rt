@@ -1,11 +1,12 @@
 //! Many lists of steps of one job.
 
 use checkpoint::MemoryKeep;
+use plain_run::one_machine;
 use rollback::{Outcome, Step, simulate};
 use std::alloc::{AllocError, Global};
 use std::rt::Files;
 use std::thread::Threads;
-use superstep::{EndReason, Job, JobEnd, JobFault, one_machine};
+use superstep::{EndReason, Job, JobEnd, JobFault};
 
 // How many steps a drawn list has.
 const STEPS: usize = 64;

@@ -1,8 +1,8 @@
 -- What an event does to a book and its Keep, all together.
 use Rattle.std.specs.Prelude.{◌≡◌, ℕ, Bool, List, Option, Result}
-use Rattle.superstep.specs.declared.fault.JobFault.{JobFault}
+use Rattle.job_state.specs.declared.fault.JobFault.{JobFault}
 use Rattle.superstep.specs.Job.{Work}
-use Rattle.control.specs.declared.event.Answer.{Answer}
+use Rattle.control.specs.declared.answer.Answer.{Answer}
 use Rattle.control.specs.Machine.{Machine}
 use Rattle.control.specs.Events.{Heard}
 use Rattle.rollback.specs.Saving.{IsCaused, IsSavedOrLeft, KeepsFor, MayLoadAfter}

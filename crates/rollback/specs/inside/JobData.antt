@@ -1,6 +1,6 @@
 -- What a book holds, as it is kept.
 use Rattle.std.specs.Prelude.{◌≡◌, ◌<◌, ◌≤◌, ℕ, length}
-use Rattle.superstep.specs.Tasks.{DoneStamp}
+use Rattle.job_state.specs.Stamps.{DoneStamp}
 use Rattle.rollback.specs.declared.job_data.JobData.{JobData}
 use Rattle.rollback.specs.declared.job_data.JobData.TheVariants.{Nothing, Parts, Whole}
 use Rattle.rollback.specs.inside.Parts.{IsHome, Placement}

@@ -1,7 +1,7 @@
 -- What simulating looks at, and what a step leaves of the counts.
 use Rattle.std.specs.Prelude.{◌≡◌, ℕ, Bool, List, map, Option, Some, None, option_map, replicate}
 use Rattle.superstep.specs.Job.{Work}
-use Rattle.superstep.specs.Tasks.{TaskStamp}
+use Rattle.job_state.specs.Stamps.{TaskStamp}
 use Rattle.control.specs.declared.control.Out.{Out}
 use Rattle.rollback.specs.declared.simulation.Step.{Step}
 use Rattle.rollback.specs.declared.simulation.StepAnswer.{StepAnswer}

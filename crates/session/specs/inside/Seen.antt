@@ -3,7 +3,7 @@ use Rattle.std.specs.Prelude.{◌≡◌, ◌⊎◌, ℕ, List, Result, Ok, Err, 
 use Rattle.std.specs.BTreeMap.{get_by_text}
 use Rattle.wasm_ast.specs.declared.module.Module.{Module}
 use Rattle.verified.specs.Facts.{IsSizeOfCompute}
-use Rattle.superstep.specs.declared.fault.JobFault.{JobFault}
+use Rattle.job_state.specs.declared.fault.JobFault.{JobFault}
 use Rattle.sources.specs.declared.fault.CommandFault.{CommandFault}
 use Rattle.session.specs.declared.command.Command.{Command}
 use Rattle.session.specs.declared.command.Command.TheVariants as command

@@ -13,7 +13,8 @@ use Rattle.job_state.specs.inside.Filled.{filled}
 use Rattle.superstep.specs.Folds.{aggregated}
 use Rattle.superstep.specs.Superstep.{contributions_of, units_left}
 use Rattle.superstep.specs.Job.{Work}
-use Rattle.superstep.specs.Tasks.{DoneStamp, IsLeftAt, VertexOutcome, emptied, letters_of, outcomes_in}
+use Rattle.job_state.specs.Stamps.{DoneStamp}
+use Rattle.superstep.specs.Tasks.{IsLeftAt, VertexOutcome, emptied, letters_of, outcomes_in}
 
 abbrev pub left_id : VertexOutcome → ℕ
 left_id one = one.0

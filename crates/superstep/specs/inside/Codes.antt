@@ -5,7 +5,7 @@ use Rattle.wasm_ast.specs.declared.module.Module.{Module}
 use Rattle.wasm_ast.specs.Modules.{empty_module}
 use Rattle.wasm_ast.specs.contracts.module.Module as module_type
 use Rattle.graph.specs.Entry.{Entry}
-use Rattle.superstep.specs.declared.settings.Settings.{Settings}
+use Rattle.job_state.specs.declared.settings.Settings.{Settings}
 use Rattle.superstep.specs.Job.{Work}
 
 abbrev pub entry_code : Coded Entry

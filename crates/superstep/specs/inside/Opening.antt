@@ -3,9 +3,9 @@ use Rattle.std.specs.Prelude.{◌≡◌, ℕ, List, length, map, None}
 use Rattle.wasm_ast.specs.declared.module.Module.{Module}
 use Rattle.graph.specs.Entry.{Entry, ids}
 use Rattle.graph.specs.declared.vertex.Vertex.{Vertex}
-use Rattle.superstep.specs.declared.settings.Settings.{Settings}
+use Rattle.job_state.specs.declared.settings.Settings.{Settings}
 use Rattle.superstep.specs.Job.{IsGraphOf}
-use Rattle.superstep.specs.Settings.{first_bad}
+use Rattle.job_state.specs.Settings.{first_bad}
 
 -- the parts are those of a graph with `count` vertices, and `numbers` has the ids of each part's vertices
 pub record IsOpen (m : Module) (parts : List (List Entry)) (numbers : List (List ℕ)) (settings : Settings) (count : ℕ) : Type 0 where

@@ -1,5 +1,6 @@
 -- Tasks, run one after another.
-use Rattle.superstep.specs.Tasks.{DoneStamp, SliceStamp}
+use Rattle.job_state.specs.Stamps.{DoneStamp}
+use Rattle.superstep.specs.Tasks.{SliceStamp}
 
 -- the slice of this result
 abbrev pub slice_of : DoneStamp → SliceStamp

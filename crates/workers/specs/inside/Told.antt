@@ -1,11 +1,11 @@
 -- What workers are told of their losses in a list of assignments and events.
 use Rattle.std.specs.Prelude.{◌≡◌, ◌<◌, ◌==◌, ℕ, Bool, List, [], ◌∷◌, ◌++◌, length, Option, Some, None, Result, if◌then◌else◌}
 use Rattle.superstep.specs.Job.{Work}
-use Rattle.superstep.specs.declared.fault.JobFault.{JobFault}
+use Rattle.job_state.specs.declared.fault.JobFault.{JobFault}
 use Rattle.channels.specs.declared.order.Order.{Order}
-use Rattle.control.specs.declared.event.Answer.{Answer}
-use Rattle.control.specs.declared.event.Event.{Event}
-use Rattle.control.specs.declared.event.Event.TheVariants.{Done, Failed, Joined, Lost, Tick}
+use Rattle.control.specs.declared.answer.Answer.{Answer}
+use Rattle.events.specs.declared.event.Event.{Event}
+use Rattle.events.specs.declared.event.Event.TheVariants.{Done, Failed, Joined, Lost, Tick}
 use Rattle.rollback.specs.declared.report.Report.{Report}
 use Rattle.control.specs.Machine.{Machine}
 use Rattle.workers.specs.JobAnswers.{RanFrom}

@@ -1,5 +1,5 @@
 use Rattle.std.proofs.Common.{◌≡◌, Some}
-use Rattle.superstep.specs.Settings.{first_bad}
+use Rattle.job_state.specs.Settings.{first_bad}
 use Rattle.sources.specs.declared.fault.CommandFault.TheVariants as command
 use Rattle.sources.specs.Jobs.{RefusesSettings}
 use Rattle.session.specs.inside.Seen.{reply_text}

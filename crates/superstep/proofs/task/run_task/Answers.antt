@@ -5,7 +5,8 @@ use Rattle.job_state.specs.declared.state.VertexState.{VertexState}
 use Rattle.superstep.specs.declared.task.Shared.{Shared}
 use Rattle.superstep.specs.Job.{HasGraph, IsCount, Work}
 use Rattle.job_state.specs.State.{state_id}
-use Rattle.superstep.specs.Tasks.{AreAggregatesAt, AreUnitsAt, IsDone, SliceStamp, TaskStamp}
+use Rattle.job_state.specs.Stamps.{TaskStamp}
+use Rattle.superstep.specs.Tasks.{AreAggregatesAt, AreUnitsAt, IsDone, SliceStamp}
 use Rattle.job_state.specs.inside.DueRows.{due_rows}
 use Rattle.superstep.specs.inside.PartOutput.{CallsPart, HasProperIds, Tells}
 use Rattle.superstep.proofs.PartLeft.{done_here, entries_here, fits_below, fits_ids, proper_here, units_here, whole_slice}

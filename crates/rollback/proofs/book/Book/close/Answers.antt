@@ -1,6 +1,6 @@
 use Rattle.std.proofs.Common.{◌≡◌, ◌<◌, ◌≤◌, suc, replicate, true, false, refl, sym, ap, ◌∙◌, subst, add-one, arith, inl}
-use Rattle.superstep.specs.declared.fault.JobFault.TheVariants.{OutOfMemory}
-use Rattle.superstep.specs.declared.fault.Place.TheVariants.{Merge}
+use Rattle.job_state.specs.declared.fault.JobFault.TheVariants.{OutOfMemory}
+use Rattle.job_state.specs.declared.fault.Place.TheVariants.{Merge}
 use Rattle.superstep.specs.Job.{Work}
 use Rattle.superstep.specs.State.{HasIdsOf}
 use Rattle.control.specs.declared.job_status.DeviceResult.TheVariants.{Good}

@@ -1,7 +1,7 @@
 use Rattle.std.proofs.Common.{◌≡◌, ◌<◌, length, sym, subst, ◌∙◌, ap, true, false}
 use Rattle.std.specs.Prelude.{Ok}
 use Rattle.control.specs.declared.control.Out.{Out}
-use Rattle.control.specs.declared.event.Answer.TheVariants.{Stale, Taken}
+use Rattle.control.specs.declared.answer.Answer.TheVariants.{Stale, Taken}
 use Rattle.control.specs.Machine.{Machine, all_set, counts, finished, freed, is_running}
 use Rattle.control.specs.Events.{Heard, done_step, stale_done}
 use Rattle.control.specs.Stamps.{done_out}

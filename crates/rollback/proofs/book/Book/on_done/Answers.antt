@@ -1,6 +1,6 @@
 use Rattle.std.proofs.Common.{◌≡◌, ◌<◌, ◌≤◌, length, subst, rules, refl, ◌∙◌, ap, true, false}
 use Rattle.std.specs.Prelude.{Ok, nat_lt}
-use Rattle.control.specs.declared.event.Answer.TheVariants.{Stale}
+use Rattle.control.specs.declared.answer.Answer.TheVariants.{Stale}
 use Rattle.control.specs.Machine.{Machine, charged}
 use Rattle.control.specs.Events.{Heard, on_event}
 use Rattle.control.specs.Events.Stamp.{DoneBy}

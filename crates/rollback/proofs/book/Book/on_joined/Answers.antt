@@ -1,6 +1,6 @@
 use Rattle.std.proofs.Common.{◌≡◌, ◌<◌, ◌≤◌, length, sym, subst, rules, refl, ◌∙◌, ap, true, false}
 use Rattle.std.specs.Prelude.{Ok, nat_lt}
-use Rattle.control.specs.declared.event.Answer.TheVariants.{Stale, Taken}
+use Rattle.control.specs.declared.answer.Answer.TheVariants.{Stale, Taken}
 use Rattle.control.specs.Machine.{Machine, is_running, may_join, waits}
 use Rattle.control.specs.Events.{on_event}
 use Rattle.control.specs.Events.Stamp.{JoinedBy}

@@ -1,7 +1,7 @@
 use Rattle.std.proofs.Common.{arith, ◌≡◌, ◌<◌, ◌≤◌, length, sym, subst, rules, refl, ◌∙◌, ap, true, false}
 use Rattle.std.specs.Prelude.{Ok, Err, nat_lt}
-use Rattle.superstep.specs.declared.fault.JobFault.TheVariants.{NoWorkers}
-use Rattle.control.specs.declared.event.Answer.TheVariants.{Stale}
+use Rattle.job_state.specs.declared.fault.JobFault.TheVariants.{NoWorkers}
+use Rattle.control.specs.declared.answer.Answer.TheVariants.{Stale}
 use Rattle.control.specs.Machine.{Machine, is_alive, is_running, lost, saved_or_first}
 use Rattle.control.specs.Events.{Heard, after_loss, on_event}
 use Rattle.control.specs.Events.Stamp.{LostBy}

@@ -1,7 +1,7 @@
 use Rattle.std.proofs.Common.{arith, ◌≡◌, ◌≤◌, sym, subst, refl, ◌∙◌, ap, true, false, ◌&&◌, not}
 use Rattle.std.specs.Prelude.{Ok, Err, nat_lt}
-use Rattle.superstep.specs.declared.fault.JobFault.TheVariants.{NoWorkers}
-use Rattle.control.specs.declared.event.Answer.TheVariants.{Taken}
+use Rattle.job_state.specs.declared.fault.JobFault.TheVariants.{NoWorkers}
+use Rattle.control.specs.declared.answer.Answer.TheVariants.{Taken}
 use Rattle.control.specs.Machine.{Machine, aged, count_set, expired, in_time, is_overdue, is_running, saved_or_first}
 use Rattle.control.specs.Events.{Heard, after_loss, on_event}
 use Rattle.control.specs.Events.Stamp.{Ticked}

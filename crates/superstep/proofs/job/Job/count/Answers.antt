@@ -1,6 +1,6 @@
 use Rattle.std.proofs.Common.{◌≡◌, None, length, subst, ap, ◌∙◌}
 use Rattle.superstep.specs.Job.{IsGraphOf, Work}
-use Rattle.superstep.specs.Settings.{first_bad}
+use Rattle.job_state.specs.Settings.{first_bad}
 use Rattle.superstep.specs.declared.job.Kept.{Kept}
 use Rattle.superstep.proofs.Graphs.{one_graph, some_parts}
 use Rattle.superstep.proofs.job.Job.count.Goals as goal

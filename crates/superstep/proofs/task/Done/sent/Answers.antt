@@ -1,5 +1,6 @@
 use Rattle.std.proofs.Common.{◌≡◌, ℕ, length, subst, sym, true}
-use Rattle.superstep.specs.Tasks.{DoneStamp, IsSentAt}
+use Rattle.job_state.specs.Stamps.{DoneStamp}
+use Rattle.superstep.specs.Tasks.{IsSentAt}
 use Rattle.superstep.proofs.SentLetters.{sent_here}
 use Rattle.superstep.proofs.task.Done.sent.Goals as goal
 

@@ -1,6 +1,6 @@
 use Rattle.std.proofs.Common.{◌≡◌, subst, sym, true}
 use Rattle.superstep.specs.Found.{IsFoundAt}
-use Rattle.superstep.specs.Tasks.{TaskStamp}
+use Rattle.job_state.specs.Stamps.{TaskStamp}
 use Rattle.superstep.proofs.task.Task.found.Goals as goal
 
 pub returns : goal.returns

@@ -1,0 +1,2 @@
+-- What an event is in numbers.
+pub mod Events

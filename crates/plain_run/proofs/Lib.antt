@@ -1,0 +1,3 @@
+pub mod Delivering
+pub mod PlainCalls
+pub mod PlainSteps

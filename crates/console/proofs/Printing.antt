@@ -8,10 +8,11 @@ use Rattle.command_line.specs.declared.request.Request.TheVariants as request
 use Rattle.wasm_decode.specs.Canonical.{canonical}
 use Rattle.checkpoint.specs.Checkpoint.{checkpoint_bytes}
 use Rattle.sources.specs.Disk.{Disk, Stays, Tries}
-use Rattle.plain_commands.specs.Importing.{TriesAll, files_of}
+use Rattle.sources.specs.Writing.{TriesAll}
+use Rattle.conversions.specs.Importing.{files_of}
 use Rattle.sources.specs.OutputLines.{line}
 use Rattle.sources.specs.Refusal.{fault_text, status_of}
-use Rattle.plain_commands.specs.Causes.{IsBeforeWriting}
+use Rattle.conversions.specs.Causes.{IsBeforeWriting}
 use Rattle.console.specs.FileCommands.{IsCause, MayTry, MayPrint}
 use Rattle.plain_commands.specs.Outputs.{HasPrinted}
 use Rattle.sources.proofs.Disks.{stays_again}

@@ -14,7 +14,7 @@ use Rattle.sources.specs.Disk.{Disk, Stays}
 use Rattle.sources.specs.Refusal.{fault_text, status_of}
 use Rattle.sources.specs.Source.{RefusesModule}
 use Rattle.sources.specs.Reading.{IsRefusedAt}
-use Rattle.plain_commands.specs.Importing.{IsNotImported, PrintsImport, TriesImport}
+use Rattle.conversions.specs.Importing.{IsNotImported, PrintsImport, TriesImport}
 use Rattle.console.specs.Jobs.{AreRunLines, IsFaultOfKept}
 use Rattle.console.specs.Loss.{NamesLoss, RefusesLoss}
 use Rattle.plain_commands.specs.Notes.{HasNoted, NotesEnd}
@@ -22,8 +22,10 @@ use Rattle.plain_commands.specs.declared.noting.RunNotes.{RunNotes}
 use Rattle.plain_commands.specs.Sizes.{IsNotAdmitted}
 use Rattle.plain_commands.specs.Opening.{IsJobAt, IsUnopened}
 use Rattle.plain_commands.specs.Keeping.{IsNotReady}
-use Rattle.plain_commands.specs.Causes.{IsUncalled, IsUnreplayed, IsNotUpgraded, IsUnassembled, IsUnfitted, StaysBeforeWriting}
-use Rattle.plain_commands.specs.Outputs.{PrintsOutcome, PrintsReplay, PrintsLength, PrintsFitted, PrintsUpgraded, PrintsLayout, PrintsBounds, TriesSpelling, TriesFitted, TriesUpgraded}
+use Rattle.plain_commands.specs.Causes.{IsUncalled, IsUnreplayed}
+use Rattle.conversions.specs.Causes.{IsNotUpgraded, IsUnassembled, IsUnfitted, StaysBeforeWriting}
+use Rattle.plain_commands.specs.Outputs.{PrintsOutcome, PrintsReplay, PrintsBounds}
+use Rattle.conversions.specs.Outputs.{PrintsLength, PrintsFitted, PrintsUpgraded, PrintsLayout, TriesSpelling, TriesFitted, TriesUpgraded}
 
 -- ---- answers
 

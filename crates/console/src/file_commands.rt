@@ -9,21 +9,22 @@ ghost use Rattle.sources.specs.OutputLines.{IfText};
 ghost use Rattle.console.specs.Loss.{NamesLoss, RefusesLoss};
 ghost use Rattle.console.specs.FileCommands.{Answered, IsCause, IsFaultOfKeeping, IsUnrun, MayPrint, MayTry, NotesAnswer, NotesFailedRun, NotesOnlyAsked, NotesOnlyRun, NotesPrinted, NotesRefusal, NotesRun, PrintsRun, writes_file};
 ghost use Rattle.plain_commands.specs.Outputs.{HasPrinted};
-ghost use Rattle.plain_commands.specs.Causes.{StaysBeforeWriting};
+ghost use Rattle.conversions.specs.Causes.{StaysBeforeWriting};
 ghost use Rattle.plain_commands.specs.Notes.{NotesEnd, NotesFault, NotesOnly};
 ghost use Rattle.plain_commands.specs.Sheets.{asks_of_run, asks_sheets};
 
+use crate::explaining::explain_refusal;
 use crate::jobs::{resume, run};
 use crate::loss::{Loss, LossGate};
 use crate::view::{RunGate, View};
 use crate::warnings::warn_of_run;
 use checkpoint::MemoryKeep;
 use command_line::{Progress, Request, RunRequest};
+use conversions::{assemble_file, fit_file, import_file, print_file, upgrade_file};
 use keeps::FileKeep;
 use line_text::{Output, WriteFailure};
 use plain_commands::{
-    RunNotes, Watch, assemble_file, call_files, explain_refusal, fit_file, import_file, job_of,
-    keep_in, print_file, refuse, replay_files, tell, upgrade_file, verify_file,
+    RunNotes, Watch, call_files, job_of, keep_in, refuse, replay_files, tell, verify_file,
 };
 use sources::{CommandFault, Files};
 use std::alloc::Global;

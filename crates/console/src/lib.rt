@@ -2,6 +2,7 @@
 //! print and write. The session of `pregel console` is in crate `session`.
 #![tactic(auto)]
 
+mod explaining;
 mod file_commands;
 mod jobs;
 mod loss;

@@ -1,5 +1,4 @@
 pub mod StepLines
-mod Fits
 pub mod Meanings
 pub mod Faults
 pub mod Ids
@@ -9,5 +8,4 @@ pub mod NumberedLines
 pub mod Unopened
 pub mod Folders
 pub mod Replays
-pub mod Writes
 pub mod SheetFiles

@@ -8,11 +8,11 @@ use Rattle.run_report.specs.Json.{IsJsonOf}
 use Rattle.run_report.specs.declared.report.RunReport.{RunReport}
 use Rattle.sources.specs.Disk.{Disk, Stays, Tries, Writes}
 use Rattle.sources.proofs.Disks.{stays_again}
-use Rattle.plain_commands.specs.Importing.{TriesAll, WritesAll}
+use Rattle.sources.specs.Writing.{TriesAll, WritesAll}
 use Rattle.plain_commands.specs.Sheets.{IsReported, MayWriteSheets, TriesNoted, TriesSheets, WritesSheets, names_in, sheet_at}
 use Rattle.plain_commands.specs.inside.SheetFiles.{TriesChart, TriesReport, WritesChart, WritesReport}
 use Rattle.plain_commands.specs.declared.noting.RunNotes.{RunNotes}
-use Rattle.plain_commands.proofs.Writes.{tries_front, tries_later, tries_one, tries_rest, writes_one, writes_rest, written_tried}
+use Rattle.sources.proofs.Writes.{tries_front, tries_later, tries_one, tries_rest, writes_one, writes_rest, written_tried}
 
 pub OnOk-along : {A E P Q : Type 0} (r : Result A E) → (P → Q) → OnOk r P → OnOk r Q
 OnOk-along (Ok x) go h = go h

@@ -6,7 +6,6 @@ pub mod Notes
 -- what a call and a replay print
 pub mod ComputeCall
 pub mod Replays
-pub mod Importing
 -- which module a command takes, which job, and which folder
 pub mod Sizes
 pub mod Opening

@@ -8,7 +8,7 @@ use Rattle.run_report.specs.Json.{IsJsonOf}
 use Rattle.run_report.specs.declared.report.JobFiles.{JobFiles}
 use Rattle.run_report.specs.declared.report.RunReport.{RunReport}
 use Rattle.sources.specs.Disk.{Disk, Stays}
-use Rattle.plain_commands.specs.Importing.{TriesAll, WritesAll}
+use Rattle.sources.specs.Writing.{TriesAll, WritesAll}
 use Rattle.plain_commands.specs.declared.noting.RunNotes.{RunNotes}
 
 -- whether a run is to be reported or charted

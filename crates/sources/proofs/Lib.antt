@@ -3,3 +3,4 @@ pub mod InputLines
 pub mod Meanings
 pub mod Faults
 pub mod Disks
+pub mod Writes

@@ -5,6 +5,7 @@ pub mod Input
 pub mod InputFaults
 -- files, the modules in them, and why no module is loaded from a file
 pub mod Disk
+pub mod Writing
 pub mod Modules
 pub mod Source
 -- graphs and jobs, and the results of reading a file

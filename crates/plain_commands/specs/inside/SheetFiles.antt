@@ -3,7 +3,7 @@ use Rattle.std.specs.Prelude.{◌⊎◌, ℕ, List}
 use Rattle.command_line.specs.declared.request.RunRequest.{RunRequest}
 use Rattle.run_report.specs.declared.report.RunReport.{RunReport}
 use Rattle.sources.specs.Disk.{Disk, Stays}
-use Rattle.plain_commands.specs.Importing.{TriesAll, WritesAll}
+use Rattle.sources.specs.Writing.{TriesAll, WritesAll}
 use Rattle.plain_commands.specs.Sheets.{IsReported, sheet_at}
 
 abbrev pub WritesReport : RunRequest → RunReport → (before after : Disk) → Type 0

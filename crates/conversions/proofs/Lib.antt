@@ -1,0 +1,3 @@
+pub mod Disks
+pub mod Fits
+pub mod Imports

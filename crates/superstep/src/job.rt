@@ -171,8 +171,8 @@ impl Job {
         count
     }
 
-    // Shows that the job's plain run exists: there is a graph, and one function that gives the outcome of each call.
-    pub(crate) fn has_meaning(&self)
+    /// Shows that the job's plain run exists: there is a graph, and one function that gives the outcome of each call.
+    pub fn has_meaning(&self)
         ensures { Meaning self.now }
     {
         calls_are_a_function();
@@ -180,8 +180,8 @@ impl Job {
         let _module = self.verified().module();
     }
 
-    // Returns the graph's parts, each with its vertices by rising id.
-    pub(crate) fn parts(&self) -> &[Part]
+    /// Returns the graph's parts, each with its vertices by rising id.
+    pub fn parts(&self) -> &[Part]
         ensures parts { map part_entries result.now ≡ self.now.parts }
         ensures graph { HasGraph self.now }
         ensures good { first_bad self.now.settings ≡ None }

@@ -11,8 +11,8 @@ use Rattle.interp.specs.Call.{Outcome}
 use Rattle.interp.specs.Outcomes.{Given}
 use Rattle.graph.specs.Entry.{Entry}
 use Rattle.host_calls.specs.Aggregators.{aggregator_starts}
-use Rattle.plain_run.specs.declared.one_machine.Held.{Held}
-use Rattle.plain_run.specs.declared.one_machine.Sent.{Sent}
+use Rattle.plain_run.specs.declared.machine.Held.{Held}
+use Rattle.plain_run.specs.declared.machine.Sent.{Sent}
 use Rattle.superstep.specs.declared.task.Shared.{Shared}
 use Rattle.job_state.specs.State.{capped}
 use Rattle.superstep.specs.Folds.{aggregated, give}

@@ -1,6 +1,6 @@
 //! The plain run of a job, by its definition on one machine (Pregel 2010, 2). All other runs are compared with it.
 #![tactic(auto)]
 
-mod one_machine;
+mod machine;
 
-pub use one_machine::one_machine;
+pub use machine::one_machine;

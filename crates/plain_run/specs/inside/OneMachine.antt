@@ -6,9 +6,9 @@ use Rattle.interp.specs.Call.{Outcome}
 use Rattle.interp.specs.Outcomes.{AreOutcomes, Given}
 use Rattle.graph.specs.declared.vertex.Vertex.{Vertex}
 use Rattle.graph.specs.Entry.{Entry, entry_of}
-use Rattle.plain_run.specs.declared.one_machine.Held.{Held}
-use Rattle.plain_run.specs.declared.one_machine.OneMachine.{OneMachine}
-use Rattle.plain_run.specs.declared.one_machine.Sent.{Sent}
+use Rattle.plain_run.specs.declared.machine.Held.{Held}
+use Rattle.plain_run.specs.declared.machine.OneMachine.{OneMachine}
+use Rattle.plain_run.specs.declared.machine.Sent.{Sent}
 use Rattle.superstep.specs.declared.ending.JobEnd.{JobEnd}
 use Rattle.job_state.specs.State.{capped}
 use Rattle.superstep.specs.Folds.{aggregated, give}

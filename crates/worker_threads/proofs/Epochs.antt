@@ -7,10 +7,10 @@ use Rattle.control.specs.Events.{Stamp}
 use Rattle.worker_threads.specs.Numbers.{stamps_in}
 use Rattle.worker_threads.specs.Threads.{AreOfGate}
 use Rattle.worker_threads.specs.inside.Epochs.{AreSteady, IsSteady, may_renew, renews}
-use Rattle.worker_threads.specs.declared.message.Message.{Message}
-use Rattle.worker_threads.specs.declared.message.Message.TheVariants as message
-use Rattle.worker_threads.specs.declared.message.Sender.{Sender}
-use Rattle.worker_threads.specs.declared.pass.WorkerReceipt.{WorkerReceipt}
+use Rattle.hub_ends.specs.declared.message.Message.{Message}
+use Rattle.hub_ends.specs.declared.message.Message.TheVariants as message
+use Rattle.hub_ends.specs.declared.message.Sender.{Sender}
+use Rattle.hub_ends.specs.declared.pass.WorkerReceipt.{WorkerReceipt}
 use Rattle.worker_threads.specs.declared.thread_promises.WorkerPromise.{WorkerPromise}
 use Rattle.worker_threads.proofs.Numbers.{stamps_bye, stamps_event}
 

@@ -1,6 +1,6 @@
 -- What workers hear of their losses, and that they join only after those that were counted.
 use Rattle.std.proofs.lemmas.Bool.{and_from, and_parts}
-use Rattle.std.proofs.Common.{◌≡◌, ◌∙◌, ℕ, ◌+◌, Bool, true, false, List, [], ◌∷◌, ◌++◌, map, length, slice_get, Some, Result, Ok, Err, OnOk, append_assoc, ap, refl, sym, subst, arith}
+use Rattle.std.proofs.Common.{◌≡◌, ◌∙◌, ℕ, ◌+◌, Bool, true, false, List, [], ◌∷◌, ◌++◌, length, slice_get, Some, append_assoc, ap, refl, sym, subst, arith}
 use Rattle.std.specs.declared.thread.PromisedHandle.{PromisedHandle}
 use mathlib.Core.List.{IsPrefix, append-nil, map-append}
 use Rattle.superstep.specs.Job.{Work}
@@ -10,44 +10,22 @@ use Rattle.events.specs.Events.{stamp_of}
 use Rattle.control.specs.Events.{Stamp}
 use Rattle.control.specs.Events.Stamp.{DoneBy, FailedBy, JoinedBy, LostBy, Ticked}
 use Rattle.channels.specs.Channel.{Channel}
-use Rattle.channels.specs.Protocol.{has_bye, of}
+use Rattle.channels.specs.Protocol.{of}
 use Rattle.channels.proofs.Handing.{get_end, get_more}
 use Rattle.worker_threads.specs.Counted.{first_of, joins_counted, rest_of}
-use Rattle.worker_threads.specs.Messages.{is_joined, is_lost}
-use Rattle.worker_threads.specs.Passes.{handed_in_by}
+use Rattle.hub_ends.specs.Messages.{is_joined, is_lost}
+use Rattle.hub_ends.specs.Passes.{handed_in_by}
 use Rattle.worker_threads.specs.Numbers.{stamps_in}
-use Rattle.worker_threads.specs.Verdicts.{from_coordinator, never_closes, told_to, was_counted}
+use Rattle.hub_ends.specs.Verdicts.{told_to}
 use Rattle.worker_threads.specs.inside.Joins.{AddsCounted, AreJoined, AreLinked, line_of}
 use Rattle.worker_threads.specs.inside.Returning.{HasReturned}
-use Rattle.worker_threads.specs.declared.message.Message.{Message}
-use Rattle.worker_threads.specs.declared.message.Message.TheVariants as message
-use Rattle.worker_threads.specs.declared.message.Sender.{Sender}
-use Rattle.worker_threads.specs.declared.pass.WorkerReceipt.{WorkerReceipt}
+use Rattle.hub_ends.specs.declared.message.Message.{Message}
+use Rattle.hub_ends.specs.declared.message.Message.TheVariants as message
+use Rattle.hub_ends.specs.declared.message.Sender.{Sender}
+use Rattle.hub_ends.specs.declared.pass.WorkerReceipt.{WorkerReceipt}
 use Rattle.worker_threads.specs.declared.thread_promises.WorkerPromise.{WorkerPromise}
-use Rattle.worker_threads.specs.declared.verdict.Verdict.{Verdict}
+use Rattle.hub_ends.specs.declared.verdict.Verdict.{Verdict}
 use Rattle.worker_threads.proofs.Numbers.{stamps_bye, stamps_event}
-
--- ---- verdicts
-
-pub no_bye : (xs : List Verdict) → has_bye never_closes xs ≡ false
-no_bye [] = refl
-no_bye (x ∷ xs) = no_bye xs
-
-all_of : (xs : List Verdict) → of from_coordinator 0 xs ≡ xs
-all_of [] = refl
-all_of (x ∷ xs) = ap (λ l. x ∷ l) (all_of xs)
-
-pub verdict_more : (xs ys : List Verdict) (v : Verdict) → ys ≡ xs ++ v ∷ [] → map was_counted ys ≡ map was_counted xs ++ v.counted ∷ []
-verdict_more xs ys v e = ap (map was_counted) e ∙ map-append was_counted xs (v ∷ [])
-
-pub verdict_sent : {A E : Type 0} (r : Result A E) (xs ys : List Verdict) (v : Verdict) → OnOk r (ys ≡ xs ++ v ∷ []) → OnOk r (map was_counted ys ≡ map was_counted xs ++ v.counted ∷ [])
-verdict_sent (Ok a) xs ys v e = verdict_more xs ys v e
-verdict_sent (Err x) xs ys v e = tt
-
-pub verdict_prefix : (n : ℕ) (sent got : List Verdict) → n ≡ 0 → IsPrefix (of from_coordinator n got) sent → IsPrefix (map was_counted got) (map was_counted sent)
-verdict_prefix n sent got e p =
-    let q : IsPrefix got sent = subst (λ l. IsPrefix l sent) (ap (λ (k : ℕ). of from_coordinator k got) e ∙ all_of got) p in
-    (map was_counted q.0, sym (map-append was_counted got q.0) ∙ ap (map was_counted) q.1)
 
 -- ---- joins of one worker
 

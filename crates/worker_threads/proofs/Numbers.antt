@@ -6,13 +6,13 @@ use Rattle.events.specs.declared.event.Event.{Event}
 use Rattle.events.specs.Events.{stamp_of}
 use Rattle.control.specs.Stamps.{task_out}
 use Rattle.channels.specs.Orders.{tasks_in}
-use Rattle.worker_threads.specs.Hub.{events_in}
+use Rattle.hub_ends.specs.Hub.{events_in}
 use Rattle.worker_threads.specs.Numbers.{outs_in, stamps_in}
-use Rattle.worker_threads.specs.declared.message.Message.{Message}
-use Rattle.worker_threads.specs.declared.message.Message.TheVariants as message
+use Rattle.hub_ends.specs.declared.message.Message.{Message}
+use Rattle.hub_ends.specs.declared.message.Message.TheVariants as message
 use Rattle.channels.specs.declared.order.Order.{Order}
 use Rattle.channels.specs.declared.order.Order.TheVariants.{Do}
-use Rattle.worker_threads.specs.declared.message.Sender.{Sender}
+use Rattle.hub_ends.specs.declared.message.Sender.{Sender}
 use Rattle.channels.proofs.Handing.{tasks-append}
 
 module _ {J : Type 0} where

@@ -5,16 +5,16 @@ use Rattle.job_state.specs.declared.fault.JobFault.{JobFault}
 use mathlib.Core.List.{append-nil}
 use Rattle.std.specs.Prelude.{◌||◌, not}
 use Rattle.events.specs.declared.event.Event.{Event}
-use Rattle.worker_threads.specs.Messages.{AddsJoins, is_joined, is_lost, joins_follow}
-use Rattle.worker_threads.specs.declared.message.Message.{Message}
-use Rattle.worker_threads.specs.declared.message.Message.TheVariants as message
+use Rattle.hub_ends.specs.Messages.{AddsJoins, is_joined, is_lost, joins_follow}
+use Rattle.hub_ends.specs.declared.message.Message.{Message}
+use Rattle.hub_ends.specs.declared.message.Message.TheVariants as message
 use Rattle.channels.specs.ChannelEnds.{IsSameReader, IsSameSender}
-use Rattle.worker_threads.specs.Passes.{IsReceipt, IsSamePass, handed_in_by}
+use Rattle.hub_ends.specs.Passes.{IsReceipt, IsSamePass, handed_in_by}
 use Rattle.worker_threads.specs.Threads.{JoinsAfterLoss}
 use Rattle.channels.specs.declared.channel_ends.ReceivingEnd.{ReceivingEnd}
 use Rattle.channels.specs.declared.channel_ends.SendingEnd.{SendingEnd}
-use Rattle.worker_threads.specs.declared.pass.WorkerPass.{WorkerPass}
-use Rattle.worker_threads.specs.declared.pass.WorkerReceipt.{WorkerReceipt}
+use Rattle.hub_ends.specs.declared.pass.WorkerPass.{WorkerPass}
+use Rattle.hub_ends.specs.declared.pass.WorkerReceipt.{WorkerReceipt}
 
 module _ {M : Type 0} where
   pub sender_same : (a : SendingEnd M) → IsSameSender a a

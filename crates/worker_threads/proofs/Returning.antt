@@ -17,14 +17,14 @@ use Rattle.channels.specs.Protocol.{of}
 use Rattle.channels.specs.declared.order.Order.{Order}
 use Rattle.channels.specs.declared.order.Order.TheVariants.{Do, Stop}
 use Rattle.channels.proofs.Handing.{tasks-append}
-use Rattle.worker_threads.specs.Passes.{handed_in_by, taken_by}
+use Rattle.hub_ends.specs.Passes.{handed_in_by, taken_by}
 use Rattle.worker_threads.specs.Returns.{AreReturnsOf, IsReturnOf, IsWorkOn}
 use Rattle.worker_threads.specs.Numbers.{outs_in, stamps_in}
 use Rattle.worker_threads.specs.inside.Returning.{AddsReturn, AddsReturns, HasReturned}
-use Rattle.worker_threads.specs.declared.message.Message.{Message}
-use Rattle.worker_threads.specs.declared.message.Message.TheVariants as message
-use Rattle.worker_threads.specs.declared.message.Sender.{Sender}
-use Rattle.worker_threads.specs.declared.pass.WorkerReceipt.{WorkerReceipt}
+use Rattle.hub_ends.specs.declared.message.Message.{Message}
+use Rattle.hub_ends.specs.declared.message.Message.TheVariants as message
+use Rattle.hub_ends.specs.declared.message.Sender.{Sender}
+use Rattle.hub_ends.specs.declared.pass.WorkerReceipt.{WorkerReceipt}
 use Rattle.control.proofs.Stamps.{done_same}
 use Rattle.worker_threads.proofs.Numbers.{outs_task, stamps_bye, stamps_event}
 

@@ -5,8 +5,8 @@ use Rattle.control.specs.Events.{Stamp}
 use Rattle.events.specs.Events.{stamp_of}
 use Rattle.control.specs.Stamps.{task_out}
 use Rattle.channels.specs.Orders.{tasks_in}
-use Rattle.worker_threads.specs.Hub.{events_in}
-use Rattle.worker_threads.specs.declared.message.Message.{Message}
+use Rattle.hub_ends.specs.Hub.{events_in}
+use Rattle.hub_ends.specs.declared.message.Message.{Message}
 use Rattle.channels.specs.declared.order.Order.{Order}
 
 -- what it received, without byes and in numbers

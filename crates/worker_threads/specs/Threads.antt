@@ -1,16 +1,16 @@
 -- The threads of a hub, and their receipts.
 use Rattle.std.specs.Prelude.{◌≡◌, ◌≤◌, ◌+◌, ℕ, Bool, Option, Some, None, List, [], ◌∷◌, vec_len, vec_capacity, false, true}
 use Rattle.std.specs.declared.thread.PromisedHandle.{PromisedHandle}
-use Rattle.worker_threads.specs.Hub.{IsSettled, IsTickerSettled, channels_of, handed, received, staff}
+use Rattle.hub_ends.specs.Hub.{IsSettled, IsTickerSettled, channels_of, handed, received, staff}
 use Rattle.channels.specs.Orders.{at, tasks_in}
-use Rattle.worker_threads.specs.Messages.{joins_follow}
-use Rattle.worker_threads.specs.Passes.{handed_in_by}
+use Rattle.hub_ends.specs.Messages.{joins_follow}
+use Rattle.hub_ends.specs.Passes.{handed_in_by}
 use Rattle.worker_threads.specs.declared.audit.Receipts.{Receipts}
-use Rattle.worker_threads.specs.declared.coordinator_ends.CoordinatorEnds.{CoordinatorEnds}
+use Rattle.hub_ends.specs.declared.coordinator_ends.CoordinatorEnds.{CoordinatorEnds}
 use Rattle.worker_threads.specs.declared.thread_promises.HubThreads.{HubThreads}
 use Rattle.worker_threads.specs.declared.thread_promises.TickerPromise.{TickerPromise}
 use Rattle.worker_threads.specs.declared.thread_promises.WorkerPromise.{WorkerPromise}
-use Rattle.worker_threads.specs.declared.pass.WorkerReceipt.{WorkerReceipt}
+use Rattle.hub_ends.specs.declared.pass.WorkerReceipt.{WorkerReceipt}
 
 module _ {J : Type 0} where
   -- the thread is that of worker w of this hub

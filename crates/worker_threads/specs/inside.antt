@@ -1,4 +1,3 @@
 pub mod Epochs
 pub mod Joins
-pub mod Opening
 pub mod Returning

@@ -1,17 +1,15 @@
 //! The audit after a job: threads are joined, and their receipts compared with what was received and sent.
 
 ghost use Rattle.std.specs.Prelude.{◌≡◌, ◌<◌, ◌+◌, false, map, slice_get, vec_len, vec_capacity, IfOk, OnOk, Some};
-ghost use Rattle.worker_threads.specs.Hub.{IsSameHub, handed, received, staff};
+ghost use Rattle.hub_ends.specs.Hub.{IsSameHub, handed, received, staff};
 ghost use Rattle.worker_threads.specs.Threads.{AreSettled, AreThreadsOf, IsSpawned, IsSettledHub};
-ghost use Rattle.worker_threads.specs.Verdicts.{sends_on, told_on};
+ghost use Rattle.hub_ends.specs.Verdicts.{sends_on, told_on};
 ghost use Rattle.worker_threads.specs.inside.Epochs.{AreSteady, IsSteadyHub};
 ghost use Rattle.worker_threads.specs.inside.Joins.{AreJoined, AreLinked, line_of};
 
-use crate::coordinator_ends::CoordinatorEnds;
-use crate::pass::{TickReceipt, WorkerReceipt};
 use crate::thread_promises::{HubThreads, WorkerThread};
-use crate::verdict::VerdictSender;
 use crate::worker_loop::WorkerEnd;
+use hub_ends::{CoordinatorEnds, TickReceipt, VerdictSender, WorkerReceipt};
 use std::thread::Threads;
 use superstep::{JobFault, Origin};
 

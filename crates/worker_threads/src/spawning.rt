@@ -2,20 +2,18 @@
 
 ghost use Rattle.std.specs.Prelude.{◌≡◌, [], false, map, vec_len, IfErr, IfOk};
 ghost use Rattle.job_state.specs.declared.fault.JobFault.TheVariants.{ThreadRefused};
-ghost use Rattle.worker_threads.specs.Hub.{AreNewPasses, IsNewPass, IsNewTicker, channels_of, staff};
-ghost use Rattle.worker_threads.specs.Passes.{IsReceipt, IsTickReceipt, handed_in, taken, ticked};
+ghost use Rattle.hub_ends.specs.Hub.{AreNewPasses, IsNewPass, IsNewTicker, channels_of, staff};
+ghost use Rattle.hub_ends.specs.Passes.{IsReceipt, IsTickReceipt, handed_in, taken, ticked};
 ghost use Rattle.worker_threads.specs.Threads.{AreOfGate, AreSpawned, AreThreadsOf, IsSpawned, IsSpawnedTicker, JoinsAfterLoss};
-ghost use Rattle.worker_threads.specs.Verdicts.{heard_on, reads_on, sends_on, told_on};
+ghost use Rattle.hub_ends.specs.Verdicts.{heard_on, reads_on, sends_on, told_on};
 ghost use Rattle.worker_threads.specs.inside.Epochs.{IsSteady, IsSteadyTicker};
 ghost use Rattle.worker_threads.specs.inside.Joins.{AreLinked, AreUntold, HasJoined, line_of};
 ghost use Rattle.worker_threads.specs.inside.Returning.{HasReturned};
 
-use crate::coordinator_ends::CoordinatorEnds;
 use crate::gate::Gate;
-use crate::pass::{TickPass, TickReceipt, WorkerPass};
 use crate::thread_promises::{HubThreads, TickThread, TickerPromise, WorkerPromise, WorkerThread};
-use crate::verdict::VerdictSender;
 use crate::worker_loop::{WorkerEnd, tick_all, work_all};
+use hub_ends::{CoordinatorEnds, TickPass, TickReceipt, VerdictSender, WorkerPass};
 use std::alloc::Global;
 use std::snapshot::Snapshot;
 use std::sync::Wait;

@@ -1,9 +1,7 @@
 //! The promises of threads: what they return is a receipt of this hub.
 
-use crate::coordinator_ends::CoordinatorEnds;
-use crate::pass::{TickReceipt, WorkerReceipt};
-use crate::verdict::VerdictSender;
 use crate::worker_loop::WorkerEnd;
+use hub_ends::{CoordinatorEnds, TickReceipt, VerdictSender, WorkerReceipt};
 use std::snapshot::Snapshot;
 use std::thread::{Promise, PromisedHandle};
 use superstep::{JobFault, Origin};
@@ -31,7 +29,7 @@ pub struct TickerPromise<J: Origin> {
 
 impl<J: Origin> Promise<Result<WorkerEnd<J>, JobFault>> for WorkerPromise<J> {
     ghost use Rattle.std.specs.Prelude.{◌≡◌, IfOk, false};
-    ghost use Rattle.worker_threads.specs.Hub.{IsReceiptOn, channels_of};
+    ghost use Rattle.hub_ends.specs.Hub.{IsReceiptOn, channels_of};
     ghost use Rattle.worker_threads.specs.Threads.{JoinsAfterLoss};
     ghost use Rattle.worker_threads.specs.inside.Epochs.{IsSteady};
     ghost use Rattle.worker_threads.specs.inside.Joins.{IsEndOn};
@@ -45,7 +43,7 @@ impl<J: Origin> Promise<Result<WorkerEnd<J>, JobFault>> for WorkerPromise<J> {
 
 impl<J: Origin> Promise<Result<TickReceipt<J>, JobFault>> for TickerPromise<J> {
     ghost use Rattle.std.specs.Prelude.{◌≡◌, IfOk, false};
-    ghost use Rattle.worker_threads.specs.Hub.{IsTickReceiptOn, channels_of};
+    ghost use Rattle.hub_ends.specs.Hub.{IsTickReceiptOn, channels_of};
     ghost use Rattle.worker_threads.specs.inside.Epochs.{IsSteadyTicker};
 
     ghost kept_by = { λ promise result. IfOk result (λ receipt.

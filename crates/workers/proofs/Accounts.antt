@@ -10,7 +10,7 @@ use Rattle.worker_threads.specs.Numbers.{stamps_in}
 use Rattle.workers.specs.Steps.Move.{Hand, Take}
 use Rattle.workers.specs.Units.{cut, units_by}
 use Rattle.workers.specs.inside.EventLoop.{IsUnspent}
-use Rattle.worker_threads.specs.declared.message.Message.{Message}
+use Rattle.hub_ends.specs.declared.message.Message.{Message}
 use Rattle.channels.specs.declared.order.Order.{Order}
 use Rattle.workers.proofs.Faults.{begun_own, opened_own}
 use Rattle.workers.proofs.Spent.{Account, IsAccount, account, accepted_account, accepted_ending, accounts_after, is_faulty, rolling_account, spent_at, spent_sum}

@@ -21,7 +21,7 @@ use Rattle.workers.specs.Steps.{AreMoves, KeptAlong, Steps, after, events, hands
 use Rattle.worker_threads.specs.Numbers.{outs_in, stamps_in}
 use Rattle.workers.specs.inside.EventLoop.{IsUnspent, StepsOver, is_own, is_own_fault}
 use Rattle.workers.specs.inside.Told.{StepsTold, ToldFrom}
-use Rattle.worker_threads.specs.declared.message.Message.{Message}
+use Rattle.hub_ends.specs.declared.message.Message.{Message}
 use Rattle.channels.specs.declared.order.Order.{Order}
 use Rattle.workers.proofs.Accounts.{begun_unspent, opened_unspent, spent_of}
 use Rattle.workers.proofs.Calm.{calm_begun, calm_opened}

@@ -15,7 +15,7 @@ use Rattle.rollback.specs.declared.report.Report.{Report}
 use Rattle.control.specs.Events.{Heard, Stamp, accepted, after_end, after_save, closing, done_step, is_known, on_event, saving, shut, slicing, stale_done, step}
 use Rattle.control.specs.Events.Stamp.{DoneBy, FailedBy, JoinedBy, LostBy, Ticked}
 use Rattle.control.specs.Machine.{Machine, all_set, charged, closed, count_set, counts, finished, freed, has_answer, handed, is_busy, is_out, is_running, is_saved_now, joined, welcomed}
-use Rattle.worker_threads.specs.Hub.{HasByes, received, staff}
+use Rattle.hub_ends.specs.Hub.{HasByes, received, staff}
 use Rattle.workers.specs.JobAnswers.{WhereEnded}
 use Rattle.worker_threads.specs.Returns.{stamp_sender}
 use Rattle.workers.specs.Steps.{Move, after, events}
@@ -25,8 +25,8 @@ use Rattle.worker_threads.specs.Threads.{AreSettled, IsSettledHub}
 use Rattle.worker_threads.specs.inside.Epochs.{AreSteady, IsSteadyHub, may_renew, renews}
 use Rattle.workers.specs.inside.Told.{ToldFrom}
 use Rattle.worker_threads.specs.declared.audit.Receipts.{Receipts}
-use Rattle.worker_threads.specs.declared.coordinator_ends.CoordinatorEnds.{CoordinatorEnds}
-use Rattle.worker_threads.specs.declared.pass.WorkerReceipt.{WorkerReceipt}
+use Rattle.hub_ends.specs.declared.coordinator_ends.CoordinatorEnds.{CoordinatorEnds}
+use Rattle.hub_ends.specs.declared.pass.WorkerReceipt.{WorkerReceipt}
 use Rattle.workers.proofs.Ending.{answers_report}
 use Rattle.workers.proofs.Joins.{events_of_sender}
 

@@ -17,7 +17,7 @@ use Rattle.control.specs.Events.Stamp.{DoneBy, FailedBy, JoinedBy, LostBy, Ticke
 use Rattle.workers.specs.Steps.{Move, Steps, after, moved}
 use Rattle.workers.specs.inside.EventLoop.{is_own}
 use Rattle.workers.specs.Steps.Move.{Hand, Take}
-use Rattle.worker_threads.specs.declared.message.Message.{Message}
+use Rattle.hub_ends.specs.declared.message.Message.{Message}
 use Rattle.channels.specs.declared.order.Order.{Order}
 
 abbrev pub own : Machine → Bool

@@ -7,19 +7,19 @@ use Rattle.events.specs.declared.event.Event.TheVariants as event
 use Rattle.rollback.specs.declared.report.Report.{Report}
 use Rattle.events.specs.Events.{stamp_of}
 use Rattle.workers.specs.JobAnswers.{HasSpent, WhereEnded}
-use Rattle.worker_threads.specs.Hub.{HasByes, received, staff}
-use Rattle.worker_threads.specs.Messages.{event_sender, sender_of}
-use Rattle.worker_threads.specs.Passes.{handed_in_by}
+use Rattle.hub_ends.specs.Hub.{HasByes, received, staff}
+use Rattle.hub_ends.specs.Messages.{event_sender, sender_of}
+use Rattle.hub_ends.specs.Passes.{handed_in_by}
 use Rattle.channels.specs.Protocol.{of}
 use Rattle.worker_threads.specs.Numbers.{stamps_in}
 use Rattle.workers.specs.Charges.{AreCharged, HasHandedIn}
 use Rattle.worker_threads.specs.Threads.{AreSettled, HasSettled, IsSettledHub}
 use Rattle.workers.specs.Units.{cut, units_by, units_of}
 use Rattle.worker_threads.specs.declared.audit.Receipts.{Receipts}
-use Rattle.worker_threads.specs.declared.coordinator_ends.CoordinatorEnds.{CoordinatorEnds}
-use Rattle.worker_threads.specs.declared.message.Message.{Message}
-use Rattle.worker_threads.specs.declared.message.Message.TheVariants as message
-use Rattle.worker_threads.specs.declared.pass.WorkerReceipt.{WorkerReceipt}
+use Rattle.hub_ends.specs.declared.coordinator_ends.CoordinatorEnds.{CoordinatorEnds}
+use Rattle.hub_ends.specs.declared.message.Message.{Message}
+use Rattle.hub_ends.specs.declared.message.Message.TheVariants as message
+use Rattle.hub_ends.specs.declared.pass.WorkerReceipt.{WorkerReceipt}
 
 none_more : (n : ℕ) → n ≡ 0 + n
 none_more n = omega arith

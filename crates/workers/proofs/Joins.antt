@@ -13,25 +13,25 @@ use Rattle.control.specs.Machine.{Machine}
 use Rattle.channels.specs.Orders.{at}
 use Rattle.channels.specs.Protocol.{of}
 use Rattle.channels.proofs.Handing.{at_set_else, at_set_here}
-use Rattle.worker_threads.specs.Hub.{HasByes, handed, received, staff}
+use Rattle.hub_ends.specs.Hub.{HasByes, handed, received, staff}
 use Rattle.workers.specs.Joining.{JoinedFrom}
 use Rattle.worker_threads.specs.Counted.{joins_counted}
-use Rattle.worker_threads.specs.Messages.{event_sender, sender_number, sender_of}
-use Rattle.worker_threads.specs.Passes.{handed_in_by}
+use Rattle.hub_ends.specs.Messages.{event_sender, sender_number, sender_of}
+use Rattle.hub_ends.specs.Passes.{handed_in_by}
 use Rattle.worker_threads.specs.Returns.{IsWorkOn, events_by, stamp_sender}
 use Rattle.workers.specs.Steps.{events}
 use Rattle.worker_threads.specs.Numbers.{outs_in, stamps_in}
 use Rattle.worker_threads.specs.Threads.{AreSettled, IsSettledHub}
-use Rattle.worker_threads.specs.Verdicts.{told_to}
+use Rattle.hub_ends.specs.Verdicts.{told_to}
 use Rattle.worker_threads.specs.inside.Joins.{AreJoined}
 use Rattle.workers.specs.inside.Told.{IsToldNext, ToldFrom, due_to}
 use Rattle.worker_threads.specs.declared.audit.Receipts.{Receipts}
-use Rattle.worker_threads.specs.declared.coordinator_ends.CoordinatorEnds.{CoordinatorEnds}
+use Rattle.hub_ends.specs.declared.coordinator_ends.CoordinatorEnds.{CoordinatorEnds}
 use Rattle.workers.specs.declared.event_loop.Due.{Due}
-use Rattle.worker_threads.specs.declared.message.Message.{Message}
-use Rattle.worker_threads.specs.declared.message.Message.TheVariants as message
-use Rattle.worker_threads.specs.declared.message.Sender.{Sender}
-use Rattle.worker_threads.specs.declared.pass.WorkerReceipt.{WorkerReceipt}
+use Rattle.hub_ends.specs.declared.message.Message.{Message}
+use Rattle.hub_ends.specs.declared.message.Message.TheVariants as message
+use Rattle.hub_ends.specs.declared.message.Sender.{Sender}
+use Rattle.hub_ends.specs.declared.pass.WorkerReceipt.{WorkerReceipt}
 use Rattle.workers.proofs.Moving.{length_set}
 use Rattle.worker_threads.proofs.Returning.{work_on}
 

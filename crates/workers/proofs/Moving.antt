@@ -27,11 +27,11 @@ use Rattle.workers.specs.inside.EventLoop.{StepsOver}
 use Rattle.worker_threads.specs.inside.Joins.{AreUntold}
 use Rattle.workers.specs.inside.Told.{IsToldNext, StepsDue, StepsTold, due_by, due_to, lost_in}
 use Rattle.workers.specs.declared.event_loop.Due.{Due}
-use Rattle.worker_threads.specs.declared.message.Message.{Message}
-use Rattle.worker_threads.specs.declared.message.Message.TheVariants as message
+use Rattle.hub_ends.specs.declared.message.Message.{Message}
+use Rattle.hub_ends.specs.declared.message.Message.TheVariants as message
 use Rattle.channels.specs.declared.order.Order.{Order}
 use Rattle.channels.specs.declared.order.Order.TheVariants.{Do}
-use Rattle.worker_threads.specs.declared.message.Sender.{Sender}
+use Rattle.hub_ends.specs.declared.message.Sender.{Sender}
 use Rattle.channels.proofs.Handing.{at_set_else, at_set_here}
 use Rattle.worker_threads.proofs.Numbers.{outs_task, stamps_bye, stamps_event}
 

@@ -4,13 +4,13 @@ use Rattle.superstep.specs.Job.{Work}
 use Rattle.control.specs.Machine.{Machine}
 use Rattle.channels.specs.Orders.{at, stops, tasks_in}
 use Rattle.channels.specs.Protocol.{has_bye}
-use Rattle.worker_threads.specs.Hub.{IsSameHub, handed, received}
+use Rattle.hub_ends.specs.Hub.{IsSameHub, handed, received}
 use Rattle.workers.specs.Steps.{Steps}
 use Rattle.workers.specs.inside.EventLoop.{IsOver}
-use Rattle.worker_threads.specs.declared.coordinator_ends.CoordinatorEnds.{CoordinatorEnds}
-use Rattle.worker_threads.specs.declared.message.Message.{Message}
+use Rattle.hub_ends.specs.declared.coordinator_ends.CoordinatorEnds.{CoordinatorEnds}
+use Rattle.hub_ends.specs.declared.message.Message.{Message}
 use Rattle.workers.proofs.Accounts.{steps_over}
-use Rattle.worker_threads.proofs.Handing.{handed_wide}
+use Rattle.hub_ends.proofs.Handing.{handed_wide}
 use Rattle.workers.proofs.Moving.{steps_none, steps_still}
 
 module _ {J : Type 0} (work : Work) (honest : ℕ → Bool) where

@@ -13,7 +13,7 @@ use Rattle.workers.specs.Joining.{JoinedFrom, JoinedOn, JoinedOver}
 use Rattle.worker_threads.specs.Returns.{IsWorkOn, events_by}
 use Rattle.workers.specs.Steps.{Move, events, hands}
 use Rattle.worker_threads.specs.Numbers.{outs_in, stamps_in}
-use Rattle.worker_threads.specs.declared.message.Message.{Message}
+use Rattle.hub_ends.specs.declared.message.Message.{Message}
 use Rattle.channels.specs.Orders.{at}
 use Rattle.channels.specs.declared.order.Order.{Order}
 use Rattle.workers.proofs.Ending.{answers_report}

@@ -1,11 +1,11 @@
 -- The units of workers, as their receipts show them.
 use Rattle.std.specs.Prelude.{◌≡◌, ◌+◌, ℕ, Option, Some, None, List, [], ◌∷◌, slice_index_or}
 use Rattle.rollback.specs.declared.report.Report.{Report}
-use Rattle.worker_threads.specs.Passes.{handed_in_by}
+use Rattle.hub_ends.specs.Passes.{handed_in_by}
 use Rattle.worker_threads.specs.Numbers.{stamps_in}
 use Rattle.workers.specs.Units.{cut, units_by}
 use Rattle.worker_threads.specs.declared.audit.Receipts.{Receipts}
-use Rattle.worker_threads.specs.declared.pass.WorkerReceipt.{WorkerReceipt}
+use Rattle.hub_ends.specs.declared.pass.WorkerReceipt.{WorkerReceipt}
 
 module _ {J : Type 0} where
   -- The units of the workers from w on are the sum of those that each sent, stale ones too.

@@ -2,20 +2,20 @@
 use Rattle.std.specs.Prelude.{◌≡◌, ℕ, Option, Some, None, List, [], true}
 use Rattle.std.specs.Global.{Vec}
 use Rattle.rollback.specs.declared.report.Report.{Report}
-use Rattle.worker_threads.specs.Hub as hub
+use Rattle.hub_ends.specs.Hub as hub
 use Rattle.channels.specs.Orders.{at, stops}
 use Rattle.channels.specs.Protocol.{has_bye}
 use Rattle.worker_threads.specs.Threads as threads
 use Rattle.workers.specs.Charges as charges
 use Rattle.workers.specs.declared.coordinator.Coordinator.{Coordinator}
 use Rattle.worker_threads.specs.declared.audit.Receipts.{Receipts}
-use Rattle.worker_threads.specs.declared.coordinator_ends.CoordinatorEnds.{CoordinatorEnds}
-use Rattle.worker_threads.specs.declared.message.Message.{Message}
+use Rattle.hub_ends.specs.declared.coordinator_ends.CoordinatorEnds.{CoordinatorEnds}
+use Rattle.hub_ends.specs.declared.message.Message.{Message}
 use Rattle.channels.specs.declared.order.Order.{Order}
-use Rattle.worker_threads.specs.declared.pass.TickPass.{TickPass}
-use Rattle.worker_threads.specs.declared.pass.TickReceipt.{TickReceipt}
-use Rattle.worker_threads.specs.declared.pass.WorkerPass.{WorkerPass}
-use Rattle.worker_threads.specs.declared.pass.WorkerReceipt.{WorkerReceipt}
+use Rattle.hub_ends.specs.declared.pass.TickPass.{TickPass}
+use Rattle.hub_ends.specs.declared.pass.TickReceipt.{TickReceipt}
+use Rattle.hub_ends.specs.declared.pass.WorkerPass.{WorkerPass}
+use Rattle.hub_ends.specs.declared.pass.WorkerReceipt.{WorkerReceipt}
 
 module _ {J : Type 0} where
   abbrev pub received_on : Option (CoordinatorEnds J) → List (Message J)

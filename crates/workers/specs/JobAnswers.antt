@@ -19,7 +19,7 @@ use Rattle.worker_threads.specs.Returns.{IsWorkOn, events_by}
 use Rattle.workers.specs.Steps.{AreMoves, KeptAlong, Move, after, events, hands}
 use Rattle.worker_threads.specs.Numbers.{outs_in, stamps_in}
 use Rattle.workers.specs.Units.{cut, units_by}
-use Rattle.worker_threads.specs.declared.message.Message.{Message}
+use Rattle.hub_ends.specs.declared.message.Message.{Message}
 use Rattle.channels.specs.declared.order.Order.{Order}
 
 -- ---- the answer

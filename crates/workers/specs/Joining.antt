@@ -15,7 +15,7 @@ use Rattle.worker_threads.specs.Returns.{IsWorkOn, events_by}
 use Rattle.worker_threads.specs.Counted.{joins_counted}
 use Rattle.workers.specs.Steps.{Move, events, hands, moved}
 use Rattle.workers.specs.Steps.Move.{Hand, Take}
-use Rattle.worker_threads.specs.declared.message.Message.{Message}
+use Rattle.hub_ends.specs.declared.message.Message.{Message}
 
 -- ---- the losses of a worker
 

@@ -7,7 +7,7 @@ use Rattle.control.specs.Events.{Heard, Stamp, accepted}
 use Rattle.rollback.specs.Book.{IsQuietAt}
 use Rattle.channels.specs.Orders.{at}
 use Rattle.worker_threads.specs.Numbers.{outs_in, stamps_in}
-use Rattle.worker_threads.specs.declared.message.Message.{Message}
+use Rattle.hub_ends.specs.declared.message.Message.{Message}
 use Rattle.channels.specs.declared.order.Order.{Order}
 
 -- ---- assignments and events

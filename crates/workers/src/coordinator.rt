@@ -5,17 +5,18 @@ ghost use Rattle.job_state.specs.declared.fault.JobFault.TheVariants.{Closed};
 ghost use Rattle.checkpoint.specs.Keep.{LoadsNothingElse};
 ghost use Rattle.rollback.specs.Simulation.{NeverFails};
 ghost use Rattle.workers.specs.JobAnswers.{HasSpent, IsCalmReport, IsDriveFault, IsLeftBy, IsOpened, EndedOver, EndedOverKeep, WhereEnded};
-ghost use Rattle.worker_threads.specs.Messages.{sender_of};
+ghost use Rattle.hub_ends.specs.Messages.{sender_of};
 ghost use Rattle.channels.specs.declared.order.Order.TheVariants.{Do};
 
 use crate::event_loop;
 use checkpoint::Keep;
+use hub_ends::{CoordinatorEnds, Message, TickReceipt, WorkerReceipt};
 use rollback::{Book, Report};
 use std::rt::Files;
 use std::sync::Wait;
 use std::thread::Threads;
 use superstep::{JobFault, Origin, Task};
-use worker_threads::{CoordinatorEnds, Message, Receipts, TickReceipt, WorkerReceipt};
+use worker_threads::Receipts;
 
 /// The coordinator of a job. It sends tasks to workers and receives messages.
 ///
@@ -37,9 +38,9 @@ impl<J: Origin> Drop for Coordinator<J> {
 
 impl<J: Origin> Coordinator<J> {
     ghost use Rattle.workers.specs.Coordinator.{IsReceiptOf, IsSameHub, IsSettledBy, IsStopped, IsTickReceiptOf, IsTickerSettledBy, IsUnused, handed, received, staff};
-    ghost use Rattle.worker_threads.specs.Hub.{HasByes};
+    ghost use Rattle.hub_ends.specs.Hub.{HasByes};
     ghost use Rattle.channels.specs.Orders.{at, tasks_in, with_order};
-    ghost use Rattle.worker_threads.specs.Passes.{handed_in_by, taken_by, ticked_by};
+    ghost use Rattle.hub_ends.specs.Passes.{handed_in_by, taken_by, ticked_by};
 
     /// Sends a task to a worker. It waits while the worker's channel is full. `Closed`: the worker's end is gone, or
     /// the worker was stopped.

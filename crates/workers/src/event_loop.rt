@@ -5,21 +5,21 @@ ghost use Rattle.rollback.specs.Saving.{IsKeptStep, KeepsFor};
 ghost use Rattle.control.specs.Machine.{is_running};
 ghost use Rattle.workers.specs.JobAnswers.{HasSpent, IsAnswerAt, IsDriveFault, IsLeftBy, RanFromOver, WhereEnded};
 ghost use Rattle.workers.specs.Steps.{Steps};
-ghost use Rattle.worker_threads.specs.Verdicts.{sends_on, told_on};
+ghost use Rattle.hub_ends.specs.Verdicts.{sends_on, told_on};
 ghost use Rattle.workers.specs.inside.EventLoop.{IsOver, IsUnspent};
 ghost use Rattle.worker_threads.specs.inside.Joins.{AreUntold};
 ghost use Rattle.workers.specs.inside.Told.{IsToldNext, StepsDue, StepsTold, ToldFrom, due_by, lost_in};
-ghost use Rattle.worker_threads.specs.Hub.{HasByes, IsSameHub, IsStopped, IsUnused, handed, received, staff};
+ghost use Rattle.hub_ends.specs.Hub.{HasByes, IsSameHub, IsStopped, IsUnused, handed, received, staff};
 ghost use Rattle.channels.specs.Orders.{at, tasks_in};
 
 use channels::Closed;
 use checkpoint::Keep;
+use hub_ends::{CoordinatorEnds, Message, VerdictSender};
 use rollback::{Answer, Book, Event, JobStatus, Report};
 use std::rt::Files;
 use std::sync::Wait;
 use std::thread::Threads;
 use superstep::{JobFault, Origin};
-use worker_threads::{CoordinatorEnds, Message, VerdictSender};
 
 // The workers that may be free once an event was taken.
 #[derive(Clone, Copy)]

@@ -6,9 +6,9 @@ ghost use Rattle.job_state.specs.declared.fault.Place.TheVariants.{Channel, Open
 
 use crate::coordinator::Coordinator;
 use checkpoint::Keep;
+use hub_ends::{TickPass, WorkerPass, connect, new_rows};
 use std::alloc::Global;
 use superstep::{Job, JobFault, Origin, Place};
-use worker_threads::{TickPass, WorkerPass, connect, new_rows};
 
 /// The channels of a job.
 pub struct Hub;

@@ -9,8 +9,7 @@ mod threads;
 
 pub use coordinator::Coordinator;
 pub use hub::Hub;
+pub use hub_ends::{Message, Sender, TickPass, TickReceipt, WorkerPass, WorkerReceipt};
 pub use run::{resume_job, run_job};
 pub use threads::{resume_in_threads, run_in_threads};
-pub use worker_threads::{
-    Gate, Message, NoLoss, Sender, TickPass, TickReceipt, Turn, Worked, WorkerPass, WorkerReceipt,
-};
+pub use worker_threads::{Gate, NoLoss, Turn, Worked};

@@ -8,16 +8,17 @@ ghost use Rattle.checkpoint.specs.Keep.{LoadsNothingElse};
 ghost use Rattle.rollback.specs.Simulation.{NeverFails};
 ghost use Rattle.workers.specs.JobAnswers.{HasSpent, IsCalmReport, IsDriveFault, IsRunFault, EndedOver, EndedOverOwn, LoadsMadeAt, RanFromKeep, RanOn, RanOnOwn, WhereEnded, WhereRefused, WhereRun, has_ended};
 ghost use Rattle.workers.specs.Coordinator as lent;
-ghost use Rattle.worker_threads.specs.Hub.{HasByes, IsNewHubOf, IsSameHub, IsUnused, handed, received, staff};
+ghost use Rattle.hub_ends.specs.Hub.{HasByes, IsNewHubOf, IsSameHub, IsUnused, handed, received, staff};
 ghost use Rattle.workers.specs.Joining.{JoinedFrom, JoinedOn, JoinedOver};
 ghost use Rattle.worker_threads.specs.Threads.{AreThreadsOf, HasSettled, IsIdle};
-ghost use Rattle.worker_threads.specs.Verdicts.{sends_on, told_on};
+ghost use Rattle.hub_ends.specs.Verdicts.{sends_on, told_on};
 ghost use Rattle.workers.specs.inside.EventLoop.{IsUnspent};
 ghost use Rattle.worker_threads.specs.inside.Joins.{AreLinked, AreUntold};
 
 use crate::coordinator::Coordinator;
 use crate::event_loop;
 use checkpoint::Keep;
+use hub_ends::{CoordinatorEnds, TickPass, VerdictSender, WorkerPass};
 use rollback::{Book, Report};
 use std::alloc::Global;
 use std::rt::Files;
@@ -25,10 +26,7 @@ use std::sync::Wait;
 use std::thread;
 use std::thread::Threads;
 use superstep::{Job, JobFault, Origin, Place};
-use worker_threads::{
-    CoordinatorEnds, Gate, HubThreads, Receipts, TickPass, VerdictSender, WorkerPass, settle_all,
-    spawn_all,
-};
+use worker_threads::{Gate, HubThreads, Receipts, settle_all, spawn_all};
 
 // Returns whether the job was driven to its end.
 fn was_driven(answer: &Result<Report, JobFault>) -> bool

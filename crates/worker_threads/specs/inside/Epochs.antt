@@ -2,11 +2,11 @@
 use Rattle.std.specs.Prelude.{◌≡◌, Bool, true, false, ◌||◌, List, [], ◌∷◌}
 use Rattle.control.specs.Events.{Stamp}
 use Rattle.control.specs.Events.Stamp.{DoneBy, FailedBy, JoinedBy, LostBy, Ticked}
-use Rattle.worker_threads.specs.Passes.{handed_in_by, ticked_by}
+use Rattle.hub_ends.specs.Passes.{handed_in_by, ticked_by}
 use Rattle.worker_threads.specs.Numbers.{stamps_in}
 use Rattle.worker_threads.specs.declared.audit.Receipts.{Receipts}
-use Rattle.worker_threads.specs.declared.pass.TickReceipt.{TickReceipt}
-use Rattle.worker_threads.specs.declared.pass.WorkerReceipt.{WorkerReceipt}
+use Rattle.hub_ends.specs.declared.pass.TickReceipt.{TickReceipt}
+use Rattle.hub_ends.specs.declared.pass.WorkerReceipt.{WorkerReceipt}
 
 -- an epoch begins with such an event alone, or after it
 abbrev pub may_renew : Stamp → Bool

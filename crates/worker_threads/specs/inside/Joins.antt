@@ -5,15 +5,15 @@ use Rattle.channels.specs.Channel.{Channel}
 use Rattle.control.specs.Events.{Stamp}
 use Rattle.std.specs.declared.thread.PromisedHandle.{PromisedHandle}
 use Rattle.worker_threads.specs.Counted.{joins_counted}
-use Rattle.worker_threads.specs.Passes.{handed_in_by}
+use Rattle.hub_ends.specs.Passes.{handed_in_by}
 use Rattle.worker_threads.specs.Numbers.{stamps_in}
-use Rattle.worker_threads.specs.Verdicts.{heard_on, reads_on, sends_on, told_to}
+use Rattle.hub_ends.specs.Verdicts.{heard_on, reads_on, sends_on, told_to}
 use Rattle.worker_threads.specs.inside.Returning.{HasReturned}
-use Rattle.worker_threads.specs.declared.message.Message.{Message}
-use Rattle.worker_threads.specs.declared.pass.WorkerReceipt.{WorkerReceipt}
+use Rattle.hub_ends.specs.declared.message.Message.{Message}
+use Rattle.hub_ends.specs.declared.pass.WorkerReceipt.{WorkerReceipt}
 use Rattle.worker_threads.specs.declared.thread_promises.WorkerPromise.{WorkerPromise}
-use Rattle.worker_threads.specs.declared.verdict.Verdict.{Verdict}
-use Rattle.worker_threads.specs.declared.verdict.VerdictSender.{VerdictSender}
+use Rattle.hub_ends.specs.declared.verdict.Verdict.{Verdict}
+use Rattle.hub_ends.specs.declared.verdict.VerdictSender.{VerdictSender}
 use Rattle.worker_threads.specs.declared.worker_loop.WorkerEnd.{WorkerEnd}
 
 -- ---- the worker

@@ -4,11 +4,11 @@ use Rattle.superstep.specs.Job.{Work}
 use Rattle.control.specs.declared.control.Out.{Out}
 use Rattle.control.specs.Events.{Stamp}
 use Rattle.channels.specs.declared.order.Order.{Order}
-use Rattle.worker_threads.specs.Passes.{handed_in_by, taken_by}
+use Rattle.hub_ends.specs.Passes.{handed_in_by, taken_by}
 use Rattle.worker_threads.specs.Returns.{AreReturnsOf, IsReturnOf}
 use Rattle.worker_threads.specs.Numbers.{outs_in, stamps_in}
-use Rattle.worker_threads.specs.declared.message.Message.{Message}
-use Rattle.worker_threads.specs.declared.pass.WorkerReceipt.{WorkerReceipt}
+use Rattle.hub_ends.specs.declared.message.Message.{Message}
+use Rattle.hub_ends.specs.declared.pass.WorkerReceipt.{WorkerReceipt}
 
 -- more messages: what a worker sends for this task
 pub record AddsReturn {J : Type 0} (work : Work) (honest : ℕ → Bool) (task : Out) (before after : List (Message J)) : Type 0 where

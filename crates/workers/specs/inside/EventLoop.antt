@@ -7,10 +7,10 @@ use Rattle.control.specs.declared.job_status.JobStatus.{JobStatus}
 use Rattle.control.specs.declared.job_status.JobStatus.TheVariants.{Fault, Finished, Limit, Running}
 use Rattle.control.specs.Machine.{Machine, is_running}
 use Rattle.channels.specs.declared.order.Order.{Order}
-use Rattle.worker_threads.specs.Hub.{IsStopped, staff}
+use Rattle.hub_ends.specs.Hub.{IsStopped, staff}
 use Rattle.workers.specs.Steps.{KeptAlong, Steps}
-use Rattle.worker_threads.specs.declared.coordinator_ends.CoordinatorEnds.{CoordinatorEnds}
-use Rattle.worker_threads.specs.declared.message.Message.{Message}
+use Rattle.hub_ends.specs.declared.coordinator_ends.CoordinatorEnds.{CoordinatorEnds}
+use Rattle.hub_ends.specs.declared.message.Message.{Message}
 
 -- the job has ended, and every worker was stopped
 pub record IsOver {J : Type 0} (book : Machine) (ends : CoordinatorEnds J) : Type 0 where

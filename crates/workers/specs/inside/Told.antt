@@ -10,10 +10,10 @@ use Rattle.rollback.specs.declared.report.Report.{Report}
 use Rattle.control.specs.Machine.{Machine}
 use Rattle.workers.specs.JobAnswers.{RanFrom}
 use Rattle.workers.specs.Joining.{is_counted, losses}
-use Rattle.worker_threads.specs.Verdicts.{told_to}
+use Rattle.hub_ends.specs.Verdicts.{told_to}
 use Rattle.workers.specs.inside.EventLoop.{StepsOver}
 use Rattle.workers.specs.declared.event_loop.Due.{Due}
-use Rattle.worker_threads.specs.declared.message.Message.{Message}
+use Rattle.hub_ends.specs.declared.message.Message.{Message}
 
 -- the worker that an event reports as lost
 abbrev pub lost_in : {J : Type 0} → Event J → Option ℕ

@@ -1,5 +1,5 @@
 use Rattle.std.proofs.Common.{◌∙◌}
-use Rattle.worker_threads.proofs.Handing.{hub_then}
+use Rattle.hub_ends.proofs.Handing.{hub_then}
 use Rattle.worker_threads.proofs.audit.settle_all.Goals as goal
 
 pub returns-in_err-settle_one-clause-told : goal.returns-in_err-settle_one-clause-told

@@ -1,8 +1,8 @@
 use Rattle.std.proofs.Common.{◌≡◌, ◌+◌, ◌≤◌, false, map, vec_len, vec_capacity}
 use Rattle.std.specs.Vec.Iter.{into_iter_items, into_iter_len}
-use Rattle.worker_threads.specs.Hub.{IsSameHub, IsTickerSettled, handed, received, staff}
+use Rattle.hub_ends.specs.Hub.{IsSameHub, IsTickerSettled, handed, received, staff}
 use Rattle.worker_threads.specs.Threads.{AreOfGate, AreSpawned, AreSettled}
-use Rattle.worker_threads.specs.Verdicts.{sends_on, told_on}
+use Rattle.hub_ends.specs.Verdicts.{sends_on, told_on}
 use Rattle.worker_threads.specs.inside.Epochs.{AreSteady, IsSteadyTicker}
 use Rattle.worker_threads.specs.inside.Joins.{AreJoined, AreLinked}
 use Rattle.worker_threads.proofs.audit.settle_all.Given as goal

@@ -1,12 +1,12 @@
 use Rattle.std.proofs.Common.{◌≡◌, ◌+◌, ◌∙◌, ◌<◌, ℕ, ap, false, length, map, slice_get, Some, sym, subst, vec_len, arith}
 use Rattle.channels.proofs.Handing.{at_map, get_map, map_same}
-use Rattle.worker_threads.specs.Hub.{IsSettled}
+use Rattle.hub_ends.specs.Hub.{IsSettled}
 use Rattle.worker_threads.specs.Counted.{joins_counted}
-use Rattle.worker_threads.specs.Messages.{joins_follow}
-use Rattle.worker_threads.specs.Passes.{handed_in_by}
+use Rattle.hub_ends.specs.Messages.{joins_follow}
+use Rattle.hub_ends.specs.Passes.{handed_in_by}
 use Rattle.worker_threads.specs.Numbers.{stamps_in}
 use Rattle.worker_threads.specs.Threads.{AreSettled}
-use Rattle.worker_threads.specs.Verdicts.{heard_on, sends_on, told_on, told_to}
+use Rattle.hub_ends.specs.Verdicts.{heard_on, sends_on, told_on, told_to}
 use Rattle.worker_threads.specs.inside.Epochs.{AreSteady, renews}
 use Rattle.worker_threads.specs.inside.Joins.{AreJoined, line_of}
 use Rattle.worker_threads.proofs.Epochs.{steady_more}

@@ -1,10 +1,10 @@
 use Rattle.std.proofs.Common.{◌∷◌, [], ◌∙◌, ap, map, rules, arith}
 use mathlib.Core.List.{map-append}
 use Rattle.channels.proofs.Handing.{length_map}
-use Rattle.worker_threads.specs.Verdicts.{sends_on, told_on, told_to}
+use Rattle.hub_ends.specs.Verdicts.{sends_on, told_on, told_to}
 use Rattle.worker_threads.proofs.Epochs.{gate_more}
 use Rattle.worker_threads.proofs.Joins.{linked_next}
-use Rattle.worker_threads.proofs.Opening.{at_more}
+use Rattle.hub_ends.proofs.Opening.{at_more}
 use Rattle.worker_threads.proofs.SpawnedThreads.{spawned_next, pass_first, pass_rest}
 use Rattle.worker_threads.proofs.spawning.spawn_workers.Goals as goal
 

@@ -1,8 +1,8 @@
 use Rattle.std.proofs.Common.{◌≡◌, ◌+◌, ◌≤◌, map, vec_len, vec_capacity}
 use Rattle.std.specs.Vec.Iter.{into_iter_items, into_iter_len}
-use Rattle.worker_threads.specs.Hub.{AreNewPasses, channels_of}
+use Rattle.hub_ends.specs.Hub.{AreNewPasses, channels_of}
 use Rattle.worker_threads.specs.Threads.{AreOfGate, AreSpawned}
-use Rattle.worker_threads.specs.Verdicts.{sends_on, told_on}
+use Rattle.hub_ends.specs.Verdicts.{sends_on, told_on}
 use Rattle.worker_threads.specs.inside.Joins.{AreLinked, AreUntold}
 use Rattle.worker_threads.proofs.spawning.spawn_workers.Given as goal
 

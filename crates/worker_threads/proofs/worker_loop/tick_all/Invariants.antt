@@ -1,5 +1,5 @@
 use Rattle.std.proofs.Common.{◌≡◌, false}
-use Rattle.worker_threads.specs.Passes.{IsSameTicker, ticked}
+use Rattle.hub_ends.specs.Passes.{IsSameTicker, ticked}
 use Rattle.worker_threads.proofs.worker_loop.tick_all.Given as goal
 
 abbrev pub invariant-loop-n : goal.invariant-loop-n

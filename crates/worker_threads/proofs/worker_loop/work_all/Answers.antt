@@ -1,5 +1,5 @@
 use Rattle.std.proofs.Common.{refl, subst, sym}
-use Rattle.worker_threads.specs.Passes.{handed_in, handed_in_by}
+use Rattle.hub_ends.specs.Passes.{handed_in, handed_in_by}
 use Rattle.worker_threads.specs.Returns.{AreReturnsOf}
 use Rattle.worker_threads.specs.Numbers.{outs_in, stamps_in}
 use Rattle.worker_threads.proofs.Epochs.{steady_bye}

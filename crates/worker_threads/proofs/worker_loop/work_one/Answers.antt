@@ -1,7 +1,7 @@
 use Rattle.control.specs.Stamps.{task_out}
 use Rattle.channels.proofs.Handing.{on_ok}
-use Rattle.worker_threads.specs.Passes.{handed_in}
-use Rattle.worker_threads.specs.Verdicts.{heard_on}
+use Rattle.hub_ends.specs.Passes.{handed_in}
+use Rattle.hub_ends.specs.Verdicts.{heard_on}
 use Rattle.worker_threads.proofs.Epochs.{steady_event}
 use Rattle.worker_threads.proofs.Joins.{counted_event, counted_none}
 use Rattle.worker_threads.proofs.Passing.{joins_event, joins_none}

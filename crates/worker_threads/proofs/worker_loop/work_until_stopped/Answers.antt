@@ -1,9 +1,9 @@
 use Rattle.std.proofs.Common.{[], ◌∷◌, ◌++◌, ap, refl, subst, sym, ◌∙◌}
 use Rattle.channels.specs.Orders.{order_of}
-use Rattle.worker_threads.specs.Messages.{AddsJoins}
-use Rattle.worker_threads.specs.Passes.{handed_in, taken}
+use Rattle.hub_ends.specs.Messages.{AddsJoins}
+use Rattle.hub_ends.specs.Passes.{handed_in, taken}
 use Rattle.worker_threads.specs.Numbers.{stamps_in}
-use Rattle.worker_threads.specs.Verdicts.{heard_on}
+use Rattle.hub_ends.specs.Verdicts.{heard_on}
 use Rattle.worker_threads.specs.inside.Epochs.{renews}
 use Rattle.worker_threads.specs.inside.Joins.{AddsCounted}
 use Rattle.worker_threads.proofs.Joins.{counted_as, counted_none, counted_then}

@@ -1,7 +1,7 @@
 use Rattle.std.proofs.Common.{◌≡◌, IfSome, false}
-use Rattle.worker_threads.specs.Messages.{AddsJoins}
-use Rattle.worker_threads.specs.Passes.{IsSamePass, handed_in, taken}
-use Rattle.worker_threads.specs.Verdicts.{heard_on, reads_on}
+use Rattle.hub_ends.specs.Messages.{AddsJoins}
+use Rattle.hub_ends.specs.Passes.{IsSamePass, handed_in, taken}
+use Rattle.hub_ends.specs.Verdicts.{heard_on, reads_on}
 use Rattle.worker_threads.specs.Numbers.{stamps_in}
 use Rattle.worker_threads.specs.inside.Epochs.{renews}
 use Rattle.worker_threads.specs.inside.Joins.{AddsCounted}

@@ -1,9 +1,9 @@
 use Rattle.std.proofs.Common.{◌≡◌, length, map, arith, subst, sym, ◌∙◌}
-use Rattle.worker_threads.specs.Hub.{handed, received, staff}
+use Rattle.hub_ends.specs.Hub.{handed, received, staff}
 use Rattle.workers.specs.JobAnswers.{IsLeftBy}
-use Rattle.worker_threads.specs.Verdicts.{told_on}
+use Rattle.hub_ends.specs.Verdicts.{told_on}
 use Rattle.workers.proofs.Ending.{drive_fault, has_spent, ran_over, told_from, where_ended}
-use Rattle.worker_threads.proofs.Handing.{handed_len, hub_then}
+use Rattle.hub_ends.proofs.Handing.{handed_len, hub_then}
 use Rattle.workers.proofs.event_loop.drive.Goals as goal
 
 pub returns-in-Ok-clause-ran : goal.returns-in-Ok-clause-ran

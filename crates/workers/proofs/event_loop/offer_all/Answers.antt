@@ -1,6 +1,6 @@
 use Rattle.std.proofs.Common.{◌∙◌, refl, rules}
-use Rattle.worker_threads.specs.Hub.{handed, received}
-use Rattle.worker_threads.proofs.Handing.{hub_same, hub_then}
+use Rattle.hub_ends.specs.Hub.{handed, received}
+use Rattle.hub_ends.proofs.Handing.{hub_same, hub_then}
 use Rattle.workers.proofs.Moving.{steps_none, steps_then}
 use Rattle.workers.proofs.event_loop.offer_all.Goals as goal
 

@@ -1,5 +1,5 @@
 use Rattle.std.proofs.Common.{◌≡◌}
-use Rattle.worker_threads.specs.Hub.{IsSameHub, handed, received, staff}
+use Rattle.hub_ends.specs.Hub.{IsSameHub, handed, received, staff}
 use Rattle.workers.specs.Steps.{Steps}
 use Rattle.workers.proofs.event_loop.offer_all.Given as goal
 

@@ -1,4 +1,4 @@
-use Rattle.worker_threads.specs.Hub.{handed, received}
+use Rattle.hub_ends.specs.Hub.{handed, received}
 use Rattle.workers.proofs.Moving.{steps_none}
 use Rattle.workers.proofs.event_loop.offer_free.Goals as goal
 

@@ -1,7 +1,7 @@
 use Rattle.std.proofs.Common.{arith, refl}
-use Rattle.worker_threads.specs.Hub.{handed, received}
+use Rattle.hub_ends.specs.Hub.{handed, received}
 use Rattle.channels.proofs.Handing.{on_ok}
-use Rattle.worker_threads.proofs.Handing.{handed_len}
+use Rattle.hub_ends.proofs.Handing.{handed_len}
 use Rattle.workers.proofs.Moving.{steps_hand, steps_same}
 use Rattle.workers.proofs.event_loop.offer_next.Goals as goal
 

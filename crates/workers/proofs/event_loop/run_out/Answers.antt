@@ -1,8 +1,8 @@
 use Rattle.rollback.proofs.Keeps.{keeps_same}
 use Rattle.std.proofs.Common.{map, true≢false, refl, sym, ◌∙◌}
-use Rattle.worker_threads.specs.Hub.{handed, received}
-use Rattle.worker_threads.proofs.Handing.{hub_same, hub_then}
-use Rattle.worker_threads.specs.Verdicts.{told_on}
+use Rattle.hub_ends.specs.Hub.{handed, received}
+use Rattle.hub_ends.proofs.Handing.{hub_same, hub_then}
+use Rattle.hub_ends.specs.Verdicts.{told_on}
 use Rattle.workers.proofs.Moving.{left_by, over_hands, over_then, told_next, told_none, told_still}
 use Rattle.workers.proofs.Over.{over_still}
 use Rattle.workers.proofs.event_loop.run_out.Goals as goal

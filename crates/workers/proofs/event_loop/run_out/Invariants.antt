@@ -1,7 +1,7 @@
 use Rattle.std.proofs.Common.{◌≡◌, map, true, vec_len}
 use Rattle.rollback.specs.Saving.{IsKeptStep, KeepsFor}
-use Rattle.worker_threads.specs.Hub.{IsSameHub, handed, received}
-use Rattle.worker_threads.specs.Verdicts.{sends_on, told_on}
+use Rattle.hub_ends.specs.Hub.{IsSameHub, handed, received}
+use Rattle.hub_ends.specs.Verdicts.{sends_on, told_on}
 use Rattle.workers.specs.inside.EventLoop.{IsOver}
 use Rattle.workers.specs.inside.Told.{StepsTold}
 use Rattle.workers.proofs.event_loop.run_out.Given as goal

@@ -1,7 +1,7 @@
 use Rattle.std.proofs.Common.{ap, sym, subst, ◌∙◌, refl, ◌++◌, ◌∷◌, []}
 use Rattle.control.specs.Machine.{Machine}
 use Rattle.rollback.specs.Saving.{IsKeptStep}
-use Rattle.worker_threads.specs.Hub.{handed, received}
+use Rattle.hub_ends.specs.Hub.{handed, received}
 use Rattle.workers.specs.inside.Told.{StepsDue, due_by}
 use Rattle.workers.proofs.Moving.{due_bye, due_taken}
 use Rattle.workers.proofs.event_loop.take_one.Goals as goal

@@ -1,6 +1,6 @@
 use Rattle.std.proofs.Common.{◌<◌, OnOk, arith, length, map, set, subst, sym}
 use Rattle.channels.proofs.Handing.{length_map, map_one, map_same, on_ok}
-use Rattle.worker_threads.specs.Verdicts.{sends_on, told_on}
+use Rattle.hub_ends.specs.Verdicts.{sends_on, told_on}
 use Rattle.workers.specs.inside.Told.{IsToldNext}
 use Rattle.workers.proofs.Joins.{told_nobody, told_one, told_past}
 use Rattle.workers.proofs.event_loop.tell_due.Goals as goal

@@ -1,13 +1,13 @@
 use Rattle.std.proofs.Common.{◌≡◌, ◌∙◌, arith, false, length, map, ℕ, sym, subst, IfOk}
 use Rattle.workers.specs.JobAnswers.{HasSpent, RanFromKeep, WhereEnded, has_ended}
-use Rattle.worker_threads.specs.Hub.{HasByes, handed, received, staff}
-use Rattle.worker_threads.specs.Verdicts.{told_on}
+use Rattle.hub_ends.specs.Hub.{HasByes, handed, received, staff}
+use Rattle.hub_ends.specs.Verdicts.{told_on}
 use Rattle.worker_threads.specs.inside.Joins.{AreJoined, AreLinked}
 use Rattle.workers.specs.inside.Told.{ToldFrom}
 use Rattle.channels.proofs.Handing.{length_map}
 use Rattle.workers.proofs.Ending.{not_ended, where_ended, where_mapped, where_two, with_last}
 use Rattle.workers.proofs.Epochs.{epoch_told}
-use Rattle.worker_threads.proofs.Handing.{hub_then}
+use Rattle.hub_ends.proofs.Handing.{hub_then}
 use Rattle.workers.proofs.Joins.{joined_from}
 use Rattle.worker_threads.proofs.SpawnedThreads.{threads_same}
 use Rattle.workers.proofs.run.drive_all.Goals as goal

@@ -1,6 +1,6 @@
 use Rattle.workers.proofs.Ending.{calm_told_on, joined_begun, on_own, own_begun, unspent_begun, where_mapped, where_run}
 use Rattle.workers.proofs.HandedIn.{handed_in}
-use Rattle.worker_threads.specs.Hub.{handed, received}
+use Rattle.hub_ends.specs.Hub.{handed, received}
 use Rattle.workers.proofs.run.resume_job.Goals as goal
 
 pub run_spawned-ends-requires-clause-book : goal.run_spawned-ends-requires-clause-book

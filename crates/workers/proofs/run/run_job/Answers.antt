@@ -2,7 +2,7 @@ use Rattle.workers.proofs.Ending.{calm_told, ended_own, joined_opened, keeps_fir
 use Rattle.std.proofs.Common.{◌∙◌, ap}
 use Rattle.control.specs.Machine.{Machine, count_set}
 use Rattle.control.proofs.ByPlace.{count_none}
-use Rattle.worker_threads.specs.Hub.{handed, received}
+use Rattle.hub_ends.specs.Hub.{handed, received}
 use Rattle.workers.proofs.Epochs.{epoch_none}
 use Rattle.workers.proofs.HandedIn.{handed_in}
 use Rattle.workers.proofs.run.run_job.Goals as goal

@@ -2,7 +2,7 @@ use Rattle.std.proofs.Common.{Some, subst, sym}
 use Rattle.workers.specs.Coordinator.{IsSameOn}
 use Rattle.workers.proofs.Ending.{calm_driven, ended_over, keeps_first, over_opened, unspent_opened, where_mapped}
 use Rattle.workers.proofs.Moving.{left_none}
-use Rattle.worker_threads.specs.Hub.{handed, received}
+use Rattle.hub_ends.specs.Hub.{handed, received}
 use Rattle.workers.proofs.coordinator.Coordinator.drive.Goals as goal
 
 pub drive-requires-clause-book : goal.drive-requires-clause-book

@@ -1,0 +1,31 @@
+use Rattle.std.proofs.Common.{sym, ◌∙◌}
+use Rattle.hub_ends.specs.Hub.{IsStopped}
+use Rattle.channels.proofs.Handing.{below_more, ok_gives}
+use Rattle.hub_ends.proofs.Handing.{hub_then}
+use Rattle.hub_ends.proofs.coordinator_ends.CoordinatorEnds.stop.Goals as goal
+use Rattle.hub_ends.proofs.coordinator_ends.CoordinatorEnds.stop.Goals.{then-is_err, else-is_err}
+
+pub loop-worker-preserved : goal.loop-worker-preserved
+loop-worker-preserved g c =
+    let i = c.loop-worker.invariant in
+    let s = c.stop_one.ensures in
+    let n = c.loop-worker.worker in
+    record {
+      stopped = elim c.if-is_err.branch [
+        | then-is_err w ↦ rw w.answer-is tt
+        | else-is_err w ↦ rw w.answer-is (below_more (IsStopped c.loop-worker.self) (IsStopped c.stop_one.new.self) n c.loop-worker.answer i.stopped s.kept (ok_gives _ c.stop_one.result (sym c.is_err.ensures.value ∙ w.if-is_err.false) s.stopped))
+      ];
+      tasks = λ w. s.tasks w ∙ i.tasks w;
+      received = s.received ∙ i.received;
+      hub = hub_then i.hub s.hub;
+      end = i.end;
+    }
+
+pub returns-clause-tasks : goal.returns-clause-tasks
+returns-clause-tasks g c = c.loop-worker.invariant.tasks
+
+pub returns-clause-received : goal.returns-clause-received
+returns-clause-received g c = c.loop-worker.invariant.received
+
+pub returns-clause-hub : goal.returns-clause-hub
+returns-clause-hub g c = c.loop-worker.invariant.hub

@@ -1,10 +1,5 @@
-pub mod Feeds
-pub mod Spaces
 pub mod Cuts
 pub mod Names
-pub mod Edges
-pub mod Floats
-pub mod Asking
 pub mod Answering
 pub mod Telling
 pub mod Loops

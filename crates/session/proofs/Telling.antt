@@ -11,7 +11,7 @@ use Rattle.sources.specs.Jobs.{IsGraphIn}
 use Rattle.sources.specs.Modules.{Loads, is_text_path}
 use Rattle.sources.specs.Reading.{IsRefusedAt}
 use Rattle.sources.proofs.Disks.{holds_before, no_graph_before, unread_before}
-use Rattle.session.specs.Commands.{Asked, add_module, add_graph, add_job, run, status, values, drop, quit, unknown, is_quit}
+use Rattle.session_lines.specs.Commands.{Asked, add_module, add_graph, add_job, run, status, values, drop, quit, unknown, is_quit}
 use Rattle.session.specs.Maps.{Maps}
 use Rattle.session.specs.Runs.{Runs}
 use Rattle.session.specs.Transcript.{IsReplyTo, Begins, Reaches, Tells}

@@ -1,12 +1,7 @@
--- The definitions to read, in this order: the lines of the input, their words, and the command of a line.
-pub mod Lines
-pub mod Words
-pub mod Commands
--- how runs may end, what a session holds, and the texts of replies
+-- The definitions to read, in this order, behind those of `session_lines`: how runs may end, and what a session holds.
 pub mod Runs
 pub mod Held
 pub mod Maps
-pub mod Replies
 -- the replies to commands, the whole of serving a session, and what two sessions have in common
 pub mod Transcript
 pub mod Serving

@@ -1,5 +1,4 @@
 -- Definitions that follow the steps of the code. No public contract cites these.
-pub mod Cutting
 pub mod Seen
 pub mod Answered
 pub mod Underway

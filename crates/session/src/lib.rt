@@ -2,21 +2,14 @@
 //! graphs and jobs by name.
 #![tactic(auto)]
 
-mod command;
 mod held_job;
 mod laws;
-mod lines;
 mod maps;
 mod on_one_machine;
 mod reading;
-mod refusals;
-mod reply;
 mod runner;
 mod serving;
 mod sessions;
-mod status;
-mod texts;
-mod word;
 
 pub use laws::same_values;
 pub use on_one_machine::serve_on_one_machine;

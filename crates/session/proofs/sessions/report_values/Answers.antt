@@ -1,4 +1,5 @@
-use Rattle.session.specs.inside.Seen.{maps_of, reply_text}
+use Rattle.session_lines.specs.inside.Seen.{reply_text}
+use Rattle.session.specs.inside.Seen.{maps_of}
 use Rattle.session.proofs.Answering.{copied_some, values_told}
 use Rattle.session.proofs.sessions.report_values.Goals as goal
 

@@ -1,0 +1,5 @@
+pub mod Asking
+pub mod Edges
+pub mod Feeds
+pub mod Floats
+pub mod Spaces

@@ -1,0 +1,3 @@
+-- Definitions that follow the steps of the code. No public contract of `session` cites these.
+pub mod Cutting
+pub mod Seen

@@ -4,8 +4,7 @@ use Rattle.std.specs.Prelude.{IfOk, IfSome, String, is_some, string_bytes}
 use Rattle.std.specs.Borrow.{Bor}
 use Rattle.sources.specs.declared.file_contents.Source.{Source}
 use Rattle.sources.specs.declared.fault.CommandFault.{CommandFault}
-use Rattle.explain.specs.Explanation.{Explains, is_explained}
-use Rattle.explain.specs.inside.Told.{Answers}
+use Rattle.explanations.specs.Explanation.{Answers, Explains, is_explained}
 
 pub whether : {Z E : Type 0} (source : Option (Bor Source)) (fault : CommandFault) (r : Result (Option (String Z)) E) → Answers source fault r
     → IfOk r (λ told. is_some told ≡ is_explained fault)

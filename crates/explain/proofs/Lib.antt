@@ -1,3 +1,1 @@
-pub mod Listings
-pub mod Modules
 pub mod Answering

@@ -2,10 +2,6 @@
 //! the place.
 #![tactic(auto)]
 
-mod advice;
-mod explaining;
-mod listing;
-mod module_place;
-mod places;
+mod choosing;
 
-pub use explaining::{explanation, is_explained};
+pub use choosing::{explanation, is_explained};

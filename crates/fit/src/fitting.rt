@@ -4,15 +4,11 @@ ghost use Rattle.std.specs.Prelude.{◌≡◌, IfOk, true};
 ghost use Rattle.verified.specs.Profile.{IsBounded};
 ghost use Rattle.fit.specs.Fit.{KeepsModule, SameOutside};
 
-use crate::items::takers;
-use crate::rewriting::{Surroundings, rewritten};
 use bounded_profile::{ProfileFault, verify};
+use fit_bodies::{Surroundings, rewritten_body, takers};
 use std::alloc::{AllocError, Global};
 use validate::{Valid, ValidFault, validate};
-use wasm_ast::{Body, FuncType, Function, Module, Sequence, ValType};
-
-// How often a body is rewritten. Each time can make way for the next.
-const ROUNDS: u32 = 3;
+use wasm_ast::{FuncType, Function, Module, Sequence, ValType};
 
 /// Rewrites a module nearer to the bounded profile. The result is valid, and the same except for the bodies of functions. A
 /// module that is in the profile is returned as it is, and so is one whose rewriting is not valid.
@@ -98,12 +94,4 @@ fn rewritten_function(
         locals: Sequence::from(locals),
         body: rewritten_body(alloc, around, &function.body)?,
     })
-}
-
-fn rewritten_body(alloc: Global, around: Surroundings, body: &Body) -> Result<Body, AllocError> {
-    let mut last = body.copy(alloc)?;
-    for _ in 0..ROUNDS {
-        last = Body::from(rewritten(alloc, around, &last)?.instrs);
-    }
-    Ok(last)
 }

@@ -1,4 +1,3 @@
 pub mod Meaning
-pub mod Both
 pub mod Lines
 pub mod Whole

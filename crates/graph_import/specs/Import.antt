@@ -6,13 +6,13 @@ use Rattle.graph.specs.declared.vertex.Edge.{Edge}
 use Rattle.graph.specs.Graph.{IsGraphText, IsWithinLimits}
 use Rattle.line_text.specs.Number.{id_of, number_of}
 use Rattle.graph_import.specs.declared.making.Imported.{Imported}
-use Rattle.graph_import.specs.declared.line.Form.{Form}
+use Rattle.edge_list.specs.declared.line.Form.{Form}
 use Rattle.graph_import.specs.declared.plan.Format.{Format}
 use Rattle.graph_import.specs.declared.plan.Format.TheVariants as format
 use Rattle.graph_import.specs.declared.plan.Plan.{Plan}
 use Rattle.graph_import.specs.declared.writing.Values.{Values}
 use Rattle.graph_import.specs.Graph.{AreIdsOf, ends, graph_of, graph_text, valued, weighed}
-use Rattle.graph_import.specs.Said.{all_edges, is_good, lines_of}
+use Rattle.edge_list.specs.Said.{all_edges, is_good, lines_of}
 
 -- ---- the edges that are read
 

@@ -1,8 +1,4 @@
--- The definitions to read, in this order: the meaning of a line, the edges of a text, the graph of edges and its text, and the
--- import of a file.
-pub mod Line
-pub mod Said
+-- The definitions to read, in this order: the graph of edges and its text, and the import of a file. Those of `edge_list` come
+-- first.
 pub mod Graph
 pub mod Import
--- for proofs only: definitions that follow the code
-pub mod inside

@@ -1,9 +1,6 @@
 //! Import of edge lists, tables and matrices as graph files.
 #![tactic(auto)]
 
-mod adding;
-mod edges;
-mod line;
 mod list;
 mod making;
 mod matrix;

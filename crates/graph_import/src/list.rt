@@ -2,12 +2,11 @@
 
 ghost use Rattle.std.specs.Prelude.{◌≡◌, true, OnOk};
 ghost use Rattle.std.specs.List.{All};
-ghost use Rattle.graph_import.specs.Said.{all_edges, is_good, lines_of};
-ghost use Rattle.graph_import.specs.inside.Adding.{Adds};
+ghost use Rattle.edge_list.specs.Said.{all_edges, is_good, lines_of};
+ghost use Rattle.edge_list.specs.inside.Adding.{Adds};
 
-use crate::edges::Edges;
-use crate::line::{Form, line_of};
 use crate::names::{Names, Row, row_of};
+use edge_list::{Edges, Form, line_of};
 use graph::GraphFault;
 use std::alloc::Global;
 

@@ -7,8 +7,6 @@ ghost use Rattle.graph_import.specs.Graph.{graph_text, valued, weighed};
 ghost use Rattle.graph_import.specs.Import.{GivesSource, GivesValues, IsImport, IsNumbered, IsRead, SaysEdges, list_form};
 ghost use Rattle.graph_import.specs.declared.writing.Values.{Values};
 
-use crate::edges::Edges;
-use crate::line::Form;
 use crate::list::{read_list, read_names};
 use crate::matrix::{head_of, is_matrix, read_matrix};
 use crate::names::Names;
@@ -17,6 +15,7 @@ use crate::reading::Reading;
 use crate::table::{Weight, read_table};
 use crate::vertices::{shares_of, vertices_of};
 use crate::writing::{Values, text_of};
+use edge_list::{Edges, Form};
 use graph::{Edge, GraphFault, MAX_EDGES, MAX_VERTICES};
 use line_text::{id_of, number_of};
 use std::alloc::{AllocError, Global};

@@ -2,8 +2,8 @@
 
 ghost use Rattle.std.specs.Prelude.{◌≤◌};
 
-use crate::edges::Edges;
 use crate::names::Names;
+use edge_list::Edges;
 
 /// The edges of a file, and the names of their ends if the ends are names.
 #[derive(Drop)]

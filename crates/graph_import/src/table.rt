@@ -2,10 +2,9 @@
 
 ghost use Rattle.std.specs.Prelude.{◌≡◌, OnOk};
 
-use crate::edges::Edges;
-use crate::line::edge_between;
 use crate::names::Names;
 use csv::{ByteRecord, Error, ErrorKind, Reader, ReaderBuilder, Trim};
+use edge_list::{Edges, edge_between};
 use graph::GraphFault;
 use line_text::number_of;
 use std::alloc::Global;

@@ -1,7 +1,7 @@
 use Rattle.std.proofs.Common.{◌≡◌, ◌∙◌, ◌++◌, ap, refl, subst, true}
 use Rattle.std.specs.List.{All}
 use Rattle.graph_import.specs.Import.{list_form}
-use Rattle.graph_import.specs.Said.{all_edges, is_good, lines_of}
+use Rattle.edge_list.specs.Said.{all_edges, is_good, lines_of}
 use Rattle.graph_import.proofs.making.read_lines.Goals as goal
 
 pub returns-in_ok-read_list-in-None-clause-read : goal.returns-in_ok-read_list-in-None-clause-read

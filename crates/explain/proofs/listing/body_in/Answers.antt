@@ -1,5 +1,0 @@
-use Rattle.explain.proofs.Listings.{stretch_in}
-use Rattle.explain.proofs.listing.body_in.Goals as goal
-
-pub returns : goal.returns
-returns c = stretch_in c.args.lines.now c.behind-rest.result.now c.front.result.now c.behind-rest.ensures c.front.ensures

@@ -1,0 +1,14 @@
+use Rattle.std.proofs.Common.{◌∙◌, ◌++◌, ap, string_bytes}
+use Rattle.std.proofs.lemmas.Result.{IfOk-weaker}
+use Rattle.explanations.specs.Explanation.{advice_text}
+use Rattle.explanations.proofs.explaining.wrong.Goals as goal
+
+pub returns : goal.returns
+returns c =
+    let advice = c.advice_of-advice.result in
+    IfOk-weaker c.plain.result _ _ (λ told is. record {
+      advice = advice;
+      shown = string_bytes c.in_ok-seen.seen.text;
+      place = c.in_ok-seen.ensures;
+      joined = is ∙ ap (λ place. advice_text advice ++ place) c.as_str.ensures.value;
+    }) c.plain.ensures

@@ -1,0 +1,15 @@
+use Rattle.std.proofs.Common.{string_bytes}
+use Rattle.explanations.specs.Listing.{listed}
+use Rattle.explanations.specs.inside.Shown.{texts}
+use Rattle.explanations.proofs.Listings.{listing_of}
+use Rattle.explanations.proofs.module_place.body_text.Goals as goal
+
+pub returns : goal.returns
+returns c =
+    let part = c.in_ok-push_around.ensures in
+    record {
+      heading = string_bytes c.in_ok-text.text;
+      listing = listed c.args.instruction part.first (texts part.part);
+      is_listing = listing_of c.args.body.now part.part part.first c.args.instruction part.cut;
+      joined = part.gains;
+    }

@@ -1,0 +1,2 @@
+-- what only mirrors the code, for its proofs
+pub mod inside

@@ -96,17 +96,16 @@ prove_copy() {
 # Proves all that the program stands on, and builds it in the folder $1/whole.
 #
 # A run of rt reckons with more memory than its checks take, and so with few at a time. Where RT_JOBS is set it does not, but then each
-# check has one processor. So there are two runs: four checks side by side, and then the last two crates, each of which waits for the
-# one before and gets two processors.
+# check has one processor. So there are two runs: four checks side by side, and then pregel itself, whose check gets two processors.
 prove_in_stages() {
-    local job last=(console pregel)
+    local job
     # (each job in a process group of its own, which ends with all that it has started)
     set -m
     trap 'for job in $(jobs -p); do kill -- "-$job" 2>/dev/null || true; done; wait; exit 143' TERM
     if [ "$(free_memory)" -lt 20 ]; then
         export RT_JOBS=${RT_JOBS:-$(checks_that_fit)}
     elif [ -z "${RT_JOBS:-}" ] && [ "$(nproc)" -ge 4 ] && keeps_proofs; then
-        RT_JOBS=$(checks_that_fit) prove_copy "$1/below" $(crates_below pregel | grep -vxF "$(printf '%s\n' "${last[@]}")") &
+        RT_JOBS=$(checks_that_fit) prove_copy "$1/below" $(crates_below pregel | grep -vx pregel) &
         wait $! || return
     fi
     prove_copy "$1/whole" pregel &

@@ -1,12 +1,11 @@
 -- The heights of functions, by rank.
 use Rattle.std.proofs.Common.{◌≡◌, ◌≢◌, ◌⊎◌, inl, inr, ℕ, zero, suc, ◌+◌, ◌-◌, ◌<◌, ◌≤◌, ◌==◌, max, List, [], ◌∷◌, ◌++◌, length, get_or, set, replicate, take, map, slice_get, Bool, true, false, cond, nat_lt, leb, if◌then◌else◌, Option, Some, None, refl, sym, ap, ◌∙◌, subst, arith, get_or-set_same, get_or-set_other, lt-ltb, le-ltb}
 use Rattle.std.specs.Option.{option_map}
-use Rattle.std.proofs.lemmas.List.{get_or-replicate, get_or_past, length-append, length-map, length-replicate, map-append, take_all}
+use Rattle.std.proofs.lemmas.List.{get_or-replicate, get_or_past, length-append, length-map, length-replicate}
 use Rattle.std.proofs.lemmas.List.Recursion.{is_count_by}
 use Rattle.std.proofs.lemmas.Bool.Decides.{eqb_tells, leb_tells}
 use Rattle.std.proofs.lemmas.Option.{slice_get_past, slice_get_read}
 use Rattle.std.specs.List.{AllByRecursion, cons_option}
-use Rattle.wasm_ast.specs.declared.types.FuncType.{FuncType}
 use Rattle.wasm_ast.specs.declared.module.ImportDescription.{ImportDescription}
 use Rattle.wasm_ast.specs.declared.module.ImportDescription.TheVariants as import
 use Rattle.wasm_ast.specs.declared.module.Import.{Import}
@@ -29,8 +28,8 @@ use Rattle.verified.specs.Facts.{IsHeightAt}
 use Rattle.verified.specs.Profile.{SizeWithin}
 use Rattle.verified.specs.Heights.{after, peak, peak_in, AreHeights}
 use Rattle.bounded_profile.specs.inside.Levels.{AreTold, AreToldBelow}
-use Rattle.bounded_profile.specs.inside.StackHeights.{ground_level, height_at, with_code}
-use Rattle.bounded_profile.proofs.StackHeights.{IsKnown, exact_height}
+use Rattle.profile_rules.specs.inside.StackHeights.{ground_level, height_at, with_code}
+use Rattle.profile_rules.proofs.StackHeights.{IsKnown, exact_height}
 use Rattle.verified.proofs.StackHeights.{parts, weaker, bounded}
 use Rattle.verified.proofs.Calling.{calls_small, narrow_calls}
 
@@ -234,18 +233,6 @@ height_told m ranks ranked types told f t s w =
     ((heights, high, sym e), omega (arith, e, l, within))
 
 -- ---- the table of what calls take and give
-
-types_of : (a : ℕ → Arity) (fs : List Function) → map a (map (λ (f : Function). f.type_number) fs) ≡ map (λ (f : Function). a f.type_number) fs
-types_of a [] = refl
-types_of a (f ∷ fs) = ap (λ xs. a f.type_number ∷ xs) (types_of a fs)
-
-pub table_whole : (m : Module) (table : List Arity) (types : List FuncType) (fs : List Function) (n : ℕ) → types ≡ m.types → fs ≡ m.functions → length fs ≤ n → table ≡ map (λ k. type_arity (slice_get types k)) (imported function_import m.imports) ++ map (λ (f : Function). type_arity (slice_get types f.type_number)) (take n fs) → table ≡ arity_table m
-table_whole m table types fs n te fe h e =
-    e
-    ∙ ap (λ (gs : List Function). map (λ k. type_arity (slice_get types k)) (imported function_import m.imports) ++ map (λ (f : Function). type_arity (slice_get types f.type_number)) gs) (take_all n fs h ∙ fe)
-    ∙ ap (λ (ts : List FuncType). map (λ k. type_arity (slice_get ts k)) (imported function_import m.imports) ++ map (λ (f : Function). type_arity (slice_get ts f.type_number)) m.functions) te
-    ∙ ap (λ xs. map (λ k. type_arity (slice_get m.types k)) (imported function_import m.imports) ++ xs) (sym (types_of (λ k. type_arity (slice_get m.types k)) m.functions))
-    ∙ sym (map-append (λ k. type_arity (slice_get m.types k)) (imported function_import m.imports) (map (λ (f : Function). f.type_number) m.functions))
 
 counted : (is : List Import) → length (imported function_import is) ≡ imported_functions is
 counted is = is_count_by (λ js. length (imported function_import js)) is_function refl (λ x xs. by_kind x.description (imported function_import xs)) is

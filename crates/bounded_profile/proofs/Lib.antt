@@ -1,17 +1,5 @@
-pub mod KnownStacks
-pub mod KnownKinds
-pub mod KnownSound
-pub mod KnownComplete
-pub mod KnownFewer
-pub mod KnownTogether
-pub mod KnownVerdict
-pub mod StackHeights
 pub mod Leveling
 pub mod ReachedFootprint
 pub mod ReachedExtents
-pub mod Walking
 pub mod Refusals
 pub mod Computing
-pub mod HostTable
-pub mod LoopEnds
-pub mod Nested

@@ -3,19 +3,19 @@ use Rattle.std.proofs.Common.{◌≡◌, ℕ, refl, sym, subst}
 use Rattle.wasm_ast.specs.declared.module.Module.{Module}
 use Rattle.valid.specs.Modules.{IsTyped}
 use Rattle.units.specs.Calls.{callees}
-use Rattle.bounded_profile.specs.declared.fault.ProfileFault.{ProfileFault}
-use Rattle.bounded_profile.specs.declared.fault.ProfileFault.TheVariants as fault
+use Rattle.profile_rules.specs.declared.fault.ProfileFault.{ProfileFault}
+use Rattle.profile_rules.specs.declared.fault.ProfileFault.TheVariants as fault
 use Rattle.verified.specs.declared.facts.Facts.{Facts}
 use Rattle.verified.specs.Compute.{IsComputeNumber}
 use Rattle.verified.specs.Facts.{AreFacts, AreFactsAt}
-use Rattle.bounded_profile.specs.declared.fault.ProfileRule.{ProfileRule}
-use Rattle.bounded_profile.specs.declared.fault.ProfileRule.TheVariants as rule
-use Rattle.bounded_profile.specs.declared.constants.asks.Asks.TheVariants.{Addresses, Divisors, Slots}
-use Rattle.bounded_profile.specs.Faults.{Denies, KeepsRule, ShowsCycle, Refuses}
+use Rattle.profile_rules.specs.declared.fault.ProfileRule.{ProfileRule}
+use Rattle.profile_rules.specs.declared.fault.ProfileRule.TheVariants as rule
+use Rattle.profile_rules.specs.declared.constants.asks.Asks.TheVariants.{Addresses, Divisors, Slots}
+use Rattle.profile_rules.specs.Faults.{Denies, KeepsRule, ShowsCycle, Refuses}
 use Rattle.verified.specs.Profile.{IsBounded, AddressesWithin, AllKnown, SizeWithin}
 use Rattle.bounded_profile.specs.inside.Stages.{PartsHold, ShapesHold, CallsHold}
 use Rattle.bounded_profile.proofs.Computing.{one_number}
-use Rattle.bounded_profile.proofs.KnownVerdict.{fewer}
+use Rattle.profile_rules.proofs.KnownVerdict.{fewer}
 
 -- where the error denies a rule, it is right
 pub refused_rule : (m : Module) (rule : ProfileRule) (e : ProfileFault) (p : Type 0) → (KeepsRule rule m → p) → Denies rule e p → Refuses m e

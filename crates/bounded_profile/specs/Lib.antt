@@ -1,5 +1,2 @@
--- What an error says, and how it is printed (the rules themselves are in `verified`).
-pub mod Faults
-pub mod FaultText
--- what only mirrors the code, for its proofs
+-- The verifier's promises are in terms of the definitions of `verified` and `profile_rules`. Here is what only mirrors the code, for its proofs
 pub mod inside

@@ -3,14 +3,14 @@
 ghost use Rattle.std.specs.Prelude.{IfOk, MatchResult};
 ghost use Rattle.units.specs.Calls.{callees};
 ghost use Rattle.cost.specs.Ranks.{IsRanking};
-ghost use Rattle.bounded_profile.specs.Faults.{Denies, ShowsCycle};
+ghost use Rattle.profile_rules.specs.Faults.{Denies, ShowsCycle};
 ghost use Rattle.verified.specs.Profile.{NoCycles, SizeWithin};
-ghost use Rattle.bounded_profile.specs.declared.fault.ProfileRule.TheVariants.{P14};
+ghost use Rattle.profile_rules.specs.declared.fault.ProfileRule.TheVariants.{P14};
 ghost use Rattle.bounded_profile.specs.inside.Stages.{SizeHolds};
 
-use crate::fault::{ProfileFault, ProfileRule};
 use crate::module_rules::NOWHERE;
 use cost::{Ranks, has_one_sizing, inlined_size, ranks};
+use profile_rules::{ProfileFault, ProfileRule};
 use std::alloc::Global;
 use valid::Valid;
 

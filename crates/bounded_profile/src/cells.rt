@@ -5,9 +5,7 @@ ghost use Rattle.wasm_ast.specs.Limits.{IsWithinLimits, max_locals, parameters_o
 ghost use Rattle.verified.specs.Arities.{arity_table};
 ghost use Rattle.verified.specs.Cells.{cells_of, cells_table};
 
-use crate::arity::arity_table;
-use crate::height_table::HeightTable;
-use crate::stack_height::{Callees, StackHeight};
+use profile_rules::{Callees, HeightTable, StackHeight, arity_table};
 use std::alloc::{AllocError, Global};
 use verified::{Arity, Cells};
 use wasm_ast::{Function, Module, parameter_count};

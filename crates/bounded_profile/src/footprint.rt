@@ -5,11 +5,11 @@ ghost use Rattle.verified.specs.Arities.{block_arity};
 ghost use Rattle.verified.specs.Memory.{memory_bytes};
 ghost use Rattle.verified.specs.Reached.{access_at, accesses, accesses_along, memory_accesses};
 ghost use Rattle.bounded_profile.specs.inside.Footprint.{marked_all, marked_to, marks_along, trail, trail_behind, with_plain};
-ghost use Rattle.bounded_profile.specs.inside.Tracking.{operands_of};
+ghost use Rattle.profile_rules.specs.inside.Tracking.{operands_of};
 
-use crate::arity::{TEST, arity_at, arity_table, branch_arity, plain_arity, result_count};
-use crate::constants::Operands;
-use crate::memory_rules::number_of;
+use profile_rules::{
+    Operands, TEST, arity_at, arity_table, branch_arity, number_of, plain_arity, result_count,
+};
 use std::alloc::{AllocError, Global};
 use verified::{Arity, Operand, memory_bytes};
 use wasm_ast::{BlockType, Body, Instr, Memory, Module, Plain};

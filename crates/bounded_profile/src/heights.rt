@@ -3,15 +3,13 @@
 ghost use Rattle.std.specs.Prelude.{◌≡◌, ◌-◌, ◌≤◌, IfOk, length};
 ghost use Rattle.cost.specs.Ranks.{IsRanking};
 ghost use Rattle.verified.specs.Arities.{arity_table};
-ghost use Rattle.bounded_profile.specs.inside.StackHeights.{most_along};
+ghost use Rattle.profile_rules.specs.inside.StackHeights.{most_along};
 ghost use Rattle.verified.specs.Facts.{IsHeightAt};
 ghost use Rattle.bounded_profile.specs.inside.Levels.{AreTold};
 ghost use Rattle.verified.specs.Profile.{SizeWithin};
 
-use crate::arity::arity_table;
-use crate::height_table::HeightTable;
-use crate::stack_height::{Callees, StackHeight};
 use cost::{Ranks, has_one_sizing};
+use profile_rules::{Callees, HeightTable, StackHeight, arity_table};
 use std::alloc::{AllocError, Global};
 use valid::Valid;
 use verified::Arity;

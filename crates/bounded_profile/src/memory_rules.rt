@@ -1,17 +1,17 @@
 //! P10, except for the addresses of loads and stores: the initial memory, and the data segments in it.
 
 ghost use Rattle.std.specs.Prelude.{◌≡◌, ◌↔◌, IsTrue};
-ghost use Rattle.bounded_profile.specs.Faults.{Settles};
-ghost use Rattle.bounded_profile.specs.declared.fault.ProfileRule.TheVariants.{P10};
+ghost use Rattle.profile_rules.specs.Faults.{Settles};
+ghost use Rattle.profile_rules.specs.declared.fault.ProfileRule.TheVariants.{P10};
 ghost use Rattle.wasm_ast.specs.Code.{Code};
 ghost use Rattle.wasm_ast.specs.View.{then_code};
 ghost use Rattle.wasm_ast.specs.declared.plain.Variable.TheVariants.{GlobalGet};
-ghost use Rattle.verified.specs.Memory.{number_of, initial_number, offset_number, plain_offset, variable_number, DataWithin, MinimumsWithin, SegmentsWithin};
+ghost use Rattle.verified.specs.Memory.{initial_number, offset_number, plain_offset, variable_number, DataWithin, MinimumsWithin, SegmentsWithin};
 
-use crate::fault::{ProfileFault, ProfileRule};
 use crate::module_rules::NOWHERE;
+use profile_rules::{ProfileFault, ProfileRule, number_of};
 use verified::memory_bytes;
-use wasm_ast::{Body, Data, Instr, Limits, Module, Plain, Value, Variable};
+use wasm_ast::{Body, Data, Instr, Limits, Module, Plain, Variable};
 
 /// The greatest minimum of a memory, in pages.
 const MAX_MINIMUM: u32 = 16;
@@ -112,15 +112,5 @@ fn constant_at(first: &Instr) -> Option<u64>
     match first {
         Instr::Plain(Plain::Const(value)) => Some(number_of(*value)),
         _ => None,
-    }
-}
-
-/// Returns the constant, read unsigned.
-pub fn number_of(value: Value) -> u64
-    ensures { result ≡ number_of value }
-{
-    match value {
-        Value::I32(number) => u64::from(number),
-        Value::I64(number) => number,
     }
 }

@@ -3,13 +3,13 @@
 ghost use Rattle.std.specs.Prelude.{◌≡◌, ◌↔◌, IfSome, IfNone, MatchResult, IsTrue};
 ghost use Rattle.valid.specs.Modules.{IsTyped};
 ghost use Rattle.verified.specs.Compute.{exported_compute, IsDefinedPlain, IsComputeNumber};
-ghost use Rattle.bounded_profile.specs.Faults.{Denies, Settles};
+ghost use Rattle.profile_rules.specs.Faults.{Denies, Settles};
 ghost use Rattle.verified.specs.Hosts.{IsHostImport};
-ghost use Rattle.bounded_profile.specs.declared.fault.ProfileRule.TheVariants.{P1, P2, P3, P4};
+ghost use Rattle.profile_rules.specs.declared.fault.ProfileRule.TheVariants.{P1, P2, P3, P4};
 ghost use Rattle.verified.specs.Profile.{ImportsHostCalls, HasCompute, HasPlainType, NoStart, NoElements, plain_type};
 
-use crate::fault::{ProfileFault, ProfileRule};
 use host_calls::HostCall;
+use profile_rules::{ProfileFault, ProfileRule};
 use validate::Place;
 use wasm_ast::{
     Export, ExportDescription, FuncType, Function, Import, ImportDescription, Module,

@@ -5,20 +5,19 @@ ghost use Rattle.wasm_ast.specs.Limits.{IsWithinLimits};
 ghost use Rattle.valid.specs.Modules.{IsTyped};
 ghost use Rattle.verified.specs.Compute.{IsComputeNumber};
 ghost use Rattle.verified.specs.Facts.{AreFacts};
-ghost use Rattle.bounded_profile.specs.Faults.{Refuses, Settles};
+ghost use Rattle.profile_rules.specs.Faults.{Refuses, Settles};
 ghost use Rattle.verified.specs.Known.{ConstantsKnown};
 ghost use Rattle.verified.specs.Profile.{IsBounded, AddressesWithin, NoUnreachable, NothingAfterBranches, asks_addresses, asks_slots};
 ghost use Rattle.bounded_profile.specs.inside.Stages.{PartsHoldAt, ShapesHold, CallsHoldWith};
-ghost use Rattle.bounded_profile.specs.inside.Tracking.{asks_of};
+ghost use Rattle.profile_rules.specs.inside.Tracking.{asks_of};
 
 use crate::calls::{check_cycles, check_size};
-use crate::constants::{Asks, ConstantsFault, check_constants};
-use crate::fault::{ProfileFault, ProfileRule};
 use crate::heights::operand_height;
-use crate::hosts::host_table;
 use crate::memory_rules::{check_minimums, check_segments};
 use crate::module_rules::{check_elements, check_imports, check_start, find_compute};
-use crate::shapes::check_shape;
+use profile_rules::{
+    Asks, ConstantsFault, ProfileFault, ProfileRule, check_constants, check_shape, host_table,
+};
 use std::alloc::Global;
 use valid::Valid;
 use verified::{Facts, Shape};

@@ -1,15 +1,14 @@
 //! The tables of a module in the bounded profile.
 
 ghost use Rattle.std.specs.Prelude.{IsOkUnless, MatchResult};
-ghost use Rattle.bounded_profile.specs.Faults.{Refuses};
+ghost use Rattle.profile_rules.specs.Faults.{Refuses};
 ghost use Rattle.verified.specs.Profile.{IsBounded};
 ghost use Rattle.verified.specs.inside.Tables.{AreTables};
 
 use crate::cells::cells_table;
 use crate::extents::footprint_extents;
-use crate::fault::ProfileFault;
-use crate::hosts::host_calls;
 use crate::rules::check_rules;
+use profile_rules::{ProfileFault, host_calls};
 use std::alloc::Global;
 use valid::Valid;
 use verified::Tables;

@@ -1,11 +1,11 @@
 //! The verification of a module.
 
 ghost use Rattle.std.specs.Prelude.{◌≡◌, IfOk, IfErr, OnOk, IsOkUnless};
-ghost use Rattle.bounded_profile.specs.Faults.{Refuses};
+ghost use Rattle.profile_rules.specs.Faults.{Refuses};
 ghost use Rattle.verified.specs.Profile.{IsBounded};
 
-use crate::fault::ProfileFault;
 use crate::tables::tables_of;
+use profile_rules::ProfileFault;
 use std::alloc::Global;
 use valid::Valid;
 use verified::Verified;

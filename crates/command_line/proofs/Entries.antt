@@ -15,15 +15,15 @@ use Rattle.clap.specs.declared.parser.matches.Found.{Found}
 use Rattle.clap.specs.declared.parser.matches.MatchedArg.{MatchedArg}
 use Rattle.clap.proofs.WalkLemmas.{find_row, first_value-rows, one_text-rows}
 use Rattle.command_line.specs.CommandLine.{Asks, AsksFor, AsksImport, AsksJob, AsksModule, AsksRun, Gives, GivesNumber, MayGiveNumber, is_set}
-use Rattle.command_line.specs.declared.request.ImportRequest.{ImportRequest}
-use Rattle.command_line.specs.declared.request.JobRequest.{JobRequest}
-use Rattle.command_line.specs.declared.request.ModuleRequest.{ModuleRequest}
-use Rattle.command_line.specs.declared.request.Options.{Options}
-use Rattle.command_line.specs.declared.request.Options.TheVariants as options
-use Rattle.command_line.specs.declared.request.Request.{Request}
-use Rattle.command_line.specs.declared.request.Request.TheVariants as request
-use Rattle.command_line.specs.declared.request.RunRequest.{RunRequest}
-use Rattle.command_line.specs.inside.Commands.{Finds, rows_in}
+use Rattle.requests.specs.declared.request.ImportRequest.{ImportRequest}
+use Rattle.requests.specs.declared.request.JobRequest.{JobRequest}
+use Rattle.requests.specs.declared.request.ModuleRequest.{ModuleRequest}
+use Rattle.requests.specs.declared.request.Options.{Options}
+use Rattle.requests.specs.declared.request.Options.TheVariants as options
+use Rattle.requests.specs.declared.request.Request.{Request}
+use Rattle.requests.specs.declared.request.Request.TheVariants as request
+use Rattle.requests.specs.declared.request.RunRequest.{RunRequest}
+use Rattle.command_line.specs.inside.Matches.{Finds, rows_in}
 
 pub text_given : (m : ArgMatches) (name : Text) (read : Option (Bor Text)) (text : Bor Text)
     → option_map (λ s. s.now) read ≡ first_value (found_of m) name → read ≡ Some text → first_of name (rows_in m) ≡ Some text.now

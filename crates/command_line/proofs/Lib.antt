@@ -1,3 +1,2 @@
-pub mod CommandRules
 pub mod Pregel
 pub mod Entries

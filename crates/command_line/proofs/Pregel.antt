@@ -6,9 +6,10 @@ use Rattle.clap.specs.declared.error.Error.{Error}
 use Rattle.clap.specs.declared.error.kind.ErrorKind.TheVariants.{MissingSubcommand, OutOfMemory, ValueValidation}
 use Rattle.clap.specs.declared.parser.matches.ArgMatches.{ArgMatches}
 use Rattle.clap.proofs.OnLiterals.{clap_on_literals}
-use Rattle.command_line.specs.CommandLine.{AskedIn, IsRefusal, has_plus_in, pregel}
-use Rattle.command_line.specs.declared.request.Options.{Options}
-use Rattle.command_line.specs.inside.Commands.{IsRefusedIn}
+use Rattle.command_line.specs.CommandLine.{AskedIn, IsRefusal, has_plus_in}
+use Rattle.usage.specs.Commands.{pregel}
+use Rattle.requests.specs.declared.request.Options.{Options}
+use Rattle.command_line.specs.inside.Matches.{IsRefusedIn}
 
 pub simple : is_simple pregel ≡ true
 unfolding clap_on_literals

@@ -1,133 +1,28 @@
--- The program's command line, and the request in its words.
-use Rattle.std.specs.Prelude.{◌≡◌, ◌⊎◌, ◌<◌, ◌^◌, ℕ, Bool, true, false, List, [], ◌∷◌, ◌++◌, Option, None, Some, map, codes, pos, option_map, option_and_then, find, if◌then◌else◌, slice_index, ◌==◌, IsSomeAnd}
+-- The request in the words of a command line.
+use Rattle.std.specs.Prelude.{◌≡◌, ◌⊎◌, ◌<◌, ◌^◌, ℕ, Bool, true, false, List, [], ◌∷◌, ◌++◌, Option, None, Some, map, codes, option_map, option_and_then, find, if◌then◌else◌, slice_index, ◌==◌, IsSomeAnd}
 use Rattle.std.specs.List.{list_any}
 use Rattle.std.specs.Option.{option_map_or}
 use Rattle.std.specs.Str.{bytes_eq}
 use Rattle.std.specs.Str.Parse.{IsNumeral, digits_value, without_leading_plus}
 use Rattle.std.specs.Borrow.{Bor}
-use Rattle.clap.specs.Words.{App, HasKind, Row, Rule, Shape, Text, fault_of, first_of, kind_of, new_rule, one_of, subcommand_of}
+use Rattle.clap.specs.Words.{HasKind, Row, Text, fault_of, first_of, kind_of, one_of, subcommand_of}
 use Rattle.clap.specs.declared.error.Error.{Error}
 use Rattle.clap.specs.declared.error.kind.ErrorKind.TheVariants.{MissingSubcommand, ValueValidation}
-use Rattle.clap.specs.Simple.{new_shape}
-use Rattle.clap.specs.declared.builder.action.ArgAction.TheVariants.{SetTrue}
-use Rattle.clap.specs.declared.builder.value_parser.ValueParser.{ValueParser}
-use Rattle.clap.specs.declared.builder.value_parser.ValueParser.TheVariants.{Signed}
 use Rattle.clap.specs.declared.parser.matches.ValueSource.{ValueSource}
 use Rattle.clap.specs.declared.parser.matches.ValueSource.TheVariants.{CommandLine}
 use Rattle.job_state.specs.declared.settings.Settings.{Settings}
-use Rattle.command_line.specs.declared.request.Cores.{Cores}
-use Rattle.command_line.specs.declared.request.ImportRequest.{ImportRequest}
-use Rattle.command_line.specs.declared.request.JobRequest.{JobRequest}
-use Rattle.command_line.specs.declared.request.ModuleRequest.{ModuleRequest}
-use Rattle.command_line.specs.declared.request.Options.{Options}
-use Rattle.command_line.specs.declared.request.Options.TheVariants as options
-use Rattle.command_line.specs.declared.request.Progress.{Progress}
-use Rattle.command_line.specs.declared.request.Progress.TheVariants.{Always, Never, OnTerminal}
-use Rattle.command_line.specs.declared.request.Request.{Request}
-use Rattle.command_line.specs.declared.request.Request.TheVariants as request
-use Rattle.command_line.specs.declared.request.RunRequest.{RunRequest}
-
--- ---- the arguments, of five kinds
-
--- `NAME`, a required word, known by its place
-abbrev pub positional : Text → Rule
-positional name = record (new_rule name) { value_names = 1; required = true }
-
--- `--name VALUE`
-abbrev pub option : Text → Rule
-option name = record (new_rule name) { long = Some name; value_names = 1 }
-
--- `--name`
-abbrev pub flag : Text → Rule
-flag name = record (new_rule name) { long = Some name; action = Some SetTrue }
-
--- a number from 0 to 2^32 - 1
-abbrev pub number : ValueParser
-number = Signed (pos 0) (pos 4294967295)
-
--- `--name N`, a number without a default
-abbrev pub bound : Text → Rule
-bound name = record (option name) { parser = Some number }
-
--- `--name N`, a number that is `otherwise` by default
-abbrev pub setting : (Text × Text) → Rule
-setting (name, otherwise) = record (option name) { defaults = otherwise ∷ []; parser = Some number }
-
--- the flag of commands that can explain why a module is refused
-abbrev pub explain : Rule
-explain = flag (codes "explain")
-
--- the option of commands that can refuse a module for its size
-abbrev pub max_size : Rule
-max_size = bound (codes "max-size")
-
--- the settings of a job, with their defaults
-abbrev pub settings : List (Text × Text)
-settings = (codes "parts", codes "1")
-    ∷ (codes "workers", codes "1")
-    ∷ (codes "every", codes "10")
-    ∷ (codes "limit", codes "1000")
-    ∷ (codes "lease", codes "1000")
-    ∷ []
-
--- ---- the commands
-
--- a command with these arguments and without subcommands
-abbrev pub command : Text → List Rule → Shape
-command name rules = record (new_shape name) { rules = rules }
-
--- the last arguments of each command that runs a job
-abbrev pub job_rules : List Rule
-job_rules = map setting settings ++ flag (codes "units") ∷ []
-
-abbrev pub call : Shape
-call = command (codes "call") (positional (codes "module") ∷ positional (codes "input") ∷ max_size ∷ explain ∷ [])
-
-abbrev pub run : Shape
-run = command (codes "run")
-    (positional (codes "module") ∷ positional (codes "graph")
-    ∷ option (codes "keep") ∷ flag (codes "resume") ∷ option (codes "lose") ∷ flag (codes "again")
-    ∷ (job_rules ++ flag (codes "all-cores") ∷ flag (codes "progress") ∷ flag (codes "quiet")
-    ∷ option (codes "report") ∷ option (codes "plot") ∷ max_size ∷ explain ∷ []))
-
-abbrev pub replay : Shape
-replay = command (codes "replay")
-    (positional (codes "module") ∷ positional (codes "graph") ∷ positional (codes "steps") ∷ job_rules)
-
-abbrev pub upgrade : Shape
-upgrade = command (codes "upgrade") (positional (codes "checkpoint") ∷ positional (codes "binary") ∷ [])
-
-abbrev pub asm : Shape
-asm = command (codes "asm") (positional (codes "module") ∷ positional (codes "binary") ∷ [])
-
-abbrev pub fit : Shape
-fit = command (codes "fit") (positional (codes "module") ∷ positional (codes "binary") ∷ [])
-
-abbrev pub print : Shape
-print = command (codes "print") (positional (codes "module") ∷ [])
-
-abbrev pub verify : Shape
-verify = command (codes "verify") (positional (codes "module") ∷ max_size ∷ explain ∷ [])
-
-abbrev pub graph : Shape
-graph = command (codes "graph")
-    (positional (codes "edges") ∷ positional (codes "binary") ∷ flag (codes "undirected") ∷ option (codes "value")
-    ∷ option (codes "source") ∷ option (codes "weight") ∷ flag (codes "share") ∷ option (codes "names") ∷ [])
-
-abbrev pub console : Shape
-console = command (codes "console") []
-
--- the program has these commands and a version, requires a command, and shows its help if there are no words
-abbrev pub pregel : App
-pregel = record {
-  top = record (new_shape (codes "pregel")) {
-    is_leaf = false;
-    has_version = true;
-    subcommand_required = true;
-    arg_required_else_help = true;
-  };
-  subs = call ∷ run ∷ replay ∷ upgrade ∷ asm ∷ fit ∷ print ∷ verify ∷ graph ∷ console ∷ [];
-}
+use Rattle.usage.specs.Commands.{pregel, settings}
+use Rattle.requests.specs.declared.request.Cores.{Cores}
+use Rattle.requests.specs.declared.request.ImportRequest.{ImportRequest}
+use Rattle.requests.specs.declared.request.JobRequest.{JobRequest}
+use Rattle.requests.specs.declared.request.ModuleRequest.{ModuleRequest}
+use Rattle.requests.specs.declared.request.Options.{Options}
+use Rattle.requests.specs.declared.request.Options.TheVariants as options
+use Rattle.requests.specs.declared.request.Progress.{Progress}
+use Rattle.requests.specs.declared.request.Progress.TheVariants.{Always, Never, OnTerminal}
+use Rattle.requests.specs.declared.request.Request.{Request}
+use Rattle.requests.specs.declared.request.Request.TheVariants as request
+use Rattle.requests.specs.declared.request.RunRequest.{RunRequest}
 
 -- ---- the request in a command and the entries of its arguments
 

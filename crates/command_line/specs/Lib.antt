@@ -1,6 +1,4 @@
--- The definitions to read: the program's command line, and the request in its words.
+-- The definitions to read, behind the commands of `usage`: the request in the words of a command line.
 pub mod CommandLine
--- the request on a machine
-pub mod Machine
 -- for proofs only: definitions that follow the code
 pub mod inside

@@ -1,2 +1,2 @@
--- The models of the code's commands in `clap`. No contract of a public function cites them.
-pub mod Commands
+-- What the code finds in `clap`'s matches. No contract of a public function cites it.
+pub mod Matches

@@ -3,19 +3,20 @@
 ghost use Rattle.std.specs.Prelude.{◌≡◌, ◌∷◌, [], IfErr, IfOk, IsErrAnd, MatchResult, OnOk, codes, false, map};
 ghost use Rattle.std.specs.List.{list_any};
 ghost use Rattle.clap.specs.Words.{HasKind, app_of, fault_of, subcommand_rows_of};
-ghost use Rattle.command_line.specs.CommandLine.{AskedBy, AskedIn, AsksCores, AsksFor, AsksJob, AsksModule, GivesNumber, GivesSettings, IsRefusal, MayGiveNumber, has_plus, has_plus_in, is_given, is_set, is_signed, pregel, progress_in};
-ghost use Rattle.command_line.specs.inside.Commands.{Finds, IsRefusedIn, rows_in};
+ghost use Rattle.command_line.specs.CommandLine.{AskedBy, AskedIn, AsksCores, AsksFor, AsksJob, AsksModule, GivesNumber, GivesSettings, IsRefusal, MayGiveNumber, has_plus, has_plus_in, is_given, is_set, is_signed, progress_in};
+ghost use Rattle.usage.specs.Commands.{pregel};
+ghost use Rattle.command_line.specs.inside.Matches.{Finds, IsRefusedIn, rows_in};
 
-use crate::commands::pregel;
-use crate::request::{
-    Cores, ImportRequest, JobRequest, ModuleRequest, Options, Progress, Request, RunRequest,
-};
 use clap::error::ErrorKind;
 use clap::parser::ValueSource;
 use clap::{ArgMatches, Command, Error};
 use job_state::Settings;
+use requests::{
+    Cores, ImportRequest, JobRequest, ModuleRequest, Options, Progress, Request, RunRequest,
+};
 use std::alloc::Global;
 use std::convert::AsStr;
+use usage::pregel;
 
 // The names of the options with a number, which `clap` reads.
 static NUMBERS: [&str; 6] = ["parts", "workers", "every", "limit", "lease", "max-size"];

@@ -11,10 +11,11 @@ pub mod generated;
 
 use crate::modules::valid_of;
 use anyhow::Result;
+use call_lines::Input;
 use conformance_cases::show_texts;
 use forms::tell_both;
 use host_calls::CallInput;
-use sources::{CommandFault, Input};
+use sources::CommandFault;
 use std::alloc::{AllocError, Global};
 use std::fs;
 use std::rt::Files;

@@ -1,7 +1,8 @@
 //! Inputs of calls. `input TEXT` prints the id, the superstep, the count and the value, then the messages, then the edges
 //! as `TARGET:VALUE`. `aggregators TEXT` prints each aggregator's value. A text that is no input prints its first bad line.
 
-use sources::{CommandFault, Input};
+use call_lines::Input;
+use sources::CommandFault;
 use std::alloc::{AllocError, Global};
 
 /// Writes the input that a text declares.

@@ -12,10 +12,12 @@
 pub mod lent_files;
 
 use clap::error::ErrorKind;
-use command_line::{Options, Request, options};
-use console::{NoView, command};
+use command_line::options;
+use console::command;
 use lent_files::LentFiles;
 use plain_commands::{RunNotes, call, write_sheets};
+use requests::{Options, Request};
+use run_views::NoView;
 use session::ServeFault;
 use sources::{Source, refusal_line};
 use std::alloc::{AllocError, Global};

@@ -13,8 +13,8 @@ mod lines;
 
 use crate::commands::lent_files::{LentFiles, spelled_bytes};
 use crate::threads::gates::{Plan, PlannedGate};
-use console::{Loss, LossGate};
 use lines::{Given, Limits, NO_LIMITS, Taken};
+use run_views::{Loss, LossGate};
 use session::{ServeFault, serve_on_one_machine};
 use std::alloc::AllocError;
 use std::rt::Files;

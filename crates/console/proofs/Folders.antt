@@ -2,13 +2,13 @@
 use denote.Bor.{Bor}
 use Rattle.std.proofs.Common.{inl, inr, ◌≡◌, ◌⊎◌, Bool, false, true, List, Option, None, Result, Some, ℕ, refl}
 use Rattle.std.specs.Prelude.{String}
-use Rattle.command_line.specs.declared.request.RunRequest.{RunRequest}
+use Rattle.requests.specs.declared.request.RunRequest.{RunRequest}
 use Rattle.sources.specs.declared.fault.CommandFault.{CommandFault}
 use Rattle.sources.specs.Disk.{Disk, Stays}
-use Rattle.sources.specs.OutputLines.{IfText}
+use Rattle.call_lines.specs.OutputLines.{IfText}
 use Rattle.superstep.specs.Job.{Work}
 use Rattle.console.specs.Jobs.{AreEndLines, AreJobLines, AreKeptLines, AreRunLines}
-use Rattle.console.specs.declared.loss.Loss.{Loss}
+use Rattle.run_views.specs.declared.loss.Loss.{Loss}
 use Rattle.console.specs.FileCommands.{IsFaultOfKeeping}
 use Rattle.plain_commands.proofs.Folders.{not_ready_before}
 

@@ -7,7 +7,7 @@ use Rattle.superstep.specs.Ending.{Ends, IsEndOf, answer_of}
 use Rattle.superstep.specs.Job.{Meaning, Work}
 use Rattle.superstep.specs.PlainRun.{units_at}
 use Rattle.std.specs.Prelude.{Err, IfErr, Ok, Result}
-use Rattle.sources.specs.OutputLines.{ended_lines, job_lines}
+use Rattle.call_lines.specs.OutputLines.{ended_lines, job_lines}
 use Rattle.rollback.specs.declared.report.Report.{Report}
 use Rattle.sources.specs.declared.fault.CommandFault.{CommandFault}
 use Rattle.workers.specs.JobAnswers.{IsRunFault}

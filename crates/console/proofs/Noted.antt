@@ -4,15 +4,15 @@ use Rattle.std.specs.Prelude.{String}
 use Rattle.wasm_ast.specs.declared.module.Module.{Module}
 use Rattle.job_state.specs.declared.fault.JobFault.{JobFault}
 use Rattle.superstep.specs.Job.{Work}
-use Rattle.command_line.specs.declared.request.JobRequest.{JobRequest}
-use Rattle.command_line.specs.declared.request.ModuleRequest.{ModuleRequest}
-use Rattle.command_line.specs.declared.request.Request.{Request}
-use Rattle.command_line.specs.declared.request.RunRequest.{RunRequest}
+use Rattle.requests.specs.declared.request.JobRequest.{JobRequest}
+use Rattle.requests.specs.declared.request.ModuleRequest.{ModuleRequest}
+use Rattle.requests.specs.declared.request.Request.{Request}
+use Rattle.requests.specs.declared.request.RunRequest.{RunRequest}
 use Rattle.sources.specs.declared.fault.CommandFault.{CommandFault}
 use Rattle.sources.specs.declared.fault.CommandFault.TheVariants as command
 use Rattle.sources.specs.Disk.{Disk}
 use Rattle.sources.specs.Modules.{is_text_path}
-use Rattle.sources.specs.OutputLines.{IfText, line}
+use Rattle.call_lines.specs.OutputLines.{IfText, line}
 use Rattle.sources.specs.Refusal.{fault_text, status_of}
 use Rattle.sources.specs.Source.{RefusesLoad, RefusesModule}
 use Rattle.plain_commands.specs.Keeping.{IsNoFolder, IsNotReady}

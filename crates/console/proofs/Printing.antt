@@ -3,14 +3,14 @@ use Rattle.std.proofs.Common.{inl, inr, ◌≡◌, ◌⊎◌, ◌++◌, ◌∷�
 use Rattle.std.specs.Io.KnownBytes.{Appends}
 use Rattle.sources.specs.declared.fault.CommandFault.{CommandFault}
 use Rattle.sources.specs.declared.fault.CommandFault.TheVariants as command
-use Rattle.command_line.specs.declared.request.Request.{Request}
-use Rattle.command_line.specs.declared.request.Request.TheVariants as request
+use Rattle.requests.specs.declared.request.Request.{Request}
+use Rattle.requests.specs.declared.request.Request.TheVariants as request
 use Rattle.wasm_decode.specs.Canonical.{canonical}
 use Rattle.checkpoint.specs.Checkpoint.{checkpoint_bytes}
 use Rattle.sources.specs.Disk.{Disk, Stays, Tries}
 use Rattle.sources.specs.Writing.{TriesAll}
 use Rattle.conversions.specs.Importing.{files_of}
-use Rattle.sources.specs.OutputLines.{line}
+use Rattle.call_lines.specs.OutputLines.{line}
 use Rattle.sources.specs.Refusal.{fault_text, status_of}
 use Rattle.conversions.specs.Causes.{IsBeforeWriting}
 use Rattle.console.specs.FileCommands.{IsCause, MayTry, MayPrint}

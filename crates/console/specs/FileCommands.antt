@@ -5,18 +5,18 @@ use Rattle.superstep.specs.Job.{Work}
 use Rattle.rollback.specs.declared.report.Report.{Report}
 use Rattle.sources.specs.declared.fault.CommandFault.{CommandFault}
 use Rattle.sources.specs.declared.fault.CommandFault.TheVariants as command
-use Rattle.command_line.specs.declared.request.Request.{Request}
-use Rattle.command_line.specs.declared.request.RunRequest.{RunRequest}
-use Rattle.console.specs.declared.loss.Loss.{Loss}
-use Rattle.command_line.specs.declared.request.Request.TheVariants as request
-use Rattle.sources.specs.OutputLines.{line}
+use Rattle.requests.specs.declared.request.Request.{Request}
+use Rattle.requests.specs.declared.request.RunRequest.{RunRequest}
+use Rattle.run_views.specs.declared.loss.Loss.{Loss}
+use Rattle.requests.specs.declared.request.Request.TheVariants as request
+use Rattle.call_lines.specs.OutputLines.{line}
 use Rattle.sources.specs.Disk.{Disk, Stays}
 use Rattle.sources.specs.Refusal.{fault_text, status_of}
 use Rattle.sources.specs.Source.{RefusesModule}
 use Rattle.sources.specs.Reading.{IsRefusedAt}
 use Rattle.conversions.specs.Importing.{IsNotImported, PrintsImport, TriesImport}
 use Rattle.console.specs.Jobs.{AreRunLines, IsFaultOfKept}
-use Rattle.console.specs.Loss.{NamesLoss, RefusesLoss}
+use Rattle.run_views.specs.Loss.{NamesLoss, RefusesLoss}
 use Rattle.plain_commands.specs.Notes.{HasNoted, NotesEnd}
 use Rattle.plain_commands.specs.declared.noting.RunNotes.{RunNotes}
 use Rattle.plain_commands.specs.Sizes.{IsNotAdmitted}

@@ -7,8 +7,8 @@ use Rattle.superstep.specs.Job.{Meaning, Work}
 use Rattle.superstep.specs.PlainRun.{Answer, IsAnswer, units_at}
 use Rattle.rollback.specs.declared.report.Report.{Report}
 use Rattle.workers.specs.JobAnswers.{IsRunFault}
-use Rattle.console.specs.declared.loss.Loss.{Loss}
-use Rattle.sources.specs.OutputLines.{ended_lines, job_lines}
+use Rattle.run_views.specs.declared.loss.Loss.{Loss}
+use Rattle.call_lines.specs.OutputLines.{ended_lines, job_lines}
 use Rattle.sources.specs.declared.fault.CommandFault.{CommandFault}
 use Rattle.sources.specs.declared.fault.CommandFault.TheVariants as command
 use Rattle.plain_commands.specs.Keeping.{IsNoFolder}

@@ -2,8 +2,8 @@
 
 ghost use Rattle.sources.specs.Disk.{Stays};
 
-use command_line::Request;
 use explain::{explanation, is_explained};
+use requests::Request;
 use sources::{CommandFault, Files, read_source};
 use std::alloc::Global;
 

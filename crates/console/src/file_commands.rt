@@ -5,8 +5,8 @@ ghost use Rattle.std.specs.Io.KnownBytes.{Appends};
 ghost use Rattle.sources.specs.Disk.{Stays};
 ghost use Rattle.keeps.specs.Files.{superstep_on};
 ghost use Rattle.console.specs.Jobs.{AreEndLines, AreJobLines, AreKeptLines, AreRunLines, IsFaultOfRun};
-ghost use Rattle.sources.specs.OutputLines.{IfText};
-ghost use Rattle.console.specs.Loss.{NamesLoss, RefusesLoss};
+ghost use Rattle.call_lines.specs.OutputLines.{IfText};
+ghost use Rattle.run_views.specs.Loss.{NamesLoss, RefusesLoss};
 ghost use Rattle.console.specs.FileCommands.{Answered, IsCause, IsFaultOfKeeping, IsUnrun, MayPrint, MayTry, NotesAnswer, NotesFailedRun, NotesOnlyAsked, NotesOnlyRun, NotesPrinted, NotesRefusal, NotesRun, PrintsRun, writes_file};
 ghost use Rattle.plain_commands.specs.Outputs.{HasPrinted};
 ghost use Rattle.conversions.specs.Causes.{StaysBeforeWriting};
@@ -15,17 +15,15 @@ ghost use Rattle.plain_commands.specs.Sheets.{asks_of_run, asks_sheets};
 
 use crate::explaining::explain_refusal;
 use crate::jobs::{resume, run};
-use crate::loss::{Loss, LossGate};
-use crate::view::{RunGate, View};
-use crate::warnings::warn_of_run;
 use checkpoint::MemoryKeep;
-use command_line::{Progress, Request, RunRequest};
 use conversions::{assemble_file, fit_file, import_file, print_file, upgrade_file};
 use keeps::FileKeep;
 use line_text::{Output, WriteFailure};
 use plain_commands::{
     RunNotes, Watch, call_files, job_of, keep_in, refuse, replay_files, tell, verify_file,
 };
+use requests::{Progress, Request, RunRequest};
+use run_views::{Loss, LossGate, RunGate, View, warn_of_run};
 use sources::{CommandFault, Files};
 use std::alloc::Global;
 use std::sync::Wait;

@@ -3,16 +3,15 @@
 ghost use Rattle.std.specs.Prelude.{◌≡◌, true, IfErr, IsSome, ◌<◌, None, Some};
 ghost use Rattle.sources.specs.Disk.{Stays};
 ghost use Rattle.console.specs.Jobs.{AreEndLines, AreJobLines, AreKeptLines, IsFaultOfRun};
-ghost use Rattle.sources.specs.OutputLines.{IfText};
+ghost use Rattle.call_lines.specs.OutputLines.{IfText};
 ghost use Rattle.plain_commands.specs.Notes.{NotesEnd, NotesFault, NotesOnly, HasNoted};
 ghost use Rattle.rollback.specs.Saving.{HasLeft};
 ghost use Rattle.console.specs.inside.Answering.{AreLinesOfAnswer, IsFaultOfAnswer};
 
-use crate::view::{RunGate, View};
-use crate::warnings::warn_of_missed;
 use checkpoint::Keep;
 use plain_commands::{RunNotes, ended_text};
 use rollback::Report;
+use run_views::{RunGate, View, warn_of_missed};
 use sources::{CommandFault, Files};
 use std::alloc::Global;
 use std::sync::Wait;

@@ -5,10 +5,5 @@
 mod explaining;
 mod file_commands;
 mod jobs;
-mod loss;
-mod view;
-mod warnings;
 
 pub use file_commands::command;
-pub use loss::{Loss, LossGate};
-pub use view::{NoView, View};

@@ -1,6 +1,6 @@
 -- Why the files of an import are not written.
 use Rattle.std.proofs.Common.{inl}
-use Rattle.command_line.specs.declared.request.ImportRequest.{ImportRequest}
+use Rattle.requests.specs.declared.request.ImportRequest.{ImportRequest}
 use Rattle.sources.specs.declared.fault.CommandFault.{CommandFault}
 use Rattle.sources.specs.declared.fault.CommandFault.TheVariants as command
 use Rattle.sources.specs.Disk.{Disk}

@@ -6,11 +6,11 @@ use Rattle.std.specs.Option.{is_some}
 use Rattle.graph_import.specs.Import.{IsImport, format_in}
 use Rattle.graph_import.specs.declared.making.Imported.{Imported}
 use Rattle.graph_import.specs.declared.plan.Plan.{Plan}
-use Rattle.command_line.specs.declared.request.ImportRequest.{ImportRequest}
+use Rattle.requests.specs.declared.request.ImportRequest.{ImportRequest}
 use Rattle.sources.specs.declared.fault.CommandFault.{CommandFault}
 use Rattle.sources.specs.declared.fault.CommandFault.TheVariants as command
 use Rattle.sources.specs.Disk.{Disk, HoldsAt, Stays}
-use Rattle.sources.specs.OutputLines.{line}
+use Rattle.call_lines.specs.OutputLines.{line}
 use Rattle.sources.specs.Writing.{TriesAll, WritesAll}
 use Rattle.sources.specs.Reading.{IsUnread}
 

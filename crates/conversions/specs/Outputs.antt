@@ -8,7 +8,7 @@ use Rattle.wat_syntax.specs.Layout.{layout}
 use Rattle.fit.specs.Fit.{IsFitOf}
 use Rattle.job_state.specs.State.{Standing}
 use Rattle.checkpoint.specs.Checkpoint.{IsCheckpointOf, checkpoint_bytes}
-use Rattle.sources.specs.OutputLines.{line}
+use Rattle.call_lines.specs.OutputLines.{line}
 use Rattle.sources.specs.Disk.{Disk, HoldsAt, Tries, Writes}
 use Rattle.sources.specs.Modules.{IsModuleAt}
 

@@ -2,13 +2,13 @@
 
 ghost use Rattle.std.specs.Prelude.{◌≡◌, IfErr, IfOk, MatchResult, OnErr, OnOk, string_bytes};
 ghost use Rattle.sources.specs.Disk.{Stays};
-ghost use Rattle.sources.specs.OutputLines.{IfText};
+ghost use Rattle.call_lines.specs.OutputLines.{IfText};
 ghost use Rattle.conversions.specs.Importing.{IsImportedAt, IsNoImportAt, IsNotImported, IsUnwritten, PrintsImport, PrintsMade, TriesImport, import_line, files_of, names_written, plan_in};
 ghost use Rattle.sources.specs.Writing.{TriesAll, WritesAll};
 ghost use Rattle.conversions.specs.Causes.{StaysBeforeWriting};
 
-use command_line::ImportRequest;
 use graph_import::{Imported, Plan, format_of, import};
+use requests::ImportRequest;
 use sources::{CommandFault, Files, read_text, write};
 use std::alloc::{AllocError, Global};
 

@@ -4,7 +4,7 @@ ghost use Rattle.std.specs.Prelude.{◌⊎◌, IfErr, OnErr};
 ghost use Rattle.wasm_ast.specs.Limits.{IsWithinLimits};
 ghost use Rattle.wasm_decode.specs.Canonical.{canonical};
 ghost use Rattle.sources.specs.Disk.{Stays, Tries};
-ghost use Rattle.sources.specs.OutputLines.{IfText};
+ghost use Rattle.call_lines.specs.OutputLines.{IfText};
 ghost use Rattle.sources.specs.Source.{RefusesModule};
 ghost use Rattle.sources.specs.Reading.{IsRefusedAt};
 ghost use Rattle.conversions.specs.Outputs.{PrintsLayout, PrintsLength, PrintsSpelling, PrintsFitted, PrintsFittedOf, TriesFitted, TriesFittedOf, TriesSpelling};

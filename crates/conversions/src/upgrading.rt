@@ -3,7 +3,7 @@
 ghost use Rattle.std.specs.Prelude.{◌⊎◌, IfErr, MatchResult, OnErr};
 ghost use Rattle.checkpoint.specs.Checkpoint.{checkpoint_bytes};
 ghost use Rattle.sources.specs.Disk.{Stays, Tries};
-ghost use Rattle.sources.specs.OutputLines.{IfText};
+ghost use Rattle.call_lines.specs.OutputLines.{IfText};
 ghost use Rattle.sources.specs.Reading.{IsUnwritable};
 ghost use Rattle.conversions.specs.Outputs.{IsKeptAt, PrintsUpgraded, PrintsWritten, TriesUpgraded};
 ghost use Rattle.conversions.specs.Causes.{IsNoCheckpointAt, IsNotUpgraded, StaysBeforeWriting};

@@ -2,7 +2,7 @@
 
 ghost use Rattle.std.specs.Prelude.{◌≡◌, IfOk, IfErr, OnErr, string_bytes};
 ghost use Rattle.sources.specs.Disk.{Tries};
-ghost use Rattle.sources.specs.OutputLines.{IfText};
+ghost use Rattle.call_lines.specs.OutputLines.{IfText};
 ghost use Rattle.sources.specs.Reading.{IsUnwritable};
 ghost use Rattle.conversions.specs.Outputs.{PrintsWritten, length_line};
 ghost use Rattle.conversions.specs.Causes.{StaysBeforeWriting};

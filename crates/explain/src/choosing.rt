@@ -3,8 +3,8 @@
 ghost use Rattle.std.specs.Prelude.{◌≡◌, IfOk, IfSome, is_some, string_bytes};
 ghost use Rattle.explanations.specs.Explanation.{Answers, Explains, is_explained};
 
-use bounded_profile::ProfileFault;
 use explanations::{invalid, no_module, no_text, unbounded};
+use profile_rules::ProfileFault;
 use sources::{CommandFault, Source};
 use std::alloc::{AllocError, Global};
 use validate::ValidFault;

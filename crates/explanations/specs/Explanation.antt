@@ -8,12 +8,12 @@ use Rattle.wat_syntax.specs.Layout.{layout}
 use Rattle.wasm_items.specs.declared.fault.DecodeFault.TheVariants as decode
 use Rattle.validate.specs.declared.fault.Place.{Place}
 use Rattle.validate.specs.declared.fault.ValidFault.TheVariants as valid
-use Rattle.bounded_profile.specs.FaultText.{rule_word}
-use Rattle.bounded_profile.specs.declared.fault.ProfileFault.TheVariants as profile
+use Rattle.profile_rules.specs.FaultText.{rule_word}
+use Rattle.profile_rules.specs.declared.fault.ProfileFault.TheVariants as profile
 use Rattle.sources.specs.declared.file_contents.Source.{Source}
 use Rattle.sources.specs.declared.fault.CommandFault.{CommandFault}
 use Rattle.sources.specs.declared.fault.CommandFault.TheVariants as command
-use Rattle.sources.specs.OutputLines.{line}
+use Rattle.call_lines.specs.OutputLines.{line}
 use Rattle.sources.specs.Modules.{MeansBy}
 use Rattle.sources.specs.Source.{content, is_text}
 use Rattle.explanations.specs.declared.advice.Advice.{Advice}

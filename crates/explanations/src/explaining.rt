@@ -1,18 +1,18 @@
 //! The explanations of errors, by their kinds.
 
 ghost use Rattle.std.specs.Prelude.{◌≡◌, ◌++◌, codes, IfOk, OnOk, is_some, string_bytes};
-ghost use Rattle.bounded_profile.specs.FaultText.{rule_word};
-ghost use Rattle.bounded_profile.specs.declared.fault.ProfileFault.TheVariants as profile_fault;
+ghost use Rattle.profile_rules.specs.FaultText.{rule_word};
+ghost use Rattle.profile_rules.specs.declared.fault.ProfileFault.TheVariants as profile_fault;
 ghost use Rattle.validate.specs.declared.fault.ValidFault.TheVariants as valid_fault;
 ghost use Rattle.sources.specs.declared.fault.CommandFault.TheVariants as command;
-ghost use Rattle.sources.specs.OutputLines.{Gains, IfText};
+ghost use Rattle.call_lines.specs.OutputLines.{Gains, IfText};
 ghost use Rattle.explanations.specs.Explanation.{Answers, advice_text, is_explained, part_text};
 ghost use Rattle.explanations.specs.inside.Told.{NamesRecursion, Tells};
 
 use crate::advice::{Advice, bytes, profile, texts, validity};
 use crate::module_place::seen_at;
 use crate::places::{byte_text, cycle_text, line_text};
-use bounded_profile::{ProfileFault, ProfileRule};
+use profile_rules::{ProfileFault, ProfileRule};
 use sources::Source;
 use std::alloc::{AllocError, Global};
 use validate::{Place, Rule, ValidFault};

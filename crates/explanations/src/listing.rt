@@ -2,7 +2,7 @@
 
 ghost use Rattle.std.specs.Prelude.{◌≡◌, ◌+◌, ◌<◌, ◌≤◌, ◌^◌, Contains, IfOk, IfSome, OnOk, count_by, length};
 ghost use Rattle.std.specs.Str.Lines.{lines};
-ghost use Rattle.sources.specs.OutputLines.{Gains};
+ghost use Rattle.call_lines.specs.OutputLines.{Gains};
 ghost use Rattle.explanations.specs.Listing.{IsStretch, is_marked, is_numbered, listed, listed_line, mark, next_number};
 ghost use Rattle.explanations.specs.inside.Shown.{Cuts, ListsPart, texts};
 

@@ -4,7 +4,7 @@ ghost use Rattle.std.specs.Prelude.{◌≡◌, [], IfOk, OnOk, string_bytes};
 ghost use Rattle.std.specs.Str.Lines.{lines};
 ghost use Rattle.wasm_ast.specs.Limits.{IsWithinLimits};
 ghost use Rattle.wat_syntax.specs.Layout.{layout};
-ghost use Rattle.sources.specs.OutputLines.{Gains, IfText, line};
+ghost use Rattle.call_lines.specs.OutputLines.{Gains, IfText, line};
 ghost use Rattle.explanations.specs.Explanation.{ShowsLines};
 ghost use Rattle.explanations.specs.inside.Shown.{texts};
 ghost use Rattle.explanations.specs.inside.Told.{Sees, SeesPlace, ShowsBody, ShowsLine};

@@ -1,7 +1,7 @@
 -- Why a folder is not made ready for the states of a job.
 use Rattle.std.proofs.Common.{inl, inr, ◌≡◌, ◌⊎◌, false, true, List, ℕ, subst, sym}
-use Rattle.command_line.specs.declared.request.JobRequest.{JobRequest}
-use Rattle.command_line.specs.declared.request.RunRequest.{RunRequest}
+use Rattle.requests.specs.declared.request.JobRequest.{JobRequest}
+use Rattle.requests.specs.declared.request.RunRequest.{RunRequest}
 use Rattle.sources.specs.declared.fault.CommandFault.{CommandFault}
 use Rattle.sources.specs.declared.fault.CommandFault.TheVariants.{Resume}
 use Rattle.sources.specs.Disk.{Disk, Stays}

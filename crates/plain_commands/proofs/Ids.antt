@@ -7,12 +7,12 @@ use Rattle.std.specs.Str.{bytes_eq, all_ascii_digits}
 use Rattle.host_calls.specs.declared.call.CallInput.{CallInput}
 use Rattle.line_text.specs.Number.{id_of, number_of}
 use Rattle.interp.specs.Bounded.{HasIds, max_id}
-use Rattle.sources.specs.declared.input.Input.{Input}
-use Rattle.sources.specs.declared.input_line.Line.{Line}
-use Rattle.sources.specs.declared.input_line.Line.TheVariants.{Skipped, Id, Superstep, Count, Value, Message, Edge, Aggregate, Bad}
-use Rattle.sources.specs.Input.{Lends, Says}
-use Rattle.sources.specs.InputLine.{line_of, says_number, u32_of, edge_line, aggregate_line, short_line, long_line, line_of_fields}
-use Rattle.sources.specs.InputSays.{lines_of, id_by, edge_by}
+use Rattle.call_lines.specs.declared.input.Input.{Input}
+use Rattle.call_lines.specs.declared.input_line.Line.{Line}
+use Rattle.call_lines.specs.declared.input_line.Line.TheVariants.{Skipped, Id, Superstep, Count, Value, Message, Edge, Aggregate, Bad}
+use Rattle.call_lines.specs.Input.{Lends, Says}
+use Rattle.call_lines.specs.InputLine.{line_of, says_number, u32_of, edge_line, aggregate_line, short_line, long_line, line_of_fields}
+use Rattle.call_lines.specs.InputSays.{lines_of, id_by, edge_by}
 use Rattle.line_text.specs.Fields.{fields, is_filled}
 use Rattle.std.specs.Str.Parse.{digits_value}
 use Rattle.std.specs.Str.Lines.{lines}

@@ -8,9 +8,9 @@ use Rattle.host_calls.specs.Host.{Host, host_of}
 use Rattle.interp.specs.Machine.{Machine, Running}
 use Rattle.interp.specs.Start.{Starts}
 use Rattle.interp.specs.Call.{IsOutcome, SameOutcome}
-use Rattle.sources.specs.OutputLines.{outcome_lines}
-use Rattle.sources.specs.Input.{Means, SameInput}
-use Rattle.sources.proofs.Meanings.{same_input}
+use Rattle.call_lines.specs.OutputLines.{outcome_lines}
+use Rattle.call_lines.specs.Input.{Means, SameInput}
+use Rattle.call_lines.proofs.Meanings.{same_input}
 
 same_host : (a b : CallInput) → SameInput a b → host_of a ≡ host_of b
 same_host a b same =

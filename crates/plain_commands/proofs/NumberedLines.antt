@@ -1,7 +1,7 @@
 -- Numbered lines, one more at a time.
 use Rattle.std.proofs.Common.{◌≡◌, ℕ, suc, ◌+◌, ◌-◌, ◌<◌, List, [], ◌∷◌, ◌++◌, length, get_or, take, ap, sym, ◌∙◌, arith, append_assoc}
 use Rattle.std.proofs.lemmas.List.{append-nil, length-take-le, take_more}
-use Rattle.sources.specs.OutputLines.{numbered_line, numbered_lines}
+use Rattle.call_lines.specs.OutputLines.{numbered_line, numbered_lines}
 
 pushed : (word : List ℕ) (n : ℕ) (xs : List ℕ) (x : ℕ)
     → numbered_lines word n (xs ++ x ∷ []) ≡ numbered_lines word n xs ++ numbered_line word (n + length xs) x

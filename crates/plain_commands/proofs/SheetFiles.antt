@@ -1,9 +1,9 @@
 -- The report and the chart of a run, one after the other.
 use denote.Bor.{Bor}
 use Rattle.std.proofs.Common.{inl, inr, ◌≡◌, ℕ, List, [], ◌++◌, Option, Some, None, IfSome, Result, Ok, Err, OnOk, subst, sym}
-use Rattle.command_line.specs.declared.request.Request.{Request}
-use Rattle.command_line.specs.declared.request.Request.TheVariants as request
-use Rattle.command_line.specs.declared.request.RunRequest.{RunRequest}
+use Rattle.requests.specs.declared.request.Request.{Request}
+use Rattle.requests.specs.declared.request.Request.TheVariants as request
+use Rattle.requests.specs.declared.request.RunRequest.{RunRequest}
 use Rattle.run_report.specs.Json.{IsJsonOf}
 use Rattle.run_report.specs.declared.report.RunReport.{RunReport}
 use Rattle.sources.specs.Disk.{Disk, Stays, Tries, Writes}

@@ -3,14 +3,14 @@ use Rattle.std.proofs.Common.{◌≡◌, ℕ, suc, ◌+◌, ◌≤◌, List, [],
 use Rattle.std.specs.Str.Lines.{lines}
 use Rattle.std.proofs.lemmas.List.{append-nil, drop_all}
 use Rattle.rollback.specs.declared.simulation.Step.{Step}
-use Rattle.sources.specs.declared.input.InputFault.{InputFault}
-use Rattle.sources.specs.declared.input.InputFault.TheVariants as fault
+use Rattle.call_lines.specs.declared.input.InputFault.{InputFault}
+use Rattle.call_lines.specs.declared.input.InputFault.TheVariants as fault
 use Rattle.plain_commands.specs.declared.step_line.StepLine.{StepLine}
 use Rattle.plain_commands.specs.declared.step_line.StepLine.TheVariants.{Skipped, Says, Bad}
 use Rattle.plain_commands.specs.StepLine.{step_line_of}
 use Rattle.plain_commands.specs.Steps.{IsStepsFault, put_first, steps_from}
 use Rattle.plain_commands.specs.inside.Stepping.{with_step}
-use Rattle.sources.proofs.TextLines.{Comes}
+use Rattle.call_lines.proofs.TextLines.{Comes}
 
 -- steps, and those that come then
 abbrev pub behind : List Step → Result (List Step) ℕ → Result (List Step) ℕ

@@ -4,8 +4,8 @@ use Rattle.wasm_ast.specs.declared.module.Module.{Module}
 use Rattle.superstep.specs.Job.{Work}
 use Rattle.rollback.specs.declared.simulation.Step.{Step}
 use Rattle.sources.specs.declared.fault.CommandFault.{CommandFault}
-use Rattle.command_line.specs.declared.request.JobRequest.{JobRequest}
-use Rattle.command_line.specs.declared.request.ModuleRequest.{ModuleRequest}
+use Rattle.requests.specs.declared.request.JobRequest.{JobRequest}
+use Rattle.requests.specs.declared.request.ModuleRequest.{ModuleRequest}
 use Rattle.sources.specs.Disk.{Disk, HoldsAt}
 use Rattle.sources.specs.Reading.{IsUnread}
 use Rattle.plain_commands.specs.ComputeCall.{RefusesText}

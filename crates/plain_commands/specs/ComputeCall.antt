@@ -4,10 +4,10 @@ use Rattle.wasm_ast.specs.declared.module.Module.{Module}
 use Rattle.host_calls.specs.declared.call.CallInput.{CallInput}
 use Rattle.host_calls.specs.declared.call.CallOutcome.{CallOutcome}
 use Rattle.interp.specs.Call.{IsOutcome}
-use Rattle.sources.specs.InputSays.{lines_of}
-use Rattle.sources.specs.Input.{Means}
-use Rattle.sources.specs.InputFaults.{IsInputFault}
-use Rattle.sources.specs.OutputLines.{outcome_lines}
+use Rattle.call_lines.specs.InputSays.{lines_of}
+use Rattle.call_lines.specs.Input.{Means}
+use Rattle.call_lines.specs.InputFaults.{IsInputFault}
+use Rattle.call_lines.specs.OutputLines.{outcome_lines}
 use Rattle.sources.specs.Modules.{Loads}
 use Rattle.sources.specs.Source.{RefusesLoad}
 use Rattle.sources.specs.declared.fault.CommandFault.{CommandFault}

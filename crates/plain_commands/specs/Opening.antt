@@ -4,7 +4,7 @@ use Rattle.wasm_ast.specs.declared.module.Module.{Module}
 use Rattle.graph.specs.Entry.{Entry}
 use Rattle.superstep.specs.Job.{Work}
 use Rattle.sources.specs.declared.fault.CommandFault.{CommandFault}
-use Rattle.command_line.specs.declared.request.JobRequest.{JobRequest}
+use Rattle.requests.specs.declared.request.JobRequest.{JobRequest}
 use Rattle.sources.specs.Disk.{Disk}
 use Rattle.sources.specs.Reading.{IsNoGraphAt, IsReadAt}
 use Rattle.sources.specs.Jobs.{IsJobOf, RefusesSettings}

@@ -8,9 +8,9 @@ use Rattle.verified.specs.Profile.{HasCompute}
 use Rattle.line_text.specs.Output.{HasBegun}
 use Rattle.superstep.specs.Job.{Work}
 use Rattle.rollback.specs.declared.simulation.Step.{Step}
-use Rattle.command_line.specs.declared.request.JobRequest.{JobRequest}
-use Rattle.command_line.specs.declared.request.ModuleRequest.{ModuleRequest}
-use Rattle.sources.specs.OutputLines.{line}
+use Rattle.requests.specs.declared.request.JobRequest.{JobRequest}
+use Rattle.requests.specs.declared.request.ModuleRequest.{ModuleRequest}
+use Rattle.call_lines.specs.OutputLines.{line}
 use Rattle.sources.specs.Disk.{Disk, HoldsAt}
 use Rattle.plain_commands.specs.ComputeCall.{AreCallLines}
 use Rattle.plain_commands.specs.Replays.{AreReplayLines}

@@ -17,7 +17,7 @@ use Rattle.rollback.specs.declared.simulation.StepAnswer.TheVariants.{Handed, Id
 use Rattle.rollback.specs.declared.simulation.Trace.{Trace}
 use Rattle.sources.specs.declared.fault.CommandFault.{CommandFault}
 use Rattle.sources.specs.declared.fault.CommandFault.TheVariants as command
-use Rattle.sources.specs.OutputLines.{ended_lines, line, numbered_lines}
+use Rattle.call_lines.specs.OutputLines.{ended_lines, line, numbered_lines}
 
 -- ---- lines
 

@@ -1,9 +1,9 @@
 -- The report and the chart of a run.
 use denote.Bor.{Bor}
 use Rattle.std.specs.Prelude.{◌≡◌, ◌⊎◌, ℕ, Bool, true, false, ◌||◌, List, [], ◌∷◌, ◌++◌, Option, Some, None, IfSome, MatchOption, is_some}
-use Rattle.command_line.specs.declared.request.Request.{Request}
-use Rattle.command_line.specs.declared.request.Request.TheVariants as request
-use Rattle.command_line.specs.declared.request.RunRequest.{RunRequest}
+use Rattle.requests.specs.declared.request.Request.{Request}
+use Rattle.requests.specs.declared.request.Request.TheVariants as request
+use Rattle.requests.specs.declared.request.RunRequest.{RunRequest}
 use Rattle.run_report.specs.Json.{IsJsonOf}
 use Rattle.run_report.specs.declared.report.JobFiles.{JobFiles}
 use Rattle.run_report.specs.declared.report.RunReport.{RunReport}

@@ -2,7 +2,7 @@
 use Rattle.std.specs.Prelude.{ℕ, ◌<◌, ◌≤◌, ◌⊎◌, ⊤, Option, None, Some}
 use Rattle.wasm_ast.specs.declared.module.Module.{Module}
 use Rattle.verified.specs.Facts.{IsSizeOfCompute}
-use Rattle.command_line.specs.declared.request.ModuleRequest.{ModuleRequest}
+use Rattle.requests.specs.declared.request.ModuleRequest.{ModuleRequest}
 use Rattle.sources.specs.declared.fault.CommandFault.{CommandFault}
 use Rattle.sources.specs.declared.fault.CommandFault.TheVariants as command
 use Rattle.sources.specs.Disk.{Disk}

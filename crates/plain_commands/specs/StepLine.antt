@@ -6,7 +6,7 @@ use Rattle.rollback.specs.declared.simulation.Step.{Step}
 use Rattle.rollback.specs.declared.simulation.Step.TheVariants.{Join, Lose, Take, Tick, Work}
 use Rattle.plain_commands.specs.declared.step_line.StepLine.{StepLine}
 use Rattle.plain_commands.specs.declared.step_line.StepLine.TheVariants.{Skipped, Says, Bad}
-use Rattle.sources.specs.InputLine.{u32_of}
+use Rattle.call_lines.specs.InputLine.{u32_of}
 
 -- a name alone
 abbrev pub alone : List ℕ → StepLine

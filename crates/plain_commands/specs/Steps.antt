@@ -2,8 +2,8 @@
 use Rattle.std.specs.Prelude.{◌≡◌, ℕ, suc, List, [], ◌∷◌, map, Result, Ok, Err}
 use Rattle.std.specs.Str.Lines.{lines}
 use Rattle.rollback.specs.declared.simulation.Step.{Step}
-use Rattle.sources.specs.declared.input.InputFault.{InputFault}
-use Rattle.sources.specs.declared.input.InputFault.TheVariants as fault
+use Rattle.call_lines.specs.declared.input.InputFault.{InputFault}
+use Rattle.call_lines.specs.declared.input.InputFault.TheVariants as fault
 use Rattle.sources.specs.declared.fault.CommandFault.{CommandFault}
 use Rattle.sources.specs.declared.fault.CommandFault.TheVariants as command
 use Rattle.plain_commands.specs.declared.step_line.StepLine.{StepLine}

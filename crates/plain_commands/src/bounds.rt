@@ -2,12 +2,12 @@
 
 ghost use Rattle.std.specs.Prelude.{◌≡◌, IfOk, IfErr, string_bytes};
 ghost use Rattle.sources.specs.Disk.{Stays};
-ghost use Rattle.sources.specs.OutputLines.{IfText};
+ghost use Rattle.call_lines.specs.OutputLines.{IfText};
 ghost use Rattle.plain_commands.specs.Outputs.{IsBoundsLine, PrintsBounds, bounds_line};
 ghost use Rattle.plain_commands.specs.Sizes.{IsNotAdmitted};
 
 use crate::sizes::load_within;
-use command_line::ModuleRequest;
+use requests::ModuleRequest;
 use sources::{CommandFault, Files};
 use std::alloc::{AllocError, Global};
 use verified::Verified;

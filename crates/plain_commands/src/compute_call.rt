@@ -4,7 +4,7 @@ ghost use Rattle.std.specs.Prelude.{List, ℕ, IfOk, IfErr};
 ghost use Rattle.wasm_ast.specs.declared.module.Module.{Module as AnyModule};
 ghost use Rattle.interp.specs.Bounded.{HasIds};
 ghost use Rattle.interp.specs.Call.{IsOutcome};
-ghost use Rattle.sources.specs.OutputLines.{IfText};
+ghost use Rattle.call_lines.specs.OutputLines.{IfText};
 ghost use Rattle.sources.specs.Modules.{IsSpelledBy, IsVerified};
 ghost use Rattle.sources.specs.Source.{IsWant, content, is_text};
 ghost use Rattle.plain_commands.specs.ComputeCall.{AreCallLines, IsCallAnswer, IsWantOfCall, RefusesAnswer, RefusesText};
@@ -14,10 +14,11 @@ ghost use Rattle.plain_commands.specs.Causes.{IsUncalled};
 ghost use Rattle.plain_commands.specs.Outputs.{PrintsOutcome};
 
 use crate::sizes::load_within;
-use command_line::ModuleRequest;
+use call_lines::{Input, outcome_text};
 use host_calls::{CallInput, CallOutcome};
 use interp::{Scratch, run};
-use sources::{CommandFault, Files, Input, Source, load, outcome_text, read_text};
+use requests::ModuleRequest;
+use sources::{CommandFault, Files, Source, load, read_text};
 use std::alloc::{AllocError, Global};
 use verified::Verified;
 

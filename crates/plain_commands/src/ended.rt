@@ -2,9 +2,9 @@
 
 ghost use Rattle.std.specs.Prelude.{◌≡◌, IfOk, string_bytes, OnOk};
 ghost use Rattle.superstep.specs.Ending.{answer_of};
-ghost use Rattle.sources.specs.OutputLines.{Gains, end_line, ended_lines, numbered_line, numbered_lines};
+ghost use Rattle.call_lines.specs.OutputLines.{Gains, end_line, ended_lines, numbered_line, numbered_lines};
 
-use sources::{end_word, push_values};
+use call_lines::{end_word, push_values};
 use std::alloc::{AllocError, Global};
 use superstep::JobEnd;
 

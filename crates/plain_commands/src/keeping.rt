@@ -7,9 +7,9 @@ ghost use Rattle.sources.specs.Reading.{IsUnread};
 ghost use Rattle.sources.specs.declared.fault.CommandFault.TheVariants.{Resume};
 ghost use Rattle.plain_commands.specs.Keeping.{IsNoFolder, IsNotReady, IsUnidentified};
 
-use command_line::{JobRequest, RunRequest};
 use job_file::{JobId, Kinship, compare, digest_of, job_text};
 use keeps::{FileKeep, replace};
+use requests::{JobRequest, RunRequest};
 use sources::{CommandFault, Files, read_bytes};
 use std::alloc::{AllocError, Global};
 use std::fs::File;

@@ -5,9 +5,9 @@ ghost use Rattle.run_tally.specs.Tally.{capped};
 ghost use Rattle.plain_commands.specs.Notes.{HasNoted, IsOfEnd, IsOfFault, IsOfJob, IsOutcomeOf, IsOutcomeOfFault, IsReportOf, NotesOnly, settings_in};
 
 use crate::watching::Watch;
+use call_lines::end_word;
 use rollback::Report;
 use run_report::{Ended, Outcome, RunReport, RunSettings, Tally, capped};
-use sources::end_word;
 use std::alloc::{AllocError, Global};
 use std::sync::Wait;
 use superstep::{Job, JobFault, Settings};

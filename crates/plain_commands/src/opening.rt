@@ -7,8 +7,8 @@ ghost use Rattle.sources.specs.Jobs.{IsJobOf, RefusesSettings};
 ghost use Rattle.plain_commands.specs.inside.Answering.{opening_fault};
 
 use crate::sizes::load_within;
-use command_line::JobRequest;
 use graph::Graph;
+use requests::JobRequest;
 use sources::{CommandFault, Files, read_graph};
 use std::alloc::Global;
 use std::thread::Threads;

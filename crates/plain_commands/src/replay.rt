@@ -3,7 +3,7 @@
 ghost use Rattle.std.specs.Prelude.{◌≡◌, ◌++◌, IfOk, IfErr, OnOk, codes, string_bytes, MatchResult};
 ghost use Rattle.std.specs.Fmt.{decimal};
 ghost use Rattle.std.specs.List.{flat_map};
-ghost use Rattle.sources.specs.OutputLines.{Gains, IfText, line};
+ghost use Rattle.call_lines.specs.OutputLines.{Gains, IfText, line};
 ghost use Rattle.plain_commands.specs.Replays.{AreReplayLines, IsFaultOfReplay, answer_line, replay_end_lines, report_lines, said_line, trace_lines};
 ghost use Rattle.sources.specs.Disk.{Stays};
 ghost use Rattle.plain_commands.specs.Outputs.{AreStepsAt, PrintsReplay};
@@ -13,7 +13,7 @@ use crate::ended::{push_ended, push_numbered};
 use crate::opening::job_of;
 use crate::steps::steps_of;
 use checkpoint::MemoryKeep;
-use command_line::JobRequest;
+use requests::JobRequest;
 use rollback::{Answer, Outcome, Report, Step, StepAnswer, Trace, simulate};
 use sources::{CommandFault, Files, read_text};
 use std::alloc::{AllocError, Global};

@@ -5,8 +5,9 @@ ghost use Rattle.plain_commands.specs.Sheets.{HasWrittenSheets, IsStatusOf, MayW
 ghost use Rattle.plain_commands.specs.inside.SheetFiles.{TriesChart, TriesReport, WritesChart, WritesReport};
 
 use crate::noting::RunNotes;
-use command_line::{Request, RunRequest};
-use run_report::{JobFiles, RunReport, json_text, svg_text};
+use requests::{Request, RunRequest};
+use run_chart::svg_text;
+use run_report::{JobFiles, RunReport, json_text};
 use sources::{CommandFault, Files, write};
 use std::alloc::Global;
 

@@ -4,7 +4,7 @@ ghost use Rattle.std.specs.Prelude.{MatchResult};
 ghost use Rattle.sources.specs.Disk.{Stays};
 ghost use Rattle.plain_commands.specs.Sizes.{IsAdmitted, IsNotAdmitted, IsOfSize, RefusesSize};
 
-use command_line::ModuleRequest;
+use requests::ModuleRequest;
 use sources::{CommandFault, Files, load_file};
 use std::alloc::Global;
 use verified::Verified;

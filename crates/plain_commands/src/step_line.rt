@@ -3,9 +3,9 @@
 ghost use Rattle.std.specs.Prelude.{◌≡◌};
 ghost use Rattle.plain_commands.specs.StepLine.{alone, of_worker, step_line_of};
 
+use call_lines::u32_of;
 use line_text::Fields;
 use rollback::Step;
-use sources::u32_of;
 
 /// The meaning of a line.
 #[derive(Clone, Copy)]

@@ -6,8 +6,8 @@ ghost use Rattle.plain_commands.specs.declared.step_line.StepLine.TheVariants.{B
 ghost use Rattle.plain_commands.specs.inside.Stepping.{with_step};
 
 use crate::step_line::{StepLine, step_line_of};
+use call_lines::InputFault;
 use rollback::Step;
-use sources::InputFault;
 use std::alloc::Global;
 
 /// Reads the steps of a text.

@@ -1,7 +1,7 @@
 -- What a command tells is told whatever is written behind it.
 use Rattle.std.proofs.Common.{◌≡◌, ℕ, Bool, true, false, List, MatchBool, inl, inr, refl, sym, true≢false}
-use Rattle.command_line.specs.declared.request.Request.{Request}
-use Rattle.command_line.specs.declared.request.Request.TheVariants as request
+use Rattle.requests.specs.declared.request.Request.{Request}
+use Rattle.requests.specs.declared.request.Request.TheVariants as request
 use Rattle.sources.specs.Disk.{Disk, Stays}
 use Rattle.console.specs.FileCommands.{MayPrint, writes_file}
 use Rattle.plain_commands.specs.Sheets.{MayWriteSheets, asks_sheets}

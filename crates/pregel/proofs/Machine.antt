@@ -1,10 +1,10 @@
 -- A request on a machine writes a file, a report or a chart where the request does, and a command on it is carried out.
 use Rattle.std.proofs.Common.{◌≡◌, ◌∙◌, ℕ, Bool, true, false, ◌||◌, List, Option, Result, IfErr, ap, refl, subst, sym, true≢false}
-use Rattle.command_line.specs.declared.request.Options.{Options}
-use Rattle.command_line.specs.declared.request.Options.TheVariants as options
-use Rattle.command_line.specs.declared.request.Request.{Request}
-use Rattle.command_line.specs.declared.request.Request.TheVariants as request
-use Rattle.command_line.specs.Machine.{options_on, request_on}
+use Rattle.requests.specs.declared.request.Options.{Options}
+use Rattle.requests.specs.declared.request.Options.TheVariants as options
+use Rattle.requests.specs.declared.request.Request.{Request}
+use Rattle.requests.specs.declared.request.Request.TheVariants as request
+use Rattle.requests.specs.Machine.{options_on, request_on}
 use Rattle.sources.specs.Disk.{Disk, Stays}
 use Rattle.console.specs.FileCommands.{writes_file}
 use Rattle.plain_commands.specs.Sheets.{asks_sheets}

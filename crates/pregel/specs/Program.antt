@@ -1,12 +1,12 @@
 -- What the program does for what its command line asks.
 use Rattle.std.specs.Prelude.{◌≡◌, ◌⊎◌, ℕ, Bool, false, ◌||◌, List, Option, Result, IfOk, IfErr, MatchBool, MatchResult}
 use Rattle.std.specs.Io.KnownBytes.{Appends}
-use Rattle.command_line.specs.declared.request.Options.{Options}
-use Rattle.command_line.specs.declared.request.Options.TheVariants as options
-use Rattle.command_line.specs.declared.request.Request.{Request}
+use Rattle.requests.specs.declared.request.Options.{Options}
+use Rattle.requests.specs.declared.request.Options.TheVariants as options
+use Rattle.requests.specs.declared.request.Request.{Request}
 use Rattle.line_text.specs.Output.{HasBegun}
 use Rattle.sources.specs.Disk.{Disk}
-use Rattle.sources.specs.OutputLines.{line}
+use Rattle.call_lines.specs.OutputLines.{line}
 use Rattle.sources.specs.Refusal.{fault_text, status_of}
 use Rattle.sources.specs.declared.fault.CommandFault.{CommandFault}
 use Rattle.console.specs.FileCommands.{Answered, IsCause, MayPrint, writes_file}

@@ -12,7 +12,8 @@ use crate::failure_recorder::FailureRecorder;
 use crate::program::execute;
 use crate::progress_line::ProgressLine;
 use clap::error::ErrorKind;
-use command_line::{Options, options};
+use command_line::options;
+use requests::Options;
 use session::ServeFault;
 use sources::{CommandFault, SystemFiles};
 use std::io::IsTerminal;
@@ -58,17 +59,27 @@ fn read_and_execute(
     words: &[String],
     is_terminal: bool,
 ) -> io::Result<u8> {
-    let alloc = rt.alloc();
-    let options = match options(alloc, words) {
-        Ok(options) => options,
-        Err(error) if error.kind() == ErrorKind::OutOfMemory => {
-            return Err(io::Error::from(io::ErrorKind::OutOfMemory));
-        }
-        Err(error) => {
-            error.print(rt)?;
-            return Ok(if error.use_stderr() { 2 } else { 0 });
-        }
-    };
+    match options(rt.alloc(), words) {
+        Ok(options) => Ok(execute_asked(rt, options, is_terminal)),
+        Err(error) => refuse_words(rt, &error),
+    }
+}
+
+// Prints why the words are refused, or the help that they ask for.
+fn refuse_words(rt: &(impl Print + Eprint), error: &clap::Error) -> io::Result<u8> {
+    if error.kind() == ErrorKind::OutOfMemory {
+        return Err(io::Error::from(io::ErrorKind::OutOfMemory));
+    }
+    error.print(rt)?;
+    Ok(if error.use_stderr() { 2 } else { 0 })
+}
+
+// Does what the options ask for, with the system's files and streams.
+fn execute_asked(
+    rt: &(impl Clock + Input + Files + Print + Eprint + AllocGlobal + Threads + Wait + Sync),
+    options: Options<'_>,
+    is_terminal: bool,
+) -> u8 {
     // (failures of a session's files are only in its replies)
     let tells = matches!(options, Options::Command { .. });
     let view = ProgressLine::new(rt, is_terminal);
@@ -78,7 +89,7 @@ fn read_and_execute(
     let processors = processors(rt);
     match execute(
         rt,
-        alloc,
+        rt.alloc(),
         options,
         processors,
         &view,
@@ -86,12 +97,12 @@ fn read_and_execute(
         &mut reader,
         &mut writer,
     ) {
-        Ok(status) => Ok(status),
-        Err(ServeFault::Read) => Ok(report_failure(rt, "standard input", reader.failure())),
-        Err(ServeFault::Write) => Ok(report_failure(rt, "standard output", writer.failure())),
+        Ok(status) => status,
+        Err(ServeFault::Read) => report_failure(rt, "standard input", reader.failure()),
+        Err(ServeFault::Write) => report_failure(rt, "standard output", writer.failure()),
         Err(ServeFault::OutOfMemory) => {
             let _ = eprintln!(rt; "pregel: out of memory");
-            Ok(4)
+            4
         }
     }
 }

@@ -1,16 +1,17 @@
 //! What the program does for its options.
 
 ghost use Rattle.std.specs.Prelude.{◌≡◌, ℕ, List, false};
-ghost use Rattle.command_line.specs.Machine.{options_on};
+ghost use Rattle.requests.specs.Machine.{options_on};
 ghost use Rattle.sources.specs.Disk.{Stays};
 ghost use Rattle.console.specs.FileCommands.{writes_file};
 ghost use Rattle.plain_commands.specs.Sheets.{asks_sheets};
 ghost use Rattle.pregel.specs.Program.{CommandTold, Does, IsCommandTold, may_write};
 
-use command_line::{Options, Request};
-use console::{View, command};
+use console::command;
 use line_text::WriteFailure;
 use plain_commands::{RunNotes, write_sheets};
+use requests::{Options, Request};
+use run_views::View;
 use session::ServeFault;
 use sources::Files;
 use std::alloc::Global;

@@ -1,8 +1,2 @@
 -- what is reported of a run, as JSON data
 pub mod Json
--- what a panel of a chart shows
-pub mod Measures
--- numbers on an axis
-pub mod Scale
--- words in XML
-pub mod Words

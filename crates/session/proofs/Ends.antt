@@ -12,7 +12,7 @@ use Rattle.superstep.specs.Job.{Meaning, Work}
 use Rattle.superstep.specs.PlainRun.{Answer, IsAnswer, IsEnd, state_at}
 use Rattle.superstep.specs.Snapshot.{values_of}
 use Rattle.graph.specs.Print.{value_lines}
-use Rattle.sources.specs.OutputLines.{line}
+use Rattle.call_lines.specs.OutputLines.{line}
 use Rattle.sources.specs.Jobs.{IsJobOf}
 use Rattle.session.specs.Maps.{Maps}
 use Rattle.session.specs.declared.held_job.HeldJob.{HeldJob}

@@ -2,7 +2,7 @@
 use Rattle.std.specs.Prelude.{ℕ, nat_lt, Bool, true, false, ◌&&◌, List, [], ◌∷◌, length, map, Option, Some, None, codes, if◌then◌else◌}
 use Rattle.std.specs.Str.{bytes_eq, is_utf8}
 use Rattle.job_state.specs.declared.settings.Settings.{Settings}
-use Rattle.sources.specs.InputLine.{u32_of}
+use Rattle.call_lines.specs.InputLine.{u32_of}
 use Rattle.session_lines.specs.declared.command.Kind.{Kind}
 use Rattle.session_lines.specs.declared.command.Kind.TheVariants as kind
 use Rattle.session_lines.specs.Lines.{lines_of}

@@ -11,7 +11,7 @@ use Rattle.superstep.specs.Ending.{is_finished}
 use Rattle.job_state.specs.Faults.{fault_word}
 use Rattle.sources.specs.declared.fault.CommandFault.{CommandFault}
 use Rattle.sources.specs.declared.fault.CommandFault.TheVariants as command
-use Rattle.sources.specs.OutputLines.{end_word, line}
+use Rattle.call_lines.specs.OutputLines.{end_word, line}
 use Rattle.sources.specs.Refusal.{fault_text}
 use Rattle.session_lines.specs.declared.run_state.RunState.{RunState}
 use Rattle.session_lines.specs.declared.run_state.RunState.TheVariants as state

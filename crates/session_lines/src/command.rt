@@ -1,13 +1,13 @@
 //! The command that a line asks for.
 
 ghost use Rattle.std.specs.Prelude.{◌≡◌, Option};
-ghost use Rattle.sources.specs.InputLine.{u32_of};
+ghost use Rattle.call_lines.specs.InputLine.{u32_of};
 ghost use Rattle.session_lines.specs.Words.{words_of};
 ghost use Rattle.session_lines.specs.Commands.{asked_alone, asked_by, asked_job, asked_of, asked_of_drop, asked_of_name, asked_of_two, settings_by, settings_of};
 ghost use Rattle.session_lines.specs.inside.Seen.{asked};
 
 use crate::word::{first_word, is_name};
-use sources::u32_of;
+use call_lines::u32_of;
 use superstep::Settings;
 
 /// The most bytes of a line, without its line feed.

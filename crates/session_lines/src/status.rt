@@ -8,8 +8,8 @@ ghost use Rattle.serde_json.specs.View.{members_view, view};
 ghost use Rattle.session_lines.specs.Replies.{fault_data, numbers_of, state_word, status_data, status_line};
 
 use crate::run_state::RunState;
+use call_lines::end_word;
 use serde_json::{Map, Value, put};
-use sources::end_word;
 use std::alloc::{AllocError, Global};
 
 /// The numbers of the report that a job ended with.

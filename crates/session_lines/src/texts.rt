@@ -2,13 +2,13 @@
 
 ghost use Rattle.std.specs.Prelude.{◌≡◌, ◌≤◌, IfOk, length, string_bytes};
 ghost use Rattle.graph.specs.Entry.{edge_count, entries_of};
-ghost use Rattle.sources.specs.OutputLines.{IfText};
+ghost use Rattle.call_lines.specs.OutputLines.{IfText};
 ghost use Rattle.session_lines.specs.Replies.{failed_line, graph_line, job_line, module_line, run_line, values_text};
 ghost use Rattle.session_lines.specs.inside.Seen.{IsModuleLine, run_end_line};
 
+use call_lines::{end_word, push_values};
 use graph::{Graph, MAX_EDGES, Vertex};
 use rollback::Report;
-use sources::{end_word, push_values};
 use std::alloc::{AllocError, Global};
 use superstep::{JobEnd, JobFault};
 use verified::Verified;

@@ -4,8 +4,8 @@ use Rattle.std.specs.Prelude.{IfErr, IfOk, IsErrAnd, MatchResult, OnErr}
 use Rattle.wasm_ast.specs.declared.module.Module.{Module}
 use Rattle.wasm_ast.specs.Limits.{IsWithinLimits}
 use Rattle.valid.specs.Modules.{IsTyped}
-use Rattle.bounded_profile.specs.declared.fault.ProfileFault.{ProfileFault}
-use Rattle.bounded_profile.specs.Faults.{Refuses as RefusesModule}
+use Rattle.profile_rules.specs.declared.fault.ProfileFault.{ProfileFault}
+use Rattle.profile_rules.specs.Faults.{Refuses as RefusesModule}
 use Rattle.verified.specs.Profile.{IsBounded}
 use Rattle.sources.specs.Modules.{Loads, MeansBy}
 use Rattle.sources.specs.Source.{IsUnbounded}

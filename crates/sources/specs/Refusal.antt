@@ -5,14 +5,14 @@ use Rattle.wasm_items.specs.Faults.{fault_text as decode_text}
 use Rattle.wasm_decode.specs.Faults.{encode_word}
 use Rattle.wat_syntax.specs.Faults.{fault_text as text_fault_text}
 use Rattle.validate.specs.Faults.{fault_text as invalid_text}
-use Rattle.bounded_profile.specs.FaultText.{fault_text as unbounded_text}
+use Rattle.profile_rules.specs.FaultText.{fault_text as unbounded_text}
 use Rattle.graph.specs.Faults.{fault_text as graph_text}
 use Rattle.job_state.specs.Faults.{fault_word as job_word}
 use Rattle.checkpoint.specs.Faults.{fault_word as checkpoint_word}
 use Rattle.job_state.specs.declared.settings.Setting.{Setting}
 use Rattle.job_state.specs.declared.settings.Setting.TheVariants as setting
-use Rattle.sources.specs.declared.input.InputFault.{InputFault}
-use Rattle.sources.specs.declared.input.InputFault.TheVariants as input
+use Rattle.call_lines.specs.declared.input.InputFault.{InputFault}
+use Rattle.call_lines.specs.declared.input.InputFault.TheVariants as input
 use Rattle.sources.specs.declared.fault.CommandFault.{CommandFault}
 use Rattle.sources.specs.declared.fault.CommandFault.TheVariants as command
 

@@ -8,10 +8,10 @@ use Rattle.wasm_decode.specs.declared.encoder.fault.EncodeFault.TheVariants as e
 use Rattle.wat_syntax.specs.declared.fault.TextFault.TheVariants as text_fault
 use Rattle.validate.specs.declared.fault.ValidFault.TheVariants as valid
 use Rattle.valid.specs.Modules.{IsTyped}
-use Rattle.bounded_profile.specs.declared.fault.ProfileFault.{ProfileFault}
-use Rattle.bounded_profile.specs.declared.fault.ProfileFault.TheVariants as profile
-use Rattle.bounded_profile.specs.Faults.{Refuses as RefusesBounds}
-use Rattle.sources.specs.declared.input.InputFault.TheVariants as input
+use Rattle.profile_rules.specs.declared.fault.ProfileFault.{ProfileFault}
+use Rattle.profile_rules.specs.declared.fault.ProfileFault.TheVariants as profile
+use Rattle.profile_rules.specs.Faults.{Refuses as RefusesBounds}
+use Rattle.call_lines.specs.declared.input.InputFault.TheVariants as input
 use Rattle.sources.specs.declared.file_contents.Source.{Source}
 use Rattle.sources.specs.declared.file_contents.Source.TheVariants as source
 use Rattle.sources.specs.declared.fault.CommandFault.{CommandFault}

@@ -4,8 +4,8 @@ ghost use Rattle.std.specs.Prelude.{◌≡◌};
 ghost use Rattle.sources.specs.Refusal.{status_of};
 ghost use Rattle.sources.specs.declared.fault.CommandFault.TheVariants as command;
 
-use crate::input::InputFault;
 use bounded_profile::ProfileFault;
+use call_lines::InputFault;
 use checkpoint::CheckpointFault;
 use graph::GraphFault;
 use std::alloc::AllocError;

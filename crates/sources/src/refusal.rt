@@ -2,11 +2,11 @@
 
 ghost use Rattle.std.specs.Prelude.{◌≡◌, ◌++◌, IfOk, Some, codes, string_bytes};
 ghost use Rattle.std.specs.Fmt.{DisplaysOnOk};
-ghost use Rattle.sources.specs.OutputLines.{line};
+ghost use Rattle.call_lines.specs.OutputLines.{line};
 ghost use Rattle.sources.specs.Refusal.{fault_text, file_text, input_text, setting_word};
 
 use crate::fault::CommandFault;
-use crate::input::InputFault;
+use call_lines::InputFault;
 use std::alloc::{AllocError, Global};
 use std::fmt;
 use superstep::Setting;

@@ -1,7 +1,7 @@
 //! The barrier between two supersteps (Pregel 2010, 2), which makes the next state of the results of all parts.
 
 ghost use Rattle.std.specs.Prelude.{◌≡◌, ◌<◌, ◌++◌, ◌∷◌, [], suc, ℕ, ℤ, All, List, length, map, nat_eq, vec_items, IfOk, OnOk};
-ghost use Rattle.std.specs.List.{AllByRecursion, IsDistinct, sum_by};
+ghost use Rattle.std.specs.List.{AllByRecursion, IsDistinct, sum_by, zip};
 ghost use Rattle.std.specs.List.Sorted.{IsStrictlyIncreasing};
 ghost use Rattle.inbox.specs.declared.letters.Letter.{Letter as AnyLetter};
 ghost use Rattle.inbox.specs.Arrivals.{arrivals_from};
@@ -263,7 +263,7 @@ fn all_filled(
         → parts.items ≡ all_filled vertices.items (map vec_items inboxes.items)) }
 {
     let least = least_parts(&vertices);
-    let pairs: Vec<(PartStates, Vec<Inbox>)> = vertices.into_iter().zip(inboxes).collect(alloc)?;
+    let pairs = paired(alloc, vertices, inboxes)?;
     pairs
         .into_par_iter()
         .with_min_len(least)
@@ -277,6 +277,17 @@ fn all_filled(
             },
         )
         .collect::<Result<Vec<PartStates>, AllocError>>(rt, alloc)?
+}
+
+// Puts each part beside the inboxes of its vertices.
+fn paired(
+    alloc: Global,
+    vertices: Vec<PartStates>,
+    inboxes: Vec<Vec<Inbox>>,
+) -> Result<Vec<(PartStates, Vec<Inbox>)>, AllocError>
+    ensures { IfOk result (λ pairs. pairs.items ≡ zip vertices.items inboxes.items) }
+{
+    vertices.into_iter().zip(inboxes).collect(alloc)
 }
 
 // Gives the inboxes that are not empty to the vertices of each part. All vertices have empty ones.

@@ -1,33 +1,13 @@
--- What a thread sends where nobody is lost: nothing by which an epoch begins.
-use Rattle.std.proofs.Common.{◌≡◌, ◌∙◌, Bool, false, ◌||◌, List, [], ◌∷◌, ◌++◌, ap, refl, sym, subst}
+-- Threads and receipts of a hub where nobody is lost, one more of them.
+use Rattle.std.proofs.Common.{◌≡◌, Bool, List, [], ◌∷◌, ◌++◌, refl, sym, subst}
 use Rattle.std.specs.declared.thread.PromisedHandle.{PromisedHandle}
-use Rattle.events.specs.declared.event.Event.{Event}
-use Rattle.events.specs.Events.{stamp_of}
-use Rattle.control.specs.Events.{Stamp}
-use Rattle.worker_threads.specs.Numbers.{stamps_in}
+use Rattle.worker_loops.specs.inside.Epochs.{IsSteady}
 use Rattle.worker_threads.specs.Threads.{AreOfGate}
-use Rattle.worker_threads.specs.inside.Epochs.{AreSteady, IsSteady, may_renew, renews}
-use Rattle.hub_ends.specs.declared.message.Message.{Message}
-use Rattle.hub_ends.specs.declared.message.Message.TheVariants as message
-use Rattle.hub_ends.specs.declared.message.Sender.{Sender}
+use Rattle.worker_threads.specs.inside.Epochs.{AreSteady}
 use Rattle.hub_ends.specs.declared.pass.WorkerReceipt.{WorkerReceipt}
 use Rattle.worker_threads.specs.declared.thread_promises.WorkerPromise.{WorkerPromise}
-use Rattle.worker_threads.proofs.Numbers.{stamps_bye, stamps_event}
-
-renews_more : (xs : List Stamp) (s : Stamp) → may_renew s ≡ false → renews (xs ++ s ∷ []) ≡ renews xs
-renews_more [] s h = ap (λ b. b || false) h
-renews_more (x ∷ xs) s h = ap (λ b. may_renew x || b) (renews_more xs s h)
 
 module _ {J : Type 0} where
-  pub steady_event : (xs ys : List (Message J)) (x : Event J) → ys ≡ xs ++ message.Event x ∷ [] → may_renew (stamp_of x) ≡ false → renews (stamps_in ys) ≡ renews (stamps_in xs)
-  steady_event xs ys x is none = ap (λ l. renews (stamps_in l)) is ∙ ap renews (stamps_event xs x) ∙ renews_more (stamps_in xs) (stamp_of x) none
-
-  -- all that was sent, with the bye
-  pub steady_bye : (xs ys zs : List (Message J)) (sender : Sender) → xs ≡ [] → renews (stamps_in ys) ≡ renews (stamps_in xs) → zs ≡ ys ++ message.Bye sender ∷ []
-      → renews (stamps_in zs) ≡ false
-  steady_bye xs ys zs sender none same is =
-      ap (λ l. renews (stamps_in l)) is ∙ ap renews (stamps_bye ys sender) ∙ same ∙ ap (λ l. renews (stamps_in l)) none
-
   pub steady_more : (rs : List (WorkerReceipt J)) (r : WorkerReceipt J) → AreSteady rs → IsSteady r → AreSteady (rs ++ r ∷ [])
   steady_more [] r old new = (new, tt)
   steady_more (x ∷ xs) r old new = (old.0, steady_more xs r old.1 new)

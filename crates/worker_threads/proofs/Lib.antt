@@ -1,6 +1,3 @@
 pub mod Epochs
 pub mod Joins
-pub mod Numbers
-pub mod Passing
-pub mod Returning
 pub mod SpawnedThreads

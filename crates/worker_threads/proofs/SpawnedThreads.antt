@@ -6,7 +6,8 @@ use Rattle.channels.specs.Orders.{at, coordinator, stops}
 use Rattle.hub_ends.specs.Messages.{closes, sender_of}
 use Rattle.hub_ends.specs.Passes as pass
 use Rattle.channels.specs.Protocol.{IsOnceInOrder}
-use Rattle.worker_threads.specs.Threads.{AreSpawned, AreSettled, AreThreadsOf, IsSpawned, JoinsAfterLoss}
+use Rattle.worker_loops.specs.Counted.{JoinsAfterLoss}
+use Rattle.worker_threads.specs.Threads.{AreSpawned, AreSettled, AreThreadsOf, IsSpawned}
 use Rattle.hub_ends.specs.declared.coordinator_ends.CoordinatorEnds.{CoordinatorEnds}
 use Rattle.worker_threads.specs.declared.thread_promises.HubThreads.{HubThreads}
 use Rattle.worker_threads.specs.declared.thread_promises.WorkerPromise.{WorkerPromise}

@@ -3,8 +3,7 @@ use Rattle.std.specs.Prelude.{◌≡◌, ◌≤◌, ◌+◌, ℕ, Bool, Option, 
 use Rattle.std.specs.declared.thread.PromisedHandle.{PromisedHandle}
 use Rattle.hub_ends.specs.Hub.{IsSettled, IsTickerSettled, channels_of, handed, received, staff}
 use Rattle.channels.specs.Orders.{at, tasks_in}
-use Rattle.hub_ends.specs.Messages.{joins_follow}
-use Rattle.hub_ends.specs.Passes.{handed_in_by}
+use Rattle.worker_loops.specs.Counted.{JoinsAfterLoss}
 use Rattle.worker_threads.specs.declared.audit.Receipts.{Receipts}
 use Rattle.hub_ends.specs.declared.coordinator_ends.CoordinatorEnds.{CoordinatorEnds}
 use Rattle.worker_threads.specs.declared.thread_promises.HubThreads.{HubThreads}
@@ -39,10 +38,6 @@ module _ {J : Type 0} where
     pub gate : AreOfGate spawned.ticker.promise.loses spawned.workers.items
     pub nothing : spawned.receipts.items ≡ []
     pub room : staff ends ≤ vec_capacity spawned.receipts
-
-  -- A worker joins again only after it was lost by its gate: each `Joined` comes right after a `Lost` of its own.
-  abbrev pub JoinsAfterLoss : WorkerReceipt J → Type 0
-  JoinsAfterLoss receipt = joins_follow false (handed_in_by receipt) ≡ true
 
   -- the receipts of the workers from w on are settled
   abbrev pub AreSettled : CoordinatorEnds J → ℕ → List (WorkerReceipt J) → Type 0

@@ -1,3 +1,2 @@
 pub mod Epochs
 pub mod Joins
-pub mod Returning

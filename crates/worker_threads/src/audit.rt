@@ -8,10 +8,10 @@ ghost use Rattle.worker_threads.specs.inside.Epochs.{AreSteady, IsSteadyHub};
 ghost use Rattle.worker_threads.specs.inside.Joins.{AreJoined, AreLinked, line_of};
 
 use crate::thread_promises::{HubThreads, WorkerThread};
-use crate::worker_loop::WorkerEnd;
 use hub_ends::{CoordinatorEnds, TickReceipt, VerdictSender, WorkerReceipt};
 use std::thread::Threads;
 use superstep::{JobFault, Origin};
+use worker_loops::WorkerEnd;
 
 /// The receipts of all senders to the coordinator.
 pub struct Receipts<J: Origin> {

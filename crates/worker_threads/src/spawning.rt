@@ -4,21 +4,22 @@ ghost use Rattle.std.specs.Prelude.{◌≡◌, [], false, map, vec_len, IfErr, I
 ghost use Rattle.job_state.specs.declared.fault.JobFault.TheVariants.{ThreadRefused};
 ghost use Rattle.hub_ends.specs.Hub.{AreNewPasses, IsNewPass, IsNewTicker, channels_of, staff};
 ghost use Rattle.hub_ends.specs.Passes.{IsReceipt, IsTickReceipt, handed_in, taken, ticked};
-ghost use Rattle.worker_threads.specs.Threads.{AreOfGate, AreSpawned, AreThreadsOf, IsSpawned, IsSpawnedTicker, JoinsAfterLoss};
+ghost use Rattle.worker_loops.specs.Counted.{JoinsAfterLoss};
+ghost use Rattle.worker_threads.specs.Threads.{AreOfGate, AreSpawned, AreThreadsOf, IsSpawned, IsSpawnedTicker};
 ghost use Rattle.hub_ends.specs.Verdicts.{heard_on, reads_on, sends_on, told_on};
-ghost use Rattle.worker_threads.specs.inside.Epochs.{IsSteady, IsSteadyTicker};
-ghost use Rattle.worker_threads.specs.inside.Joins.{AreLinked, AreUntold, HasJoined, line_of};
-ghost use Rattle.worker_threads.specs.inside.Returning.{HasReturned};
+ghost use Rattle.worker_loops.specs.inside.Epochs.{IsSteady, IsSteadyTicker};
+ghost use Rattle.worker_loops.specs.inside.Joins.{HasJoined};
+ghost use Rattle.worker_threads.specs.inside.Joins.{AreLinked, AreUntold, line_of};
+ghost use Rattle.worker_loops.specs.inside.Returning.{HasReturned};
 
-use crate::gate::Gate;
 use crate::thread_promises::{HubThreads, TickThread, TickerPromise, WorkerPromise, WorkerThread};
-use crate::worker_loop::{WorkerEnd, tick_all, work_all};
 use hub_ends::{CoordinatorEnds, TickPass, TickReceipt, VerdictSender, WorkerPass};
 use std::alloc::Global;
 use std::snapshot::Snapshot;
 use std::sync::Wait;
 use std::thread::Scope;
 use superstep::{Job, JobFault, Origin};
+use worker_loops::{Gate, WorkerEnd, tick_all, work_all};
 
 /// Starts the threads of a hub: those of the workers and then the ticker's. Returns them, and the channel end on which each
 /// worker is told of its losses. `ThreadRefused`, its only fault: one cannot be started.
@@ -118,12 +119,7 @@ fn spawn_worker<'s, E, J: Origin + Send + Sync + 's, G: Gate + Sync + 's, R: Wai
     let Ok((reader, sender)) = VerdictSender::open(alloc) else {
         return Err(JobFault::ThreadRefused);
     };
-    let promise = WorkerPromise {
-        worker: pass.worker(),
-        hub: Snapshot::of(ends),
-        line: Snapshot::of(&sender),
-        loses: gate.may_lose(),
-    };
+    let promise = promise_of(gate, ends, pass.worker(), &sender);
     let work = move || -> Result<WorkerEnd<J>, JobFault>
         requires job { J.work ≡ job.now }
         requires new { handed_in pass ≡ [] }
@@ -140,6 +136,26 @@ fn spawn_worker<'s, E, J: Origin + Send + Sync + 's, G: Gate + Sync + 's, R: Wai
     match scope.spawn_with(promise, work) {
         Ok(thread) => Ok((thread, sender)),
         Err(_) => Err(JobFault::ThreadRefused),
+    }
+}
+
+// What a worker's thread promises, which is told of its losses by this sender.
+fn promise_of<J: Origin, G: Gate>(
+    gate: &G,
+    ends: &CoordinatorEnds<J>,
+    worker: u32,
+    sender: &VerdictSender,
+) -> WorkerPromise<J>
+    ensures worker { result.worker ≡ worker }
+    ensures hub { result.hub.value ≡ ends.now }
+    ensures line { result.line.value ≡ sender.now }
+    ensures loses { result.loses ≡ G.loses gate.now }
+{
+    WorkerPromise {
+        worker,
+        hub: Snapshot::of(ends),
+        line: Snapshot::of(sender),
+        loses: gate.may_lose(),
     }
 }
 

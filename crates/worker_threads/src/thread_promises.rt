@@ -1,10 +1,10 @@
 //! The promises of threads: what they return is a receipt of this hub.
 
-use crate::worker_loop::WorkerEnd;
 use hub_ends::{CoordinatorEnds, TickReceipt, VerdictSender, WorkerReceipt};
 use std::snapshot::Snapshot;
 use std::thread::{Promise, PromisedHandle};
 use superstep::{JobFault, Origin};
+use worker_loops::WorkerEnd;
 
 /// The promise of a worker's thread: it returns this worker's receipt, on the channels of this hub. The worker sent events for the
 /// tasks that it took alone. It joined again only right after a loss that it reported, and of which it heard on this line that it was
@@ -30,8 +30,8 @@ pub struct TickerPromise<J: Origin> {
 impl<J: Origin> Promise<Result<WorkerEnd<J>, JobFault>> for WorkerPromise<J> {
     ghost use Rattle.std.specs.Prelude.{◌≡◌, IfOk, false};
     ghost use Rattle.hub_ends.specs.Hub.{IsReceiptOn, channels_of};
-    ghost use Rattle.worker_threads.specs.Threads.{JoinsAfterLoss};
-    ghost use Rattle.worker_threads.specs.inside.Epochs.{IsSteady};
+    ghost use Rattle.worker_loops.specs.Counted.{JoinsAfterLoss};
+    ghost use Rattle.worker_loops.specs.inside.Epochs.{IsSteady};
     ghost use Rattle.worker_threads.specs.inside.Joins.{IsEndOn};
 
     ghost kept_by = { λ promise result. IfOk result (λ end.
@@ -44,7 +44,7 @@ impl<J: Origin> Promise<Result<WorkerEnd<J>, JobFault>> for WorkerPromise<J> {
 impl<J: Origin> Promise<Result<TickReceipt<J>, JobFault>> for TickerPromise<J> {
     ghost use Rattle.std.specs.Prelude.{◌≡◌, IfOk, false};
     ghost use Rattle.hub_ends.specs.Hub.{IsTickReceiptOn, channels_of};
-    ghost use Rattle.worker_threads.specs.inside.Epochs.{IsSteadyTicker};
+    ghost use Rattle.worker_loops.specs.inside.Epochs.{IsSteadyTicker};
 
     ghost kept_by = { λ promise result. IfOk result (λ receipt.
         IsTickReceiptOn (channels_of promise.hub.value) receipt

@@ -6,7 +6,7 @@ use Rattle.control.specs.declared.job_status.JobStatus.TheVariants.{Fault, Finis
 use Rattle.control.specs.Events.{Heard, begun}
 use Rattle.control.specs.Machine.{Machine, has_answer, is_running, opened, resumed}
 use Rattle.workers.specs.Steps.{Move, Steps, after, events, moved}
-use Rattle.worker_threads.specs.Numbers.{stamps_in}
+use Rattle.worker_loops.specs.Numbers.{stamps_in}
 use Rattle.workers.specs.Steps.Move.{Hand, Take}
 use Rattle.workers.specs.Units.{cut, units_by}
 use Rattle.workers.specs.inside.EventLoop.{IsUnspent}

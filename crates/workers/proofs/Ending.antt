@@ -18,7 +18,7 @@ use Rattle.workers.specs.JobAnswers.{HasSpent, IsAnswerAt, IsCalmReport, IsDrive
 use Rattle.channels.specs.Orders.{at}
 use Rattle.workers.specs.Joining.{JoinedFrom, JoinedOn, JoinedOver}
 use Rattle.workers.specs.Steps.{AreMoves, KeptAlong, Steps, after, events, hands}
-use Rattle.worker_threads.specs.Numbers.{outs_in, stamps_in}
+use Rattle.worker_loops.specs.Numbers.{outs_in, stamps_in}
 use Rattle.workers.specs.inside.EventLoop.{IsUnspent, StepsOver, is_own, is_own_fault}
 use Rattle.workers.specs.inside.Told.{StepsTold, ToldFrom}
 use Rattle.hub_ends.specs.declared.message.Message.{Message}

@@ -17,12 +17,13 @@ use Rattle.control.specs.Events.Stamp.{DoneBy, FailedBy, JoinedBy, LostBy, Ticke
 use Rattle.control.specs.Machine.{Machine, all_set, charged, closed, count_set, counts, finished, freed, has_answer, handed, is_busy, is_out, is_running, is_saved_now, joined, welcomed}
 use Rattle.hub_ends.specs.Hub.{HasByes, received, staff}
 use Rattle.workers.specs.JobAnswers.{WhereEnded}
-use Rattle.worker_threads.specs.Returns.{stamp_sender}
+use Rattle.worker_loops.specs.Returns.{stamp_sender}
 use Rattle.workers.specs.Steps.{Move, after, events}
-use Rattle.worker_threads.specs.Numbers.{stamps_in}
+use Rattle.worker_loops.specs.Numbers.{stamps_in}
 use Rattle.workers.specs.Steps.Move.{Hand, Take}
 use Rattle.worker_threads.specs.Threads.{AreSettled, IsSettledHub}
-use Rattle.worker_threads.specs.inside.Epochs.{AreSteady, IsSteadyHub, may_renew, renews}
+use Rattle.worker_loops.specs.inside.Epochs.{may_renew, renews}
+use Rattle.worker_threads.specs.inside.Epochs.{AreSteady, IsSteadyHub}
 use Rattle.workers.specs.inside.Told.{ToldFrom}
 use Rattle.worker_threads.specs.declared.audit.Receipts.{Receipts}
 use Rattle.hub_ends.specs.declared.coordinator_ends.CoordinatorEnds.{CoordinatorEnds}

@@ -11,7 +11,7 @@ use Rattle.hub_ends.specs.Hub.{HasByes, received, staff}
 use Rattle.hub_ends.specs.Messages.{event_sender, sender_of}
 use Rattle.hub_ends.specs.Passes.{handed_in_by}
 use Rattle.channels.specs.Protocol.{of}
-use Rattle.worker_threads.specs.Numbers.{stamps_in}
+use Rattle.worker_loops.specs.Numbers.{stamps_in}
 use Rattle.workers.specs.Charges.{AreCharged, HasHandedIn}
 use Rattle.worker_threads.specs.Threads.{AreSettled, HasSettled, IsSettledHub}
 use Rattle.workers.specs.Units.{cut, units_by, units_of}

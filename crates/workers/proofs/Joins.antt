@@ -15,12 +15,12 @@ use Rattle.channels.specs.Protocol.{of}
 use Rattle.channels.proofs.Handing.{at_set_else, at_set_here}
 use Rattle.hub_ends.specs.Hub.{HasByes, handed, received, staff}
 use Rattle.workers.specs.Joining.{JoinedFrom}
-use Rattle.worker_threads.specs.Counted.{joins_counted}
+use Rattle.worker_loops.specs.Counted.{joins_counted}
 use Rattle.hub_ends.specs.Messages.{event_sender, sender_number, sender_of}
 use Rattle.hub_ends.specs.Passes.{handed_in_by}
-use Rattle.worker_threads.specs.Returns.{IsWorkOn, events_by, stamp_sender}
+use Rattle.worker_loops.specs.Returns.{IsWorkOn, events_by, stamp_sender}
 use Rattle.workers.specs.Steps.{events}
-use Rattle.worker_threads.specs.Numbers.{outs_in, stamps_in}
+use Rattle.worker_loops.specs.Numbers.{outs_in, stamps_in}
 use Rattle.worker_threads.specs.Threads.{AreSettled, IsSettledHub}
 use Rattle.hub_ends.specs.Verdicts.{told_to}
 use Rattle.worker_threads.specs.inside.Joins.{AreJoined}
@@ -33,7 +33,7 @@ use Rattle.hub_ends.specs.declared.message.Message.TheVariants as message
 use Rattle.hub_ends.specs.declared.message.Sender.{Sender}
 use Rattle.hub_ends.specs.declared.pass.WorkerReceipt.{WorkerReceipt}
 use Rattle.workers.proofs.Moving.{length_set}
-use Rattle.worker_threads.proofs.Returning.{work_on}
+use Rattle.worker_loops.proofs.Returning.{work_on}
 
 -- ---- what is due is told
 

@@ -20,7 +20,7 @@ use Rattle.rollback.proofs.Simulated.{kept_still}
 use Rattle.channels.specs.Orders.{at, tasks_in, with_order}
 use Rattle.workers.specs.JobAnswers.{IsLeftBy}
 use Rattle.workers.specs.Steps.{AreMoves, IsMove, KeptAlong, Move, Steps, after, event_of, events, hand_of, hands, moved}
-use Rattle.worker_threads.specs.Numbers.{outs_in, stamps_in}
+use Rattle.worker_loops.specs.Numbers.{outs_in, stamps_in}
 use Rattle.workers.specs.Steps.Move.{Hand, Take}
 use Rattle.workers.specs.Joining.{loss_in, losses}
 use Rattle.workers.specs.inside.EventLoop.{StepsOver}
@@ -33,7 +33,7 @@ use Rattle.channels.specs.declared.order.Order.{Order}
 use Rattle.channels.specs.declared.order.Order.TheVariants.{Do}
 use Rattle.hub_ends.specs.declared.message.Sender.{Sender}
 use Rattle.channels.proofs.Handing.{at_set_else, at_set_here}
-use Rattle.worker_threads.proofs.Numbers.{outs_task, stamps_bye, stamps_event}
+use Rattle.worker_loops.proofs.Numbers.{outs_task, stamps_bye, stamps_event}
 
 -- ---- lists of moves
 

@@ -10,9 +10,9 @@ use Rattle.rollback.specs.declared.report.Report.{Report}
 use Rattle.control.specs.Machine.{Machine}
 use Rattle.workers.specs.JobAnswers.{EndedOver, EndedOverOwn, IsKeptRun, IsKeptRunOn, RanOn, RanOnOwn, WhereBegun, WhereConnected, WhereOpened, WhereRun}
 use Rattle.workers.specs.Joining.{JoinedFrom, JoinedOn, JoinedOver}
-use Rattle.worker_threads.specs.Returns.{IsWorkOn, events_by}
+use Rattle.worker_loops.specs.Returns.{IsWorkOn, events_by}
 use Rattle.workers.specs.Steps.{Move, events, hands}
-use Rattle.worker_threads.specs.Numbers.{outs_in, stamps_in}
+use Rattle.worker_loops.specs.Numbers.{outs_in, stamps_in}
 use Rattle.hub_ends.specs.declared.message.Message.{Message}
 use Rattle.channels.specs.Orders.{at}
 use Rattle.channels.specs.declared.order.Order.{Order}

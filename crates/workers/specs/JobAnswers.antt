@@ -15,9 +15,9 @@ use Rattle.control.specs.Machine.{Machine, opened}
 use Rattle.rollback.specs.Saving.{IsKeptStep, IsLoadResult, IsMadeAt, KeepsFor}
 use Rattle.rollback.specs.Simulation.{IsCalmAt, NeverFails}
 use Rattle.channels.specs.Orders.{at}
-use Rattle.worker_threads.specs.Returns.{IsWorkOn, events_by}
+use Rattle.worker_loops.specs.Returns.{IsWorkOn, events_by}
 use Rattle.workers.specs.Steps.{AreMoves, KeptAlong, Move, after, events, hands}
-use Rattle.worker_threads.specs.Numbers.{outs_in, stamps_in}
+use Rattle.worker_loops.specs.Numbers.{outs_in, stamps_in}
 use Rattle.workers.specs.Units.{cut, units_by}
 use Rattle.hub_ends.specs.declared.message.Message.{Message}
 use Rattle.channels.specs.declared.order.Order.{Order}

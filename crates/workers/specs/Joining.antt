@@ -11,8 +11,8 @@ use Rattle.control.specs.Events.{Heard, Stamp, accepted, begun, reply_of}
 use Rattle.control.specs.Events.Stamp.{DoneBy, FailedBy, JoinedBy, LostBy, Ticked}
 use Rattle.control.specs.Machine.{Machine, opened}
 use Rattle.workers.specs.JobAnswers.{RanFrom}
-use Rattle.worker_threads.specs.Returns.{IsWorkOn, events_by}
-use Rattle.worker_threads.specs.Counted.{joins_counted}
+use Rattle.worker_loops.specs.Returns.{IsWorkOn, events_by}
+use Rattle.worker_loops.specs.Counted.{joins_counted}
 use Rattle.workers.specs.Steps.{Move, events, hands, moved}
 use Rattle.workers.specs.Steps.Move.{Hand, Take}
 use Rattle.hub_ends.specs.declared.message.Message.{Message}

@@ -12,4 +12,4 @@ pub use hub::Hub;
 pub use hub_ends::{Message, Sender, TickPass, TickReceipt, WorkerPass, WorkerReceipt};
 pub use run::{resume_job, run_job};
 pub use threads::{resume_in_threads, run_in_threads};
-pub use worker_threads::{Gate, NoLoss, Turn, Worked};
+pub use worker_loops::{Gate, NoLoss, Turn, Worked};

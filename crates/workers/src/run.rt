@@ -26,7 +26,8 @@ use std::sync::Wait;
 use std::thread;
 use std::thread::Threads;
 use superstep::{Job, JobFault, Origin, Place};
-use worker_threads::{Gate, HubThreads, Receipts, settle_all, spawn_all};
+use worker_loops::Gate;
+use worker_threads::{HubThreads, Receipts, settle_all, spawn_all};
 
 // Returns whether the job was driven to its end.
 fn was_driven(answer: &Result<Report, JobFault>) -> bool

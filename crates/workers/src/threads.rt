@@ -18,7 +18,7 @@ use std::rt::Files;
 use std::sync::Wait;
 use std::thread::Threads;
 use superstep::{Job, JobFault, Origin};
-use worker_threads::Gate;
+use worker_loops::Gate;
 
 // Does the same for a job that a type names.
 fn run_as<

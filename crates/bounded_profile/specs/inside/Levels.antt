@@ -4,7 +4,7 @@ use Rattle.wasm_ast.specs.declared.module.Module.{Module}
 use Rattle.cost.specs.declared.table.Mark.{Mark}
 use Rattle.cost.specs.Marks.{rank_at}
 use Rattle.units.specs.Sizes.{AreSizes, max_size}
-use Rattle.bounded_profile.specs.inside.StackHeights.{height_at}
+use Rattle.profile_rules.specs.inside.StackHeights.{height_at}
 use Rattle.verified.specs.Heights.{AreHeights}
 
 -- the table has the heights of the functions of lower ranks, and of those of this rank with numbers below `next`; of

@@ -2,10 +2,6 @@
 use Rattle.std.specs.Prelude.{ℕ}
 use Rattle.wasm_ast.specs.declared.module.Module.{Module}
 use Rattle.verified.specs.declared.facts.Facts.{Facts}
-use Rattle.bounded_profile.specs.declared.fault.ProfileRule.{ProfileRule}
-use Rattle.bounded_profile.specs.declared.fault.ProfileRule.TheVariants.{P5, P6, P7, P8, P9}
-use Rattle.verified.specs.declared.shape.Shape.{Shape}
-use Rattle.verified.specs.declared.shape.Shape.TheVariants as shape
 use Rattle.verified.specs.Compute.{IsComputeNumber}
 use Rattle.verified.specs.Facts.{IsSizeAt, AreFactsAt}
 use Rattle.verified.specs.Profile.{ImportsHostCalls, NoStart, NoElements, NoIndirectCalls, NoUnreachable, NoGrowth, NothingAfterBranches, LoopsTakeItems, NoCycles, SizeWithin}
@@ -23,14 +19,6 @@ pub record ShapesHold (m : Module) : Type 0 where
   pub steady : NoGrowth m
   pub ordered : NothingAfterBranches m
   pub loops : LoopsTakeItems m
-
--- the rule of each shape
-abbrev pub rule_of : Shape → ProfileRule
-rule_of shape.NoIndirectCalls = P5
-rule_of shape.NoUnreachable = P6
-rule_of shape.NoGrowth = P7
-rule_of shape.NothingAfterBranches = P8
-rule_of shape.LoopsTakeItems = P9
 
 -- P12 and P14, where `compute` has this number
 pub record CallsHold (m : Module) (compute : ℕ) : Type 0 where

@@ -4,10 +4,10 @@
 use super::forms::is_alike;
 use crate::modules::{line_of, verified_of};
 use anyhow::Result;
+use call_lines::Input;
 use conformance_cases::show_texts;
 use host_calls::CallInput;
 use interp::Scratch;
-use sources::Input;
 use std::alloc::{AllocError, Global};
 use std::fs;
 use std::rt::Files;

@@ -6,9 +6,9 @@ ghost use Rattle.interp.specs.Bounded.{HasIds};
 
 use crate::reference_call;
 use bounded_profile::verify;
+use call_lines::outcome_text;
 use host_calls::{CallInput, CallOutcome};
 use interp::{Scratch, has_ids, run};
-use sources::outcome_text;
 use std::alloc::{AllocError, Global};
 use std::fmt::Debug;
 use valid::Valid;

@@ -1,6 +1,6 @@
 //! Gates that do what a case says.
 
-use console::LossGate;
+use run_views::LossGate;
 use std::sync::Wait;
 use std::sync::atomic::{AtomicBool, Ordering};
 use std::thread::yield_now;

@@ -4,7 +4,7 @@ use Rattle.job_state.specs.declared.fault.JobFault.{JobFault}
 use Rattle.rollback.specs.declared.report.Report.{Report}
 use Rattle.sources.specs.declared.fault.CommandFault.{CommandFault}
 use Rattle.sources.specs.declared.fault.CommandFault.TheVariants as command
-use Rattle.sources.specs.OutputLines.{ended_lines}
+use Rattle.call_lines.specs.OutputLines.{ended_lines}
 
 -- the lines are those of what the job ended with
 abbrev pub AreLinesOfAnswer : Result Report JobFault → (tells_units : Bool) → (lines : List ℕ) → Type 0

@@ -1,7 +1,7 @@
 -- What is shown of a function's lines.
 use Rattle.std.specs.Prelude.{◌≡◌, ℕ, List, ◌++◌, Option, String, count_by, map}
 use Rattle.std.specs.Borrow.{Bor}
-use Rattle.sources.specs.OutputLines.{Gains}
+use Rattle.call_lines.specs.OutputLines.{Gains}
 use Rattle.explanations.specs.Listing.{is_numbered, listed}
 use Rattle.explanations.specs.declared.listing.Shown.{Shown}
 

@@ -2,7 +2,7 @@
 use Rattle.std.specs.Prelude.{◌≡◌, ◌⊎◌, ℕ, List, [], ◌++◌, codes, Option, Result, String, IfOk, string_bytes}
 use Rattle.std.specs.Borrow.{Bor}
 use Rattle.validate.specs.declared.fault.Place.{Place}
-use Rattle.sources.specs.OutputLines.{line}
+use Rattle.call_lines.specs.OutputLines.{line}
 use Rattle.sources.specs.declared.file_contents.Source.{Source}
 use Rattle.sources.specs.declared.fault.CommandFault.{CommandFault}
 use Rattle.explanations.specs.declared.module_place.Seen.{Seen}

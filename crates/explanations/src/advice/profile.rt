@@ -2,7 +2,7 @@
 
 use crate::advice::Advice;
 use crate::listing::Sight;
-use bounded_profile::ProfileRule;
+use profile_rules::ProfileRule;
 
 /// Returns the advice on a rule, by the kind of code at the place.
 pub fn advice_of(rule: ProfileRule, sight: Sight) -> Advice {

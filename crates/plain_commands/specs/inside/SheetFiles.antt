@@ -1,6 +1,6 @@
 -- What is written of a run, file by file.
 use Rattle.std.specs.Prelude.{◌⊎◌, ℕ, List}
-use Rattle.command_line.specs.declared.request.RunRequest.{RunRequest}
+use Rattle.requests.specs.declared.request.RunRequest.{RunRequest}
 use Rattle.run_report.specs.declared.report.RunReport.{RunReport}
 use Rattle.sources.specs.Disk.{Disk, Stays}
 use Rattle.sources.specs.Writing.{TriesAll, WritesAll}

@@ -3,8 +3,8 @@ use Rattle.wasm_ast.specs.Limits.{parameters_of}
 use Rattle.verified.specs.Arities.{arity_table}
 use Rattle.verified.specs.Cells.{no_heights, most_told}
 use Rattle.verified.specs.Heights.{peak}
-use Rattle.bounded_profile.specs.inside.StackHeights.{most_along}
-use Rattle.bounded_profile.proofs.StackHeights.{own_along}
+use Rattle.profile_rules.specs.inside.StackHeights.{most_along}
+use Rattle.profile_rules.proofs.StackHeights.{own_along}
 use Rattle.bounded_profile.proofs.cells.cells_of.Goals as goal
 
 pub returns : goal.returns

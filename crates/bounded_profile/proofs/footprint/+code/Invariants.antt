@@ -1,7 +1,7 @@
 use Rattle.std.proofs.Common.{◌≡◌, [], drop}
 use Rattle.wasm_ast.specs.View.{code_of}
 use Rattle.bounded_profile.specs.inside.Footprint.{trail, trail_along}
-use Rattle.bounded_profile.specs.inside.Tracking.{operands_of}
+use Rattle.profile_rules.specs.inside.Tracking.{operands_of}
 use Rattle.bounded_profile.proofs.footprint.+code.Given as goal
 
 abbrev pub decreases-mark_code : goal.decreases-mark_code

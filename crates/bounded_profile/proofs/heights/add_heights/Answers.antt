@@ -5,7 +5,7 @@ use Rattle.wasm_ast.specs.declared.module.Module.{Module}
 use Rattle.wasm_ast.specs.Limits.{imported_functions}
 use Rattle.cost.specs.Marks.{rank_at}
 use Rattle.verified.specs.Arities.{arity_table}
-use Rattle.bounded_profile.specs.inside.StackHeights.{ground_level, with_code}
+use Rattle.profile_rules.specs.inside.StackHeights.{ground_level, with_code}
 use Rattle.bounded_profile.proofs.Leveling.{begins, skips, sets, ends, length_of_table}
 use Rattle.bounded_profile.proofs.heights.add_heights.Goals as goal
 use Rattle.bounded_profile.proofs.heights.add_heights.Goals.{then-rank, else-rank}

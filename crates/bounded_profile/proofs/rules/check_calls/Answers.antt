@@ -1,7 +1,7 @@
 use Rattle.std.proofs.Common.{rules, refl, subst, sym}
 use Rattle.cost.specs.Marks.{rank_at}
-use Rattle.bounded_profile.specs.declared.fault.ProfileRule.TheVariants.{P13, P14}
-use Rattle.bounded_profile.specs.Faults.{Refuses}
+use Rattle.profile_rules.specs.declared.fault.ProfileRule.TheVariants.{P13, P14}
+use Rattle.profile_rules.specs.Faults.{Refuses}
 use Rattle.verified.specs.Known.{ConstantsKnown}
 use Rattle.verified.specs.Profile.{SizeWithin, asks_slots}
 use Rattle.bounded_profile.proofs.Refusals.{refused_rule, refused_cycle}

@@ -1,6 +1,6 @@
 use Rattle.std.proofs.Common.{rules, subst}
-use Rattle.bounded_profile.specs.declared.fault.ProfileRule.TheVariants.{P10}
-use Rattle.bounded_profile.specs.Faults.{Denies, Refuses}
+use Rattle.profile_rules.specs.declared.fault.ProfileRule.TheVariants.{P10}
+use Rattle.profile_rules.specs.Faults.{Denies, Refuses}
 use Rattle.verified.specs.Known.{ConstantsKnown}
 use Rattle.verified.specs.Memory.{MinimumsWithin, SegmentsWithin}
 use Rattle.verified.specs.Profile.{asks_addresses}

@@ -1,6 +1,6 @@
 use Rattle.std.proofs.Common.{rules}
-use Rattle.bounded_profile.specs.declared.fault.ProfileRule.TheVariants.{P1, P2, P3, P4}
-use Rattle.bounded_profile.specs.Faults.{Refuses}
+use Rattle.profile_rules.specs.declared.fault.ProfileRule.TheVariants.{P1, P2, P3, P4}
+use Rattle.profile_rules.specs.Faults.{Refuses}
 use Rattle.verified.specs.Profile.{ImportsHostCalls, HasCompute, NoStart, NoElements}
 use Rattle.bounded_profile.proofs.Refusals.{refused_rule}
 use Rattle.bounded_profile.proofs.rules.check_parts.Goals as goal

@@ -1,13 +1,13 @@
 use Rattle.std.proofs.Common.{◌≡◌, rules, subst}
 use Rattle.valid.specs.Modules.{IsTyped}
-use Rattle.bounded_profile.specs.declared.fault.ProfileFault.TheVariants as fault
-use Rattle.bounded_profile.specs.declared.fault.ProfileRule.TheVariants.{P10, P11}
+use Rattle.profile_rules.specs.declared.fault.ProfileFault.TheVariants as fault
+use Rattle.profile_rules.specs.declared.fault.ProfileRule.TheVariants.{P10, P11}
 use Rattle.verified.specs.Compute.{IsComputeNumber}
-use Rattle.bounded_profile.specs.Faults.{Refuses}
+use Rattle.profile_rules.specs.Faults.{Refuses}
 use Rattle.verified.specs.Known.{ConstantsKnown}
 use Rattle.verified.specs.Profile.{asks_all, asks_divisors}
 use Rattle.bounded_profile.specs.inside.Stages.{PartsHold, ShapesHold}
-use Rattle.bounded_profile.proofs.KnownVerdict.{together}
+use Rattle.profile_rules.proofs.KnownVerdict.{together}
 use Rattle.bounded_profile.proofs.Refusals.{refused_rule, only_memory, bounded, facts_hold}
 use Rattle.bounded_profile.proofs.rules.check_rules.Goals as goal
 

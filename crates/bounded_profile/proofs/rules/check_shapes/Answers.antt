@@ -1,11 +1,11 @@
 use Rattle.std.proofs.Common.{rules, ◌∙◌}
-use Rattle.bounded_profile.specs.declared.fault.ProfileRule.TheVariants.{P5, P6, P7, P8, P9}
-use Rattle.bounded_profile.specs.Faults.{Refuses}
+use Rattle.profile_rules.specs.declared.fault.ProfileRule.TheVariants.{P5, P6, P7, P8, P9}
+use Rattle.profile_rules.specs.Faults.{Refuses}
 use Rattle.verified.specs.Profile.{NoIndirectCalls, NoUnreachable, NoGrowth, NothingAfterBranches, EachBody}
 use Rattle.verified.specs.Hosts.{call_at}
 use Rattle.verified.specs.Shapes.{Keeps}
 use Rattle.verified.specs.declared.shape.Shape.TheVariants as shape
-use Rattle.bounded_profile.proofs.HostTable.{by_table}
+use Rattle.profile_rules.proofs.HostTable.{by_table}
 use Rattle.bounded_profile.proofs.Refusals.{refused_rule}
 use Rattle.bounded_profile.proofs.rules.check_shapes.Goals as goal
 

@@ -1,7 +1,7 @@
 use Rattle.std.proofs.Common.{◌∙◌, ◌||◌, ap₂, sym}
 use Rattle.std.proofs.lemmas.List.Folds.{list_any_more}
 use Rattle.command_line.specs.CommandLine.{is_signed}
-use Rattle.command_line.specs.inside.Commands.{rows_in}
+use Rattle.command_line.specs.inside.Matches.{rows_in}
 use Rattle.command_line.proofs.command_line.any_has_plus.Goals as goal
 
 pub loop-name-preserved : goal.loop-name-preserved

@@ -1,7 +1,7 @@
 use Rattle.std.proofs.Common.{◌≡◌, false, take}
 use Rattle.std.specs.List.{list_any}
 use Rattle.command_line.specs.CommandLine.{is_signed}
-use Rattle.command_line.specs.inside.Commands.{rows_in}
+use Rattle.command_line.specs.inside.Matches.{rows_in}
 use Rattle.command_line.proofs.command_line.any_has_plus.Given as goal
 
 abbrev pub invariant-loop-name : goal.invariant-loop-name

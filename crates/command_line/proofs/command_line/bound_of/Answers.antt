@@ -1,4 +1,4 @@
-use Rattle.command_line.specs.inside.Commands.{rows_in}
+use Rattle.command_line.specs.inside.Matches.{rows_in}
 use Rattle.command_line.proofs.Entries.{bound_found, none_given, text_given}
 use Rattle.command_line.proofs.command_line.bound_of.Goals as goal
 

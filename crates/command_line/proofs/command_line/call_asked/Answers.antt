@@ -1,5 +1,5 @@
 use Rattle.std.proofs.Common.{codes, refl}
-use Rattle.command_line.specs.inside.Commands.{rows_in}
+use Rattle.command_line.specs.inside.Matches.{rows_in}
 use Rattle.command_line.proofs.Entries.{asks_call, lacking, none_found, text_given}
 use Rattle.command_line.proofs.command_line.call_asked.Goals.{in_default-via-in-Some+in_default, in_default-via-in_default}
 use Rattle.command_line.proofs.command_line.call_asked.Goals as goal

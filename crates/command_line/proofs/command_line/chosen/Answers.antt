@@ -2,8 +2,8 @@ use Rattle.std.proofs.Common.{◌≡◌, ◌∙◌, codes, false, subst, sym, tr
 use Rattle.std.specs.Str.{bytes_eq}
 use Rattle.std.proofs.lemmas.Slice.Eq.{bytes_eq-Decides}
 use Rattle.command_line.specs.CommandLine.{AskedIn}
-use Rattle.command_line.specs.declared.request.Options.TheVariants.{Command, Session}
-use Rattle.command_line.specs.inside.Commands.{rows_in}
+use Rattle.requests.specs.declared.request.Options.TheVariants.{Command, Session}
+use Rattle.command_line.specs.inside.Matches.{rows_in}
 use Rattle.command_line.proofs.Entries.{met, missed, none_is, nothing_asked}
 use Rattle.command_line.proofs.command_line.chosen.Goals as goal
 

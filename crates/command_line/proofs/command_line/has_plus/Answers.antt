@@ -1,7 +1,7 @@
 use Rattle.std.proofs.Common.{◌≡◌, ◌∙◌, ap, rules, sym}
 use Rattle.std.specs.List.{list_any}
 use Rattle.command_line.specs.CommandLine.{has_plus_in, is_signed, numbers}
-use Rattle.command_line.specs.inside.Commands.{rows_in}
+use Rattle.command_line.specs.inside.Matches.{rows_in}
 use Rattle.command_line.proofs.Entries.{met}
 use Rattle.command_line.proofs.command_line.has_plus.Goals as goal
 

@@ -1,7 +1,7 @@
 use Rattle.std.proofs.Common.{◌≡◌, false, map, subst}
 use Rattle.std.specs.Prelude.{IfErr, IfOk, OnOk}
 use Rattle.command_line.specs.CommandLine.{AskedIn, has_plus_in}
-use Rattle.command_line.specs.inside.Commands.{IsRefusedIn}
+use Rattle.command_line.specs.inside.Matches.{IsRefusedIn}
 use Rattle.command_line.proofs.Pregel.{entered, faultless, faulty, passed_on, refused_of}
 use Rattle.command_line.proofs.command_line.options_by.Goals as goal
 

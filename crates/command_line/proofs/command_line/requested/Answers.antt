@@ -1,6 +1,6 @@
 use Rattle.std.proofs.Common.{codes, subst, sym}
 use Rattle.command_line.specs.CommandLine.{AsksFor}
-use Rattle.command_line.specs.inside.Commands.{Finds, rows_in}
+use Rattle.command_line.specs.inside.Matches.{Finds, rows_in}
 use Rattle.command_line.proofs.Entries.{asks_none, asks_print, asks_verify, lacking, none_is, text_given}
 use Rattle.command_line.proofs.command_line.requested.Goals as goal
 

@@ -1,5 +1,5 @@
 use Rattle.std.proofs.Common.{codes, refl}
-use Rattle.command_line.specs.inside.Commands.{rows_in}
+use Rattle.command_line.specs.inside.Matches.{rows_in}
 use Rattle.command_line.proofs.Entries.{asks_run, none_is, text_read}
 use Rattle.command_line.proofs.command_line.run_asked.Goals as goal
 

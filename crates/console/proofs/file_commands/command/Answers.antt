@@ -1,6 +1,6 @@
 use Rattle.std.proofs.Common.{inl, refl, subst, sym}
 use Rattle.sources.proofs.Disks.{stays_again}
-use Rattle.sources.specs.OutputLines.{line}
+use Rattle.call_lines.specs.OutputLines.{line}
 use Rattle.sources.specs.Refusal.{fault_text, status_of}
 use Rattle.console.specs.FileCommands.{Answered, NotesAnswer, NotesPrinted}
 use Rattle.console.proofs.Noted.{answer_noted, refusal_noted}

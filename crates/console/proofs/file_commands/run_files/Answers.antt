@@ -1,7 +1,7 @@
 use Rattle.std.proofs.Common.{◌∙◌, ap, inl, inr, is_some, string_bytes, subst}
 use Rattle.sources.proofs.Disks.{stays_again}
 use Rattle.sources.proofs.Faults.{IfErr-along, IfOk-along, is_fault}
-use Rattle.console.specs.declared.loss.LossGate.{LossGate}
+use Rattle.run_views.specs.declared.loss.LossGate.{LossGate}
 use Rattle.console.specs.Jobs.{AreRunLines}
 use Rattle.console.proofs.Noted.{end_noted, fault_noted, only_noted, unopened_noted}
 use Rattle.console.proofs.Folders.{keeping_before}

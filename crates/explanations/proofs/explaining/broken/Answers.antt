@@ -1,6 +1,6 @@
 use Rattle.std.proofs.Common.{◌∙◌, ◌++◌, ap, codes, string_bytes}
 use Rattle.std.proofs.lemmas.Result.{IfOk-weaker}
-use Rattle.bounded_profile.specs.FaultText.{rule_word}
+use Rattle.profile_rules.specs.FaultText.{rule_word}
 use Rattle.explanations.specs.Explanation.{advice_text}
 use Rattle.explanations.proofs.explaining.broken.Goals as goal
 

@@ -1,11 +1,11 @@
 use Rattle.std.proofs.Common.{◌≡◌}
-use Rattle.sources.specs.declared.input.InputFault.TheVariants as input
-use Rattle.sources.specs.InputSays.{lines_of}
+use Rattle.call_lines.specs.declared.input.InputFault.TheVariants as input
+use Rattle.call_lines.specs.InputSays.{lines_of}
 use Rattle.sources.proofs.Faults.{IfErr-along, IfOk-along, is_fault}
 use Rattle.plain_commands.proofs.Faults.{text_refused, want_of_call}
 use Rattle.plain_commands.proofs.Ids.{has_ids}
-use Rattle.sources.proofs.InputLines.{none_bad}
-use Rattle.sources.proofs.Meanings.{lent_means}
+use Rattle.call_lines.proofs.InputLines.{none_bad}
+use Rattle.call_lines.proofs.Meanings.{lent_means}
 use Rattle.plain_commands.proofs.compute_call.answer.Goals as goal
 
 pub returns-in_err-input-clause-answered : goal.returns-in_err-input-clause-answered

@@ -1,5 +1,5 @@
 use Rattle.std.proofs.Common.{◌+◌, ◌++◌, ◌∙◌, ap, get_or, string_bytes}
-use Rattle.sources.specs.OutputLines.{numbered_line}
+use Rattle.call_lines.specs.OutputLines.{numbered_line}
 use Rattle.plain_commands.proofs.NumberedLines.{numbered_more}
 use Rattle.plain_commands.proofs.ended.push_numbered.Goals as goal
 

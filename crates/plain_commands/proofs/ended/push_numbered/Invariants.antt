@@ -1,5 +1,5 @@
 use Rattle.std.proofs.Common.{◌≡◌, ◌++◌, take, string_bytes}
-use Rattle.sources.specs.OutputLines.{numbered_lines}
+use Rattle.call_lines.specs.OutputLines.{numbered_lines}
 use Rattle.plain_commands.proofs.ended.push_numbered.Given as goal
 
 abbrev pub invariant-loop-index : goal.invariant-loop-index

@@ -6,7 +6,7 @@ use Rattle.std.proofs.lemmas.Iterator.Splits.{YieldsList-from_lines}
 use Rattle.plain_commands.specs.StepLine.{step_line_of}
 use Rattle.plain_commands.specs.Steps.{IsStepsFault}
 use Rattle.plain_commands.proofs.StepLines.{none_read, reads_all, reads_next, refused_next}
-use Rattle.sources.proofs.TextLines.{line_comes, line_counted, none_left}
+use Rattle.call_lines.proofs.TextLines.{line_comes, line_counted, none_left}
 use Rattle.plain_commands.proofs.steps.steps_of.Goals as goal
 
 pub loop-index-init : goal.loop-index-init

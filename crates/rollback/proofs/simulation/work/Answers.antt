@@ -72,3 +72,38 @@ pub returns-clause-kept : goal.returns-clause-kept
 returns-clause-kept g c =
     let e = c.in-Some-next_task.ensures.some in
     Simulated.kept_handed g.K.Keep.honest g.K.Keep.saved g.K.Keep.may_load g.K.Keep.faults g.J.Origin.work g.J.Origin.honest c.args.book.now c.next_task.new.self c.tell-2.new.book c.args.worker c.in-Some-next_task.task.part c.args.keep.now c.tell-2.new.keep e.1 c.tell-2.ensures.kept
+
+pub returns-in-Some-clause-runner : goal.returns-in-Some-clause-runner
+returns-in-Some-clause-runner g c = c.done_by-event.ensures.runner
+
+pub returns-in-Some-clause-keep : goal.returns-in-Some-clause-keep
+returns-in-Some-clause-keep g c = c.tell.ensures.keep
+
+pub returns-in-Some-clause-kept : goal.returns-in-Some-clause-kept
+returns-in-Some-clause-kept g c = c.tell.ensures.kept
+
+pub returns-then-not-is_running-clause-runner : goal.returns-then-not-is_running-clause-runner
+returns-then-not-is_running-clause-runner g c = c.requires.runner
+
+pub returns-then-not-is_running-clause-keep : goal.returns-then-not-is_running-clause-keep
+returns-then-not-is_running-clause-keep g c = c.requires.keep
+
+pub returns-then-worker-held-clause-runner : goal.returns-then-worker-held-clause-runner
+returns-then-worker-held-clause-runner g c = c.requires.runner
+
+pub returns-then-worker-held-clause-keep : goal.returns-then-worker-held-clause-keep
+returns-then-worker-held-clause-keep g c = c.requires.keep
+
+pub returns-in_default-next_task-clause-runner : goal.returns-in_default-next_task-clause-runner
+returns-in_default-next_task-clause-runner g c = c.requires.runner
+
+pub returns-in_default-next_task-clause-keep : goal.returns-in_default-next_task-clause-keep
+returns-in_default-next_task-clause-keep g c =
+    let e = c.in_default-next_task.ensures.none refl in
+    rw e.0 c.requires.keep
+
+pub returns-clause-runner : goal.returns-clause-runner
+returns-clause-runner g c = c.done_by-event-2.ensures.runner
+
+pub returns-clause-keep : goal.returns-clause-keep
+returns-clause-keep g c = c.tell-2.ensures.keep

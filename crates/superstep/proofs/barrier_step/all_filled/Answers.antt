@@ -1,9 +1,5 @@
 use Rattle.std.proofs.Common.{◌≡◌, ℤ, List, [], ◌∷◌, Global, Vec, length, map, vec_items, refl, ap, subst, ◌∙◌}
 use Rattle.std.specs.List.{AllZip, zip}
-use Rattle.std.proofs.lemmas.Iterator.{YieldsList-from_zip, items_from_collect}
-use Rattle.std.proofs.lemmas.Iterator.Adapters.{YieldsList-from_vec}
-use Rattle.std.proofs.lemmas.Iterator.Consumers.{YieldsList-at}
-use Rattle.std.proofs.lemmas.Result.{IfOk-at_ok}
 use Rattle.rayon.specs.Lists.{vec_items as list_of}
 use Rattle.inbox.proofs.Collected.{IfOk-from_match, all_collected}
 use Rattle.job_state.specs.declared.state.VertexState.{VertexState}
@@ -32,9 +28,7 @@ pairs_filled (own ∷ vertices) (found ∷ inboxes) (part ∷ parts) each same =
 
 pub returns : goal.returns
 returns g c =
-    let vertices = YieldsList-from_vec c.args.vertices.items c.into_iter.ensures.rest (c.into_iter.ensures.len ∙ c.args.vertices.ok.0) in
-    let inboxes = YieldsList-from_vec c.args.inboxes.items c.zip.ensures.second.0 (c.zip.ensures.second.1 ∙ c.args.inboxes.ok.0) in
-    let pairs = IfOk-at_ok _ c.in_ok-pairs.was (items_from_collect _ c.collect.ensures.ran (YieldsList-from_zip (YieldsList-at c.zip.ensures.first vertices) inboxes)) in
+    let pairs = c.in_ok-pairs.ensures in
     let listed = ap (λ it. list_of it.base) c.map.ensures.base ∙ ap list_of c.with_min_len.ensures.base ∙ c.into_par_iter.ensures in
     let done = c.in_ok-collect.ensures in
     let chain = done.1 in

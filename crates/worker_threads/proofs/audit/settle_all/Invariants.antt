@@ -3,7 +3,8 @@ use Rattle.std.specs.Vec.Iter.{into_iter_items, into_iter_len}
 use Rattle.hub_ends.specs.Hub.{IsSameHub, IsTickerSettled, handed, received, staff}
 use Rattle.worker_threads.specs.Threads.{AreOfGate, AreSpawned, AreSettled}
 use Rattle.hub_ends.specs.Verdicts.{sends_on, told_on}
-use Rattle.worker_threads.specs.inside.Epochs.{AreSteady, IsSteadyTicker}
+use Rattle.worker_loops.specs.inside.Epochs.{IsSteadyTicker}
+use Rattle.worker_threads.specs.inside.Epochs.{AreSteady}
 use Rattle.worker_threads.specs.inside.Joins.{AreJoined, AreLinked}
 use Rattle.worker_threads.proofs.audit.settle_all.Given as goal
 

@@ -1,17 +1,19 @@
 use Rattle.std.proofs.Common.{◌≡◌, ◌+◌, ◌∙◌, ◌<◌, ℕ, ap, false, length, map, slice_get, Some, sym, subst, vec_len, arith}
 use Rattle.channels.proofs.Handing.{at_map, get_map, map_same}
 use Rattle.hub_ends.specs.Hub.{IsSettled}
-use Rattle.worker_threads.specs.Counted.{joins_counted}
+use Rattle.worker_loops.specs.Counted.{joins_counted}
 use Rattle.hub_ends.specs.Messages.{joins_follow}
 use Rattle.hub_ends.specs.Passes.{handed_in_by}
-use Rattle.worker_threads.specs.Numbers.{stamps_in}
+use Rattle.worker_loops.specs.Numbers.{stamps_in}
 use Rattle.worker_threads.specs.Threads.{AreSettled}
 use Rattle.hub_ends.specs.Verdicts.{heard_on, sends_on, told_on, told_to}
-use Rattle.worker_threads.specs.inside.Epochs.{AreSteady, renews}
+use Rattle.worker_loops.specs.inside.Epochs.{renews}
+use Rattle.worker_threads.specs.inside.Epochs.{AreSteady}
 use Rattle.worker_threads.specs.inside.Joins.{AreJoined, line_of}
 use Rattle.worker_threads.proofs.Epochs.{steady_more}
-use Rattle.worker_threads.proofs.Joins.{joined_more, joins_told}
-use Rattle.worker_threads.proofs.Returning.{returned_same}
+use Rattle.worker_loops.proofs.Joins.{joins_told}
+use Rattle.worker_threads.proofs.Joins.{joined_more}
+use Rattle.worker_loops.proofs.Returning.{returned_same}
 use Rattle.worker_threads.proofs.SpawnedThreads.{settled_more, settled_same}
 use Rattle.worker_threads.proofs.audit.settle_one.Goals as goal
 

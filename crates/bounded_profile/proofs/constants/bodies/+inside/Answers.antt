@@ -1,9 +1,0 @@
-use Rattle.std.proofs.Common.{arith, ◌<◌, length}
-use Rattle.wasm_ast.specs.Falls.{item_falls}
-use Rattle.bounded_profile.proofs.constants.bodies.+inside.Goals as goal
-
-pub check_inside-check_instr-requires : goal.check_inside-check_instr-requires
-check_inside-check_instr-requires t c =
-    let h : c.loop-instr.instr-index < length c.as_slice-instr-items.result.now = omega arith in
-    let f = item_falls c.as_slice-instr-items.result.now c.loop-instr.instr-index c.instr-item.result c.args.body.now h c.instr-item.is c.as_slice-instr-items.ensures in
-    (omega (arith, f, c.decreases), tt)

@@ -1,7 +1,0 @@
-use Rattle.std.proofs.Common.{take}
-use Rattle.std.specs.List.{AllByRecursion}
-use Rattle.bounded_profile.specs.inside.Tracking.{Passes}
-use Rattle.bounded_profile.proofs.constants.bodies.check_bodies.Given as goal
-
-abbrev pub invariant-loop-index : goal.invariant-loop-index
-invariant-loop-index l = AllByRecursion (Passes l.setting) (take l.index l.functions)

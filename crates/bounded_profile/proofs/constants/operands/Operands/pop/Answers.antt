@@ -1,8 +1,0 @@
-use Rattle.bounded_profile.proofs.KnownStacks.{topmost, left}
-use Rattle.bounded_profile.proofs.constants.operands.Operands.pop.Goals as goal
-
-pub returns-in-Some : goal.returns-in-Some
-returns-in-Some c = record {
-  topmost = topmost _ _ _ c.in-Some.ensures.items;
-  left = left _ _ _ c.in-Some.ensures.items;
-}

@@ -1,0 +1,7 @@
+use Rattle.std.proofs.Common.{◌≡◌, ◌++◌, take, string_bytes}
+use Rattle.std.specs.List.{flat_map}
+use Rattle.call_lines.specs.OutputLines.{send_line}
+use Rattle.call_lines.proofs.output_lines.push_sends.Given as goal
+
+abbrev pub invariant-loop-target : goal.invariant-loop-target
+invariant-loop-target l = string_bytes l.text ≡ string_bytes l.initial.text ++ flat_map send_line (take l.target-index l.sends)

@@ -1,0 +1,13 @@
+pub mod Arities
+pub mod KnownStacks
+pub mod KnownKinds
+pub mod KnownSound
+pub mod KnownComplete
+pub mod KnownFewer
+pub mod KnownTogether
+pub mod KnownVerdict
+pub mod StackHeights
+pub mod Walking
+pub mod HostTable
+pub mod LoopEnds
+pub mod Nested

@@ -1,0 +1,2 @@
+-- What a reader has to believe: a request on a machine with many processors.
+pub mod Machine

@@ -1,0 +1,2 @@
+-- The definitions to read: the worker that a run loses on purpose.
+pub mod Loss

@@ -1,7 +1,0 @@
-use Rattle.std.proofs.Common.{length, take}
-use Rattle.sources.specs.Input.{Says}
-use Rattle.sources.specs.InputSays.{lines_of}
-use Rattle.sources.proofs.input.Input.read.Given as goal
-
-abbrev pub invariant-loop-index : goal.invariant-loop-index
-invariant-loop-index l = Says (take (length l.yielded) (lines_of l.text)) l.input

@@ -1,0 +1,5 @@
+pub mod Epochs
+pub mod Joins
+pub mod Numbers
+pub mod Passing
+pub mod Returning

@@ -1,0 +1,3 @@
+pub mod Epochs
+pub mod Joins
+pub mod Returning

@@ -10,7 +10,7 @@ use Rattle.wasm_ast.specs.declared.module.Export.{Export}
 use Rattle.wasm_ast.specs.declared.module.Function.{Function}
 use Rattle.wasm_ast.specs.declared.module.Module.{Module}
 use Rattle.wasm_ast.specs.Limits.{imported_functions}
-use Rattle.valid.specs.Modules.{name_of_export, AreDistinct}
+use Rattle.verified.specs.Modules.{name_of_export, AreDistinct}
 use Rattle.verified.specs.Compute.{has_its_name, exported_function, exported_compute, OfPlainType, IsDefinedPlain, IsComputeNumber}
 use Rattle.verified.specs.Profile.{HasCompute, compute_export, plain_type}
 

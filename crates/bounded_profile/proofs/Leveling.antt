@@ -14,14 +14,14 @@ use Rattle.wasm_ast.specs.declared.module.Module.{Module}
 use Rattle.wasm_ast.specs.Limits.{is_function, is_function_description, imported_functions}
 use Rattle.wasm_ast.specs.Code.{Code}
 use Rattle.wasm_ast.specs.Code as code
-use Rattle.valid.specs.Spaces.{imported, function_import, spaces_of}
-use Rattle.valid.specs.Modules.{TypeHolds}
-use Rattle.units.specs.Calls.{Calls, callees, body_of, calls_in, calls_of}
+use Rattle.verified.specs.Spaces.{imported, function_import, spaces_of}
+use Rattle.verified.specs.Modules.{TypeHolds}
+use Rattle.verified.specs.Calls.{Calls, callees, body_of, calls_in, calls_of}
 use Rattle.cost.specs.declared.table.Mark.{Mark}
-use Rattle.units.specs.Heights.{height}
+use Rattle.verified.specs.CallHeights.{height}
 use Rattle.cost.specs.Marks.{rank_at}
 use Rattle.cost.specs.Ranks.{IsRanking}
-use Rattle.units.specs.Sizes.{code_size, size_in, AreSizes, HasOneSizing, max_size}
+use Rattle.verified.specs.Sizes.{code_size, size_in, AreSizes, HasOneSizing, max_size}
 use Rattle.verified.specs.declared.arity.Arity.{Arity}
 use Rattle.verified.specs.Arities.{type_arity, arity_table, call_arity, plain_arity, branch_arity, block_arity, test_arity}
 use Rattle.verified.specs.Facts.{IsHeightAt}

@@ -1,8 +1,8 @@
 -- What follows from an error, and from the lack of one.
 use Rattle.std.proofs.Common.{◌≡◌, ℕ, refl, sym, subst}
 use Rattle.wasm_ast.specs.declared.module.Module.{Module}
-use Rattle.valid.specs.Modules.{IsTyped}
-use Rattle.units.specs.Calls.{callees}
+use Rattle.verified.specs.Modules.{IsTyped}
+use Rattle.verified.specs.Calls.{callees}
 use Rattle.profile_rules.specs.declared.fault.ProfileFault.{ProfileFault}
 use Rattle.profile_rules.specs.declared.fault.ProfileFault.TheVariants as fault
 use Rattle.verified.specs.declared.facts.Facts.{Facts}

@@ -1,7 +1,7 @@
 //! Rules on calls: there is no recursion (P12), and `compute` with calls inlined is small (P14).
 
 ghost use Rattle.std.specs.Prelude.{IfOk, MatchResult};
-ghost use Rattle.units.specs.Calls.{callees};
+ghost use Rattle.verified.specs.Calls.{callees};
 ghost use Rattle.cost.specs.Ranks.{IsRanking};
 ghost use Rattle.profile_rules.specs.Faults.{Denies, ShowsCycle};
 ghost use Rattle.verified.specs.Profile.{NoCycles, SizeWithin};
@@ -12,7 +12,7 @@ use crate::module_rules::NOWHERE;
 use cost::{Ranks, has_one_sizing, inlined_size, ranks};
 use profile_rules::{ProfileFault, ProfileRule};
 use std::alloc::Global;
-use valid::Valid;
+use verified::Valid;
 
 /// P12: ranks the functions, where none calls itself. An error names a cycle, or says that an allocation failed.
 pub fn check_cycles(alloc: Global, valid: &Valid) -> Result<Ranks, ProfileFault>

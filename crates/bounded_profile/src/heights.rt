@@ -11,8 +11,7 @@ ghost use Rattle.verified.specs.Profile.{SizeWithin};
 use cost::{Ranks, has_one_sizing};
 use profile_rules::{Callees, HeightTable, StackHeight, arity_table};
 use std::alloc::{AllocError, Global};
-use valid::Valid;
-use verified::Arity;
+use verified::{Arity, Valid};
 use wasm_ast::{Body, imported_function_count};
 
 /// Finds the greatest height of the operand stack in a call of the function. The only error is that an allocation

@@ -1,16 +1,16 @@
 //! Rules on the parts of a module other than its code.
 
 ghost use Rattle.std.specs.Prelude.{◌≡◌, ◌↔◌, IfSome, IfNone, MatchResult, IsTrue};
-ghost use Rattle.valid.specs.Modules.{IsTyped};
+ghost use Rattle.verified.specs.Modules.{IsTyped};
 ghost use Rattle.verified.specs.Compute.{exported_compute, IsDefinedPlain, IsComputeNumber};
 ghost use Rattle.profile_rules.specs.Faults.{Denies, Settles};
 ghost use Rattle.verified.specs.Hosts.{IsHostImport};
 ghost use Rattle.profile_rules.specs.declared.fault.ProfileRule.TheVariants.{P1, P2, P3, P4};
 ghost use Rattle.verified.specs.Profile.{ImportsHostCalls, HasCompute, HasPlainType, NoStart, NoElements, plain_type};
 
-use host_calls::HostCall;
 use profile_rules::{ProfileFault, ProfileRule};
 use validate::Place;
+use verified::HostCall;
 use wasm_ast::{
     Export, ExportDescription, FuncType, Function, Import, ImportDescription, Module,
     imported_function_count,

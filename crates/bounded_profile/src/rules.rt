@@ -2,7 +2,7 @@
 
 ghost use Rattle.std.specs.Prelude.{IsOkUnless, MatchResult};
 ghost use Rattle.wasm_ast.specs.Limits.{IsWithinLimits};
-ghost use Rattle.valid.specs.Modules.{IsTyped};
+ghost use Rattle.verified.specs.Modules.{IsTyped};
 ghost use Rattle.verified.specs.Compute.{IsComputeNumber};
 ghost use Rattle.verified.specs.Facts.{AreFacts};
 ghost use Rattle.profile_rules.specs.Faults.{Refuses, Settles};
@@ -19,8 +19,7 @@ use profile_rules::{
     Asks, ConstantsFault, ProfileFault, ProfileRule, check_constants, check_shape, host_table,
 };
 use std::alloc::Global;
-use valid::Valid;
-use verified::{Facts, Shape};
+use verified::{Facts, Shape, Valid};
 use wasm_ast::Module;
 
 /// Checks all rules and returns the bounds on a call of `compute`. An error names the first rule that is broken, in

@@ -10,8 +10,7 @@ use crate::extents::footprint_extents;
 use crate::rules::check_rules;
 use profile_rules::{ProfileFault, host_calls};
 use std::alloc::Global;
-use valid::Valid;
-use verified::Tables;
+use verified::{Tables, Valid};
 
 /// Checks the rules in order, and finds the tables of a module that keeps all of them.
 pub fn tables_of(alloc: Global, valid: &Valid) -> Result<Tables, ProfileFault>

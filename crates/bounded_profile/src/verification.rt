@@ -7,8 +7,7 @@ ghost use Rattle.verified.specs.Profile.{IsBounded};
 use crate::tables::tables_of;
 use profile_rules::ProfileFault;
 use std::alloc::Global;
-use valid::Valid;
-use verified::Verified;
+use verified::{Valid, Verified};
 
 /// Returns the module exactly where it is in the bounded profile. Any other module is refused with a rule that it
 /// breaks. The rules are tried in order, and the place is the first in preorder that breaks one. The only other error

@@ -14,7 +14,7 @@ use Rattle.call_lines.specs.declared.input.InputFault.TheVariants as fault
 use Rattle.call_lines.specs.declared.input_line.Line.{Line}
 use Rattle.call_lines.specs.declared.input_line.Line.TheVariants.{Skipped, Id, Superstep, Count, Value, Message, Edge, Aggregate, Bad}
 use Rattle.call_lines.specs.InputLine.{line_of}
-use Rattle.host_calls.specs.Aggregators.{aggregator_starts}
+use Rattle.verified.specs.Aggregators.{aggregator_starts}
 use Rattle.call_lines.specs.InputSays.{AreInput, lines_of, is_good, set_aggregator, aggregators_after, all_ids, all_supersteps, all_counts, all_values, all_aggregators, id_by, superstep_by, count_by, value_by, message_by, edge_by, aggregator_by}
 use Rattle.call_lines.specs.Input.{Says}
 use Rattle.call_lines.specs.inside.Adding.{Adds, fits}

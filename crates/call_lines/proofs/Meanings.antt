@@ -2,7 +2,7 @@
 use Rattle.std.proofs.Common.{◌≡◌, ℕ, List, Option, Some, None, ap, sym, ◌∙◌}
 use Rattle.std.specs.Prelude.{unwrap_or}
 use Rattle.std.specs.Option.{option_to_list}
-use Rattle.host_calls.specs.declared.call.CallInput.{CallInput}
+use Rattle.verified.specs.declared.call.CallInput.{CallInput}
 use Rattle.call_lines.specs.declared.input.Input.{Input}
 use Rattle.call_lines.specs.InputSays.{lines_of}
 use Rattle.call_lines.specs.Input.{Lends, Means, SameInput, Says, said_or}

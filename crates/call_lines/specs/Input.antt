@@ -2,10 +2,10 @@
 use Rattle.std.specs.Prelude.{◌≡◌, ℕ, pos, true, List, [], ◌∷◌, unwrap_or}
 use Rattle.std.specs.Option.{option_to_list}
 use Rattle.std.specs.List.{All}
-use Rattle.host_calls.specs.declared.call.CallInput.{CallInput}
+use Rattle.verified.specs.declared.call.CallInput.{CallInput}
 use Rattle.call_lines.specs.declared.input.Input.{Input}
 use Rattle.call_lines.specs.declared.input_line.Line.{Line}
-use Rattle.host_calls.specs.Aggregators.{aggregator_starts}
+use Rattle.verified.specs.Aggregators.{aggregator_starts}
 use Rattle.call_lines.specs.InputSays.{AreInput, lines_of, is_good, all_ids, all_supersteps, all_counts, all_values, all_messages, all_edges, all_aggregators, aggregators_after}
 
 -- the first value of a list, or a default

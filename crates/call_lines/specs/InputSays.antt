@@ -2,7 +2,7 @@
 use Rattle.std.specs.Prelude.{◌≡◌, ◌≤◌, ℕ, ℤ, nat_lt, Bool, true, false, List, [], ◌∷◌, map, length, slice_set}
 use Rattle.std.specs.List.{All, flat_map, fold}
 use Rattle.std.specs.Str.Lines.{lines}
-use Rattle.host_calls.specs.declared.call.TheConstants.{AGGREGATORS}
+use Rattle.verified.specs.declared.call.TheConstants.{AGGREGATORS}
 use Rattle.call_lines.specs.InputLine.{line_of}
 use Rattle.call_lines.specs.declared.input_line.Line.{Line}
 use Rattle.call_lines.specs.declared.input_line.Line.TheVariants.{Id, Superstep, Count, Value, Message, Edge, Aggregate, Bad}

@@ -2,7 +2,7 @@
 use Rattle.std.specs.Prelude.{◌≡◌, ℕ, suc, ℤ, Bool, true, false, List, [], ◌∷◌, ◌++◌, codes, if◌then◌else◌, Result, String, string_bytes, IfOk}
 use Rattle.std.specs.List.{flat_map}
 use Rattle.std.specs.Fmt.{decimal, signed_decimal}
-use Rattle.host_calls.specs.declared.call.CallOutcome.{CallOutcome}
+use Rattle.verified.specs.declared.call.CallOutcome.{CallOutcome}
 use Rattle.graph.specs.Print.{value_lines}
 use Rattle.superstep.specs.PlainRun.{Answer}
 use Rattle.superstep.specs.Ending.{answer_of}

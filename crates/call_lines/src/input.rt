@@ -10,9 +10,9 @@ ghost use Rattle.call_lines.specs.inside.Adding.{Adds, fits};
 ghost use Rattle.call_lines.specs.InputFaults.{IsInputFault};
 
 use crate::input_line::{Line, line_of};
-use host_calls::{AGGREGATORS, CallInput, aggregator_starts};
 use std::alloc::{AllocError, AllocFailed, Global};
 use thiserror::Error;
+use verified::{AGGREGATORS, CallInput, aggregator_starts};
 
 /// The reason why a text is no input.
 #[derive(Clone, Copy, Debug, Error)]

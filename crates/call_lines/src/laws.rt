@@ -1,7 +1,7 @@
 //! The meaning of a text is unique.
 
 ghost use Rattle.std.specs.Prelude.{List, ℕ};
-ghost use Rattle.host_calls.specs.declared.call.CallInput.{CallInput as AnyInput};
+ghost use Rattle.verified.specs.declared.call.CallInput.{CallInput as AnyInput};
 ghost use Rattle.call_lines.specs.Input.{Means, SameInput};
 
 /// Shows that a text means one input.

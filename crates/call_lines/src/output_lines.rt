@@ -7,9 +7,9 @@ ghost use Rattle.superstep.specs.Ending.{is_finished};
 ghost use Rattle.call_lines.specs.OutputLines.{Gains, active_digit, end_word, give_line, outcome_lines, send_line, state_lines};
 
 use graph::push_value_line;
-use host_calls::CallOutcome;
 use std::alloc::{AllocError, Global};
 use superstep::EndReason;
+use verified::CallOutcome;
 
 /// Writes the outcome of a call as text.
 ///

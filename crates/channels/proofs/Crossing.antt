@@ -28,9 +28,9 @@ use Rattle.wasm_ast.specs.contracts.module.Import as Import
 use Rattle.wasm_ast.specs.contracts.module.Module as Module
 use Rattle.wasm_ast.specs.contracts.types.FuncType as FuncType
 use Rattle.wasm_ast.specs.contracts.types.Limits as Limits
-use Rattle.valid.specs.contracts.valid.Valid as Valid
-use Rattle.valid.specs.contracts.valid.Valid.TheInside as valid_inside
-use Rattle.host_calls.specs.contracts.imports.HostCall as HostCall
+use Rattle.verified.specs.contracts.valid.Valid as Valid
+use Rattle.verified.specs.contracts.valid.Valid.TheInside as valid_inside
+use Rattle.verified.specs.contracts.imports.HostCall as HostCall
 use Rattle.verified.specs.contracts.cells.Cells as Cells
 use Rattle.verified.specs.contracts.extents.Extent as Extent
 use Rattle.verified.specs.contracts.tables.Tables as Tables
@@ -47,7 +47,7 @@ use Rattle.wasm_ast.proofs.sequence.Sequence.TheSendSync as sequence
 use Rattle.wasm_ast.proofs.types.FuncType.TheSendSync as func_type
 use Rattle.wasm_ast.proofs.types.GlobalType.TheSendSync as global_type
 use Rattle.wasm_ast.proofs.types.Limits.TheSendSync as limits
-use Rattle.host_calls.proofs.imports.HostCall.TheSendSync as host_call
+use Rattle.verified.proofs.imports.HostCall.TheSendSync as host_call
 use Rattle.verified.proofs.cells.Cells.TheSendSync as cells
 use Rattle.verified.proofs.facts.Facts.TheSendSync as facts
 use Rattle.verified.proofs.extents.Extent.TheSendSync as extent
@@ -55,7 +55,7 @@ use Rattle.graph.proofs.parts.Part.TheSendSync as part
 use Rattle.job_state.proofs.settings.Settings.TheSendSync as settings
 use Rattle.wasm_ast.proofs.plain.Branch.TheSendSync as branch
 use Rattle.wasm_ast.proofs.plain.Plain.TheSendSync as plain
-use Rattle.flat_code.specs.contracts.body.FlatBody as FlatBody
+use Rattle.verified.specs.contracts.body.FlatBody as FlatBody
 use Rattle.channels.proofs.CrossingFields.{as_row_of, number_sync, option_sync}
 use Rattle.channels.proofs.FlatCrossing.{flat_sync}
 use Rattle.wasm_ast.proofs.types.ValType.TheSendSync as val_type

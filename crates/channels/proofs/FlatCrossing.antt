@@ -12,9 +12,9 @@ use Rattle.std.specs.contracts.alloc.Global as Heap
 use Rattle.std.specs.contracts.impls.GlobalAllocator.TheImpl.{ghosts}
 use Rattle.std.specs.contracts.vec.Vec as Vec
 use Rattle.std.specs.contracts.option.Option as Option
-use Rattle.flat_code.specs.declared.body.FlatBody.TheDeep as deep
-use Rattle.flat_code.specs.contracts.body.FlatBody as FlatBody
-use Rattle.flat_code.specs.contracts.body.FlatBody.TheKnot as knot
+use Rattle.verified.specs.declared.body.FlatBody.TheDeep as deep
+use Rattle.verified.specs.contracts.body.FlatBody as FlatBody
+use Rattle.verified.specs.contracts.body.FlatBody.TheKnot as knot
 use Rattle.wasm_ast.specs.contracts.plain.Branch as Branch
 use Rattle.wasm_ast.specs.contracts.plain.MemoryArgument as MemoryArgument
 use Rattle.wasm_ast.specs.contracts.plain.Plain as Plain

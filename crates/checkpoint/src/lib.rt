@@ -1,17 +1,25 @@
-//! Checkpoints: states as bytes, and Keeps, the places where those bytes are kept. One in memory is here.
+//! Checkpoints: states as bytes; Keeps, the places where those bytes are kept, in memory or in the files of a folder, which are
+//! replaced as a whole; and the file `job.json` beside them, which says of which job they are.
 #![tactic(auto)]
 
 mod digest;
 mod fault;
+mod files;
+mod job_id;
 mod keep;
 mod laws;
+mod listing;
 mod memory;
 mod numbers;
 mod reading;
+mod replacing;
+mod text;
 mod vertices;
 mod writing;
 
 pub use fault::CheckpointFault;
+pub use files::FileKeep;
+pub use job_id::{JobId, digest_of};
 pub use keep::{Keep, KeepFault};
 pub use laws::{
     a_checkpoint_is_of_one_state, a_checkpoint_is_so_long, a_memory_keep_loads_nothing_else,
@@ -19,4 +27,6 @@ pub use laws::{
 };
 pub use memory::MemoryKeep;
 pub use reading::read;
+pub use replacing::replace;
+pub use text::{Kinship, compare, job_text};
 pub use writing::write;

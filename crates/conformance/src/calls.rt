@@ -14,11 +14,11 @@ use anyhow::Result;
 use call_lines::Input;
 use conformance_cases::show_texts;
 use forms::tell_both;
-use host_calls::CallInput;
 use sources::CommandFault;
 use std::alloc::{AllocError, Global};
 use std::fs;
 use std::rt::Files;
+use verified::CallInput;
 
 // The files of the cases whose frame is `modules/calls.wat`.
 const FILES: [&str; 5] = [

@@ -6,7 +6,7 @@ ghost use Rattle.cost.specs.Ranks.{IsRanking};
 use crate::modules::valid_of;
 use cost::{Ranks, inlined_size, ranks};
 use std::alloc::{AllocError, Global};
-use valid::Valid;
+use verified::Valid;
 use wasm_ast::{Module, imported_function_count};
 
 /// Writes the sizes and ranks of the functions of the module that a text spells.

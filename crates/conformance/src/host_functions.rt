@@ -2,8 +2,8 @@
 //! import names.
 
 use crate::modules::assembled;
-use host_calls::HostCall;
 use std::alloc::{AllocError, Global};
+use verified::HostCall;
 use wasm_ast::{Import, ImportDescription, Module, ValType};
 
 /// Writes the parameters and results of a function, or the function that an import names.

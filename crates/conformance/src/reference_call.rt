@@ -10,12 +10,13 @@ mod plain;
 mod start;
 
 use host::call_host;
-use host_calls::{CallInput, CallOutcome, CallState, HostCall};
 use operands::Operands;
 use plain::act_plain;
 use start::defined_function;
 use std::alloc::Global;
-use units::{branch_units, host_units, plain_units};
+use verified::{
+    CallInput, CallOutcome, CallState, HostCall, branch_units, host_units, plain_units,
+};
 use wasm_ast::{Instr, Module, Value};
 
 /// The reason why a call has no outcome.

@@ -3,9 +3,8 @@
 //! FILE OTHERS` writes other bytes to a file before the load.
 
 use anyhow::Result;
-use checkpoint::{Keep, MemoryKeep};
+use checkpoint::{FileKeep, Keep, MemoryKeep};
 use conformance_cases::{bytes, named, show_cases};
-use keeps::FileKeep;
 use std::alloc::AllocError;
 use std::fs;
 use std::rt::Files;

@@ -3,7 +3,7 @@
 ghost use Rattle.std.specs.Prelude.{◌≡◌, List, ℕ, false, is_some, true, IfOk, IfErr, IsSome, OnErr};
 ghost use Rattle.std.specs.Io.KnownBytes.{Appends};
 ghost use Rattle.sources.specs.Disk.{Stays};
-ghost use Rattle.keeps.specs.Files.{superstep_on};
+ghost use Rattle.checkpoint.specs.Files.{superstep_on};
 ghost use Rattle.console.specs.Jobs.{AreEndLines, AreJobLines, AreKeptLines, AreRunLines, IsFaultOfRun};
 ghost use Rattle.call_lines.specs.OutputLines.{IfText};
 ghost use Rattle.run_views.specs.Loss.{NamesLoss, RefusesLoss};
@@ -15,9 +15,8 @@ ghost use Rattle.plain_commands.specs.Sheets.{asks_of_run, asks_sheets};
 
 use crate::explaining::explain_refusal;
 use crate::jobs::{resume, run};
-use checkpoint::MemoryKeep;
+use checkpoint::{FileKeep, MemoryKeep};
 use conversions::{assemble_file, fit_file, import_file, print_file, upgrade_file};
-use keeps::FileKeep;
 use line_text::{Output, WriteFailure};
 use plain_commands::{
     RunNotes, Watch, call_files, job_of, keep_in, refuse, replay_files, tell, verify_file,

@@ -3,7 +3,7 @@ use Rattle.std.proofs.Common.{inl, inr, ◌≡◌, ◌∙◌, ◌⊎◌, ℕ, Li
 use Rattle.wasm_ast.specs.declared.module.Module.{Module}
 use Rattle.wasm_ast.specs.Limits.{IsWithinLimits}
 use Rattle.wasm_decode.specs.Canonical.{canonical}
-use Rattle.valid.specs.Modules.{IsTyped}
+use Rattle.verified.specs.Modules.{IsTyped}
 use Rattle.verified.specs.Profile.{IsBounded}
 use Rattle.fit.specs.Fit.{IsFitOf, KeepsModule}
 use Rattle.sources.specs.declared.fault.CommandFault.{CommandFault}

@@ -4,7 +4,7 @@ use Rattle.wasm_ast.specs.declared.module.Module.{Module}
 use Rattle.wasm_ast.specs.Limits.{IsWithinLimits, max_module_bytes}
 use Rattle.wasm_decode.specs.Canonical.{canonical}
 use Rattle.wasm_decode.specs.declared.encoder.fault.EncodeFault.TheVariants as encode
-use Rattle.valid.specs.Modules.{IsTyped}
+use Rattle.verified.specs.Modules.{IsTyped}
 use Rattle.validate.specs.declared.fault.ValidFault.TheVariants as valid
 use Rattle.fit.specs.Fit.{IsFitOf}
 use Rattle.job_state.specs.State.{Standing}

@@ -8,12 +8,12 @@ use Rattle.wasm_ast.specs.declared.module.Function.{Function}
 use Rattle.wasm_ast.specs.declared.module.Module.{Module}
 use Rattle.wasm_ast.specs.declared.body.Instr.TheVariants as instr
 use Rattle.wasm_ast.specs.Code.{Code, end, plain, branch, call, call_indirect, unreachable, block, loop, choice}
-use Rattle.units.specs.Weights.{units_of}
+use Rattle.verified.specs.Weights.{units_of}
 use Rattle.wasm_ast.specs.Limits.{imported_functions}
 use Rattle.cost.specs.declared.outline.Outlines.{Outlines}
-use Rattle.units.specs.Calls.{callees, body_of, calls_in, calls_of}
-use Rattle.units.specs.Sizes.{AreSizes, code_size, size_in}
-use Rattle.units.specs.Heights.{most, height}
+use Rattle.verified.specs.Calls.{callees, body_of, calls_in, calls_of}
+use Rattle.verified.specs.Sizes.{AreSizes, code_size, size_in}
+use Rattle.verified.specs.CallHeights.{most, height}
 use Rattle.cost.specs.inside.Outline.{Summary, nothing, with_units, with_call, with_code, cap}
 use Rattle.cost.specs.inside.Outlines.{AreOutlines, outline_at, calls_at, own_at, height_at, called, AreSizesOf}
 

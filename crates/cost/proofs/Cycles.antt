@@ -4,8 +4,8 @@ use Rattle.std.proofs.lemmas.List.{take-append-drop, length-append}
 use Rattle.std.specs.List.{RotatedLeft}
 use Rattle.std.proofs.lemmas.Bool.Decides.{leb_tells}
 use Rattle.std.proofs.lemmas.Grind.{common_steps}
-use Rattle.units.specs.Calls.{Calls}
-use Rattle.units.specs.Cycles.{Leads, IsCycle, Acyclic}
+use Rattle.verified.specs.Calls.{Calls}
+use Rattle.verified.specs.Cycles.{Leads, IsCycle, Acyclic}
 
 leads_split : (cs : ℕ → List ℕ) (f : ℕ) (xs ys : List ℕ) (g : ℕ) → Leads cs f (xs ++ ys) g → (m : ℕ) × Leads cs f xs m × Leads cs m ys g
 leads_split cs f [] ys g h = (f, refl, h)

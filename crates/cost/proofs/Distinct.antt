@@ -4,7 +4,7 @@ use Rattle.std.specs.List.{AllByRecursion}
 use Rattle.std.proofs.lemmas.List.{reverse-append, take-append-drop}
 use Rattle.cost.specs.declared.table.Mark.{Mark}
 use Rattle.cost.specs.declared.table.Mark.TheVariants.{Open, Unseen}
-use Rattle.units.specs.Cycles.{AreDistinct}
+use Rattle.verified.specs.Cycles.{AreDistinct}
 use Rattle.cost.specs.Marks.{mark_at}
 use Rattle.cost.specs.inside.Stops.{IsUnseenBefore}
 

@@ -4,7 +4,7 @@ use Rattle.std.specs.Prelude.{sum_by}
 use Rattle.std.proofs.lemmas.List.Sums.{sum_by-cons}
 use Rattle.cost.specs.inside.Outline.{Summary, cap}
 use Rattle.cost.specs.inside.Outlines.{calls_at, height_at}
-use Rattle.units.specs.Heights.{most}
+use Rattle.verified.specs.CallHeights.{most}
 
 greater : (a b c d : ℕ) → a ≡ b → c ≡ d → max a c ≡ max b d
 greater a b c d e f = cc

@@ -11,8 +11,8 @@ use Rattle.wasm_ast.specs.Code.{Code}
 use Rattle.cost.specs.declared.table.Mark.{Mark}
 use Rattle.cost.specs.declared.table.Mark.TheVariants.{Unseen, Open}
 use Rattle.cost.specs.declared.outline.Outlines.{Outlines}
-use Rattle.units.specs.Calls.{Calls, callees, body_of, calls_in, calls_of}
-use Rattle.units.specs.Heights.{height}
+use Rattle.verified.specs.Calls.{Calls, callees, body_of, calls_in, calls_of}
+use Rattle.verified.specs.CallHeights.{height}
 use Rattle.cost.specs.inside.Outline.{cap}
 use Rattle.cost.specs.inside.Outlines.{AreOutlines, count_of, outline_at, calls_at, own_at, height_at, called}
 use Rattle.cost.specs.Marks.{mark_at, rank_at, size_at}
@@ -21,7 +21,7 @@ use Rattle.cost.specs.Ranks.{IsRanking}
 use Rattle.cost.proofs.Heights.{most_least}
 use Rattle.cost.specs.declared.fault.CostFault.{CostFault}
 use Rattle.cost.specs.declared.fault.CostFault.TheVariants as fault
-use Rattle.units.specs.Cycles.{Acyclic}
+use Rattle.verified.specs.Cycles.{Acyclic}
 use Rattle.cost.specs.Faults.{Explains}
 use Rattle.cost.proofs.Cycles.{no_cycle}
 use Rattle.cost.proofs.Bodies.{called_same, height_same, sizes_same}

@@ -4,9 +4,9 @@ use Rattle.std.specs.List.{AllByRecursion}
 use Rattle.wasm_ast.specs.declared.module.Module.{Module}
 use Rattle.wasm_ast.specs.declared.body.Instr.TheVariants as instr
 use Rattle.wasm_ast.specs.Code.{Code, end, plain, branch, call, call_indirect, unreachable, block, loop, choice}
-use Rattle.units.specs.Weights.{units_of}
-use Rattle.units.specs.Calls.{Calls, callees, body_of, calls_in, calls_of}
-use Rattle.units.specs.Sizes.{code_size, size_in, AreSizes, HasOneSizing}
+use Rattle.verified.specs.Weights.{units_of}
+use Rattle.verified.specs.Calls.{Calls, callees, body_of, calls_in, calls_of}
+use Rattle.verified.specs.Sizes.{code_size, size_in, AreSizes, HasOneSizing}
 
 -- equal at each of these functions
 abbrev Agree : (ℕ → ℕ) → (ℕ → ℕ) → List ℕ → Type 0

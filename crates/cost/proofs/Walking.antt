@@ -9,8 +9,8 @@ use Rattle.std.proofs.lemmas.Bool.Decides.{eqb_tells}
 use Rattle.cost.specs.declared.table.Mark.{Mark}
 use Rattle.cost.specs.declared.table.Mark.TheVariants.{Unseen, Open, Done}
 use Rattle.cost.specs.declared.outline.Outlines.{Outlines}
-use Rattle.units.specs.Calls.{Calls}
-use Rattle.units.specs.Heights.{most}
+use Rattle.verified.specs.Calls.{Calls}
+use Rattle.verified.specs.CallHeights.{most}
 use Rattle.cost.specs.inside.Outline.{cap}
 use Rattle.cost.specs.inside.Outlines.{outline_at, own_at, height_at, called, AreSizesOf}
 use Rattle.cost.specs.Marks.{mark_at, rank_in, size_in, rank_at, size_at}

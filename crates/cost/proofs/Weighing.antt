@@ -5,8 +5,8 @@ use Rattle.std.specs.Option.{option_and_then}
 use Rattle.wasm_ast.specs.declared.module.Import.{Import}
 use Rattle.wasm_ast.specs.declared.module.Module.{Module}
 use Rattle.wasm_ast.specs.Limits.{is_function}
-use Rattle.units.specs.Weights.{host_units, call_units, imported_units, units_at}
-use Rattle.host_calls.specs.Imports.{call_of}
+use Rattle.verified.specs.Weights.{host_units, call_units, imported_units, units_at}
+use Rattle.verified.specs.Imports.{call_of}
 
 found : (is : List Import) (f : ℕ) → get_or (map (λ (i : Import). host_units (call_of i)) is) f (host_units None) ≡ host_units (option_and_then call_of (slice_get is f))
 found [] f = refl

@@ -2,7 +2,7 @@
 use Rattle.std.specs.Prelude.{ℕ, List}
 use Rattle.cost.specs.declared.fault.CostFault.{CostFault}
 use Rattle.cost.specs.declared.fault.CostFault.TheVariants as fault
-use Rattle.units.specs.Cycles.{AreDistinct, IsCycle, LeastFirst}
+use Rattle.verified.specs.Cycles.{AreDistinct, IsCycle, LeastFirst}
 
 -- a fault other than out of memory has a cycle of calls that starts with its least index, and lists no function twice
 abbrev pub Explains : (ℕ → List ℕ) → CostFault → Type 0

@@ -2,9 +2,9 @@
 use Rattle.std.specs.Prelude.{◌≡◌, ℕ, ◌+◌, ◌<◌, min, List}
 use Rattle.wasm_ast.specs.declared.module.Module.{Module}
 use Rattle.cost.specs.declared.table.Mark.{Mark}
-use Rattle.units.specs.Calls.{Calls, callees, body_of}
-use Rattle.units.specs.Sizes.{AreSizes, max_size}
-use Rattle.units.specs.Heights.{height}
+use Rattle.verified.specs.Calls.{Calls, callees, body_of}
+use Rattle.verified.specs.Sizes.{AreSizes, max_size}
+use Rattle.verified.specs.CallHeights.{height}
 use Rattle.cost.specs.Marks.{rank_at, size_at}
 
 -- the ranks, and the sizes that come with them, are those of the module's functions

@@ -1,8 +1,8 @@
 //! Why a walk of the call graph stops: it has come back to a function on its path.
 
 ghost use Rattle.std.specs.Prelude.{◌≡◌, ◌<◌, ◌≤◌, ◌++◌, ℕ, List, length, slice_index, take, drop};
-ghost use Rattle.units.specs.Calls.{Calls};
-ghost use Rattle.units.specs.Cycles.{LeastFirst};
+ghost use Rattle.verified.specs.Calls.{Calls};
+ghost use Rattle.verified.specs.Cycles.{LeastFirst};
 ghost use Rattle.cost.specs.Faults.{Explains};
 ghost use Rattle.cost.specs.declared.table.Mark.{Mark as AnyMark};
 ghost use Rattle.cost.specs.declared.table.Mark.TheVariants.{Open, Unseen};

@@ -3,14 +3,14 @@
 ghost use Rattle.std.specs.Prelude.{◌≤◌};
 ghost use Rattle.wasm_ast.specs.declared.body.Instr.{Instr as AnyInstr};
 ghost use Rattle.wasm_ast.specs.declared.module.Module.{Module as AnyModule};
-ghost use Rattle.units.specs.Calls.{callees};
-ghost use Rattle.units.specs.Cycles.{Acyclic};
+ghost use Rattle.verified.specs.Calls.{callees};
+ghost use Rattle.verified.specs.Cycles.{Acyclic};
 ghost use Rattle.cost.specs.Ranks.{IsRanking};
-ghost use Rattle.units.specs.Sizes.{HasOneSizing};
-ghost use Rattle.units.specs.Weights.{units_of};
+ghost use Rattle.verified.specs.Sizes.{HasOneSizing};
+ghost use Rattle.verified.specs.Weights.{units_of};
 
 use crate::table::Ranks;
-use valid::Valid;
+use verified::Valid;
 
 /// States that in a module with ranks no function calls itself, directly or through others.
 pub fn ranks_exclude_cycles(valid: &Valid, ranks: &Ranks)

@@ -17,4 +17,4 @@ pub use laws::{has_one_sizing, ranks_exclude_cycles, units_are_counted};
 pub use order::ranks;
 pub use size::{MAX_SIZE, inlined_size};
 pub use table::Ranks;
-pub use units::{branch_units, host_units, plain_units};
+pub use verified::{branch_units, host_units, plain_units};

@@ -1,8 +1,8 @@
 //! The ranking of functions by their calls.
 
 ghost use Rattle.std.specs.Prelude.{◌<◌, ◌^◌, IfOk, IfErr, OnOk, IsOkUnless};
-ghost use Rattle.units.specs.Calls.{callees};
-ghost use Rattle.units.specs.Cycles.{Acyclic};
+ghost use Rattle.verified.specs.Calls.{callees};
+ghost use Rattle.verified.specs.Cycles.{Acyclic};
 ghost use Rattle.cost.specs.Faults.{Explains};
 ghost use Rattle.cost.specs.Ranks.{IsRanking};
 ghost use Rattle.cost.specs.inside.Walks.{Finished};
@@ -14,7 +14,7 @@ use crate::outline::Outlines;
 use crate::table::Ranks;
 use crate::walk::visit;
 use std::alloc::Global;
-use valid::Valid;
+use verified::Valid;
 
 /// Computes the rank and the size of each function of the module.
 ///

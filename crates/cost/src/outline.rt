@@ -11,7 +11,7 @@ use crate::size::MAX_SIZE;
 use crate::weights::Weights;
 use std::alloc::{AllocError, Global};
 use std::marker::Model;
-use valid::Valid;
+use verified::Valid;
 use wasm_ast::{Body, Function, Instr, imported_function_count};
 
 /// The largest count of units, one more than `MAX_SIZE`. A count that reaches it stays there.

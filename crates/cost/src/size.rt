@@ -1,10 +1,10 @@
 //! The size of a function with calls inlined.
 
 ghost use Rattle.cost.specs.Ranks.{IsRanking};
-ghost use Rattle.units.specs.Sizes.{IsReportedSize};
+ghost use Rattle.verified.specs.Sizes.{IsReportedSize};
 
 use crate::table::Ranks;
-use valid::Valid;
+use verified::Valid;
 
 /// The largest size that is reported, in units.
 pub const MAX_SIZE: u32 = 8_388_608;

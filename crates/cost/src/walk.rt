@@ -2,7 +2,7 @@
 
 ghost use Rattle.std.specs.Prelude.{◌≡◌, ◌+◌, ◌<◌, ◌^◌, ℕ, length, min, sum_by, IfErr, OnOk};
 ghost use Rattle.cost.specs.declared.table.Mark.TheVariants.{Open};
-ghost use Rattle.units.specs.Heights.{most};
+ghost use Rattle.verified.specs.CallHeights.{most};
 ghost use Rattle.cost.specs.inside.Outline.{cap};
 ghost use Rattle.cost.specs.inside.Outlines.{outline_at, called, height_at};
 ghost use Rattle.cost.specs.Marks.{mark_at, rank_at, size_at};

@@ -2,12 +2,11 @@
 
 ghost use Rattle.std.specs.Prelude.{◌≡◌, ◌≤◌, IfOk};
 ghost use Rattle.wasm_ast.specs.Limits.{is_function};
-ghost use Rattle.units.specs.Weights.{plain_units, branch_units, host_units, call_units, units_of, imported_units, units_at};
+ghost use Rattle.verified.specs.Weights.{plain_units, branch_units, host_units, call_units, units_of, imported_units, units_at};
 
-use host_calls::HostCall;
 use std::alloc::{AllocError, Global};
 use std::marker::Model;
-use units::{branch_units, host_units, plain_units};
+use verified::{HostCall, branch_units, host_units, plain_units};
 use wasm_ast::{Import, ImportDescription, Instr, Module};
 
 /// The units of a module's instructions. Its model is the module.
@@ -22,7 +21,7 @@ impl<'a> Model for Weights<'a> {
     ghost use Rattle.std.specs.Prelude.{◌≡◌};
     ghost use Rattle.wasm_ast.specs.declared.module.Module.{Module as AnyModule};
     ghost use Rattle.wasm_ast.specs.contracts.module.Module as module_type;
-    ghost use Rattle.units.specs.Weights.{imported_units};
+    ghost use Rattle.verified.specs.Weights.{imported_units};
 
     ghost Value = { AnyModule };
 

@@ -1,7 +1,7 @@
 //! Instructions that take a message or an edge.
 
-use host_calls::HostCall;
 use std::alloc::{AllocError, Global};
+use verified::HostCall;
 use wasm_ast::{Branch, Import, ImportDescription, Instr, Numeric, Plain, ValType};
 
 /// Tells for each imported function whether it takes the next message or the next edge.

@@ -1,5 +1,5 @@
 -- What a worker is told of its losses.
-use Rattle.std.specs.Prelude.{ℕ, Bool, false, List, [], map, slice_index_or}
+use Rattle.std.specs.Prelude.{◌≡◌, ℕ, Bool, false, List, [], map, slice_index_or}
 use Rattle.channels.specs.Channel.{Channel}
 use Rattle.channels.specs.ChannelEnds.{channel_of, received_by, sent_by, source_of}
 use Rattle.hub_ends.specs.declared.verdict.Verdict.{Verdict}
@@ -33,3 +33,7 @@ reads_on reader = source_of reader.verdicts
 -- what worker w was told
 abbrev pub told_to : List (List Bool) → ℕ → List Bool
 told_to told w = slice_index_or told w []
+
+-- nobody was told anything
+abbrev pub AreUntold : List (List Bool) → Type 0
+AreUntold told = (w : ℕ) → told_to told w ≡ []

@@ -23,12 +23,12 @@ use Rattle.verified.specs.Memory.{number_of}
 use Rattle.wasm_ast.specs.Numeric.{conversion_from, division_traps}
 use Rattle.wasm_ast.specs.NumericTypes.{numeric_takes}
 use Rattle.wasm_ast.specs.Widths.{load_width, store_type, store_width}
-use Rattle.host_calls.specs.declared.call.TheConstants.{AGGREGATORS}
-use Rattle.host_calls.specs.declared.imports.HostCall.{HostCall}
-use Rattle.host_calls.specs.declared.imports.HostCall.TheVariants as call
-use Rattle.host_calls.specs.Effects.{HostEffect, host_effect}
-use Rattle.host_calls.specs.Effects as host
-use Rattle.host_calls.specs.Operands.{pop}
+use Rattle.verified.specs.declared.call.TheConstants.{AGGREGATORS}
+use Rattle.verified.specs.declared.imports.HostCall.{HostCall}
+use Rattle.verified.specs.declared.imports.HostCall.TheVariants as call
+use Rattle.verified.specs.Effects.{HostEffect, host_effect}
+use Rattle.verified.specs.Effects as host
+use Rattle.verified.specs.Operands.{pop}
 use Rattle.interp.specs.Configuration.{State, Effect, Gives, Traps, Misses}
 use Rattle.interp.specs.Memory.{write, bytes_of_number}
 use Rattle.interp.specs.Effects.{popped, numeric_effect, select, pushed, variable_effect, load_effect, store_effect, effect, lifted}

@@ -12,12 +12,12 @@ use Rattle.wasm_ast.specs.declared.module.Import.{Import}
 use Rattle.wasm_ast.specs.declared.module.Function.{Function}
 use Rattle.wasm_ast.specs.declared.module.Module.{Module}
 use Rattle.wasm_ast.specs.Limits.{is_function, is_function_description, imported_functions}
-use Rattle.host_calls.specs.declared.imports.HostCall.{HostCall}
-use Rattle.host_calls.specs.declared.imports.HostCall.TheVariants.{VertexId, Superstep, NumVertices, GetValue, SetValue, NextMessage, MessageValue, NextEdge, EdgeTarget, EdgeValue, Send, Aggregate, Aggregated, VoteToHalt}
-use Rattle.host_calls.specs.Imports.{module_name, name_of, type_of_call, call_named}
-use Rattle.valid.specs.Spaces.{function_type, spaces_of, imported}
-use Rattle.valid.specs.Spaces as spaces
-use Rattle.units.specs.Calls.{body_of}
+use Rattle.verified.specs.declared.imports.HostCall.{HostCall}
+use Rattle.verified.specs.declared.imports.HostCall.TheVariants.{VertexId, Superstep, NumVertices, GetValue, SetValue, NextMessage, MessageValue, NextEdge, EdgeTarget, EdgeValue, Send, Aggregate, Aggregated, VoteToHalt}
+use Rattle.verified.specs.Imports.{module_name, name_of, type_of_call, call_named}
+use Rattle.verified.specs.Spaces.{function_type, spaces_of, imported}
+use Rattle.verified.specs.Spaces as spaces
+use Rattle.verified.specs.Calls.{body_of}
 use Rattle.verified.specs.Hosts.{IsHostImport, host_call_at}
 use Rattle.interp.specs.Machine.{Callee, host, defined, functions_of}
 use Rattle.interp.specs.Machine as machine

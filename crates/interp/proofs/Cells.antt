@@ -31,13 +31,13 @@ use Rattle.wasm_ast.specs.Code as code
 use Rattle.wasm_ast.specs.Numeric.{bits_of, conversion_from, division_traps, division_value}
 use Rattle.wasm_ast.specs.Values.{zero_of}
 use Rattle.wasm_ast.specs.Widths.{load_width, store_type, store_width}
-use Rattle.host_calls.specs.declared.call.TheConstants.{AGGREGATORS}
-use Rattle.host_calls.specs.declared.imports.HostCall.{HostCall}
-use Rattle.host_calls.specs.declared.imports.HostCall.TheVariants as call
-use Rattle.host_calls.specs.Effects.{HostEffect}
-use Rattle.host_calls.specs.Effects as host
-use Rattle.host_calls.specs.Host.{Host, aggregator_value}
-use Rattle.host_calls.specs.Operands.{pop}
+use Rattle.verified.specs.declared.call.TheConstants.{AGGREGATORS}
+use Rattle.verified.specs.declared.imports.HostCall.{HostCall}
+use Rattle.verified.specs.declared.imports.HostCall.TheVariants as call
+use Rattle.verified.specs.Effects.{HostEffect}
+use Rattle.verified.specs.Effects as host
+use Rattle.verified.specs.Host.{Host, aggregator_value}
+use Rattle.verified.specs.Operands.{pop}
 use Rattle.verified.specs.Memory.{page}
 use Rattle.interp.specs.Configuration.{State, Effect, Gives, Traps, Misses, with_locals, with_globals, tick}
 use Rattle.interp.specs.Memory.{read, write}

@@ -7,12 +7,12 @@ use Rattle.wasm_ast.specs.declared.plain.Branch.TheVariants as branch
 use Rattle.wasm_ast.specs.declared.module.Module.{Module}
 use Rattle.wasm_ast.specs.Code.{Code}
 use Rattle.wasm_ast.specs.Code as code
-use Rattle.host_calls.specs.declared.imports.HostCall.{HostCall}
-use Rattle.host_calls.specs.declared.imports.HostCall.TheVariants.{NextMessage, NextEdge}
-use Rattle.host_calls.specs.Imports.{type_of_call}
-use Rattle.units.specs.Weights.{branch_units, call_units}
-use Rattle.units.specs.LeastUnits.{branch_least, call_least}
-use Rattle.valid.specs.Spaces.{first_type}
+use Rattle.verified.specs.declared.imports.HostCall.{HostCall}
+use Rattle.verified.specs.declared.imports.HostCall.TheVariants.{NextMessage, NextEdge}
+use Rattle.verified.specs.Imports.{type_of_call}
+use Rattle.verified.specs.Weights.{branch_units, call_units}
+use Rattle.verified.specs.LeastUnits.{branch_least, call_least}
+use Rattle.verified.specs.Spaces.{first_type}
 use Rattle.verified.specs.Kinds.{Kind, kinds}
 use Rattle.verified.specs.Known.{Context, Changes, call_requirements}
 use Rattle.verified.specs.Shapes.{TakesItem}

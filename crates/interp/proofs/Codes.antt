@@ -10,8 +10,8 @@ use Rattle.wasm_ast.specs.declared.module.Module.{Module}
 use Rattle.wasm_ast.specs.declared.body.Instr.TheVariants as instr
 use Rattle.wasm_ast.specs.Code.{Code}
 use Rattle.wasm_ast.specs.Code as code
-use Rattle.units.specs.Weights.{branch_units, units_of}
-use Rattle.units.specs.LeastUnits.{branch_least, units_least}
+use Rattle.verified.specs.Weights.{branch_units, units_of}
+use Rattle.verified.specs.LeastUnits.{branch_least, units_least}
 use Rattle.verified.specs.declared.requirements.Requirement.TheVariants as requirement
 use Rattle.verified.specs.Kinds.{Kind, kinds, requirements, AllForget}
 use Rattle.verified.specs.Memory.{memory_bytes, number_of}

@@ -24,11 +24,11 @@ use Rattle.wasm_ast.specs.Code as code
 use Rattle.wasm_ast.specs.Numeric.{bits_of, conversion_from, division_traps, division_value}
 use Rattle.wasm_ast.specs.Values.{zero_of}
 use Rattle.wasm_ast.specs.Widths.{store_type}
-use Rattle.units.specs.LeastUnits.{units_least}
-use Rattle.host_calls.specs.declared.imports.HostCall.{HostCall}
-use Rattle.host_calls.specs.Effects.{HostEffect, host_effect}
-use Rattle.host_calls.specs.Effects as host
-use Rattle.host_calls.specs.Operands.{number, with_number}
+use Rattle.verified.specs.LeastUnits.{units_least}
+use Rattle.verified.specs.declared.imports.HostCall.{HostCall}
+use Rattle.verified.specs.Effects.{HostEffect, host_effect}
+use Rattle.verified.specs.Effects as host
+use Rattle.verified.specs.Operands.{number, with_number}
 use Rattle.interp.specs.Configuration.{State, with_locals, with_globals, tick, Effect, Gives, Traps, Misses}
 use Rattle.interp.specs.Effects.{value, popped, numeric_effect, discard, select, pushed, variable_effect, load_effect, store_effect, memory_effect, effect, lifted}
 use Rattle.interp.specs.Machine as machine

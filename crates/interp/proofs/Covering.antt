@@ -20,9 +20,9 @@ use Rattle.wasm_ast.specs.Code.{Code}
 use Rattle.wasm_ast.specs.Code as code
 use Rattle.wasm_ast.specs.NumericTypes.{numeric_gives}
 use Rattle.wasm_ast.specs.Widths.{load_type, load_width, store_type, store_width}
-use Rattle.host_calls.specs.declared.imports.HostCall.{HostCall}
-use Rattle.valid.specs.Spaces.{first_type}
-use Rattle.valid.specs.Modules.{TypeHolds}
+use Rattle.verified.specs.declared.imports.HostCall.{HostCall}
+use Rattle.verified.specs.Spaces.{first_type}
+use Rattle.verified.specs.Modules.{TypeHolds}
 use Rattle.verified.specs.declared.arity.Arity.{Arity}
 use Rattle.verified.specs.declared.operand.Operand.{Operand}
 use Rattle.verified.specs.declared.operand.Operand.TheVariants.{Unknown, Known as KnownOperand}

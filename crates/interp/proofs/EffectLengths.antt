@@ -15,13 +15,13 @@ use Rattle.wasm_ast.specs.declared.plain.Plain.{Plain}
 use Rattle.wasm_ast.specs.declared.plain.Plain.TheVariants as plain
 use Rattle.wasm_ast.specs.Numeric.{bits_of, conversion_from, division_traps, division_value}
 use Rattle.wasm_ast.specs.Widths.{store_type}
-use Rattle.host_calls.specs.declared.imports.HostCall.{HostCall}
-use Rattle.host_calls.specs.declared.imports.HostCall.TheVariants.{VertexId, Superstep, NumVertices, GetValue, SetValue, NextMessage, MessageValue, NextEdge, EdgeTarget, EdgeValue, Send, Aggregate, Aggregated, VoteToHalt}
-use Rattle.host_calls.specs.Effects.{HostEffect, at_slot, host_effect}
-use Rattle.host_calls.specs.Effects as host
-use Rattle.host_calls.specs.Host.{Host}
-use Rattle.host_calls.specs.Imports.{type_of_call}
-use Rattle.host_calls.specs.Operands.{number, with_number, pop}
+use Rattle.verified.specs.declared.imports.HostCall.{HostCall}
+use Rattle.verified.specs.declared.imports.HostCall.TheVariants.{VertexId, Superstep, NumVertices, GetValue, SetValue, NextMessage, MessageValue, NextEdge, EdgeTarget, EdgeValue, Send, Aggregate, Aggregated, VoteToHalt}
+use Rattle.verified.specs.Effects.{HostEffect, at_slot, host_effect}
+use Rattle.verified.specs.Effects as host
+use Rattle.verified.specs.Host.{Host}
+use Rattle.verified.specs.Imports.{type_of_call}
+use Rattle.verified.specs.Operands.{number, with_number, pop}
 use Rattle.verified.specs.Arities.{plain_arity}
 use Rattle.verified.specs.Heights.{after}
 use Rattle.interp.specs.Configuration.{State, with_globals, with_locals, Effect, Gives, Traps, Misses}

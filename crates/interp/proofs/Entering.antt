@@ -10,12 +10,12 @@ use Rattle.wasm_ast.specs.declared.module.Module.{Module}
 use Rattle.wasm_ast.specs.Code.{Code}
 use Rattle.wasm_ast.specs.Code as code
 use Rattle.wasm_ast.specs.Values.{zero_of}
-use Rattle.host_calls.specs.declared.imports.HostCall.{HostCall}
-use Rattle.units.specs.Weights.{call_units}
-use Rattle.units.specs.LeastUnits.{call_least}
-use Rattle.host_calls.specs.Imports.{type_of_call}
+use Rattle.verified.specs.declared.imports.HostCall.{HostCall}
+use Rattle.verified.specs.Weights.{call_units}
+use Rattle.verified.specs.LeastUnits.{call_least}
+use Rattle.verified.specs.Imports.{type_of_call}
 use Rattle.verified.specs.declared.requirements.Requirement.TheVariants as requirement
-use Rattle.valid.specs.Spaces.{first_type}
+use Rattle.verified.specs.Spaces.{first_type}
 use Rattle.verified.specs.Kinds.{Kind, kinds}
 use Rattle.verified.specs.Hosts.{host_call_at}
 use Rattle.verified.specs.Memory.{memory_bytes}

@@ -8,8 +8,8 @@ use Rattle.wasm_ast.specs.declared.plain.Branch.TheVariants as branch
 use Rattle.wasm_ast.specs.declared.module.Module.{Module}
 use Rattle.wasm_ast.specs.Code.{Code}
 use Rattle.wasm_ast.specs.Code as code
-use Rattle.units.specs.Calls.{calls_of}
-use Rattle.units.specs.Heights.{most}
+use Rattle.verified.specs.Calls.{calls_of}
+use Rattle.verified.specs.CallHeights.{most}
 use Rattle.verified.specs.Hosts.{host_call_at}
 use Rattle.verified.specs.Shapes.{Everywhere, NotIndirect, NotUnreachable, NotGrow, NamesNot, TakesItem, OpensWithItem, ClosesWithItem, LoopTakes, followed}
 use Rattle.interp.proofs.Induction.{Fair, Opens, Closes}

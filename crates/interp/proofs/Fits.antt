@@ -24,12 +24,12 @@ use Rattle.wasm_ast.specs.Code.{Code}
 use Rattle.wasm_ast.specs.Numeric.{bits_of, conversion_from, division_traps, division_value}
 use Rattle.wasm_ast.specs.Values.{zero_of}
 use Rattle.wasm_ast.specs.Widths.{load_width, store_type, store_width}
-use Rattle.host_calls.specs.declared.call.TheConstants.{AGGREGATORS}
-use Rattle.host_calls.specs.declared.imports.HostCall.TheVariants as call
-use Rattle.host_calls.specs.Effects.{HostEffect}
-use Rattle.host_calls.specs.Effects as host
-use Rattle.host_calls.specs.Host.{Host, aggregator_value, with_contribution}
-use Rattle.host_calls.specs.Operands.{number, with_number, pop}
+use Rattle.verified.specs.declared.call.TheConstants.{AGGREGATORS}
+use Rattle.verified.specs.declared.imports.HostCall.TheVariants as call
+use Rattle.verified.specs.Effects.{HostEffect}
+use Rattle.verified.specs.Effects as host
+use Rattle.verified.specs.Host.{Host, aggregator_value, with_contribution}
+use Rattle.verified.specs.Operands.{number, with_number, pop}
 use Rattle.interp.specs.Configuration.{State, Effect, Gives, Traps, Misses, with_locals, with_globals}
 use Rattle.interp.specs.Memory.{read, write}
 use Rattle.interp.specs.Effects.{value, popped, numeric_effect, discard, select, pushed, variable_effect, load_effect, store_effect, memory_effect, effect, lifted, call_effect}

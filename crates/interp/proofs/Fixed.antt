@@ -11,10 +11,10 @@ use Rattle.wasm_ast.specs.declared.module.Module.{Module}
 use Rattle.wasm_ast.specs.Code.{Code}
 use Rattle.wasm_ast.specs.Code as code
 use Rattle.wasm_ast.specs.Limits.{imported_functions}
-use Rattle.units.specs.Calls.{Calls, callees, body_of, calls_in, calls_of}
-use Rattle.units.specs.Cycles.{Leads, Acyclic}
-use Rattle.units.specs.Heights.{most, height}
-use Rattle.units.specs.Sizes.{AreSizes, code_size, size_in}
+use Rattle.verified.specs.Calls.{Calls, callees, body_of, calls_in, calls_of}
+use Rattle.verified.specs.Cycles.{Leads, Acyclic}
+use Rattle.verified.specs.CallHeights.{most, height}
+use Rattle.verified.specs.Sizes.{AreSizes, code_size, size_in}
 use Rattle.verified.specs.Arities.{plain_arity, branch_arity, call_arity, block_arity, test_arity}
 use Rattle.verified.specs.Heights.{after, peak, peak_in, AreHeights}
 use Rattle.verified.specs.Facts.{AreDepths}

@@ -9,13 +9,13 @@ use Rattle.wasm_ast.specs.declared.plain.Plain.{Plain}
 use Rattle.wasm_ast.specs.declared.plain.Plain.TheVariants as plain
 use Rattle.wasm_ast.specs.Code.{Code}
 use Rattle.wasm_ast.specs.Code as code
-use Rattle.flat_code.specs.declared.body.FlatInstr.{FlatInstr}
-use Rattle.flat_code.specs.declared.body.FlatInstr.TheVariants as flat
-use Rattle.flat_code.specs.Plains.{plain_of}
-use Rattle.flat_code.specs.View.{then_code, then_plain}
-use Rattle.units.specs.Weights.{plain_units}
-use Rattle.host_calls.specs.Host.{Host}
-use Rattle.host_calls.specs.declared.imports.HostCall.{HostCall}
+use Rattle.verified.specs.declared.body.FlatInstr.{FlatInstr}
+use Rattle.verified.specs.declared.body.FlatInstr.TheVariants as flat
+use Rattle.verified.specs.Plains.{plain_of}
+use Rattle.verified.specs.View.{then_code, then_plain}
+use Rattle.verified.specs.Weights.{plain_units}
+use Rattle.verified.specs.Host.{Host}
+use Rattle.verified.specs.declared.imports.HostCall.{HostCall}
 use Rattle.interp.specs.Configuration.{tick}
 use Rattle.interp.specs.declared.plain.Acted.{Acted}
 use Rattle.interp.specs.inside.Cells.{cell_effect, in_width}

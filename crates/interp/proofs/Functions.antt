@@ -7,7 +7,7 @@ use Rattle.wasm_ast.specs.declared.module.Import.{Import}
 use Rattle.wasm_ast.specs.declared.module.ImportDescription.{ImportDescription}
 use Rattle.wasm_ast.specs.declared.module.ImportDescription.TheVariants as import
 use Rattle.wasm_ast.specs.declared.module.Module.{Module}
-use Rattle.host_calls.specs.declared.imports.HostCall.{HostCall}
+use Rattle.verified.specs.declared.imports.HostCall.{HostCall}
 use Rattle.interp.specs.Machine.{Callee, host, defined, function_import, functions_of, imported_functions, label_of}
 use Rattle.interp.specs.inside.Meaning.{AreImports, host_callee}
 

@@ -9,8 +9,8 @@ use Rattle.wasm_ast.specs.declared.module.Function.{Function}
 use Rattle.wasm_ast.specs.declared.module.Module.{Module}
 use Rattle.wasm_ast.specs.Code.{Code}
 use Rattle.wasm_ast.specs.Code as code
-use Rattle.host_calls.specs.Host.{Host}
-use Rattle.host_calls.specs.declared.imports.HostCall.{HostCall}
+use Rattle.verified.specs.Host.{Host}
+use Rattle.verified.specs.declared.imports.HostCall.{HostCall}
 use Rattle.interp.specs.Configuration.{State, tick, with_host}
 use Rattle.interp.specs.Machine.{Machine, Running, Done, Trapped, Stuck, ControlEntry, Label, Frame, Callee, host, defined, arrive, back, branch_unless_zero, carry, enter, first, functions_of, jump, label_of, landed, leave, next_units, taking}
 use Rattle.interp.specs.declared.walk.Turn.{Turn}

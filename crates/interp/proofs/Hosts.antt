@@ -7,17 +7,17 @@ use Rattle.wasm_ast.specs.declared.types.ValType.TheVariants as val_type
 use Rattle.wasm_ast.specs.declared.types.Value.{Value}
 use Rattle.wasm_ast.specs.declared.types.Value.TheVariants.{I32}
 use Rattle.wasm_ast.specs.declared.module.Module.{Module}
-use Rattle.host_calls.specs.declared.imports.HostCall.{HostCall}
-use Rattle.host_calls.specs.declared.imports.HostCall.TheVariants.{VertexId, Superstep, NumVertices, GetValue, SetValue, NextMessage, MessageValue, NextEdge, EdgeTarget, EdgeValue, Send, Aggregate, Aggregated, VoteToHalt}
-use Rattle.host_calls.specs.Imports.{type_of_call}
-use Rattle.host_calls.specs.Operands.{pop}
-use Rattle.host_calls.specs.Host.{Host, with_value, take_message, take_edge, with_send, with_contribution, with_halt, aggregator_value}
-use Rattle.host_calls.specs.Effects.{HostEffect, host_effect, signed, answer, at_slot}
-use Rattle.host_calls.specs.Effects as host
+use Rattle.verified.specs.declared.imports.HostCall.{HostCall}
+use Rattle.verified.specs.declared.imports.HostCall.TheVariants.{VertexId, Superstep, NumVertices, GetValue, SetValue, NextMessage, MessageValue, NextEdge, EdgeTarget, EdgeValue, Send, Aggregate, Aggregated, VoteToHalt}
+use Rattle.verified.specs.Imports.{type_of_call}
+use Rattle.verified.specs.Operands.{pop}
+use Rattle.verified.specs.Host.{Host, with_value, take_message, take_edge, with_send, with_contribution, with_halt, aggregator_value}
+use Rattle.verified.specs.Effects.{HostEffect, host_effect, signed, answer, at_slot}
+use Rattle.verified.specs.Effects as host
 use Rattle.verified.specs.declared.requirements.Premise.TheVariants as premise
 use Rattle.verified.specs.declared.requirements.Requirement.{Requirement}
 use Rattle.verified.specs.declared.requirements.Requirement.TheVariants as requirement
-use Rattle.valid.specs.Spaces.{first_type}
+use Rattle.verified.specs.Spaces.{first_type}
 use Rattle.verified.specs.Kinds.{Kind, Any, kinds}
 use Rattle.verified.specs.Memory.{memory_bytes, number_of}
 use Rattle.verified.specs.Known.{call_requirements}

@@ -14,10 +14,10 @@ use Rattle.wasm_ast.specs.declared.module.Module.{Module}
 use Rattle.wasm_ast.specs.declared.body.Instr.TheVariants as instr
 use Rattle.wasm_ast.specs.Code.{Code}
 use Rattle.wasm_ast.specs.Code as code
-use Rattle.valid.specs.Spaces.{first_type}
-use Rattle.units.specs.Weights.{plain_units, branch_units, call_units, units_of}
-use Rattle.units.specs.LeastUnits.{plain_least, units_least}
-use Rattle.units.specs.Sizes.{code_size}
+use Rattle.verified.specs.Spaces.{first_type}
+use Rattle.verified.specs.Weights.{plain_units, branch_units, call_units, units_of}
+use Rattle.verified.specs.LeastUnits.{plain_least, units_least}
+use Rattle.verified.specs.Sizes.{code_size}
 use Rattle.verified.specs.declared.requirements.Requirement.TheVariants as requirement
 use Rattle.verified.specs.Kinds.{Kind, kinds, requirements}
 use Rattle.verified.specs.Memory.{memory_bytes}
@@ -27,7 +27,7 @@ use Rattle.verified.specs.Known.{Known, Forgetting, PlainKnown, BranchKnown, Cal
 use Rattle.verified.specs.Shapes.{NotGrow, TakesItem, BranchNamesNot, NamesNot}
 use Rattle.interp.specs.Configuration.{tick}
 use Rattle.interp.specs.Machine.{Label, Running, has_result}
-use Rattle.valid.specs.Modules.{TypeHolds}
+use Rattle.verified.specs.Modules.{TypeHolds}
 use Rattle.verified.specs.Arities.{plain_arity, call_arity, result_count}
 use Rattle.verified.specs.Heights.{peak}
 use Rattle.interp.proofs.Values.{HasKinds, kinds_length, forget_all, forget_length, meet_length}

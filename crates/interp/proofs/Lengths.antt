@@ -19,17 +19,17 @@ use Rattle.wasm_ast.specs.NumericTypes.{numeric_takes, numeric_gives}
 use Rattle.wasm_ast.specs.Widths.{load_width, load_type, store_width, store_type}
 use Rattle.wasm_ast.specs.Code.{Code}
 use Rattle.wasm_ast.specs.Code as code
-use Rattle.host_calls.specs.declared.imports.HostCall.{HostCall}
-use Rattle.host_calls.specs.declared.imports.HostCall.TheVariants.{VertexId, Superstep, NumVertices, GetValue, SetValue, NextMessage, MessageValue, NextEdge, EdgeTarget, EdgeValue, Send, Aggregate, Aggregated, VoteToHalt}
-use Rattle.host_calls.specs.Imports.{type_of_call}
+use Rattle.verified.specs.declared.imports.HostCall.{HostCall}
+use Rattle.verified.specs.declared.imports.HostCall.TheVariants.{VertexId, Superstep, NumVertices, GetValue, SetValue, NextMessage, MessageValue, NextEdge, EdgeTarget, EdgeValue, Send, Aggregate, Aggregated, VoteToHalt}
+use Rattle.verified.specs.Imports.{type_of_call}
 use Rattle.verified.specs.declared.requirements.Premise.TheVariants as premise
 use Rattle.verified.specs.declared.requirements.Requirement.{Requirement}
 use Rattle.verified.specs.declared.requirements.Requirement.TheVariants as requirement
 use Rattle.verified.specs.Kinds.{Kind, Any, kinds, requirements}
 use Rattle.verified.specs.Memory.{memory_bytes}
 use Rattle.verified.specs.Known.{Changes, PlainKnown, numeric_requirements, constant_kind, call_requirements}
-use Rattle.valid.specs.Spaces.{first_type, function_type, spaces_of}
-use Rattle.valid.specs.Modules.{TypeHolds}
+use Rattle.verified.specs.Spaces.{first_type, function_type, spaces_of}
+use Rattle.verified.specs.Modules.{TypeHolds}
 use Rattle.verified.specs.declared.arity.Arity.{Arity}
 use Rattle.verified.specs.Arities.{plain_arity, result_count, type_arity, known_arity, call_arity}
 use Rattle.verified.specs.Heights.{peak}

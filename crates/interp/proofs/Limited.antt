@@ -27,11 +27,11 @@ use Rattle.wasm_ast.specs.Limits.{IsCodeWithin, IsFunctionWithin, length_of_para
 use Rattle.wasm_ast.specs.Numeric.{bits_of, conversion_from, division_traps, division_value}
 use Rattle.wasm_ast.specs.Values.{zero_of}
 use Rattle.wasm_ast.specs.Widths.{store_type}
-use Rattle.host_calls.specs.declared.imports.HostCall.{HostCall}
-use Rattle.host_calls.specs.Effects.{HostEffect, host_effect}
-use Rattle.host_calls.specs.Effects as host
-use Rattle.host_calls.specs.Host.{Host}
-use Rattle.host_calls.specs.Operands.{number, with_number, pop}
+use Rattle.verified.specs.declared.imports.HostCall.{HostCall}
+use Rattle.verified.specs.Effects.{HostEffect, host_effect}
+use Rattle.verified.specs.Effects as host
+use Rattle.verified.specs.Host.{Host}
+use Rattle.verified.specs.Operands.{number, with_number, pop}
 use Rattle.interp.specs.Configuration.{State, with_locals, with_globals, tick, Effect, Gives, Traps, Misses}
 use Rattle.interp.specs.Effects.{value, popped, numeric_effect, discard, select, pushed, variable_effect, load_effect, store_effect, memory_effect, effect, lifted}
 use Rattle.interp.specs.Machine as machine

@@ -6,8 +6,8 @@ use Rattle.wasm_ast.specs.declared.module.Module.{Module}
 use Rattle.wasm_ast.specs.declared.body.Instr.TheVariants as instr
 use Rattle.wasm_ast.specs.Code.{Code}
 use Rattle.wasm_ast.specs.Code as code
-use Rattle.units.specs.Weights.{units_of}
-use Rattle.units.specs.LeastUnits.{units_least}
+use Rattle.verified.specs.Weights.{units_of}
+use Rattle.verified.specs.LeastUnits.{units_least}
 use Rattle.verified.specs.Kinds.{Kind, kinds}
 use Rattle.verified.specs.Known.{Context, with_label}
 use Rattle.interp.specs.Configuration.{State, tick}

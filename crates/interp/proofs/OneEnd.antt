@@ -3,9 +3,9 @@ use Rattle.std.proofs.Common.{◌≡◌, ℕ, List, [], slice_get, Option, Some,
 use Rattle.wasm_ast.specs.declared.types.Value.{Value}
 use Rattle.wasm_ast.specs.declared.module.Function.{Function}
 use Rattle.wasm_ast.specs.declared.module.Module.{Module}
-use Rattle.host_calls.specs.declared.call.CallInput.{CallInput}
-use Rattle.host_calls.specs.declared.call.CallOutcome.{CallOutcome}
-use Rattle.host_calls.specs.Host.{Host, host_of}
+use Rattle.verified.specs.declared.call.CallInput.{CallInput}
+use Rattle.verified.specs.declared.call.CallOutcome.{CallOutcome}
+use Rattle.verified.specs.Host.{Host, host_of}
 use Rattle.interp.specs.Machine.{Machine, Running, Done, Trapped, Stuck, defined, functions_of, run, IsOver}
 use Rattle.interp.specs.Start.{Starts, StartsFrom, initial_memory, state_from}
 use Rattle.interp.specs.Call.{Outcome, ComesTo, IsOutcome, IsTrapped, IsStuck, SameOutcome, outcome_of, shown}

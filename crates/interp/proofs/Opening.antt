@@ -10,15 +10,15 @@ use Rattle.wasm_ast.specs.declared.plain.Branch.TheVariants as branch
 use Rattle.wasm_ast.specs.declared.module.Module.{Module}
 use Rattle.wasm_ast.specs.Code.{Code}
 use Rattle.wasm_ast.specs.Code as code
-use Rattle.host_calls.specs.declared.imports.HostCall.{HostCall}
-use Rattle.host_calls.specs.declared.imports.HostCall.TheVariants.{NextMessage, NextEdge}
-use Rattle.host_calls.specs.Imports.{type_of_call}
-use Rattle.host_calls.specs.Host.{take_message, take_edge}
-use Rattle.host_calls.specs.Effects.{answer}
-use Rattle.units.specs.Weights.{plain_units, branch_units, call_units}
-use Rattle.units.specs.LeastUnits.{plain_least, branch_least, call_least}
+use Rattle.verified.specs.declared.imports.HostCall.{HostCall}
+use Rattle.verified.specs.declared.imports.HostCall.TheVariants.{NextMessage, NextEdge}
+use Rattle.verified.specs.Imports.{type_of_call}
+use Rattle.verified.specs.Host.{take_message, take_edge}
+use Rattle.verified.specs.Effects.{answer}
+use Rattle.verified.specs.Weights.{plain_units, branch_units, call_units}
+use Rattle.verified.specs.LeastUnits.{plain_least, branch_least, call_least}
 use Rattle.verified.specs.declared.requirements.Requirement.TheVariants as requirement
-use Rattle.valid.specs.Spaces.{first_type}
+use Rattle.verified.specs.Spaces.{first_type}
 use Rattle.verified.specs.Kinds.{Kind, Any, kinds, requirements}
 use Rattle.verified.specs.Memory.{memory_bytes}
 use Rattle.verified.specs.Known.{Context, Changes, call_requirements}

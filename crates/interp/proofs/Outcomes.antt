@@ -1,10 +1,10 @@
 -- What the calls of a module come to is one function of what they are given.
 use Rattle.std.proofs.Common.{◌≡◌, ◌≢◌, ℕ, zero, suc, ◌<◌, ◌⊎◌, inl, inr, refl, subst, arith}
 use Rattle.wasm_ast.specs.declared.module.Module.{Module}
-use Rattle.host_calls.specs.declared.call.CallInput.{CallInput}
-use Rattle.host_calls.specs.declared.call.CallOutcome.{CallOutcome}
-use Rattle.host_calls.specs.Host.{Host, host_of}
-use Rattle.valid.specs.Modules.{IsTyped}
+use Rattle.verified.specs.declared.call.CallInput.{CallInput}
+use Rattle.verified.specs.declared.call.CallOutcome.{CallOutcome}
+use Rattle.verified.specs.Host.{Host, host_of}
+use Rattle.verified.specs.Modules.{IsTyped}
 use Rattle.verified.specs.Profile.{IsBounded}
 use Rattle.interp.specs.Call.{ComesTo, IsOutcome, Outcome, outcome_of, shown}
 use Rattle.interp.specs.Configuration.{State}

@@ -15,15 +15,15 @@ use Rattle.wasm_ast.specs.Code.{Code}
 use Rattle.wasm_ast.specs.Code as code
 use Rattle.wasm_ast.specs.Limits.{imported_functions}
 use Rattle.wasm_ast.specs.Values.{zero_of}
-use Rattle.host_calls.specs.Imports.{type_of_call}
-use Rattle.host_calls.specs.Operands.{number, with_number}
-use Rattle.host_calls.specs.declared.call.CallInput.{CallInput}
-use Rattle.host_calls.specs.declared.imports.HostCall.{HostCall}
-use Rattle.host_calls.specs.declared.imports.HostCall.TheVariants.{VertexId, Superstep, NumVertices, GetValue, SetValue, NextMessage, MessageValue, NextEdge, EdgeTarget, EdgeValue, Send, Aggregate, Aggregated, VoteToHalt}
-use Rattle.valid.specs.Modules.{IsTyped}
-use Rattle.valid.specs.Spaces.{first_type, function_type, spaces_of}
-use Rattle.units.specs.Calls.{Calls, body_of, callees, calls_in, calls_of}
-use Rattle.units.specs.Cycles.{Leads}
+use Rattle.verified.specs.Imports.{type_of_call}
+use Rattle.verified.specs.Operands.{number, with_number}
+use Rattle.verified.specs.declared.call.CallInput.{CallInput}
+use Rattle.verified.specs.declared.imports.HostCall.{HostCall}
+use Rattle.verified.specs.declared.imports.HostCall.TheVariants.{VertexId, Superstep, NumVertices, GetValue, SetValue, NextMessage, MessageValue, NextEdge, EdgeTarget, EdgeValue, Send, Aggregate, Aggregated, VoteToHalt}
+use Rattle.verified.specs.Modules.{IsTyped}
+use Rattle.verified.specs.Spaces.{first_type, function_type, spaces_of}
+use Rattle.verified.specs.Calls.{Calls, body_of, callees, calls_in, calls_of}
+use Rattle.verified.specs.Cycles.{Leads}
 use Rattle.verified.specs.Arities.{block_arity, branch_arity, call_arity, plain_arity, result_count, test_arity}
 use Rattle.verified.specs.Cells.{IsDefined, MayRun, no_heights, own_height}
 use Rattle.verified.specs.Heights.{after, peak, peak_in}

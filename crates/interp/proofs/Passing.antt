@@ -9,13 +9,13 @@ use Rattle.wasm_ast.specs.declared.plain.Branch.TheVariants as branch
 use Rattle.wasm_ast.specs.declared.plain.Plain.{Plain}
 use Rattle.wasm_ast.specs.Code.{Code}
 use Rattle.wasm_ast.specs.Code as code
-use Rattle.flat_code.specs.declared.body.FlatInstr.{FlatInstr}
-use Rattle.flat_code.specs.declared.body.FlatInstr.TheVariants as flat
-use Rattle.flat_code.specs.Plains.{plain_of}
-use Rattle.flat_code.specs.View.{code_of, then_code, then_control, then_plain}
-use Rattle.units.specs.Weights.{call_units, host_units, plain_units}
-use Rattle.host_calls.specs.Host.{Host}
-use Rattle.host_calls.specs.declared.imports.HostCall.{HostCall}
+use Rattle.verified.specs.declared.body.FlatInstr.{FlatInstr}
+use Rattle.verified.specs.declared.body.FlatInstr.TheVariants as flat
+use Rattle.verified.specs.Plains.{plain_of}
+use Rattle.verified.specs.View.{code_of, then_code, then_control, then_plain}
+use Rattle.verified.specs.Weights.{call_units, host_units, plain_units}
+use Rattle.verified.specs.Host.{Host}
+use Rattle.verified.specs.declared.imports.HostCall.{HostCall}
 use Rattle.interp.specs.Configuration.{State, Effect, Gives, tick}
 use Rattle.interp.specs.Heights.{beneath}
 use Rattle.interp.specs.Machine.{Machine, Running, ControlEntry, Label, Callee, host, after_effect, arm, branch_unless_zero, functions_of, has_result, next_units}

@@ -30,7 +30,7 @@ use Rattle.wasm_ast.specs.Values.{type_of}
 use Rattle.verified.specs.declared.requirements.Premise.TheVariants as premise
 use Rattle.verified.specs.declared.requirements.Requirement.{Requirement}
 use Rattle.verified.specs.declared.requirements.Requirement.TheVariants as requirement
-use Rattle.valid.specs.Spaces.{spaces_of}
+use Rattle.verified.specs.Spaces.{spaces_of}
 use Rattle.verified.specs.Kinds.{Kind, Any, Met, AllMeet}
 use Rattle.verified.specs.Memory.{page, number_of, memory_bytes}
 use Rattle.verified.specs.Known.{Context, division_premise, numeric_requirements, constant_kind, PlainKnown}

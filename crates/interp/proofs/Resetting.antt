@@ -17,8 +17,8 @@ use Rattle.wasm_ast.specs.declared.module.Module.{Module}
 use Rattle.wasm_ast.specs.Code.{Code}
 use Rattle.wasm_ast.specs.Code as code
 use Rattle.wasm_ast.specs.Values.{zero_of}
-use Rattle.host_calls.specs.declared.call.CallInput.{CallInput}
-use Rattle.host_calls.specs.Host.{Host, host_of}
+use Rattle.verified.specs.declared.call.CallInput.{CallInput}
+use Rattle.verified.specs.Host.{Host, host_of}
 use Rattle.verified.specs.Memory.{memory_bytes}
 use Rattle.interp.specs.Machine.{ControlEntry}
 use Rattle.interp.specs.Memory.{laid}

@@ -5,10 +5,10 @@ use Rattle.wasm_ast.specs.declared.module.Function.{Function}
 use Rattle.wasm_ast.specs.declared.module.Module.{Module}
 use Rattle.wasm_ast.specs.Code.{Code}
 use Rattle.wasm_ast.specs.Limits.{IsFunctionWithin, IsWithinLimits, max_locals, parameters_of}
-use Rattle.host_calls.specs.declared.call.CallInput.{CallInput}
-use Rattle.host_calls.specs.declared.call.CallOutcome.{CallOutcome}
-use Rattle.host_calls.specs.Host.{Leaves}
-use Rattle.valid.specs.Modules.{IsTyped}
+use Rattle.verified.specs.declared.call.CallInput.{CallInput}
+use Rattle.verified.specs.declared.call.CallOutcome.{CallOutcome}
+use Rattle.verified.specs.Host.{Leaves}
+use Rattle.verified.specs.Modules.{IsTyped}
 use Rattle.verified.specs.Compute.{IsComputeNumber}
 use Rattle.verified.specs.Facts.{IsSizeOfCompute}
 use Rattle.verified.specs.Profile.{IsBounded}

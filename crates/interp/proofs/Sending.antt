@@ -7,14 +7,14 @@ use Rattle.wasm_ast.specs.declared.types.Value.{Value}
 use Rattle.wasm_ast.specs.declared.module.Module.{Module}
 use Rattle.wasm_ast.specs.Code.{Code}
 use Rattle.wasm_ast.specs.Limits.{IsWithinLimits}
-use Rattle.host_calls.specs.declared.call.TheConstants.{AGGREGATORS}
-use Rattle.host_calls.specs.declared.call.CallInput.{CallInput}
-use Rattle.host_calls.specs.declared.imports.HostCall.{HostCall}
-use Rattle.host_calls.specs.declared.imports.HostCall.TheVariants.{VertexId, Superstep, NumVertices, GetValue, SetValue, NextMessage, MessageValue, NextEdge, EdgeTarget, EdgeValue, Send, Aggregate, Aggregated, VoteToHalt}
-use Rattle.host_calls.specs.Effects.{HostEffect, Gives, Traps, Misses, answer}
-use Rattle.host_calls.specs.Host.{Host, host_of, take_edge, take_message}
-use Rattle.host_calls.specs.Operands.{number, with_number, pop}
-use Rattle.valid.specs.Modules.{IsTyped}
+use Rattle.verified.specs.declared.call.TheConstants.{AGGREGATORS}
+use Rattle.verified.specs.declared.call.CallInput.{CallInput}
+use Rattle.verified.specs.declared.imports.HostCall.{HostCall}
+use Rattle.verified.specs.declared.imports.HostCall.TheVariants.{VertexId, Superstep, NumVertices, GetValue, SetValue, NextMessage, MessageValue, NextEdge, EdgeTarget, EdgeValue, Send, Aggregate, Aggregated, VoteToHalt}
+use Rattle.verified.specs.Effects.{HostEffect, Gives, Traps, Misses, answer}
+use Rattle.verified.specs.Host.{Host, host_of, take_edge, take_message}
+use Rattle.verified.specs.Operands.{number, with_number, pop}
+use Rattle.verified.specs.Modules.{IsTyped}
 use Rattle.verified.specs.Memory.{number_of}
 use Rattle.verified.specs.Profile.{IsBounded}
 use Rattle.interp.specs.Call.{outcome_of}

@@ -5,9 +5,9 @@ use Rattle.wasm_ast.specs.declared.types.Value.{Value}
 use Rattle.wasm_ast.specs.declared.module.Module.{Module}
 use Rattle.wasm_ast.specs.Code.{Code}
 use Rattle.wasm_ast.specs.Code as code
-use Rattle.units.specs.Calls.{calls_of}
-use Rattle.units.specs.Heights.{most}
-use Rattle.units.specs.Sizes.{code_size}
+use Rattle.verified.specs.Calls.{calls_of}
+use Rattle.verified.specs.CallHeights.{most}
+use Rattle.verified.specs.Sizes.{code_size}
 use Rattle.verified.specs.Arities.{arity_table}
 use Rattle.verified.specs.Heights.{peak}
 use Rattle.verified.specs.Kinds.{Kind}

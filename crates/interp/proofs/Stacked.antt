@@ -5,9 +5,9 @@ use Rattle.std.proofs.lemmas.Bool.{false≢true}
 use Rattle.std.specs.Borrow.{Bor}
 use Rattle.std.specs.Prelude.{reverse}
 use Rattle.wasm_ast.specs.declared.types.Value.{Value}
-use Rattle.flat_code.specs.declared.body.FlatInstr.{FlatInstr}
+use Rattle.verified.specs.declared.body.FlatInstr.{FlatInstr}
 use Rattle.wasm_ast.specs.Code.{Code}
-use Rattle.flat_code.specs.View.{code_of}
+use Rattle.verified.specs.View.{code_of}
 use Rattle.interp.specs.Configuration.{State}
 use Rattle.interp.specs.Heights.{beneath, held}
 use Rattle.interp.specs.Machine as machine

@@ -24,10 +24,10 @@ use Rattle.wasm_ast.specs.declared.module.Data.{Data}
 use Rattle.wasm_ast.specs.declared.module.Module.{Module}
 use Rattle.wasm_ast.specs.Code.{Code}
 use Rattle.wasm_ast.specs.Values.{type_of}
-use Rattle.valid.specs.Spaces.{Spaces, outer_spaces_of, spaces_of, imported}
-use Rattle.valid.specs.Spaces as spaces
-use Rattle.valid.specs.Constants.{PlainConstant}
-use Rattle.valid.specs.Modules.{IsTyped, GlobalTyped, DataTyped, AreDistinct, name_of_export}
+use Rattle.verified.specs.Spaces.{Spaces, outer_spaces_of, spaces_of, imported}
+use Rattle.verified.specs.Spaces as spaces
+use Rattle.verified.specs.Constants.{PlainConstant}
+use Rattle.verified.specs.Modules.{IsTyped, GlobalTyped, DataTyped, AreDistinct, name_of_export}
 use Rattle.verified.specs.Hosts.{IsHostImport}
 use Rattle.verified.specs.Memory.{number_of, memory_bytes, bytes_of, DataWithin, initial_number, plain_number, plain_offset, offset_number}
 use Rattle.verified.specs.Compute.{has_its_name, exported_function, exported_compute}

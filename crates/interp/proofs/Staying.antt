@@ -5,10 +5,10 @@ use Rattle.wasm_ast.specs.declared.module.Function.{Function}
 use Rattle.wasm_ast.specs.declared.module.Module.{Module}
 use Rattle.wasm_ast.specs.Limits.{IsFunctionWithin, IsWithinLimits, max_locals, max_nesting}
 use Rattle.wasm_ast.specs.Values.{zero_of}
-use Rattle.host_calls.specs.Effects.{HostEffect, Gives, Traps, Misses, host_effect}
-use Rattle.host_calls.specs.Host.{Host, host_of}
-use Rattle.host_calls.specs.declared.call.CallInput.{CallInput}
-use Rattle.valid.specs.Modules.{IsTyped}
+use Rattle.verified.specs.Effects.{HostEffect, Gives, Traps, Misses, host_effect}
+use Rattle.verified.specs.Host.{Host, host_of}
+use Rattle.verified.specs.declared.call.CallInput.{CallInput}
+use Rattle.verified.specs.Modules.{IsTyped}
 use Rattle.verified.specs.Profile.{IsBounded}
 use Rattle.interp.specs.Heights.{frames, entries, locals, operands}
 use Rattle.interp.specs.Machine.{Machine, Running, Done, Trapped, Stuck, run}

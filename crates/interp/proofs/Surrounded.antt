@@ -10,7 +10,7 @@ use Rattle.wasm_ast.specs.declared.module.Module.{Module}
 use Rattle.wasm_ast.specs.Code.{Code}
 use Rattle.wasm_ast.specs.Code as code
 use Rattle.wasm_ast.specs.Values.{zero_of}
-use Rattle.host_calls.specs.Operands.{number, with_number}
+use Rattle.verified.specs.Operands.{number, with_number}
 use Rattle.interp.specs.Configuration.{State, with_locals, tick, Effect, Gives, Traps, Misses}
 use Rattle.interp.specs.Effects.{effect}
 use Rattle.interp.specs.Machine as machine

@@ -1,8 +1,8 @@
 -- The bound by the facts of a module, and without any.
 use Rattle.std.proofs.Common.{ℕ, ◌+◌, ◌*◌, subst}
 use Rattle.wasm_ast.specs.declared.module.Module.{Module}
-use Rattle.host_calls.specs.declared.call.CallInput.{CallInput}
-use Rattle.valid.specs.Modules.{IsTyped}
+use Rattle.verified.specs.declared.call.CallInput.{CallInput}
+use Rattle.verified.specs.Modules.{IsTyped}
 use Rattle.verified.specs.Profile.{IsBounded}
 use Rattle.interp.specs.Bounded.{Ends, FactsHold, ComesToItsEnd, items_of}
 use Rattle.interp.proofs.Whole.{calls_end}

@@ -6,7 +6,7 @@ use Rattle.wasm_ast.specs.declared.types.ValType.TheVariants as val_type
 use Rattle.wasm_ast.specs.declared.types.Value.{Value}
 use Rattle.wasm_ast.specs.declared.types.Value.TheVariants.{I32, I64}
 use Rattle.wasm_ast.specs.Values.{type_of, zero_of}
-use Rattle.host_calls.specs.Operands.{number, with_number, pop}
+use Rattle.verified.specs.Operands.{number, with_number, pop}
 use Rattle.verified.specs.declared.requirements.Requirement.{Requirement}
 use Rattle.verified.specs.declared.requirements.Requirement.TheVariants as requirement
 use Rattle.verified.specs.Kinds.{Kind, Any, Is, Forgets, AllForget, Met, Meets, AllMeet, requirements, kinds}

@@ -7,9 +7,9 @@ use Rattle.wasm_ast.specs.declared.module.ImportDescription.TheVariants as impor
 use Rattle.wasm_ast.specs.declared.module.Import.{Import}
 use Rattle.wasm_ast.specs.declared.module.Module.{Module}
 use Rattle.wasm_ast.specs.Limits.{is_function, is_function_description}
-use Rattle.host_calls.specs.declared.imports.HostCall.{HostCall}
-use Rattle.host_calls.specs.Imports.{call_of}
-use Rattle.units.specs.Weights.{host_units, call_units}
+use Rattle.verified.specs.declared.imports.HostCall.{HostCall}
+use Rattle.verified.specs.Imports.{call_of}
+use Rattle.verified.specs.Weights.{host_units, call_units}
 use Rattle.interp.specs.Machine.{Callee, host, function_import}
 use Rattle.interp.specs.Machine as machine
 use Rattle.interp.specs.inside.Meaning.{host_callee, AreImports}

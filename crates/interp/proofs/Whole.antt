@@ -9,13 +9,13 @@ use Rattle.wasm_ast.specs.declared.module.Module.{Module}
 use Rattle.wasm_ast.specs.Code.{Code}
 use Rattle.wasm_ast.specs.Code as code
 use Rattle.wasm_ast.specs.Limits.{imported_functions}
-use Rattle.host_calls.specs.declared.call.CallInput.{CallInput}
-use Rattle.host_calls.specs.Host.{seen_edge}
-use Rattle.valid.specs.Spaces.{first_type}
-use Rattle.valid.specs.Modules.{IsTyped}
-use Rattle.units.specs.Calls.{calls_of}
-use Rattle.units.specs.Heights.{most, height}
-use Rattle.units.specs.Sizes.{AreSizes, code_size, size_in}
+use Rattle.verified.specs.declared.call.CallInput.{CallInput}
+use Rattle.verified.specs.Host.{seen_edge}
+use Rattle.verified.specs.Spaces.{first_type}
+use Rattle.verified.specs.Modules.{IsTyped}
+use Rattle.verified.specs.Calls.{calls_of}
+use Rattle.verified.specs.CallHeights.{most, height}
+use Rattle.verified.specs.Sizes.{AreSizes, code_size, size_in}
 use Rattle.verified.specs.Kinds.{kinds}
 use Rattle.verified.specs.Known.{Known, FunctionKnown}
 use Rattle.verified.specs.Profile.{IsBounded, asks_all, plain_type}

@@ -9,8 +9,8 @@ use Rattle.wasm_ast.specs.declared.plain.Plain.TheVariants as plain
 use Rattle.wasm_ast.specs.declared.module.Module.{Module}
 use Rattle.wasm_ast.specs.Code as code
 use Rattle.wasm_ast.specs.Widths.{load_width, store_width}
-use Rattle.host_calls.specs.declared.call.CallInput.{CallInput}
-use Rattle.valid.specs.Modules.{IsTyped}
+use Rattle.verified.specs.declared.call.CallInput.{CallInput}
+use Rattle.verified.specs.Modules.{IsTyped}
 use Rattle.verified.specs.Profile.{IsBounded}
 use Rattle.verified.specs.Reached.{Access, is_reached}
 use Rattle.interp.specs.Machine.{Machine, Running, run}

@@ -2,10 +2,10 @@
 use Rattle.std.specs.Prelude.{◌≡◌, ◌≢◌, ℕ, ◌+◌, ◌*◌, ◌≤◌, ℤ, length}
 use Rattle.std.specs.List.{AllByRecursion}
 use Rattle.wasm_ast.specs.declared.module.Module.{Module}
-use Rattle.host_calls.specs.declared.call.CallInput.{CallInput}
-use Rattle.host_calls.specs.declared.call.CallOutcome.{CallOutcome}
-use Rattle.valid.specs.Modules.{IsTyped}
-use Rattle.units.specs.Sizes.{AreSizes}
+use Rattle.verified.specs.declared.call.CallInput.{CallInput}
+use Rattle.verified.specs.declared.call.CallOutcome.{CallOutcome}
+use Rattle.verified.specs.Modules.{IsTyped}
+use Rattle.verified.specs.Sizes.{AreSizes}
 use Rattle.verified.specs.Profile.{IsBounded}
 use Rattle.interp.specs.Configuration.{State}
 use Rattle.interp.specs.Instructions.{instructions}

@@ -1,9 +1,9 @@
 -- A compute call: the least number of steps after which it is done, and its outcome.
 use Rattle.std.specs.Prelude.{◌≡◌, ◌≢◌, ℕ, ℤ, ◌<◌, Bool, List}
 use Rattle.wasm_ast.specs.declared.module.Module.{Module}
-use Rattle.host_calls.specs.declared.call.CallInput.{CallInput}
-use Rattle.host_calls.specs.declared.call.CallOutcome.{CallOutcome}
-use Rattle.host_calls.specs.Host.{Host, host_of}
+use Rattle.verified.specs.declared.call.CallInput.{CallInput}
+use Rattle.verified.specs.declared.call.CallOutcome.{CallOutcome}
+use Rattle.verified.specs.Host.{Host, host_of}
 use Rattle.interp.specs.Configuration.{State}
 use Rattle.interp.specs.Machine.{Machine, Done, Trapped, Stuck, run}
 use Rattle.interp.specs.Start.{Starts, StartsFrom}

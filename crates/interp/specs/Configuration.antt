@@ -1,7 +1,7 @@
 -- The state that instructions change besides the operands (Core 1.0, 4.2), and the effect of one of them.
 use Rattle.std.specs.Prelude.{ℕ, ◌+◌, List}
 use Rattle.wasm_ast.specs.declared.types.Value.{Value}
-use Rattle.host_calls.specs.Host.{Host}
+use Rattle.verified.specs.Host.{Host}
 
 -- the locals of the running function, the globals, the bytes of the memory, the host, and the units so far
 pub record State : Type 0 where

@@ -16,10 +16,10 @@ use Rattle.wasm_ast.specs.declared.plain.Plain.{Plain}
 use Rattle.wasm_ast.specs.declared.plain.Plain.TheVariants as plain
 use Rattle.wasm_ast.specs.Numeric.{bits_of, truth, eqz_value, comparison_holds, unary_value, binary_value, division_traps, division_value, conversion_from, conversion_to, conversion_value}
 use Rattle.wasm_ast.specs.Widths.{load_width, load_type, store_width, store_type}
-use Rattle.host_calls.specs.declared.imports.HostCall.{HostCall}
-use Rattle.host_calls.specs.Effects.{HostEffect, host_effect}
-use Rattle.host_calls.specs.Effects as host
-use Rattle.host_calls.specs.Operands.{pop}
+use Rattle.verified.specs.declared.imports.HostCall.{HostCall}
+use Rattle.verified.specs.Effects.{HostEffect, host_effect}
+use Rattle.verified.specs.Effects as host
+use Rattle.verified.specs.Operands.{pop}
 use Rattle.verified.specs.Memory.{page}
 use Rattle.interp.specs.Configuration.{State, with_locals, with_globals, with_memory, with_host, Effect, Gives, Traps, Misses}
 use Rattle.interp.specs.Memory.{loaded, read, write}

@@ -14,11 +14,11 @@ use Rattle.wasm_ast.specs.declared.module.Function.{Function}
 use Rattle.wasm_ast.specs.declared.module.Module.{Module}
 use Rattle.wasm_ast.specs.Code.{Code}
 use Rattle.wasm_ast.specs.Code as code
-use Rattle.units.specs.Weights.{units_of}
+use Rattle.verified.specs.Weights.{units_of}
 use Rattle.wasm_ast.specs.Values.{zero_of}
-use Rattle.host_calls.specs.declared.imports.HostCall.{HostCall}
-use Rattle.host_calls.specs.Imports.{call_named}
-use Rattle.host_calls.specs.Operands.{pop}
+use Rattle.verified.specs.declared.imports.HostCall.{HostCall}
+use Rattle.verified.specs.Imports.{call_named}
+use Rattle.verified.specs.Operands.{pop}
 use Rattle.interp.specs.Configuration.{State, with_locals, tick, Effect, Gives, Traps, Misses}
 use Rattle.interp.specs.Effects.{effect, call_effect}
 

@@ -2,8 +2,8 @@
 use Rattle.std.specs.Prelude.{◌≡◌, ℕ, ℤ, pos, List, [], map, false}
 use Rattle.std.specs.Int.{cast_signed, w64}
 use Rattle.wasm_ast.specs.declared.module.Module.{Module}
-use Rattle.host_calls.specs.declared.call.CallInput.{CallInput}
-use Rattle.host_calls.specs.Host.{Host, seen_edge}
+use Rattle.verified.specs.declared.call.CallInput.{CallInput}
+use Rattle.verified.specs.Host.{Host, seen_edge}
 use Rattle.interp.specs.Call.{ComesTo, Outcome}
 
 -- The input of a call, as pure data.

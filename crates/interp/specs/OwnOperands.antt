@@ -3,8 +3,8 @@
 use Rattle.std.specs.Prelude.{ℕ, zero, suc, ◌+◌, ◌-◌, ◌≤◌, List, [], ◌∷◌, length, drop}
 use Rattle.wasm_ast.specs.declared.module.Module.{Module}
 use Rattle.wasm_ast.specs.Code as code
-use Rattle.host_calls.specs.declared.call.CallInput.{CallInput}
-use Rattle.valid.specs.Modules.{IsTyped}
+use Rattle.verified.specs.declared.call.CallInput.{CallInput}
+use Rattle.verified.specs.Modules.{IsTyped}
 use Rattle.verified.specs.Cells.{IsDefined, MayRun, own_height}
 use Rattle.verified.specs.Profile.{IsBounded}
 use Rattle.interp.specs.Heights.{frames}

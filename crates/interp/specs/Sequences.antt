@@ -5,8 +5,8 @@ use Rattle.wasm_ast.specs.declared.types.Value.{Value}
 use Rattle.wasm_ast.specs.declared.module.Module.{Module}
 use Rattle.wasm_ast.specs.Code.{Code}
 use Rattle.wasm_ast.specs.Code as code
-use Rattle.valid.specs.Modules.{IsTyped}
-use Rattle.units.specs.Sizes.{AreSizes, code_size}
+use Rattle.verified.specs.Modules.{IsTyped}
+use Rattle.verified.specs.Sizes.{AreSizes, code_size}
 use Rattle.verified.specs.Hosts.{host_call_at}
 use Rattle.verified.specs.Kinds.{Kind}
 use Rattle.verified.specs.Known.{Known}

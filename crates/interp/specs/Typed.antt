@@ -5,8 +5,8 @@ use Rattle.wasm_ast.specs.declared.types.GlobalType.{GlobalType}
 use Rattle.wasm_ast.specs.declared.types.Value.{Value}
 use Rattle.wasm_ast.specs.declared.module.Module.{Module}
 use Rattle.wasm_ast.specs.Values.{type_of}
-use Rattle.host_calls.specs.Host.{Host}
-use Rattle.valid.specs.Spaces.{spaces_of}
+use Rattle.verified.specs.Host.{Host}
+use Rattle.verified.specs.Spaces.{spaces_of}
 use Rattle.verified.specs.Kinds.{Kind, Any, Is}
 use Rattle.verified.specs.Memory.{memory_bytes}
 use Rattle.interp.specs.Configuration.{State}

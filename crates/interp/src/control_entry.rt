@@ -3,7 +3,7 @@
 ghost use Rattle.std.specs.Prelude.{◌≡◌, ◌∷◌, ◌<◌, [], reverse, vec_capacity, vec_len, MatchOption};
 ghost use Rattle.interp.specs.inside.Meaning.{loop_of};
 
-use flat_code::{FlatBody, FlatInstr};
+use verified::{FlatBody, FlatInstr};
 use wasm_ast::BlockType;
 
 /// What a branch to a label does: it ends a block, and may keep the topmost operand, or it begins a loop again.

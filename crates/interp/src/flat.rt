@@ -4,8 +4,8 @@ ghost use Rattle.std.specs.Prelude.{◌≡◌, ◌<◌, ◌≤◌, ℕ, List, No
 ghost use Rattle.wasm_ast.specs.declared.numeric.Numeric.TheVariants as numeric;
 ghost use Rattle.wasm_ast.specs.declared.plain.Plain.TheVariants as plain;
 ghost use Rattle.wasm_ast.specs.declared.types.Value.TheVariants.{I64};
-ghost use Rattle.flat_code.specs.declared.body.FlatInstr.TheVariants as flat;
-ghost use Rattle.flat_code.specs.Plains.{plain_of};
+ghost use Rattle.verified.specs.declared.body.FlatInstr.TheVariants as flat;
+ghost use Rattle.verified.specs.Plains.{plain_of};
 ghost use Rattle.interp.specs.inside.Flat.{Fails, FlatDid, PlainDid, Stops, flat_asks};
 ghost use Rattle.interp.specs.inside.Found.{numeric_of};
 ghost use Rattle.interp.specs.inside.Going.{has_tops, numeric_asks, plain_asks};
@@ -23,10 +23,8 @@ use crate::numeric::act_numeric;
 use crate::operand_stack::pop;
 use crate::plain::{Acted, act_plain};
 use crate::program::Program;
-use flat_code::FlatInstr;
-use host_calls::CallState;
 use std::alloc::AllocError;
-use units::host_units;
+use verified::{CallState, FlatInstr, host_units};
 use wasm_ast::{Binary, Comparison, Conversion, Numeric, Plain, ValType};
 
 /// Executes an instruction that is straight: one that neither branches nor calls, a call of the host, or one that only

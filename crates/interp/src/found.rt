@@ -3,7 +3,7 @@
 ghost use Rattle.std.specs.Prelude.{◌≡◌};
 ghost use Rattle.interp.specs.inside.Found.{IsFound};
 
-use flat_code::FlatInstr;
+use verified::FlatInstr;
 use wasm_ast::{Load, Memory, Plain, Store, Value, Variable};
 
 /// A numeric instruction that is a variant of its own in flat form. It has no fields, so that a match of it costs little

@@ -5,9 +5,9 @@ ghost use Rattle.std.specs.Prelude.{◌≡◌, ◌∷◌, ◌<◌, ◌≤◌, Li
 ghost use Rattle.wasm_ast.specs.declared.types.ValType.TheVariants.{I32 as i32_type};
 ghost use Rattle.wasm_ast.specs.declared.types.Value.{Value as AnyValue};
 ghost use Rattle.wasm_ast.specs.declared.types.Value.TheVariants.{I64};
-ghost use Rattle.host_calls.specs.declared.call.TheConstants.{AGGREGATORS};
-ghost use Rattle.host_calls.specs.declared.imports.HostCall.TheVariants as calls;
-ghost use Rattle.host_calls.specs.Effects.{signed};
+ghost use Rattle.verified.specs.declared.call.TheConstants.{AGGREGATORS};
+ghost use Rattle.verified.specs.declared.imports.HostCall.TheVariants as calls;
+ghost use Rattle.verified.specs.Effects.{signed};
 ghost use Rattle.interp.specs.inside.Acts.{ActsOnHost};
 ghost use Rattle.interp.specs.inside.Cells.{cell_call, in_width};
 ghost use Rattle.interp.specs.inside.Given.{gives, only_pushes};
@@ -16,8 +16,8 @@ ghost use Rattle.interp.specs.inside.OperandStack.{operand_stack};
 
 use crate::cell::{as_i32, of_i32};
 use crate::operand_stack::{pop, push};
-use host_calls::{CallState, HostCall};
 use std::alloc::AllocError;
+use verified::{CallState, HostCall};
 
 /// Pops the arguments of a host call, pushes its results, and changes the vertex. The contract requires that the
 /// arguments are there, and that the number of an aggregator is in range. Only `send` and `aggregate` allocate; the

@@ -2,9 +2,9 @@
 
 ghost use Rattle.std.specs.Prelude.{◌≡◌, ◌+◌, ◌≤◌, ℕ};
 ghost use Rattle.wasm_ast.specs.declared.module.Module.{Module as AnyModule};
-ghost use Rattle.host_calls.specs.declared.call.CallInput.{CallInput as AnyInput};
-ghost use Rattle.host_calls.specs.declared.call.CallOutcome.{CallOutcome as AnyOutcome};
-ghost use Rattle.valid.specs.Modules.{IsTyped};
+ghost use Rattle.verified.specs.declared.call.CallInput.{CallInput as AnyInput};
+ghost use Rattle.verified.specs.declared.call.CallOutcome.{CallOutcome as AnyOutcome};
+ghost use Rattle.verified.specs.Modules.{IsTyped};
 ghost use Rattle.verified.specs.Profile.{IsBounded};
 ghost use Rattle.interp.specs.Accesses.{CallsTouchReached};
 ghost use Rattle.interp.specs.Bounded.{CallsEnd, FactsHold, Ends, ComesToItsEnd, MeetsNoFault, HasBounds};

@@ -22,10 +22,10 @@ mod start;
 mod straight;
 mod walk;
 
-pub use host_calls::{CallInput, CallOutcome};
 pub use laws::{
     an_end_stays, calls_are_a_function, calls_end, calls_keep_own_operands, calls_stay_within,
     calls_touch_reached_bytes, instructions_are_counted, one_outcome, sequences_count,
 };
 pub use runs::{has_ids, run};
 pub use scratch::Scratch;
+pub use verified::{CallInput, CallOutcome};

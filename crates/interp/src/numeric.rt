@@ -6,14 +6,14 @@ ghost use Rattle.interp.specs.inside.Acts.{ActsAlone};
 ghost use Rattle.interp.specs.inside.Cells.{cell_numeric, in_width};
 ghost use Rattle.interp.specs.inside.Going.{divides, has_tops, numeric_asks};
 ghost use Rattle.interp.specs.inside.OperandStack.{operand_stack};
-ghost use Rattle.units.specs.Weights.{numeric_units};
+ghost use Rattle.verified.specs.Weights.{numeric_units};
 ghost use Rattle.wasm_ast.specs.declared.numeric.Numeric.TheVariants as numeric;
 ghost use Rattle.wasm_ast.specs.declared.types.ValType.TheVariants.{I32 as i32_type, I64 as i64_type};
 
 use crate::cell::{as_i32, of_i32};
 use crate::operand_stack::{pop, push};
 use crate::plain::Acted;
-use units::plain_units;
+use verified::plain_units;
 use wasm_ast::{
     Binary, Comparison, Conversion, Division, Numeric, Plain, Unary, ValType, i32_eqz,
     i32_wrap_i64, i64_eqz, i64_extend_i32_s, i64_extend_i32_u,

@@ -7,7 +7,7 @@ ghost use Rattle.wasm_ast.specs.declared.types.Value.TheVariants.{I64};
 ghost use Rattle.wasm_ast.specs.declared.plain.Memory.TheVariants as memory_variant;
 ghost use Rattle.wasm_ast.specs.declared.plain.Plain.TheVariants as plain;
 ghost use Rattle.wasm_ast.specs.Widths.{load_width, store_width};
-ghost use Rattle.units.specs.Weights.{memory_units, plain_units};
+ghost use Rattle.verified.specs.Weights.{memory_units, plain_units};
 ghost use Rattle.interp.specs.inside.Acts.{ActsAlone, ActsOn, ActsOnBytes, ActsOnVariables};
 ghost use Rattle.interp.specs.inside.Cells.{cell_effect, cell_memory, in_width};
 ghost use Rattle.interp.specs.inside.Going.{has_tops, memory_asks, of_next, of_top, plain_asks, reaches, variable_asks};
@@ -21,7 +21,7 @@ use crate::locals::{local, set_local};
 use crate::memory::Memory;
 use crate::numeric::act_numeric;
 use crate::operand_stack::{pop, push};
-use units::plain_units;
+use verified::plain_units;
 use wasm_ast::{Load, Memory as MemoryAccess, MemoryArgument, Plain, Store, Variable};
 
 /// The height of the operand stack after an instruction, and its units. The units are computed where the kind of the

@@ -2,18 +2,15 @@
 
 ghost use Rattle.std.specs.Prelude.{◌≡◌, Some, option_map, slice_get, IfSome};
 ghost use Rattle.wasm_ast.specs.Limits.{IsWithinLimits};
-ghost use Rattle.flat_code.specs.Bodies.{bodies_of};
-ghost use Rattle.units.specs.Weights.{call_units};
-ghost use Rattle.valid.specs.Modules.{IsTyped};
+ghost use Rattle.verified.specs.Bodies.{bodies_of};
+ghost use Rattle.verified.specs.Weights.{call_units};
+ghost use Rattle.verified.specs.Modules.{IsTyped};
 ghost use Rattle.verified.specs.Profile.{IsBounded};
 ghost use Rattle.interp.specs.inside.Begun.{IsDefinedAt};
 ghost use Rattle.interp.specs.Machine.{defined, functions_of};
 ghost use Rattle.interp.specs.inside.Meaning.{AreImports, HasOwnBody, callee_of};
 
-use flat_code::FlatBody;
-use host_calls::HostCall;
-use units::host_units;
-use verified::Verified;
+use verified::{FlatBody, HostCall, Verified, host_units};
 use wasm_ast::{Function, Module};
 
 /// A module, the host calls that its imports name, and the bodies of its own functions in flat form, each in order.

@@ -2,7 +2,7 @@
 
 ghost use Rattle.std.specs.Prelude.{◌≡◌, ◌↔◌, ◌+◌, ◌*◌, ◌≤◌, IfOk, IsOk, IsTrue, OnErr};
 ghost use Rattle.wasm_ast.specs.Limits.{IsWithinLimits};
-ghost use Rattle.flat_code.specs.Bodies.{bodies_of};
+ghost use Rattle.verified.specs.Bodies.{bodies_of};
 ghost use Rattle.interp.specs.inside.Begun.{BeginsWith, EndsInRoom, HasStartRoom, Sends};
 ghost use Rattle.interp.specs.Bounded.{HasIds, IsWithinBound, NeverFails, items_of};
 ghost use Rattle.interp.specs.Call.{IsOutcome};
@@ -14,9 +14,8 @@ use crate::program::{Definition, Program};
 use crate::scratch::Scratch;
 use crate::start::image::Image;
 use crate::walk::Walk;
-use host_calls::{CallInput, CallOutcome, CallState};
 use std::alloc::{AllocError, Global};
-use verified::Verified;
+use verified::{CallInput, CallOutcome, CallState, Verified};
 
 /// The greatest id of a vertex.
 const MAX_ID: u64 = 9_223_372_036_854_775_807;

@@ -2,9 +2,9 @@
 
 ghost use Rattle.std.specs.Prelude.{◌≡◌, ◌+◌, ◌*◌, ◌^◌, ◌≤◌, ◌↔◌, length, IfOk, IsTrue, OnErr};
 ghost use Rattle.wasm_ast.specs.Limits.{IsWithinLimits, max_locals};
-ghost use Rattle.valid.specs.Modules.{IsTyped};
+ghost use Rattle.verified.specs.Modules.{IsTyped};
 ghost use Rattle.verified.specs.Profile.{IsBounded};
-ghost use Rattle.flat_code.specs.Bodies.{bodies_of};
+ghost use Rattle.verified.specs.Bodies.{bodies_of};
 ghost use Rattle.interp.specs.Call.{IsOutcome};
 ghost use Rattle.interp.specs.Room.{most_entries, most_locals};
 ghost use Rattle.interp.specs.inside.Begun.{BeginsWith, EndsEachWithin, HasRoom, Sends};
@@ -19,11 +19,10 @@ use crate::program::{Definition, Program};
 use crate::runs::call_in;
 use crate::start::image::Image;
 use crate::walk::Walk;
-use host_calls::{CallInput, CallOutcome};
 use std::alloc::{AllocError, Global};
 use std::marker::Model;
 use std::mem::replace;
-use verified::Verified;
+use verified::{CallInput, CallOutcome, Verified};
 use wasm_ast::{MAX_LOCALS, MAX_NESTING};
 
 /// The state that the calls of one module share: what each call begins with, and buffers that one call leaves to the

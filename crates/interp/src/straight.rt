@@ -4,7 +4,7 @@
 
 ghost use Rattle.std.specs.Prelude.{◌≡◌, ◌≤◌, length, map, false, true, IfOk, IfSome, OnErr};
 ghost use Rattle.wasm_ast.specs.declared.types.Value.TheVariants.{I64};
-ghost use Rattle.flat_code.specs.View.{code_of};
+ghost use Rattle.verified.specs.View.{code_of};
 ghost use Rattle.interp.specs.inside.Kept.{count_kept};
 ghost use Rattle.interp.specs.inside.OperandStack.{operand_stack};
 ghost use Rattle.interp.specs.inside.Meaning.{AreImports};
@@ -18,9 +18,8 @@ use crate::locals::Locals;
 use crate::memory::Memory;
 use crate::operands::Operands;
 use crate::program::Program;
-use flat_code::FlatInstr;
-use host_calls::{CallState, HostCall};
 use std::alloc::AllocError;
+use verified::{CallState, FlatInstr, HostCall};
 
 /// Where straight code stops: the remaining code, the units so far, and the number of operands.
 #[derive(Clone, Copy)]

@@ -2,8 +2,8 @@
 
 ghost use Rattle.std.specs.Prelude.{◌≡◌, ◌+◌, ◌^◌, ◌<◌, ◌≤◌, false, true, IfOk, OnErr};
 ghost use Rattle.wasm_ast.specs.Limits.{IsWithinLimits};
-ghost use Rattle.flat_code.specs.Bodies.{bodies_of};
-ghost use Rattle.flat_code.specs.View.{code_of, then_code};
+ghost use Rattle.verified.specs.Bodies.{bodies_of};
+ghost use Rattle.verified.specs.View.{code_of, then_code};
 ghost use Rattle.interp.specs.Machine.{next_units};
 ghost use Rattle.interp.specs.inside.Cells.{cell_advance, in_width, of_any_width};
 ghost use Rattle.interp.specs.inside.Going.{goes_on, is_going};
@@ -23,11 +23,9 @@ use crate::memory::Memory;
 use crate::operands::Operands;
 use crate::program::Program;
 use crate::straight::{Stop, go_straight};
-use flat_code::{FlatBody, FlatInstr};
-use host_calls::CallState;
 use std::alloc::AllocError;
 use std::marker::Model;
-use units::branch_units;
+use verified::{CallState, FlatBody, FlatInstr, branch_units};
 
 /// Where the run goes on, or that it is done, with the units so far.
 #[derive(Clone, Copy)]

@@ -4,7 +4,7 @@ use Rattle.std.specs.Prelude.{nat_le, unwrap_or, codes, ◌&&◌}
 use Rattle.std.specs.Option.{option_to_list}
 use Rattle.std.specs.List.{AllByRecursion, flat_map}
 use Rattle.std.specs.Str.{bytes_eq, all_ascii_digits}
-use Rattle.host_calls.specs.declared.call.CallInput.{CallInput}
+use Rattle.verified.specs.declared.call.CallInput.{CallInput}
 use Rattle.line_text.specs.Number.{id_of, number_of}
 use Rattle.interp.specs.Bounded.{HasIds, max_id}
 use Rattle.call_lines.specs.declared.input.Input.{Input}

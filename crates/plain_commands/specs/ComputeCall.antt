@@ -1,8 +1,8 @@
 -- What a call of a module, in a text or bytes, with an input's text answers, and why it does not.
 use Rattle.std.specs.Prelude.{◌≡◌, ◌⊎◌, ℕ, Bool, List}
 use Rattle.wasm_ast.specs.declared.module.Module.{Module}
-use Rattle.host_calls.specs.declared.call.CallInput.{CallInput}
-use Rattle.host_calls.specs.declared.call.CallOutcome.{CallOutcome}
+use Rattle.verified.specs.declared.call.CallInput.{CallInput}
+use Rattle.verified.specs.declared.call.CallOutcome.{CallOutcome}
 use Rattle.interp.specs.Call.{IsOutcome}
 use Rattle.call_lines.specs.InputSays.{lines_of}
 use Rattle.call_lines.specs.Input.{Means}

@@ -1,12 +1,12 @@
 -- What is noted of a run for its report.
 use Rattle.std.specs.Prelude.{◌≡◌, ◌⊎◌, ℕ, Bool, List, map, vec_len, codes, Some, None, IsSomeAnd, Result, Ok, Err, true}
 use Rattle.verified.specs.Facts.{IsSizeOfCompute}
-use Rattle.run_tally.specs.Tally.{capped, counts_of_end, counts_until}
+use Rattle.run_report.specs.Tally.{capped, counts_of_end, counts_until}
 use Rattle.run_report.specs.declared.report.Outcome.{Outcome}
 use Rattle.run_report.specs.declared.report.RunReport.{RunReport}
 use Rattle.run_report.specs.declared.report.RunSettings.{RunSettings}
-use Rattle.run_tally.specs.declared.tally.Ended.{Ended}
-use Rattle.run_tally.specs.declared.tally.Tally.{Tally}
+use Rattle.run_report.specs.declared.tally.Ended.{Ended}
+use Rattle.run_report.specs.declared.tally.Tally.{Tally}
 use Rattle.job_state.specs.declared.fault.JobFault.{JobFault}
 use Rattle.job_state.specs.declared.settings.Settings.{Settings}
 use Rattle.superstep.specs.Ending.{is_finished}

@@ -15,12 +15,11 @@ ghost use Rattle.plain_commands.specs.Outputs.{PrintsOutcome};
 
 use crate::sizes::load_within;
 use call_lines::{Input, outcome_text};
-use host_calls::{CallInput, CallOutcome};
 use interp::{Scratch, run};
 use requests::ModuleRequest;
 use sources::{CommandFault, Files, Source, load, read_text};
 use std::alloc::{AllocError, Global};
-use verified::Verified;
+use verified::{CallInput, CallOutcome, Verified};
 
 /// Calls the module with the input that the text declares, and returns the lines of the outcome.
 ///

@@ -1,14 +1,13 @@
 //! The folder in which a run keeps its states.
 
 ghost use Rattle.std.specs.Prelude.{◌≡◌, ◌⊎◌, true, false, None, IfOk, IfErr, IfSome};
-ghost use Rattle.keeps.specs.Files.{superstep_on};
+ghost use Rattle.checkpoint.specs.Files.{superstep_on};
 ghost use Rattle.sources.specs.Disk.{Stays};
 ghost use Rattle.sources.specs.Reading.{IsUnread};
 ghost use Rattle.sources.specs.declared.fault.CommandFault.TheVariants.{Resume};
 ghost use Rattle.plain_commands.specs.Keeping.{IsNoFolder, IsNotReady, IsUnidentified};
 
-use job_file::{JobId, Kinship, compare, digest_of, job_text};
-use keeps::{FileKeep, replace};
+use checkpoint::{FileKeep, JobId, Kinship, compare, digest_of, job_text, replace};
 use requests::{JobRequest, RunRequest};
 use sources::{CommandFault, Files, read_bytes};
 use std::alloc::{AllocError, Global};

@@ -1,7 +1,7 @@
 //! What is noted of a run for its report.
 
 ghost use Rattle.std.specs.Prelude.{◌≡◌, false, map, IfOk, IsSome, None};
-ghost use Rattle.run_tally.specs.Tally.{capped};
+ghost use Rattle.run_report.specs.Tally.{capped};
 ghost use Rattle.plain_commands.specs.Notes.{HasNoted, IsOfEnd, IsOfFault, IsOfJob, IsOutcomeOf, IsOutcomeOfFault, IsReportOf, NotesOnly, settings_in};
 
 use crate::watching::Watch;

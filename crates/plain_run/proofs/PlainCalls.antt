@@ -10,7 +10,7 @@ use Rattle.std.proofs.lemmas.List.Sums.{fold-append, sum_by_push}
 use Rattle.interp.specs.Call.{Outcome}
 use Rattle.interp.specs.Outcomes.{Given}
 use Rattle.graph.specs.Entry.{Entry}
-use Rattle.host_calls.specs.Aggregators.{aggregator_starts}
+use Rattle.verified.specs.Aggregators.{aggregator_starts}
 use Rattle.plain_run.specs.declared.machine.Held.{Held}
 use Rattle.plain_run.specs.declared.machine.Sent.{Sent}
 use Rattle.superstep.specs.declared.task.Shared.{Shared}

@@ -19,11 +19,11 @@ ghost use Rattle.plain_run.specs.inside.OneMachine.{called_row, entry_in, entry_
 ghost use Rattle.plain_run.specs.inside.OneMachine.{with_messages};
 
 use graph::Vertex;
-use host_calls::{CallInput, CallOutcome, aggregator_starts};
 use interp::{Scratch, calls_are_a_function, run};
 use std::alloc::{AllocError, Global};
 use std::thread::Threads;
 use superstep::{EndReason, Job, JobEnd, Shared, give_all};
+use verified::{CallInput, CallOutcome, aggregator_starts};
 
 /// Runs a job on one machine (Pregel 2010, 2): superstep after superstep, until no vertex is active and every inbox is empty,
 /// or until the limit is reached. It reports the units of each superstep. It fails only where memory runs out.

@@ -4,7 +4,7 @@ use Rattle.std.proofs.lemmas.List.{map-append, take_all}
 use Rattle.wasm_ast.specs.declared.types.FuncType.{FuncType}
 use Rattle.wasm_ast.specs.declared.module.Function.{Function}
 use Rattle.wasm_ast.specs.declared.module.Module.{Module}
-use Rattle.valid.specs.Spaces.{imported, function_import}
+use Rattle.verified.specs.Spaces.{imported, function_import}
 use Rattle.verified.specs.declared.arity.Arity.{Arity}
 use Rattle.verified.specs.Arities.{type_arity, arity_table}
 

@@ -10,9 +10,9 @@ use Rattle.wasm_ast.specs.declared.module.Module.{Module}
 use Rattle.wasm_ast.specs.Limits.{is_function}
 use Rattle.wasm_ast.specs.Code.{Code}
 use Rattle.wasm_ast.specs.Code as code
-use Rattle.host_calls.specs.declared.imports.HostCall.{HostCall}
+use Rattle.verified.specs.declared.imports.HostCall.{HostCall}
 use Rattle.verified.specs.declared.shape.Shape.TheVariants as shape
-use Rattle.host_calls.specs.Imports.{call_of}
+use Rattle.verified.specs.Imports.{call_of}
 use Rattle.verified.specs.Hosts.{host_call_at, host_table, call_at}
 use Rattle.verified.specs.Profile.{EachBody, LoopsTakeItems}
 use Rattle.verified.specs.Shapes.{Everywhere, LoopTakes, TakesItems, TakesItem, Keeps}

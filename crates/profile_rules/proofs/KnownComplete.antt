@@ -6,7 +6,7 @@ use Rattle.wasm_ast.specs.declared.types.ValType.{ValType}
 use Rattle.wasm_ast.specs.declared.types.ValType.TheVariants.{I32, I64}
 use Rattle.wasm_ast.specs.declared.types.Value.TheVariants as value
 use Rattle.wasm_ast.specs.declared.types.FuncType.{FuncType}
-use Rattle.host_calls.specs.declared.imports.HostCall.{HostCall}
+use Rattle.verified.specs.declared.imports.HostCall.{HostCall}
 use Rattle.wasm_ast.specs.declared.numeric.Numeric.{Numeric}
 use Rattle.wasm_ast.specs.declared.numeric.Numeric.TheVariants as numeric
 use Rattle.wasm_ast.specs.declared.plain.Variable.{Variable}
@@ -20,7 +20,7 @@ use Rattle.wasm_ast.specs.Code.{Code}
 use Rattle.wasm_ast.specs.Code as code
 use Rattle.wasm_ast.specs.Numeric.{conversion_from, conversion_to}
 use Rattle.wasm_ast.specs.Widths.{load_type, load_width, store_type, store_width}
-use Rattle.valid.specs.Spaces.{first_type}
+use Rattle.verified.specs.Spaces.{first_type}
 use Rattle.verified.specs.declared.requirements.Premise.TheVariants.{Reaches, IsSlot}
 use Rattle.verified.specs.declared.requirements.Requirement.{Requirement}
 use Rattle.verified.specs.declared.requirements.Requirement.TheVariants as requirement

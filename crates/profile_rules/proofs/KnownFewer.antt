@@ -17,7 +17,7 @@ use Rattle.wasm_ast.specs.declared.module.Module.{Module}
 use Rattle.wasm_ast.specs.Code.{Code}
 use Rattle.wasm_ast.specs.Code as code
 use Rattle.wasm_ast.specs.Widths.{load_width, store_width}
-use Rattle.valid.specs.Spaces.{first_type}
+use Rattle.verified.specs.Spaces.{first_type}
 use Rattle.verified.specs.declared.requirements.Premise.{Premise}
 use Rattle.verified.specs.declared.requirements.Premise.TheVariants.{Reaches, IsSlot}
 use Rattle.profile_rules.specs.declared.constants.asks.Asks.{Asks}

@@ -28,10 +28,10 @@ use Rattle.wasm_ast.specs.Code as code
 use Rattle.wasm_ast.specs.Limits.{is_function, is_function_description}
 use Rattle.wasm_ast.specs.Numeric.{conversion_from, conversion_to}
 use Rattle.wasm_ast.specs.Widths.{load_type, load_width, store_type, store_width}
-use Rattle.valid.specs.Spaces.{spaces_of, first_type, function_import}
-use Rattle.valid.specs.Instructions as valid
-use Rattle.host_calls.specs.declared.imports.HostCall.{HostCall}
-use Rattle.host_calls.specs.Imports.{call_named}
+use Rattle.verified.specs.Spaces.{spaces_of, first_type, function_import}
+use Rattle.verified.specs.Instructions as valid
+use Rattle.verified.specs.declared.imports.HostCall.{HostCall}
+use Rattle.verified.specs.Imports.{call_named}
 use Rattle.verified.specs.declared.requirements.Premise.{Premise}
 use Rattle.verified.specs.declared.requirements.Premise.TheVariants.{Reaches, IsSlot}
 use Rattle.verified.specs.declared.requirements.Requirement.{Requirement}

@@ -6,9 +6,9 @@ use Rattle.wasm_ast.specs.declared.types.ValType.{ValType}
 use Rattle.wasm_ast.specs.declared.types.FuncType.{FuncType}
 use Rattle.wasm_ast.specs.declared.module.Function.{Function}
 use Rattle.wasm_ast.specs.declared.module.Module.{Module}
-use Rattle.valid.specs.Spaces.{spaces_of, first_type}
-use Rattle.valid.specs.Instructions as valid
-use Rattle.valid.specs.Modules.{FunctionTyped}
+use Rattle.verified.specs.Spaces.{spaces_of, first_type}
+use Rattle.verified.specs.Instructions as valid
+use Rattle.verified.specs.Modules.{FunctionTyped}
 use Rattle.profile_rules.specs.declared.constants.asks.Asks.{Asks}
 use Rattle.profile_rules.specs.declared.constants.asks.Asks.TheVariants.{Addresses, Divisors, Slots, All}
 use Rattle.profile_rules.specs.declared.constants.fault.ConstantsFault.{ConstantsFault}

@@ -11,7 +11,7 @@ use Rattle.wasm_ast.specs.declared.body.Instr.TheVariants as instr
 use Rattle.wasm_ast.specs.Code.{Code}
 use Rattle.wasm_ast.specs.Code as code
 use Rattle.wasm_ast.specs.View.{code_of, then_code}
-use Rattle.host_calls.specs.declared.imports.HostCall.{HostCall}
+use Rattle.verified.specs.declared.imports.HostCall.{HostCall}
 use Rattle.verified.specs.Shapes.{followed, NamesNot, OpensWithItem, ClosesWithItem}
 use Rattle.profile_rules.specs.inside.Closing.{GoesBackWithItem}
 

@@ -6,8 +6,8 @@ use Rattle.std.specs.List.{AllByRecursion}
 use Rattle.wasm_ast.specs.declared.module.Module.{Module}
 use Rattle.wasm_ast.specs.Code.{Code}
 use Rattle.wasm_ast.specs.Code as code
-use Rattle.units.specs.Calls.{calls_of}
-use Rattle.units.specs.Sizes.{code_size}
+use Rattle.verified.specs.Calls.{calls_of}
+use Rattle.verified.specs.Sizes.{code_size}
 use Rattle.profile_rules.specs.declared.stack_height.StackHeight.{StackHeight}
 use Rattle.verified.specs.Arities.{arity_table, plain_arity, branch_arity, call_arity, block_arity, test_arity}
 use Rattle.verified.specs.Heights.{after, peak}

@@ -3,8 +3,8 @@ use Rattle.std.specs.Prelude.{◌≡◌, ℕ, List, Result, MatchResult}
 use Rattle.wasm_ast.specs.declared.module.Module.{Module}
 use Rattle.cost.specs.declared.fault.CostFault.{CostFault}
 use Rattle.cost.specs.declared.fault.CostFault.TheVariants as cost
-use Rattle.units.specs.Calls.{callees}
-use Rattle.units.specs.Cycles.{AreDistinct, IsCycle, LeastFirst}
+use Rattle.verified.specs.Calls.{callees}
+use Rattle.verified.specs.Cycles.{AreDistinct, IsCycle, LeastFirst}
 use Rattle.profile_rules.specs.declared.fault.ProfileFault.{ProfileFault}
 use Rattle.profile_rules.specs.declared.fault.ProfileFault.TheVariants as fault
 use Rattle.profile_rules.specs.declared.fault.ProfileRule.{ProfileRule}

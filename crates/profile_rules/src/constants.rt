@@ -20,7 +20,7 @@ pub use asks::Asks;
 pub use fault::ConstantsFault;
 pub use operands::Operands;
 use std::alloc::Global;
-use valid::Valid;
+use verified::Valid;
 use wasm_ast::Module;
 
 /// Checks that each constant that `asks` selects is known. The code has no `unreachable`, and nothing comes after a

@@ -2,12 +2,12 @@
 
 ghost use Rattle.std.specs.Prelude.{◌≡◌, Some, IfOk};
 ghost use Rattle.wasm_ast.specs.Limits.{is_function};
-ghost use Rattle.host_calls.specs.Imports.{call_of};
+ghost use Rattle.verified.specs.Imports.{call_of};
 ghost use Rattle.verified.specs.Hosts.{host_table, call_at, AreHostCalls};
 ghost use Rattle.verified.specs.Profile.{ImportsHostCalls};
 
-use host_calls::{HostCall, each_import_is_one_call};
 use std::alloc::{AllocError, Global};
+use verified::{HostCall, each_import_is_one_call};
 use wasm_ast::{Import, ImportDescription, Module};
 
 /// Finds the host's function of each imported function, by the names of the import. It is `None` where the host has

@@ -9,7 +9,7 @@ ghost use Rattle.verified.specs.Shapes.{BranchNamesNot, ClosesWithItem, NamesNot
 ghost use Rattle.profile_rules.specs.inside.Closing.{GoesBackWithItem, LabelFits};
 
 use crate::hosts::call_at;
-use host_calls::HostCall;
+use verified::HostCall;
 use wasm_ast::{Body, Branch, Instr, Numeric, Plain, ValType};
 
 /// Decides whether the body of a loop takes an item each time round, at its beginning or at its end (P9).

@@ -13,9 +13,8 @@ ghost use Rattle.profile_rules.specs.inside.ShapeRules.{rule_of};
 
 use crate::fault::{ProfileFault, ProfileRule};
 use crate::loops::takes_items;
-use host_calls::HostCall;
 use validate::Place;
-use verified::Shape;
+use verified::{HostCall, Shape};
 use wasm_ast::{Body, Branch, Instr, Memory, Module, Plain};
 
 fn rule(shape: Shape) -> ProfileRule

@@ -1,7 +1,7 @@
 -- A whole run over a list of steps.
 use Rattle.std.specs.Prelude.{◌≡◌, ◌⊎◌, ◌+◌, ◌*◌, ℕ, suc, List, [], ◌∷◌, length, replicate, slice_index_or, slice_set, Bool, true, Option, Some, None, Result, Ok, Err, nat_lt, if◌then◌else◌}
 use Rattle.wasm_ast.specs.declared.module.Module.{Module}
-use Rattle.host_calls.specs.declared.call.CallInput.{CallInput}
+use Rattle.verified.specs.declared.call.CallInput.{CallInput}
 use Rattle.verified.specs.declared.facts.Facts.{Facts}
 use Rattle.verified.specs.Facts.{AreFactsAt}
 use Rattle.verified.specs.Profile.{HasCompute}

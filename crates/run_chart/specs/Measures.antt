@@ -2,7 +2,7 @@
 use Rattle.std.specs.Prelude.{ℕ, List, Option, fold, max, unwrap_or}
 use Rattle.run_chart.specs.declared.measure.Measure.{Measure}
 use Rattle.run_chart.specs.declared.measure.Measure.TheVariants.{Called, Sent, Units}
-use Rattle.run_tally.specs.declared.counts.SuperstepCounts.{SuperstepCounts}
+use Rattle.run_report.specs.declared.counts.SuperstepCounts.{SuperstepCounts}
 
 -- what it shows of a superstep, where that is known
 abbrev pub measured : Measure → SuperstepCounts → Option ℕ

@@ -3,7 +3,7 @@
 ghost use Rattle.std.specs.Prelude.{◌≡◌};
 ghost use Rattle.run_chart.specs.Measures.{measured, most_of};
 
-use run_tally::SuperstepCounts;
+use run_report::SuperstepCounts;
 
 /// What a panel shows of each superstep.
 #[derive(Clone, Copy)]

@@ -3,7 +3,7 @@
 use crate::measure::Measure;
 use crate::scale::{place_on, round_up};
 use crate::unit::Unit;
-use run_tally::SuperstepCounts;
+use run_report::SuperstepCounts;
 use std::alloc::AllocError;
 
 // How wide a panel is, how high, and how many points are drawn at most, and marked. Lengths are tenths of a pixel.

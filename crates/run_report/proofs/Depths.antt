@@ -7,7 +7,7 @@ use Rattle.serde_json.specs.Written.{has_float, items_have_float}
 use Rattle.run_report.specs.declared.report.JobFiles.{JobFiles}
 use Rattle.run_report.specs.declared.report.Outcome.{Outcome}
 use Rattle.run_report.specs.declared.report.RunReport.{RunReport}
-use Rattle.run_tally.specs.declared.counts.SuperstepCounts.{SuperstepCounts}
+use Rattle.run_report.specs.declared.counts.SuperstepCounts.{SuperstepCounts}
 use Rattle.run_report.specs.Json.{count_data, fault_data, number_data, outcome_data, report_data, superstep_data}
 
 count_flat : (count : Option ℕ) → depth (count_data count) ≡ 0

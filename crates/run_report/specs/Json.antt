@@ -5,7 +5,7 @@ use Rattle.run_report.specs.declared.report.JobFiles.{JobFiles}
 use Rattle.run_report.specs.declared.report.Outcome.{Outcome}
 use Rattle.run_report.specs.declared.report.RunReport.{RunReport}
 use Rattle.run_report.specs.declared.report.RunSettings.{RunSettings}
-use Rattle.run_tally.specs.declared.counts.SuperstepCounts.{SuperstepCounts}
+use Rattle.run_report.specs.declared.counts.SuperstepCounts.{SuperstepCounts}
 use Rattle.serde_json.specs.Data.{Data, Members, null, string, number, unsigned, array, object, member, no_members, put}
 use Rattle.serde_json.specs.Read.{read}
 use Rattle.serde_json.specs.View.{items_of}

@@ -7,8 +7,8 @@ ghost use Rattle.serde_json.specs.Read.{read};
 ghost use Rattle.serde_json.specs.View.{members_view, view};
 ghost use Rattle.serde_json.specs.Written.{compact_text};
 
+use crate::SuperstepCounts;
 use crate::report::{JobFiles, Outcome, RunReport, RunSettings};
-use run_tally::SuperstepCounts;
 use serde_json::{Map, Value, push, put};
 use std::alloc::{AllocError, Global};
 

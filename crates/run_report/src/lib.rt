@@ -1,9 +1,12 @@
-//! What a run did, as JSON.
+//! What a run did: the counts of each superstep while the job runs, and its report as JSON.
 #![tactic(auto)]
 
+mod counts;
 mod json;
 mod report;
+mod tally;
 
+pub use counts::SuperstepCounts;
 pub use json::json_text;
 pub use report::{JobFiles, Outcome, RunReport, RunSettings};
-pub use run_tally::{Ended, SuperstepCounts, Tallied, Tally, capped};
+pub use tally::{Ended, Tallied, Tally, capped};

@@ -1,6 +1,6 @@
 //! What is reported of a run.
 
-use run_tally::SuperstepCounts;
+use crate::SuperstepCounts;
 
 /// How the job was run.
 #[derive(Clone, Copy)]

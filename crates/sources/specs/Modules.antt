@@ -6,7 +6,7 @@ use Rattle.wasm_ast.specs.Limits.{IsWithinLimits}
 use Rattle.wasm_ast.specs.Representable.{IsRepresentable}
 use Rattle.wasm_decode.specs.Grammar.{Spells}
 use Rattle.wat_syntax.specs.Layout.{layout}
-use Rattle.valid.specs.Modules.{IsTyped}
+use Rattle.verified.specs.Modules.{IsTyped}
 use Rattle.verified.specs.Profile.{IsBounded}
 use Rattle.sources.specs.Disk.{Disk, HoldsAt}
 

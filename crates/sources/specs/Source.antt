@@ -7,7 +7,7 @@ use Rattle.wasm_decode.specs.Grammar.{Spells}
 use Rattle.wasm_decode.specs.declared.encoder.fault.EncodeFault.TheVariants as encode
 use Rattle.wat_syntax.specs.declared.fault.TextFault.TheVariants as text_fault
 use Rattle.validate.specs.declared.fault.ValidFault.TheVariants as valid
-use Rattle.valid.specs.Modules.{IsTyped}
+use Rattle.verified.specs.Modules.{IsTyped}
 use Rattle.profile_rules.specs.declared.fault.ProfileFault.{ProfileFault}
 use Rattle.profile_rules.specs.declared.fault.ProfileFault.TheVariants as profile
 use Rattle.profile_rules.specs.Faults.{Refuses as RefusesBounds}

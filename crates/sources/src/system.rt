@@ -1,6 +1,6 @@
 //! The files of the operating system.
 
-use keeps::replace;
+use checkpoint::replace;
 use std::alloc::{AllocError, Global};
 use std::fs::{File, OpenFile, OpenOptions, Permissions};
 use std::io::{ErrorKind, Read};

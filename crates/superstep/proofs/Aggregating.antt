@@ -13,7 +13,7 @@ use Rattle.std.proofs.lemmas.List.Sorted.{IsPermutation-append_comm, IsPermutati
 use Rattle.std.proofs.lemmas.List.Sums.{fold-append}
 use borrow.Author.Tests.{eqb-false, eqb-true}
 use Rattle.interp.specs.Call.{Outcome}
-use Rattle.host_calls.specs.Aggregators.{aggregator_starts}
+use Rattle.verified.specs.Aggregators.{aggregator_starts}
 use Rattle.superstep.specs.Folds.{aggregated, combined, give}
 use Rattle.superstep.specs.Superstep.{contributions_of}
 use Rattle.superstep.specs.inside.Uniting.{given_at, united}

@@ -7,7 +7,7 @@ use Rattle.interp.specs.Outcomes.{Given}
 use Rattle.graph.specs.Entry.{Entry, ids}
 use Rattle.graph.specs.Partition.{joined}
 use Rattle.superstep.specs.Job.{IsGraphOf, Work}
-use Rattle.host_calls.specs.Aggregators.{aggregator_starts}
+use Rattle.verified.specs.Aggregators.{aggregator_starts}
 use Rattle.job_state.specs.Ordering.{by_key}
 use Rattle.job_state.specs.State.{IsState, Standing, in_order, state_id}
 use Rattle.superstep.specs.State.{ShowsAt, bare}

@@ -13,7 +13,7 @@ use Rattle.superstep.specs.declared.barrier_step.Gathered.{Gathered}
 use Rattle.job_state.specs.declared.state.VertexState.{VertexState}
 use Rattle.job_state.specs.State.{capped, state_id}
 use Rattle.superstep.specs.Folds.{aggregated}
-use Rattle.host_calls.specs.Aggregators.{aggregator_starts}
+use Rattle.verified.specs.Aggregators.{aggregator_starts}
 use Rattle.superstep.specs.Superstep.{contributions_of, units_left}
 use Rattle.superstep.specs.Job.{Work}
 use Rattle.job_state.specs.Stamps.{DoneStamp}

@@ -15,7 +15,7 @@ use Rattle.job_state.specs.declared.state.VertexState.{VertexState}
 use Rattle.superstep.specs.declared.task.Shared.{Shared}
 use Rattle.job_state.specs.State.{capped, state_id}
 use Rattle.superstep.specs.Folds.{aggregated, give}
-use Rattle.host_calls.specs.Aggregators.{aggregator_starts}
+use Rattle.verified.specs.Aggregators.{aggregator_starts}
 use Rattle.superstep.specs.Snapshot.{Row}
 use Rattle.superstep.specs.Superstep.{contributions_of, idle, units_left}
 use Rattle.superstep.specs.Tasks.{ComesBack, VertexOutcome, emptied, letters_from, letters_of, outcomes_in}

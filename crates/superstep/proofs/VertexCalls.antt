@@ -4,8 +4,8 @@ use Rattle.std.proofs.Math.Bool.{or-true}
 use Rattle.std.proofs.lemmas.Bool.{lt-ltb}
 use Rattle.std.proofs.lemmas.List.Elements.{All-weaker, recursion_from_All}
 use Rattle.std.specs.List.{All, AllByRecursion}
-use Rattle.host_calls.specs.declared.call.CallInput.{CallInput}
-use Rattle.host_calls.specs.declared.call.CallOutcome.{CallOutcome}
+use Rattle.verified.specs.declared.call.CallInput.{CallInput}
+use Rattle.verified.specs.declared.call.CallOutcome.{CallOutcome}
 use Rattle.wasm_ast.specs.declared.module.Module.{Module}
 use Rattle.interp.specs.Bounded.{max_id}
 use Rattle.interp.specs.Call.{IsOutcome, Outcome, shown}

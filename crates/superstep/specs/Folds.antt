@@ -2,7 +2,7 @@
 use Rattle.std.specs.Prelude.{ℕ, ℤ, pos, List, nat_lt, if◌then◌else◌, slice_index_or, slice_set}
 use Rattle.std.specs.List.{fold}
 use Rattle.std.specs.Int.{w64, int_wrapping_add, int_min, int_max, int_bit_or}
-use Rattle.host_calls.specs.Aggregators.{aggregator_starts}
+use Rattle.verified.specs.Aggregators.{aggregator_starts}
 
 -- An aggregator's value with a contribution. Aggregators 0 and 1 keep the wrapping sum, 2 and 3 the least, 4 and 5 the greatest, and 6 and 7
 -- the union of bits.

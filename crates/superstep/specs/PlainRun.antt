@@ -3,7 +3,7 @@ use Rattle.std.specs.Prelude.{◌≡◌, ◌≤◌, ◌<◌, ℕ, ℤ, zero, suc
 use Rattle.interp.specs.Call.{Outcome}
 use Rattle.interp.specs.Outcomes.{Given}
 use Rattle.graph.specs.Entry.{Entry}
-use Rattle.host_calls.specs.Aggregators.{aggregator_starts}
+use Rattle.verified.specs.Aggregators.{aggregator_starts}
 use Rattle.job_state.specs.State.{capped}
 use Rattle.superstep.specs.Snapshot.{Row, Snapshot, is_quiet, values_of}
 use Rattle.superstep.specs.Superstep.{superstep, all_left, units_left}

@@ -22,7 +22,6 @@ use crate::job::Job;
 use crate::part_output::combined;
 use crate::slice::Origin;
 use crate::task::Done;
-use host_calls::aggregator_starts;
 use inbox::{
     Arrival, Inbox, Outbox, drops_add_up_over_sources, inboxes_are_concatenated_by_source,
     letter_count, letters_drop_alike_in_any_order, letters_keep_their_order_in_any_lists,
@@ -32,6 +31,7 @@ use job_state::{PartStates, State, Totals};
 use rayon::prelude::*;
 use std::alloc::{AllocError, Global};
 use std::thread::Threads;
+use verified::aggregator_starts;
 
 /// Makes the state after a superstep from the totals before it and the results of all parts, one for each part and in order.
 ///

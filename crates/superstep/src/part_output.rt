@@ -6,9 +6,9 @@ ghost use Rattle.interp.specs.Call.{shown};
 ghost use Rattle.superstep.specs.Folds.{combined, give};
 ghost use Rattle.superstep.specs.inside.PartOutput.{Adds, IsNothing};
 
-use host_calls::{CallOutcome, aggregator_starts};
 use inbox::Outbox;
 use std::alloc::{AllocError, Global};
+use verified::{CallOutcome, aggregator_starts};
 
 /// The output of the calls of a part so far.
 #[derive(Drop)]

@@ -10,10 +10,10 @@ ghost use Rattle.superstep.specs.inside.Rows.{first_vertex, first_vertices};
 
 use crate::job::Job;
 use graph::{Part, Vertex};
-use host_calls::aggregator_starts;
 use inbox::Inbox;
 use job_state::{PartStates, State, Totals, VertexState};
 use std::alloc::{AllocError, Global};
+use verified::aggregator_starts;
 
 /// Makes the state before superstep 0: every vertex is active and every inbox is empty (Pregel 2010, 2). It fails only where
 /// memory runs out.

@@ -13,13 +13,12 @@ use crate::job::Job;
 use crate::part_output::PartOutput;
 use crate::slice::{Origin, Slice};
 use graph::Vertex;
-use host_calls::CallInput;
 use inbox::{Inbox, Outbox};
 use interp::{Scratch, calls_are_a_function, run};
 use job_state::{Found, PartStates, Place, VertexState};
 use std::alloc::{AllocError, Global};
 use std::marker::{Model, PhantomData};
-use verified::Verified;
+use verified::{CallInput, Verified};
 
 /// A superstep on one part, for a worker. In contracts its model is the epoch, the superstep and the part.
 #[derive(Drop)]

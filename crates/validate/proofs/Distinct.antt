@@ -10,7 +10,7 @@ use Rattle.std.proofs.lemmas.List.{take_more, map-append, take-append-drop}
 use Rattle.std.proofs.lemmas.Map.Text.{is_eq-slice_cmp}
 use Rattle.std.proofs.lemmas.Slice.Eq.{bytes_eq-Decides}
 use Rattle.wasm_ast.specs.declared.module.Export.{Export}
-use Rattle.valid.specs.Modules.{name_of_export, AreDistinct}
+use Rattle.verified.specs.Modules.{name_of_export, AreDistinct}
 
 -- whether the name is one of them
 abbrev pub is_among : List (List ℕ) → List ℕ → Bool

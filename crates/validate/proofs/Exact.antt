@@ -22,9 +22,9 @@ use Rattle.wasm_ast.specs.NumericTypes.{numeric_takes, numeric_gives}
 use Rattle.wasm_ast.specs.Values.{type_of}
 use Rattle.validate.specs.declared.operands.OperandType.{OperandType}
 use Rattle.validate.specs.declared.operands.OperandType.TheVariants.{Known, Unknown}
-use Rattle.valid.specs.Spaces.{function_type, first_type}
+use Rattle.verified.specs.Spaces.{function_type, first_type}
 use Rattle.wasm_ast.specs.Widths.{load_type, load_width, store_type, store_width}
-use Rattle.valid.specs.Instructions.{Context, with_label, operands_of, Changes, Leaves, LabelsTake, VariableTyped, MemoryTyped, PlainTyped, BranchTyped, CallTyped, CallIndirectTyped, Typed}
+use Rattle.verified.specs.Instructions.{Context, with_label, operands_of, Changes, Leaves, LabelsTake, VariableTyped, MemoryTyped, PlainTyped, BranchTyped, CallTyped, CallIndirectTyped, Typed}
 use Rattle.validate.specs.inside.Stack.{Stack, bottom, any_below, on, same_type, agrees, Fits, MayFit, and_then, take_one, take_all, give_all, change, leave, take_any, join, push_if}
 use Rattle.validate.specs.inside.Steps.{at_some, only_if, is_variable, variable_step, has_table, is_aligned, memory_step, select_step, plain_step, takes_same, all_take, branch_step, call_step, call_indirect_step, is_some_empty, closes, run}
 

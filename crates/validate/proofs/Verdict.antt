@@ -7,9 +7,9 @@ use Rattle.wasm_ast.specs.declared.module.Function.{Function}
 use Rattle.wasm_ast.specs.Code.{Code}
 use Rattle.validate.specs.declared.fault.ValidFault.{ValidFault}
 use Rattle.validate.specs.declared.fault.ValidFault.TheVariants as fault
-use Rattle.valid.specs.Spaces.{Spaces, first_type}
-use Rattle.valid.specs.Instructions.{BodyTyped}
-use Rattle.valid.specs.Modules.{FunctionTyped}
+use Rattle.verified.specs.Spaces.{Spaces, first_type}
+use Rattle.verified.specs.Instructions.{BodyTyped}
+use Rattle.verified.specs.Modules.{FunctionTyped}
 use Rattle.validate.specs.inside.Answers.{body_passes}
 use Rattle.validate.specs.inside.Findings.{Says, Settles}
 use Rattle.validate.proofs.Exact.{closes_exact}

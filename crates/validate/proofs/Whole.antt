@@ -8,8 +8,8 @@ use Rattle.wasm_ast.specs.declared.module.Module.{Module}
 use Rattle.wasm_ast.specs.Limits.{IsWithinLimits}
 use Rattle.validate.specs.declared.fault.ValidFault.{ValidFault}
 use Rattle.validate.specs.declared.fault.ValidFault.TheVariants as fault
-use Rattle.valid.specs.Spaces.{Spaces, outer_spaces_of, with_globals, spaces_of}
-use Rattle.valid.specs.Modules.{TypeHolds, IsTyped}
+use Rattle.verified.specs.Spaces.{Spaces, outer_spaces_of, with_globals, spaces_of}
+use Rattle.verified.specs.Modules.{TypeHolds, IsTyped}
 use Rattle.validate.specs.inside.Checks.{OuterTyped, InnerTyped}
 use Rattle.validate.specs.inside.Findings.{Denies, Settles}
 

@@ -1,7 +1,7 @@
 //! Constant expressions (Core 1.0, 3.3.7).
 
 ghost use Rattle.std.specs.Prelude.{◌≡◌};
-ghost use Rattle.valid.specs.Constants.{ConstantTyped};
+ghost use Rattle.verified.specs.Constants.{ConstantTyped};
 ghost use Rattle.validate.specs.inside.Checks.{only_plain, plain_constant, variable_constant};
 ghost use Rattle.wasm_ast.specs.declared.plain.Variable.TheVariants.{GlobalGet};
 ghost use Rattle.validate.specs.inside.Findings.{Gives, Settles};

@@ -1,7 +1,7 @@
 //! Exports and the start function (Core 1.0, 3.4.7, 3.4.8 and 3.4.10).
 
 ghost use Rattle.std.specs.Prelude.{◌↔◌, IsTrue, IfOk};
-ghost use Rattle.valid.specs.Modules.{ExportTyped, StartTyped};
+ghost use Rattle.verified.specs.Modules.{ExportTyped, StartTyped};
 ghost use Rattle.validate.specs.inside.Checks.{ExportsTyped, HaveDistinctNames};
 ghost use Rattle.validate.specs.inside.Findings.{Settles};
 

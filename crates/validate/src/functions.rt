@@ -2,7 +2,7 @@
 
 ghost use Rattle.std.specs.Prelude.{◌≡◌, IfOk};
 ghost use Rattle.std.specs.List.{AllByRecursion};
-ghost use Rattle.valid.specs.Modules.{FunctionTyped};
+ghost use Rattle.verified.specs.Modules.{FunctionTyped};
 ghost use Rattle.validate.specs.inside.Checks.{FunctionTypesHold, all_locals};
 ghost use Rattle.validate.specs.inside.Findings.{IsRefusal, Settles};
 

@@ -18,5 +18,5 @@ mod validation;
 pub use fault::{Place, Rule, ValidFault};
 pub use labels::Labels;
 pub use operands::first_of;
-pub use valid::Valid;
 pub use validation::validate;
+pub use verified::Valid;

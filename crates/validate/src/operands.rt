@@ -2,8 +2,8 @@
 
 ghost use Rattle.std.specs.Prelude.{◌≡◌, OnOk, reverse};
 ghost use Rattle.validate.specs.inside.Stack.{bottom, any_below, on, agrees, take_one, take_all, change, leave, join, is_empty};
-ghost use Rattle.valid.specs.Spaces.{first_type};
-ghost use Rattle.valid.specs.Instructions.{operands_of};
+ghost use Rattle.verified.specs.Spaces.{first_type};
+ghost use Rattle.verified.specs.Instructions.{operands_of};
 ghost use Rattle.validate.specs.inside.Answers.{Makes, TakesTopmost, stack_of, with_result};
 ghost use Rattle.validate.specs.inside.Findings.{Says};
 ghost use Rattle.validate.specs.inside.Steps.{called_step, closes, numeric_step, select_step};

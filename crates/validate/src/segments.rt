@@ -2,7 +2,7 @@
 
 ghost use Rattle.std.specs.Prelude.{◌≡◌, ◌<◌, length};
 ghost use Rattle.std.specs.List.{AllByRecursion};
-ghost use Rattle.valid.specs.Modules.{GlobalTyped, ElementTyped, DataTyped};
+ghost use Rattle.verified.specs.Modules.{GlobalTyped, ElementTyped, DataTyped};
 ghost use Rattle.validate.specs.inside.Findings.{Settles};
 
 use crate::constants::check_constant;

@@ -2,7 +2,7 @@
 
 ghost use Rattle.std.specs.Prelude.{◌≡◌, ◌++◌, slice_get, IfOk, OnOk};
 ghost use Rattle.std.specs.Option.{option_copied};
-ghost use Rattle.valid.specs.Spaces.{function_type, function_import, table_import, memory_import, global_import, imported, outer_spaces_of, with_globals};
+ghost use Rattle.verified.specs.Spaces.{function_type, function_import, table_import, memory_import, global_import, imported, outer_spaces_of, with_globals};
 ghost use Rattle.validate.specs.inside.Checks.{global_types, type_numbers};
 ghost use Rattle.validate.specs.inside.Steps.{has_memory, has_table};
 
@@ -33,7 +33,7 @@ impl<'a> Drop for IndexSpaces<'a> {
 }
 
 impl<'a> Model for IndexSpaces<'a> {
-    ghost use Rattle.valid.specs.Spaces.{Spaces};
+    ghost use Rattle.verified.specs.Spaces.{Spaces};
 
     ghost Value = { Spaces };
 

@@ -2,7 +2,7 @@
 
 ghost use Rattle.std.specs.Prelude.{◌≡◌, ◌↔◌, ◌≤◌, length, IsTrue};
 ghost use Rattle.std.specs.List.{AllByRecursion};
-ghost use Rattle.valid.specs.Modules.{TypeHolds, MaximumHolds, TableHolds, MemoryHolds, IsWithinPages};
+ghost use Rattle.verified.specs.Modules.{TypeHolds, MaximumHolds, TableHolds, MemoryHolds, IsWithinPages};
 ghost use Rattle.validate.specs.inside.Findings.{Settles};
 
 use crate::fault::{Rule, ValidFault};

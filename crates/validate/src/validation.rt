@@ -2,7 +2,7 @@
 
 ghost use Rattle.std.specs.Prelude.{◌≡◌, IfOk, OnOk, IsOkUnless};
 ghost use Rattle.wasm_ast.specs.Limits.{IsWithinLimits};
-ghost use Rattle.valid.specs.Modules.{IsTyped};
+ghost use Rattle.verified.specs.Modules.{IsTyped};
 ghost use Rattle.validate.specs.inside.Checks.{OuterTyped, InnerTyped};
 ghost use Rattle.validate.specs.inside.Findings.{Settles};
 
@@ -13,7 +13,7 @@ use crate::segments::{check_data, check_elements, check_globals};
 use crate::spaces::IndexSpaces;
 use crate::types::{check_memories, check_tables, check_types};
 use std::alloc::Global;
-use valid::Valid;
+use verified::Valid;
 use wasm_ast::{Module, within_limits};
 
 /// Validates a module: accepts it exactly where it is typed (Core 1.0, 3.4.10) and `within_limits`.

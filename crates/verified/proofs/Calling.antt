@@ -7,10 +7,10 @@ use Rattle.wasm_ast.specs.declared.types.FuncType.{FuncType}
 use Rattle.wasm_ast.specs.declared.module.Module.{Module}
 use Rattle.wasm_ast.specs.Code.{Code}
 use Rattle.wasm_ast.specs.Code as code
-use Rattle.valid.specs.Spaces.{spaces_of}
-use Rattle.valid.specs.Modules.{TypeHolds}
-use Rattle.units.specs.Calls.{calls_of}
-use Rattle.units.specs.Sizes.{code_size}
+use Rattle.verified.specs.Spaces.{spaces_of}
+use Rattle.verified.specs.Modules.{TypeHolds}
+use Rattle.verified.specs.Calls.{calls_of}
+use Rattle.verified.specs.Sizes.{code_size}
 use Rattle.verified.specs.Arities.{type_arity, known_arity, call_arity}
 
 -- ---- each call is no larger than the code that makes it

@@ -10,12 +10,12 @@ use Rattle.wasm_ast.specs.declared.module.Function.{Function}
 use Rattle.wasm_ast.specs.declared.module.Module.{Module}
 use Rattle.wasm_ast.specs.Code.{Code}
 use Rattle.wasm_ast.specs.Limits.{is_function, imported_functions}
-use Rattle.valid.specs.Modules.{TypeHolds}
-use Rattle.units.specs.Calls.{Calls, body_of, callees, calls_in}
-use Rattle.units.specs.Cycles.{Leads}
-use Rattle.units.specs.Sizes.{size_in, AreSizes, max_size}
-use Rattle.host_calls.specs.declared.imports.HostCall.{HostCall}
-use Rattle.host_calls.specs.Imports.{call_of}
+use Rattle.verified.specs.Modules.{TypeHolds}
+use Rattle.verified.specs.Calls.{Calls, body_of, callees, calls_in}
+use Rattle.verified.specs.Cycles.{Leads}
+use Rattle.verified.specs.Sizes.{size_in, AreSizes, max_size}
+use Rattle.verified.specs.declared.imports.HostCall.{HostCall}
+use Rattle.verified.specs.Imports.{call_of}
 use Rattle.verified.specs.declared.cells.Cells.{Cells}
 use Rattle.verified.specs.declared.facts.Facts.{Facts}
 use Rattle.verified.specs.Arities.{call_arity}

@@ -4,3 +4,6 @@ pub mod Framing
 pub mod MemorySize
 pub mod ReachedExtents
 pub mod SameTables
+pub mod Fitting
+pub mod Table
+pub mod Codes

@@ -1,7 +1,7 @@
 -- Tables of the same module.
 use Rattle.std.proofs.Common.{◌≡◌, List, ◌∙◌, sym, subst}
 use Rattle.wasm_ast.specs.declared.module.Module.{Module}
-use Rattle.host_calls.specs.declared.imports.HostCall.{HostCall}
+use Rattle.verified.specs.declared.imports.HostCall.{HostCall}
 use Rattle.verified.specs.declared.facts.Facts.{Facts}
 use Rattle.verified.specs.declared.extents.Extent.{Extent}
 use Rattle.verified.specs.declared.tables.Tables.{Tables}

@@ -13,9 +13,9 @@ use Rattle.wasm_ast.specs.declared.plain.Branch.TheVariants as branch
 use Rattle.wasm_ast.specs.declared.module.Module.{Module}
 use Rattle.wasm_ast.specs.Code.{Code}
 use Rattle.wasm_ast.specs.Code as code
-use Rattle.units.specs.Calls.{calls_of}
-use Rattle.units.specs.LeastUnits.{plain_least, branch_least, call_least}
-use Rattle.units.specs.Sizes.{code_size}
+use Rattle.verified.specs.Calls.{calls_of}
+use Rattle.verified.specs.LeastUnits.{plain_least, branch_least, call_least}
+use Rattle.verified.specs.Sizes.{code_size}
 use Rattle.verified.specs.Arities.{plain_arity, variable_arity, memory_arity, branch_arity, call_arity, result_count, block_arity, test_arity}
 use Rattle.verified.specs.Heights.{after, peak}
 use Rattle.verified.specs.Cells.{no_heights}

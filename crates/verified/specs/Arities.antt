@@ -13,7 +13,7 @@ use Rattle.wasm_ast.specs.declared.plain.Branch.{Branch}
 use Rattle.wasm_ast.specs.declared.plain.Branch.TheVariants as branch
 use Rattle.wasm_ast.specs.declared.module.Module.{Module}
 use Rattle.wasm_ast.specs.NumericTypes.{numeric_takes}
-use Rattle.valid.specs.Spaces.{spaces_of}
+use Rattle.verified.specs.Spaces.{spaces_of}
 use Rattle.verified.specs.declared.arity.Arity.{Arity}
 
 abbrev pub arity : ℕ → ℕ → Arity

@@ -4,8 +4,8 @@ use Rattle.std.specs.Prelude.{ℕ, ◌+◌, ◌-◌, ◌<◌, ◌≤◌, List, l
 use Rattle.wasm_ast.specs.declared.module.Function.{Function}
 use Rattle.wasm_ast.specs.declared.module.Module.{Module}
 use Rattle.wasm_ast.specs.Limits.{imported_functions, parameters_of}
-use Rattle.units.specs.Calls.{body_of, callees}
-use Rattle.units.specs.Cycles.{Leads}
+use Rattle.verified.specs.Calls.{body_of, callees}
+use Rattle.verified.specs.Cycles.{Leads}
 use Rattle.verified.specs.Heights.{peak, peak_in}
 use Rattle.verified.specs.Profile.{HasCompute}
 use Rattle.verified.specs.declared.cells.Cells.{Cells}

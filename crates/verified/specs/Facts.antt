@@ -1,9 +1,9 @@
 -- What is known of a module in the bounded profile besides the module.
 use Rattle.std.specs.Prelude.{◌≡◌, ℕ}
 use Rattle.wasm_ast.specs.declared.module.Module.{Module}
-use Rattle.units.specs.Calls.{body_of}
-use Rattle.units.specs.Heights.{height}
-use Rattle.units.specs.Sizes.{AreSizes}
+use Rattle.verified.specs.Calls.{body_of}
+use Rattle.verified.specs.CallHeights.{height}
+use Rattle.verified.specs.Sizes.{AreSizes}
 use Rattle.verified.specs.Heights.{AreHeights}
 use Rattle.verified.specs.Profile.{HasCompute}
 use Rattle.verified.specs.declared.facts.Facts.{Facts}

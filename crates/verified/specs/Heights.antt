@@ -4,7 +4,7 @@ use Rattle.std.specs.Prelude.{◌≡◌, ℕ, ◌+◌, ◌-◌, max, Option, Som
 use Rattle.wasm_ast.specs.declared.module.Module.{Module}
 use Rattle.wasm_ast.specs.Code.{Code}
 use Rattle.wasm_ast.specs.Code as code
-use Rattle.units.specs.Calls.{body_of}
+use Rattle.verified.specs.Calls.{body_of}
 use Rattle.verified.specs.declared.arity.Arity.{Arity}
 use Rattle.verified.specs.Arities.{plain_arity, branch_arity, call_arity, block_arity, test_arity}
 

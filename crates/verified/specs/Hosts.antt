@@ -6,8 +6,8 @@ use Rattle.wasm_ast.specs.declared.module.ImportDescription.TheVariants as impor
 use Rattle.wasm_ast.specs.declared.module.Import.{Import}
 use Rattle.wasm_ast.specs.declared.module.Module.{Module}
 use Rattle.wasm_ast.specs.Limits.{is_function}
-use Rattle.host_calls.specs.declared.imports.HostCall.{HostCall}
-use Rattle.host_calls.specs.Imports.{BringsIn, call_of}
+use Rattle.verified.specs.declared.imports.HostCall.{HostCall}
+use Rattle.verified.specs.Imports.{BringsIn, call_of}
 
 -- the import is a function of module `pregel`, by its name and type
 pub record IsHostImport (m : Module) (i : Import) : Type 0 where

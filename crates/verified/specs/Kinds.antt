@@ -2,7 +2,7 @@
 use Rattle.std.specs.Prelude.{◌≡◌, ◌≢◌, ℕ, ◌+◌, ◌<◌, ◌≤◌, List, [], ◌∷◌, Option, Some, None}
 use Rattle.wasm_ast.specs.declared.types.ValType.{ValType}
 use Rattle.wasm_ast.specs.declared.types.ValType.TheVariants.{I32, I64}
-use Rattle.host_calls.specs.declared.call.TheConstants.{AGGREGATORS}
+use Rattle.verified.specs.declared.call.TheConstants.{AGGREGATORS}
 use Rattle.verified.specs.declared.requirements.Premise.{Premise}
 use Rattle.verified.specs.declared.requirements.Premise.TheVariants.{Reaches, Divides, DividesSigned, IsSlot}
 use Rattle.verified.specs.declared.requirements.Requirement.{Requirement}

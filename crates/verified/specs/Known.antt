@@ -29,9 +29,9 @@ use Rattle.wasm_ast.specs.Code.{Code}
 use Rattle.wasm_ast.specs.Code as code
 use Rattle.wasm_ast.specs.NumericTypes.{numeric_takes, numeric_gives}
 use Rattle.wasm_ast.specs.Widths.{load_type, load_width, store_type, store_width}
-use Rattle.valid.specs.Spaces.{Spaces, function_type, first_type, spaces_of}
-use Rattle.host_calls.specs.declared.imports.HostCall.{HostCall}
-use Rattle.host_calls.specs.declared.imports.HostCall.TheVariants.{Aggregate, Aggregated}
+use Rattle.verified.specs.Spaces.{Spaces, function_type, first_type, spaces_of}
+use Rattle.verified.specs.declared.imports.HostCall.{HostCall}
+use Rattle.verified.specs.declared.imports.HostCall.TheVariants.{Aggregate, Aggregated}
 use Rattle.verified.specs.declared.requirements.Premise.{Premise}
 use Rattle.verified.specs.declared.requirements.Premise.TheVariants.{Reaches, Divides, DividesSigned, IsSlot}
 use Rattle.verified.specs.declared.requirements.Requirement.{Requirement}

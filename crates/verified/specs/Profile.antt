@@ -8,9 +8,9 @@ use Rattle.wasm_ast.specs.declared.module.Function.{Function}
 use Rattle.wasm_ast.specs.declared.module.Module.{Module}
 use Rattle.wasm_ast.specs.Code.{Code}
 use Rattle.wasm_ast.specs.Limits.{imported_functions}
-use Rattle.units.specs.Calls.{callees}
-use Rattle.units.specs.Cycles.{Acyclic}
-use Rattle.units.specs.Sizes.{AreSizes, max_size}
+use Rattle.verified.specs.Calls.{callees}
+use Rattle.verified.specs.Cycles.{Acyclic}
+use Rattle.verified.specs.Sizes.{AreSizes, max_size}
 use Rattle.verified.specs.declared.requirements.Premise.{Premise}
 use Rattle.verified.specs.declared.requirements.Premise.TheVariants.{Reaches, Divides, DividesSigned, IsSlot}
 use Rattle.verified.specs.Hosts.{IsHostImport, host_call_at}

@@ -9,8 +9,8 @@ use Rattle.wasm_ast.specs.declared.plain.Branch.{Branch}
 use Rattle.wasm_ast.specs.declared.plain.Branch.TheVariants as branch
 use Rattle.wasm_ast.specs.Code.{Code}
 use Rattle.wasm_ast.specs.Code as code
-use Rattle.host_calls.specs.declared.imports.HostCall.{HostCall}
-use Rattle.host_calls.specs.declared.imports.HostCall.TheVariants.{NextMessage, NextEdge}
+use Rattle.verified.specs.declared.imports.HostCall.{HostCall}
+use Rattle.verified.specs.declared.imports.HostCall.TheVariants.{NextMessage, NextEdge}
 use Rattle.verified.specs.declared.shape.Shape.{Shape}
 use Rattle.verified.specs.declared.shape.Shape.TheVariants as shape
 

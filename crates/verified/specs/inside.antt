@@ -1,3 +1,4 @@
--- Definitions that mirror the code, only for its proofs: extents of reached bytes, and the tables of a module.
+-- Definitions that mirror the code, only for its proofs: extents of reached bytes, the tables of a module, and the flattening of code.
 pub mod Extents
 pub mod Tables
+pub mod Mirrors

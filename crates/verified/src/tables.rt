@@ -2,10 +2,10 @@
 
 ghost use Rattle.std.specs.Prelude.{◌≡◌, IfOk};
 
+use crate::HostCall;
 use crate::cells::Cells;
 use crate::extents::Extent;
 use crate::facts::Facts;
-use host_calls::HostCall;
 use std::alloc::{AllocError, Global};
 
 /// The tables of a module that keeps all rules, found once.

@@ -2,8 +2,8 @@
 
 ghost use Rattle.std.specs.Prelude.{◌≡◌, min, IfOk};
 ghost use Rattle.wasm_ast.specs.Limits.{IsWithinLimits};
-ghost use Rattle.flat_code.specs.Bodies.{bodies_of};
-ghost use Rattle.valid.specs.Modules.{IsTyped};
+ghost use Rattle.verified.specs.Bodies.{bodies_of};
+ghost use Rattle.verified.specs.Modules.{IsTyped};
 ghost use Rattle.verified.specs.Cells.{IsDefined, MayRun, locals_at, own_height, most_told};
 ghost use Rattle.verified.specs.Compute.{IsComputeNumber};
 ghost use Rattle.verified.specs.Facts.{IsSizeOfCompute, IsHeightAt, IsDepthAt};
@@ -16,11 +16,9 @@ use crate::cells::Cells;
 use crate::extents::bytes_below;
 use crate::memory::memory_bytes;
 use crate::tables::Tables;
-use flat_code::{FlatBody, flat_bodies};
-use host_calls::HostCall;
+use crate::{FlatBody, HostCall, Valid, flat_bodies};
 use std::alloc::{AllocError, Global};
 use std::marker::Model;
-use valid::Valid;
 use wasm_ast::Module;
 
 /// A valid module in the bounded profile. `bounded_profile::verify` finds out whether a module is one.
@@ -45,11 +43,11 @@ pub struct Judged {
 
 impl Model for Verified {
     ghost use Rattle.wasm_ast.specs.declared.module.Module.{Module as AnyModule};
-    ghost use Rattle.valid.specs.Modules.{IsTyped};
+    ghost use Rattle.verified.specs.Modules.{IsTyped};
     ghost use Rattle.verified.specs.Profile.{IsBounded};
     ghost use Rattle.verified.specs.inside.Tables.{AreTables};
     ghost use Rattle.wasm_ast.specs.contracts.module.Module as module_type;
-    ghost use Rattle.flat_code.specs.Bodies.{bodies_of};
+    ghost use Rattle.verified.specs.Bodies.{bodies_of};
     ghost use Rattle.std.specs.Prelude.{◌≡◌};
 
     ghost Value = { AnyModule };

@@ -6,10 +6,10 @@ ghost use Rattle.hub_ends.specs.Hub.{AreNewPasses, IsNewPass, IsNewTicker, chann
 ghost use Rattle.hub_ends.specs.Passes.{IsReceipt, IsTickReceipt, handed_in, taken, ticked};
 ghost use Rattle.worker_loops.specs.Counted.{JoinsAfterLoss};
 ghost use Rattle.worker_threads.specs.Threads.{AreOfGate, AreSpawned, AreThreadsOf, IsSpawned, IsSpawnedTicker};
-ghost use Rattle.hub_ends.specs.Verdicts.{heard_on, reads_on, sends_on, told_on};
+ghost use Rattle.hub_ends.specs.Verdicts.{AreUntold, heard_on, reads_on, sends_on, told_on};
 ghost use Rattle.worker_loops.specs.inside.Epochs.{IsSteady, IsSteadyTicker};
 ghost use Rattle.worker_loops.specs.inside.Joins.{HasJoined};
-ghost use Rattle.worker_threads.specs.inside.Joins.{AreLinked, AreUntold, line_of};
+ghost use Rattle.worker_threads.specs.inside.Joins.{AreLinked, line_of};
 ghost use Rattle.worker_loops.specs.inside.Returning.{HasReturned};
 
 use crate::thread_promises::{HubThreads, TickThread, TickerPromise, WorkerPromise, WorkerThread};

@@ -1,8 +1,6 @@
--- What workers hear of their losses, and that they join only after those that were counted.
-use Rattle.std.proofs.lemmas.Bool.Decides.{eqb_tells}
-use Rattle.std.proofs.Common.{◌≡◌, ◌≢◌, ◌∙◌, ℕ, ◌+◌, ◌<◌, ◌≤◌, Bool, true, false, cond, List, [], ◌∷◌, ◌++◌, length, set, Some, None, Result, Ok, Err, OnOk, eq-eqb, ne_eqb, ap, refl, sym, subst, arith, ◌⊎◌, ⊎_elim, inl, inr}
+-- Workers join only after losses that were counted.
+use Rattle.std.proofs.Common.{◌≡◌, ◌≢◌, ◌∙◌, ℕ, ◌+◌, ◌<◌, ◌≤◌, Bool, true, false, cond, List, [], ◌∷◌, length, Result, ap, refl, sym, subst, arith, ◌⊎◌, inl, inr}
 use Rattle.std.specs.Prelude.{◌==◌}
-use mathlib.Core.List.{append-nil}
 use Rattle.superstep.specs.Job.{Work}
 use Rattle.job_state.specs.declared.fault.JobFault.{JobFault}
 use Rattle.events.specs.declared.event.Event.{Event}
@@ -12,67 +10,26 @@ use Rattle.events.specs.Events.{stamp_of}
 use Rattle.control.specs.Machine.{Machine}
 use Rattle.channels.specs.Orders.{at}
 use Rattle.channels.specs.Protocol.{of}
-use Rattle.channels.proofs.Handing.{at_set_else, at_set_here}
 use Rattle.hub_ends.specs.Hub.{HasByes, handed, received, staff}
-use Rattle.workers.specs.Joining.{JoinedFrom}
+use Rattle.event_loop.specs.Joining.{JoinedFrom}
 use Rattle.worker_loops.specs.Counted.{joins_counted}
 use Rattle.hub_ends.specs.Messages.{event_sender, sender_number, sender_of}
 use Rattle.hub_ends.specs.Passes.{handed_in_by}
 use Rattle.worker_loops.specs.Returns.{IsWorkOn, events_by, stamp_sender}
-use Rattle.workers.specs.Steps.{events}
+use Rattle.event_loop.specs.Steps.{events}
 use Rattle.worker_loops.specs.Numbers.{outs_in, stamps_in}
 use Rattle.worker_threads.specs.Threads.{AreSettled, IsSettledHub}
 use Rattle.hub_ends.specs.Verdicts.{told_to}
 use Rattle.worker_threads.specs.inside.Joins.{AreJoined}
-use Rattle.workers.specs.inside.Told.{IsToldNext, ToldFrom, due_to}
+use Rattle.event_loop.specs.inside.Told.{ToldFrom}
 use Rattle.worker_threads.specs.declared.audit.Receipts.{Receipts}
 use Rattle.hub_ends.specs.declared.coordinator_ends.CoordinatorEnds.{CoordinatorEnds}
-use Rattle.workers.specs.declared.event_loop.Due.{Due}
 use Rattle.hub_ends.specs.declared.message.Message.{Message}
 use Rattle.hub_ends.specs.declared.message.Message.TheVariants as message
 use Rattle.hub_ends.specs.declared.message.Sender.{Sender}
 use Rattle.hub_ends.specs.declared.pass.WorkerReceipt.{WorkerReceipt}
-use Rattle.workers.proofs.Moving.{length_set}
 use Rattle.worker_loops.proofs.Returning.{work_on}
-
--- ---- what is due is told
-
-either_way : (v w : ℕ) → (v ≡ w) ⊎ (v ≢ w)
-either_way v w = ⊎_elim (λ x. inl x.1) (λ x. inr x.1) (eqb_tells v w)
-
-pub told_nobody : (told : List (List Bool)) → IsToldNext told told None
-told_nobody told = record { width = refl; next = λ w h. sym (append-nil (told_to told w)) }
-
--- the worker does not listen
-pub told_past : (told : List (List Bool)) (due : Due) → length told ≤ due.worker → IsToldNext told told (Some due)
-told_past told due past = record {
-  width = refl;
-  next = λ w h.
-      sym (append-nil (told_to told w))
-      ∙ ap (λ b. told_to told w ++ cond b (due.counted ∷ []) []) (sym (ne_eqb due.worker w (λ e. omega (arith, e, h, past))));
-}
-
-told_one_at : (told : List (List Bool)) (due : Due) (w : ℕ) → due.worker < length told → (due.worker ≡ w) ⊎ (due.worker ≢ w)
-    → told_to (set told due.worker (told_to told due.worker ++ due.counted ∷ [])) w ≡ told_to told w ++ due_to w (Some due)
-told_one_at told due w h (inl e) =
-    ap (λ (k : ℕ). told_to (set told due.worker (told_to told due.worker ++ due.counted ∷ [])) k) (sym e)
-    ∙ at_set_here told due.worker (told_to told due.worker ++ due.counted ∷ []) h
-    ∙ ap (λ (k : ℕ). told_to told k ++ due.counted ∷ []) e
-    ∙ ap (λ b. told_to told w ++ cond b (due.counted ∷ []) []) (sym (eq-eqb due.worker w e))
-told_one_at told due w h (inr n) =
-    at_set_else told due.worker w (told_to told due.worker ++ due.counted ∷ []) (λ e. n (sym e))
-    ∙ sym (append-nil (told_to told w))
-    ∙ ap (λ b. told_to told w ++ cond b (due.counted ∷ []) []) (sym (ne_eqb due.worker w n))
-
-pub told_one : {A E : Type 0} (r : Result A E) (told told' : List (List Bool)) (due : Due) → due.worker < length told
-    → OnOk r (told' ≡ set told due.worker (told_to told due.worker ++ due.counted ∷ [])) → OnOk r (IsToldNext told told' (Some due))
-told_one (Ok a) told told' due here is = record {
-  width = ap length is ∙ length_set told due.worker (told_to told due.worker ++ due.counted ∷ []);
-  next = λ w h. ap (λ l. told_to l w) is ∙ told_one_at told due w here (either_way due.worker w);
-}
-told_one (Err x) told told' due here is = tt
-
--- ---- the whole job
+use Rattle.event_loop.proofs.Telling.{either_way}
 
 module _ {J : Type 0} where
   same_sender : (x : Event J) → stamp_sender (stamp_of x) ≡ event_sender x

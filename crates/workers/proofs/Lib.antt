@@ -1,11 +1,4 @@
-pub mod Accounts
-pub mod Calm
-pub mod Ending
 pub mod Epochs
-pub mod Faults
 pub mod HandedIn
 pub mod Joins
-pub mod Moving
-pub mod Over
-pub mod Spent
 pub mod RunAnswers

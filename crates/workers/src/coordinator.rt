@@ -4,12 +4,12 @@ ghost use Rattle.std.specs.Prelude.{◌≡◌, ◌<◌, ◌+◌, ◌++◌, ◌�
 ghost use Rattle.job_state.specs.declared.fault.JobFault.TheVariants.{Closed};
 ghost use Rattle.checkpoint.specs.Keep.{LoadsNothingElse};
 ghost use Rattle.rollback.specs.Simulation.{NeverFails};
-ghost use Rattle.workers.specs.JobAnswers.{HasSpent, IsCalmReport, IsDriveFault, IsLeftBy, IsOpened, EndedOver, EndedOverKeep, WhereEnded};
+ghost use Rattle.event_loop.specs.JobAnswers.{HasSpent, IsCalmReport, IsDriveFault, IsLeftBy, IsOpened, EndedOver, EndedOverKeep, WhereEnded};
 ghost use Rattle.hub_ends.specs.Messages.{sender_of};
 ghost use Rattle.channels.specs.declared.order.Order.TheVariants.{Do};
 
-use crate::event_loop;
 use checkpoint::Keep;
+use event_loop::drive;
 use hub_ends::{CoordinatorEnds, Message, TickReceipt, WorkerReceipt};
 use rollback::{Book, Report};
 use std::rt::Files;
@@ -177,7 +177,7 @@ impl<J: Origin> Coordinator<J> {
         match &mut self.ends {
             Some(ends) => {
                 let mut nobody = Vec::new(rt.alloc());
-                event_loop::drive(rt, ends, book, keep, &mut nobody)
+                drive(rt, ends, book, keep, &mut nobody)
             }
             None => {
                 drop(book);

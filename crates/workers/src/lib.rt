@@ -2,7 +2,6 @@
 #![tactic(auto)]
 
 mod coordinator;
-mod event_loop;
 mod hub;
 mod run;
 mod threads;

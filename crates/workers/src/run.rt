@@ -6,18 +6,18 @@ ghost use Rattle.control.specs.Machine.{count_set};
 ghost use Rattle.rollback.specs.Saving.{HasLeft, KeepsFor};
 ghost use Rattle.checkpoint.specs.Keep.{LoadsNothingElse};
 ghost use Rattle.rollback.specs.Simulation.{NeverFails};
-ghost use Rattle.workers.specs.JobAnswers.{HasSpent, IsCalmReport, IsDriveFault, IsRunFault, EndedOver, EndedOverOwn, LoadsMadeAt, RanFromKeep, RanOn, RanOnOwn, WhereEnded, WhereRefused, WhereRun, has_ended};
+ghost use Rattle.event_loop.specs.JobAnswers.{HasSpent, IsCalmReport, IsDriveFault, IsRunFault, EndedOver, EndedOverOwn, LoadsMadeAt, RanFromKeep, RanOn, RanOnOwn, WhereEnded, WhereRefused, WhereRun, has_ended};
 ghost use Rattle.workers.specs.Coordinator as lent;
 ghost use Rattle.hub_ends.specs.Hub.{HasByes, IsNewHubOf, IsSameHub, IsUnused, handed, received, staff};
-ghost use Rattle.workers.specs.Joining.{JoinedFrom, JoinedOn, JoinedOver};
+ghost use Rattle.event_loop.specs.Joining.{JoinedFrom, JoinedOn, JoinedOver};
 ghost use Rattle.worker_threads.specs.Threads.{AreThreadsOf, HasSettled, IsIdle};
-ghost use Rattle.hub_ends.specs.Verdicts.{sends_on, told_on};
-ghost use Rattle.workers.specs.inside.EventLoop.{IsUnspent};
-ghost use Rattle.worker_threads.specs.inside.Joins.{AreLinked, AreUntold};
+ghost use Rattle.hub_ends.specs.Verdicts.{AreUntold, sends_on, told_on};
+ghost use Rattle.event_loop.specs.inside.EventLoop.{IsUnspent};
+ghost use Rattle.worker_threads.specs.inside.Joins.{AreLinked};
 
 use crate::coordinator::Coordinator;
-use crate::event_loop;
 use checkpoint::Keep;
+use event_loop::drive;
 use hub_ends::{CoordinatorEnds, TickPass, VerdictSender, WorkerPass};
 use rollback::{Book, Report};
 use std::alloc::Global;
@@ -71,7 +71,7 @@ fn drive_all<J: Origin, K: Keep, R: Wait + Threads + Sync + Files + AllocGlobal>
     ensures refused { IfErr result.1 IsDriveFault }
     ensures hub { IsSameHub ends.old ends.new }
 {
-    let answer = event_loop::drive(rt, ends, book, keep, &mut verdicts);
+    let answer = drive(rt, ends, book, keep, &mut verdicts);
     if !was_driven(&answer) {
         drop(spawned);
         return (None, answer);

@@ -3,7 +3,7 @@ use Rattle.std.specs.Prelude.{◌≡◌, ℕ, ◌<◌, ◌≤◌, List}
 use Rattle.wasm_ast.specs.declared.module.Module.{Module}
 use Rattle.cost.specs.declared.table.Mark.{Mark}
 use Rattle.cost.specs.Marks.{rank_at}
-use Rattle.units.specs.Sizes.{AreSizes, max_size}
+use Rattle.verified.specs.Sizes.{AreSizes, max_size}
 use Rattle.profile_rules.specs.inside.StackHeights.{height_at}
 use Rattle.verified.specs.Heights.{AreHeights}
 

@@ -3,11 +3,10 @@
 ghost use Rattle.std.specs.Prelude.{◌≡◌};
 
 use bounded_profile::{ProfileFault, verify};
-use host_calls::CallInput;
 use interp::{Scratch, has_ids, run};
 use std::alloc::Global;
 use validate::{Valid, ValidFault, validate};
-use verified::Verified;
+use verified::{CallInput, Verified};
 use wasm_ast::Module;
 
 // The messages of the longer of two inputs.

@@ -6,12 +6,11 @@ use crate::modules::{line_of, verified_of};
 use anyhow::Result;
 use call_lines::Input;
 use conformance_cases::show_texts;
-use host_calls::CallInput;
 use interp::Scratch;
 use std::alloc::{AllocError, Global};
 use std::fs;
 use std::rt::Files;
-use verified::Verified;
+use verified::{CallInput, Verified};
 
 pub fn show(rt: &(impl Files + Print + AllocGlobal)) -> Result<()> {
     let input = read_input(rt)?;

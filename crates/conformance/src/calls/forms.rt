@@ -7,12 +7,10 @@ ghost use Rattle.interp.specs.Bounded.{HasIds};
 use crate::reference_call;
 use bounded_profile::verify;
 use call_lines::outcome_text;
-use host_calls::{CallInput, CallOutcome};
 use interp::{Scratch, has_ids, run};
 use std::alloc::{AllocError, Global};
 use std::fmt::Debug;
-use valid::Valid;
-use verified::Verified;
+use verified::{CallInput, CallOutcome, Valid, Verified};
 use wasm_ast::Module;
 
 // More units than a call of a module in the profile can take.

@@ -14,12 +14,11 @@ use super::forms::is_alike;
 use crate::modules::verified_of;
 use anyhow::Result;
 use conformance_cases::show_texts;
-use host_calls::CallInput;
 use interp::Scratch;
 use modules::module_text;
 use std::alloc::{AllocError, Global};
 use std::rt::Files;
-use verified::Verified;
+use verified::{CallInput, Verified};
 
 // The numbers of messages and of edges of each input.
 const INPUTS: [(usize, usize); 4] = [(0, 0), (1, 2), (2, 0), (4, 4)];

@@ -4,7 +4,7 @@ ghost use Rattle.std.specs.Prelude.{◌<◌};
 
 use super::Stop;
 use super::operands::Operands;
-use host_calls::{AGGREGATORS, CallState, HostCall};
+use verified::{AGGREGATORS, CallState, HostCall};
 use wasm_ast::Value;
 
 /// Pops the arguments of a host call and pushes its result, if it has one. It traps if the aggregator does not exist.

@@ -2,7 +2,7 @@
 
 use super::memory::{PAGE_SIZE, lay};
 use super::{Stop, Walk};
-use host_calls::HostCall;
+use verified::HostCall;
 use wasm_ast::{
     Body, Data, Export, ExportDescription, FuncType, Function, Import, ImportDescription, Instr,
     Module, Plain, Value, Variable,

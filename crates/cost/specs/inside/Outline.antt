@@ -3,8 +3,8 @@ use Rattle.std.specs.Prelude.{ℕ, ◌+◌, min, List, [], ◌∷◌, ◌++◌}
 use Rattle.wasm_ast.specs.declared.body.Instr.TheVariants as instr
 use Rattle.wasm_ast.specs.Code.{Code, end, plain, branch, call, call_indirect, unreachable, block, loop, choice}
 use Rattle.wasm_ast.specs.declared.module.Module.{Module}
-use Rattle.units.specs.Weights.{units_of}
-use Rattle.units.specs.Sizes.{max_size}
+use Rattle.verified.specs.Weights.{units_of}
+use Rattle.verified.specs.Sizes.{max_size}
 
 -- counts stop at one more than the largest size that is reported
 abbrev pub cap : ℕ

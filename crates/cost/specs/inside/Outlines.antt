@@ -5,7 +5,7 @@ use Rattle.wasm_ast.specs.declared.module.Module.{Module}
 use Rattle.wasm_ast.specs.Limits.{imported_functions, max_functions}
 use Rattle.cost.specs.declared.outline.Outlines.{Outlines}
 use Rattle.cost.specs.inside.Outline.{Summary, nothing, with_code, cap}
-use Rattle.units.specs.Heights.{most}
+use Rattle.verified.specs.CallHeights.{most}
 
 -- the outline of each body
 abbrev pub outlines_of : Module → List Function → List Summary

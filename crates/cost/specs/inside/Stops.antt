@@ -5,7 +5,7 @@ use Rattle.cost.specs.declared.cycle.Stop.{Stop}
 use Rattle.cost.specs.declared.cycle.Stop.TheVariants as stop
 use Rattle.cost.specs.declared.table.Mark.{Mark}
 use Rattle.cost.specs.declared.table.Mark.TheVariants.{Unseen}
-use Rattle.units.specs.Cycles.{AreDistinct, Leads, IsCycle}
+use Rattle.verified.specs.Cycles.{AreDistinct, Leads, IsCycle}
 use Rattle.cost.specs.Marks.{mark_at}
 
 -- the walk from f may stop with this

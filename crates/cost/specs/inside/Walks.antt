@@ -3,7 +3,7 @@ use Rattle.std.specs.Prelude.{◌≡◌, ℕ, ◌+◌, ◌≤◌, min, List, len
 use Rattle.cost.specs.declared.table.Mark.{Mark}
 use Rattle.cost.specs.declared.table.Mark.TheVariants.{Unseen, Open, Done}
 use Rattle.cost.specs.declared.outline.Outlines.{Outlines}
-use Rattle.units.specs.Calls.{Calls}
+use Rattle.verified.specs.Calls.{Calls}
 use Rattle.cost.specs.Marks.{mark_at, rank_at, size_at}
 use Rattle.cost.specs.inside.Outline.{cap}
 use Rattle.cost.specs.inside.Outlines.{count_of, outline_at, height_at, called, AreSizesOf}

@@ -1,7 +1,7 @@
 -- What an instruction did to the operands, the topmost first, and to the parts of the state, in terms of the machine.
 use Rattle.std.specs.Prelude.{◌≡◌, ℕ, List}
 use Rattle.wasm_ast.specs.declared.types.Value.{Value}
-use Rattle.host_calls.specs.Host.{Host}
+use Rattle.verified.specs.Host.{Host}
 use Rattle.interp.specs.Configuration.{State, Effect, Gives}
 
 abbrev pub state : List Value → List Value → List ℕ → Host → ℕ → State

@@ -11,9 +11,9 @@ use Rattle.wasm_ast.specs.Limits.{max_locals}
 use Rattle.verified.specs.Facts.{IsDepthAt, IsHeightAt}
 use Rattle.verified.specs.Memory.{memory_bytes, number_of}
 use Rattle.verified.specs.Profile.{HasCompute}
-use Rattle.host_calls.specs.declared.call.CallInput.{CallInput}
-use Rattle.host_calls.specs.declared.call.CallOutcome.{CallOutcome}
-use Rattle.host_calls.specs.Host.{Leaves}
+use Rattle.verified.specs.declared.call.CallInput.{CallInput}
+use Rattle.verified.specs.declared.call.CallOutcome.{CallOutcome}
+use Rattle.verified.specs.Host.{Leaves}
 use Rattle.interp.specs.Configuration.{State}
 use Rattle.interp.specs.Machine.{Machine, defined, functions_of, run}
 use Rattle.interp.specs.inside.Place.{Place, Room, Standing, at}

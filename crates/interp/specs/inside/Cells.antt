@@ -21,8 +21,8 @@ use Rattle.wasm_ast.specs.Code as code
 use Rattle.wasm_ast.specs.NumericTypes.{numeric_takes}
 use Rattle.wasm_ast.specs.Values.{zero_of}
 use Rattle.wasm_ast.specs.Widths.{load_width, store_type, store_width}
-use Rattle.host_calls.specs.declared.imports.HostCall.{HostCall}
-use Rattle.host_calls.specs.declared.imports.HostCall.TheVariants as call
+use Rattle.verified.specs.declared.imports.HostCall.{HostCall}
+use Rattle.verified.specs.declared.imports.HostCall.TheVariants as call
 use Rattle.verified.specs.Memory.{number_of}
 use Rattle.interp.specs.Configuration.{State, Effect, Gives, Traps, Misses, tick}
 use Rattle.interp.specs.Effects.{value, effect, load_effect, numeric_effect, popped, store_effect, variable_effect, memory_effect, call_effect}

@@ -5,11 +5,11 @@ use Rattle.wasm_ast.specs.declared.types.Value.TheVariants.{I64}
 use Rattle.wasm_ast.specs.declared.module.Module.{Module}
 use Rattle.wasm_ast.specs.declared.plain.Plain.{Plain}
 use Rattle.wasm_ast.specs.Code.{Code}
-use Rattle.flat_code.specs.declared.body.FlatInstr.{FlatInstr}
-use Rattle.flat_code.specs.View.{then_code}
-use Rattle.units.specs.Weights.{plain_units}
-use Rattle.host_calls.specs.Host.{Host}
-use Rattle.host_calls.specs.declared.imports.HostCall.{HostCall}
+use Rattle.verified.specs.declared.body.FlatInstr.{FlatInstr}
+use Rattle.verified.specs.View.{then_code}
+use Rattle.verified.specs.Weights.{plain_units}
+use Rattle.verified.specs.Host.{Host}
+use Rattle.verified.specs.declared.imports.HostCall.{HostCall}
 use Rattle.interp.specs.declared.plain.Acted.{Acted}
 use Rattle.interp.specs.inside.Acts.{ActsOn}
 use Rattle.interp.specs.inside.Cells.{cell_effect, in_width}

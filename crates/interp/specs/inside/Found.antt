@@ -9,11 +9,11 @@ use Rattle.wasm_ast.specs.declared.numeric.Comparison.TheVariants as comparison
 use Rattle.wasm_ast.specs.declared.numeric.Conversion.TheVariants as conversion
 use Rattle.wasm_ast.specs.declared.plain.Plain.TheVariants as plain
 use Rattle.wasm_ast.specs.Code.{Code}
-use Rattle.flat_code.specs.declared.body.FlatInstr.{FlatInstr}
-use Rattle.flat_code.specs.declared.body.FlatInstr.TheVariants as flat
-use Rattle.flat_code.specs.Plains.{plain_of}
-use Rattle.flat_code.specs.View.{then_code}
-use Rattle.host_calls.specs.declared.imports.HostCall.{HostCall}
+use Rattle.verified.specs.declared.body.FlatInstr.{FlatInstr}
+use Rattle.verified.specs.declared.body.FlatInstr.TheVariants as flat
+use Rattle.verified.specs.Plains.{plain_of}
+use Rattle.verified.specs.View.{then_code}
+use Rattle.verified.specs.declared.imports.HostCall.{HostCall}
 use Rattle.interp.specs.declared.found.Found.{Found}
 use Rattle.interp.specs.declared.found.Found.TheVariants as found
 use Rattle.interp.specs.declared.found.Operator.{Operator}

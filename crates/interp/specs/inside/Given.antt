@@ -1,8 +1,8 @@
 -- What a call has sent and contributed to aggregators so far.
 use Rattle.std.specs.Prelude.{ℕ, ◌+◌, ◌≤◌, length, Bool, true, false}
-use Rattle.host_calls.specs.declared.imports.HostCall.{HostCall}
-use Rattle.host_calls.specs.declared.imports.HostCall.TheVariants as call
-use Rattle.host_calls.specs.Host.{Host}
+use Rattle.verified.specs.declared.imports.HostCall.{HostCall}
+use Rattle.verified.specs.declared.imports.HostCall.TheVariants as call
+use Rattle.verified.specs.Host.{Host}
 use Rattle.interp.specs.Machine.{Machine, Running, Done, Trapped, Stuck}
 
 abbrev pub given : Host → ℕ

@@ -16,9 +16,9 @@ use Rattle.wasm_ast.specs.declared.plain.Plain.TheVariants as plain
 use Rattle.wasm_ast.specs.Code.{Code}
 use Rattle.wasm_ast.specs.Numeric.{bits_of, division_traps}
 use Rattle.wasm_ast.specs.Widths.{load_width, store_width}
-use Rattle.host_calls.specs.declared.call.TheConstants.{AGGREGATORS}
-use Rattle.host_calls.specs.declared.imports.HostCall.{HostCall}
-use Rattle.host_calls.specs.declared.imports.HostCall.TheVariants as call
+use Rattle.verified.specs.declared.call.TheConstants.{AGGREGATORS}
+use Rattle.verified.specs.declared.imports.HostCall.{HostCall}
+use Rattle.verified.specs.declared.imports.HostCall.TheVariants as call
 use Rattle.verified.specs.Memory.{number_of}
 use Rattle.interp.specs.Configuration.{State}
 use Rattle.interp.specs.Machine.{Machine, Running, Done, Trapped, Stuck, ControlEntry, Label, Frame}

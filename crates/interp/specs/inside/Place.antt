@@ -6,7 +6,7 @@ use Rattle.wasm_ast.specs.declared.types.Value.{Value}
 use Rattle.wasm_ast.specs.contracts.types.Value as value_type
 use Rattle.wasm_ast.specs.Code.{Code, coded_code}
 use Rattle.wasm_ast.specs.Limits.{max_locals}
-use Rattle.host_calls.specs.Host.{Host}
+use Rattle.verified.specs.Host.{Host}
 use Rattle.interp.specs.Configuration.{State}
 use Rattle.interp.specs.Heights.{beneath, held}
 use Rattle.interp.specs.Machine.{Machine, Running, ControlEntry, Label, Frame}

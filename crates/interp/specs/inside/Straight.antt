@@ -11,12 +11,12 @@ use Rattle.wasm_ast.specs.declared.plain.Plain.TheVariants as plain
 use Rattle.wasm_ast.specs.declared.module.Module.{Module}
 use Rattle.wasm_ast.specs.Code.{Code}
 use Rattle.wasm_ast.specs.Code as code
-use Rattle.flat_code.specs.declared.body.FlatInstr.{FlatInstr}
-use Rattle.flat_code.specs.declared.body.FlatInstr.TheVariants as flat
-use Rattle.flat_code.specs.View.{then_code}
-use Rattle.units.specs.Weights.{host_units}
-use Rattle.host_calls.specs.Host.{Host}
-use Rattle.host_calls.specs.declared.imports.HostCall.{HostCall}
+use Rattle.verified.specs.declared.body.FlatInstr.{FlatInstr}
+use Rattle.verified.specs.declared.body.FlatInstr.TheVariants as flat
+use Rattle.verified.specs.View.{then_code}
+use Rattle.verified.specs.Weights.{host_units}
+use Rattle.verified.specs.Host.{Host}
+use Rattle.verified.specs.declared.imports.HostCall.{HostCall}
 use Rattle.interp.specs.Configuration.{State}
 use Rattle.interp.specs.Heights.{beneath, operands}
 use Rattle.interp.specs.Machine.{ControlEntry, run}

@@ -7,7 +7,7 @@ use Rattle.wasm_ast.specs.declared.module.Function.{Function}
 use Rattle.wasm_ast.specs.declared.module.Module.{Module}
 use Rattle.wasm_ast.specs.Code.{Code}
 use Rattle.wasm_ast.specs.Code as code
-use Rattle.flat_code.specs.View.{code_of}
+use Rattle.verified.specs.View.{code_of}
 use Rattle.interp.specs.declared.walk.Turn.{Turn}
 use Rattle.interp.specs.declared.walk.Turn.TheVariants as turn
 use Rattle.interp.specs.Configuration.{State}

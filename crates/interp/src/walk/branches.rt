@@ -3,7 +3,7 @@
 ghost use Rattle.std.specs.Prelude.{◌≡◌, reverse, true, vec_capacity};
 ghost use Rattle.wasm_ast.specs.declared.plain.Branch.TheVariants as branches;
 ghost use Rattle.wasm_ast.specs.Code.{end};
-ghost use Rattle.flat_code.specs.View.{code_of};
+ghost use Rattle.verified.specs.View.{code_of};
 ghost use Rattle.interp.specs.Machine.{label_of};
 ghost use Rattle.interp.specs.inside.Cells.{cell_branch};
 ghost use Rattle.interp.specs.inside.Going.{goes_on, has_labels};
@@ -17,7 +17,7 @@ use crate::control_entry::{ControlEntry, pop_entry};
 use crate::locals::Locals;
 use crate::operands::Operands;
 use crate::walk::{Turn, Walk};
-use flat_code::FlatInstr;
+use verified::FlatInstr;
 use wasm_ast::Branch;
 
 impl<'a> Walk<'a> {

@@ -2,8 +2,8 @@
 
 ghost use Rattle.std.specs.Prelude.{◌≡◌, ◌+◌, ◌≤◌, None, Some, length, slice_get, true};
 ghost use Rattle.wasm_ast.specs.Limits.{IsWithinLimits, max_locals, parameters_of};
-ghost use Rattle.flat_code.specs.Bodies.{bodies_of};
-ghost use Rattle.flat_code.specs.View.{code_of};
+ghost use Rattle.verified.specs.Bodies.{bodies_of};
+ghost use Rattle.verified.specs.View.{code_of};
 ghost use Rattle.interp.specs.Machine.{enter};
 ghost use Rattle.interp.specs.inside.Cells.{celled, in_width, of_any_width};
 ghost use Rattle.interp.specs.inside.Going.{goes_on};
@@ -14,7 +14,7 @@ ghost use Rattle.interp.specs.inside.Walk.{Turns, called, entered};
 use crate::control_entry::{ControlEntry, push_entry};
 use crate::program::{Callee, Definition, Program};
 use crate::walk::{Turn, Walk};
-use flat_code::FlatInstr;
+use verified::FlatInstr;
 use wasm_ast::FuncType;
 
 impl<'a> Walk<'a> {

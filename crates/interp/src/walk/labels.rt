@@ -2,7 +2,7 @@
 
 ghost use Rattle.std.specs.Prelude.{◌≡◌, option_map, true};
 ghost use Rattle.wasm_ast.specs.declared.types.Value.TheVariants.{I64};
-ghost use Rattle.flat_code.specs.View.{code_of};
+ghost use Rattle.verified.specs.View.{code_of};
 ghost use Rattle.interp.specs.Machine.{arrive, leave};
 ghost use Rattle.interp.specs.inside.Going.{goes_on, is_going};
 ghost use Rattle.interp.specs.inside.Meaning.{keeps_of, target_of};
@@ -12,7 +12,7 @@ ghost use Rattle.interp.specs.inside.Walk.{Turned, Turns, chosen, opened};
 use crate::cell::as_i32;
 use crate::control_entry::{ControlEntry, Form, innermost_loop, pop_entry, push_entry};
 use crate::walk::{Turn, Walk};
-use flat_code::{FlatBody, FlatInstr};
+use verified::{FlatBody, FlatInstr};
 
 impl<'a> Walk<'a> {
     /// Goes on at the innermost label or frame, with an operand. The label of a loop stays: there the walk has already

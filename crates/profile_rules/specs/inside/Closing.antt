@@ -5,7 +5,7 @@ use Rattle.wasm_ast.specs.declared.body.Instr.{Instr}
 use Rattle.wasm_ast.specs.declared.body.Instr.TheVariants as instr
 use Rattle.wasm_ast.specs.Code.{Code}
 use Rattle.wasm_ast.specs.Limits.{IsCodeWithin}
-use Rattle.host_calls.specs.declared.imports.HostCall.{HostCall}
+use Rattle.verified.specs.declared.imports.HostCall.{HostCall}
 use Rattle.verified.specs.Shapes.{TakesItem}
 
 -- the first instruction takes an item, and the second goes back to the loop where there was one

@@ -25,10 +25,10 @@ use Rattle.wasm_ast.specs.Code as code
 use Rattle.wasm_ast.specs.View.{then_code}
 use Rattle.wasm_ast.specs.NumericTypes.{numeric_takes}
 use Rattle.wasm_ast.specs.Widths.{load_width, store_width}
-use Rattle.valid.specs.Spaces.{function_import, imported, first_type, spaces_of}
-use Rattle.host_calls.specs.declared.call.TheConstants.{AGGREGATORS}
-use Rattle.host_calls.specs.declared.imports.HostCall.{HostCall}
-use Rattle.host_calls.specs.Imports.{call_named}
+use Rattle.verified.specs.Spaces.{function_import, imported, first_type, spaces_of}
+use Rattle.verified.specs.declared.call.TheConstants.{AGGREGATORS}
+use Rattle.verified.specs.declared.imports.HostCall.{HostCall}
+use Rattle.verified.specs.Imports.{call_named}
 use Rattle.verified.specs.declared.requirements.Premise.{Premise}
 use Rattle.verified.specs.declared.requirements.Premise.TheVariants.{Reaches, Divides, DividesSigned, IsSlot}
 use Rattle.profile_rules.specs.declared.constants.asks.Asks.{Asks}

@@ -3,8 +3,7 @@
 ghost use Rattle.std.specs.Prelude.{◌≡◌};
 ghost use Rattle.profile_rules.specs.inside.Tracking.{is_met};
 
-use host_calls::AGGREGATORS;
-use verified::Premise;
+use verified::{AGGREGATORS, Premise};
 use wasm_ast::ValType;
 
 /// The demand on an operand.

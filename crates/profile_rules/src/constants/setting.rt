@@ -3,15 +3,14 @@
 ghost use Rattle.std.specs.Prelude.{◌≡◌, slice_get, IfOk};
 ghost use Rattle.std.specs.List.{filter_map};
 ghost use Rattle.std.specs.Option.{option_copied};
-ghost use Rattle.valid.specs.Spaces.{function_import};
+ghost use Rattle.verified.specs.Spaces.{function_import};
 ghost use Rattle.verified.specs.Known.{takes_slot};
 ghost use Rattle.profile_rules.specs.inside.Tracking.{setting_of, type_numbers, imported_call, called, host_called};
 
 use crate::constants::asks::Asks;
-use host_calls::HostCall;
 use std::alloc::{AllocError, Global};
 use std::marker::Model;
-use verified::memory_bytes;
+use verified::{HostCall, memory_bytes};
 use wasm_ast::{FuncType, Function, Import, ImportDescription, Module};
 
 /// The context in which instructions are checked.

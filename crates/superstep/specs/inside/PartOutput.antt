@@ -2,8 +2,8 @@
 use Rattle.std.specs.Prelude.{◌≡◌, ◌++◌, ◌∷◌, ◌+◌, ℕ, List, [], map, if◌then◌else◌}
 use Rattle.std.specs.List.{All, fold}
 use Rattle.wasm_ast.specs.declared.module.Module.{Module}
-use Rattle.host_calls.specs.declared.call.CallInput.{CallInput}
-use Rattle.host_calls.specs.declared.call.CallOutcome.{CallOutcome}
+use Rattle.verified.specs.declared.call.CallInput.{CallInput}
+use Rattle.verified.specs.declared.call.CallOutcome.{CallOutcome}
 use Rattle.interp.specs.Call.{IsOutcome, Outcome, shown}
 use Rattle.interp.specs.Outcomes.{Given, given_of}
 use Rattle.graph.specs.Entry.{Entry, is_in_range}
@@ -12,7 +12,7 @@ use Rattle.job_state.specs.declared.state.VertexState.{VertexState}
 use Rattle.superstep.specs.declared.task.Shared.{Shared}
 use Rattle.job_state.specs.State.{capped, state_id}
 use Rattle.superstep.specs.Folds.{give}
-use Rattle.host_calls.specs.Aggregators.{aggregator_starts}
+use Rattle.verified.specs.Aggregators.{aggregator_starts}
 use Rattle.superstep.specs.Snapshot.{Row, is_called}
 use Rattle.superstep.specs.Superstep.{idle}
 use Rattle.superstep.specs.Tasks.{ComesBack, VertexOutcome, emptied, letters_from}

@@ -9,8 +9,8 @@ use Rattle.validate.specs.declared.operands.Operands.{Operands}
 use Rattle.validate.specs.declared.operands.OperandType.{OperandType}
 use Rattle.validate.specs.declared.context.BodyContext.{BodyContext}
 use Rattle.validate.specs.declared.labels.Labels.{Labels}
-use Rattle.valid.specs.Spaces.{Spaces}
-use Rattle.valid.specs.Instructions.{Context, operands_of, with_label}
+use Rattle.verified.specs.Spaces.{Spaces}
+use Rattle.verified.specs.Instructions.{Context, operands_of, with_label}
 use Rattle.validate.specs.inside.Findings.{Finds, NoneBut}
 use Rattle.validate.specs.inside.Steps.{run, closes}
 use Rattle.validate.specs.inside.Stack.{Stack, bottom, any_below, give_all, push_all, take_any}

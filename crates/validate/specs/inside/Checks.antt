@@ -19,8 +19,8 @@ use Rattle.wasm_ast.specs.declared.module.Module.{Module}
 use Rattle.wasm_ast.specs.Code.{Code}
 use Rattle.wasm_ast.specs.Code as code
 use Rattle.wasm_ast.specs.Values.{type_of}
-use Rattle.valid.specs.Spaces.{Spaces}
-use Rattle.valid.specs.Modules.{TableHolds, MemoryHolds, GlobalTyped, ExportTyped, name_of_export, AreDistinct, StartTyped, ElementTyped, DataTyped, FunctionTyped}
+use Rattle.verified.specs.Spaces.{Spaces}
+use Rattle.verified.specs.Modules.{TableHolds, MemoryHolds, GlobalTyped, ExportTyped, name_of_export, AreDistinct, StartTyped, ElementTyped, DataTyped, FunctionTyped}
 
 -- the instruction, where no code comes after it
 abbrev pub if_last : Plain → Code → Option Plain

@@ -18,9 +18,9 @@ use Rattle.wasm_ast.specs.Code.{Code}
 use Rattle.wasm_ast.specs.Code as code
 use Rattle.wasm_ast.specs.NumericTypes.{numeric_takes, numeric_gives}
 use Rattle.wasm_ast.specs.Values.{type_of}
-use Rattle.valid.specs.Spaces.{Spaces, function_type, first_type}
+use Rattle.verified.specs.Spaces.{Spaces, function_type, first_type}
 use Rattle.wasm_ast.specs.Widths.{load_type, load_width, store_type, store_width}
-use Rattle.valid.specs.Instructions.{Context, with_label, operands_of}
+use Rattle.verified.specs.Instructions.{Context, with_label, operands_of}
 use Rattle.validate.specs.inside.Stack.{Stack, bottom, any_below, and_then, take_one, take_all, give_all, change, leave, take_any, join, push_if, is_empty, same_type}
 
 abbrev pub at_some : {A : Type 0} → Option A → (A → Option Stack) → Option Stack

@@ -15,14 +15,6 @@ use Rattle.hub_ends.specs.declared.verdict.Verdict.{Verdict}
 use Rattle.hub_ends.specs.declared.verdict.VerdictSender.{VerdictSender}
 use Rattle.worker_loops.specs.declared.worker_loop.WorkerEnd.{WorkerEnd}
 
--- ---- the coordinator
-
--- nobody was told anything
-abbrev pub AreUntold : List (List Bool) → Type 0
-AreUntold told = (w : ℕ) → told_to told w ≡ []
-
--- ---- threads
-
 module _ {J : Type 0} where
   -- the worker's thread hears on this channel
   abbrev pub line_of : {T : Type 0} → PromisedHandle T (WorkerPromise J) → Channel Verdict

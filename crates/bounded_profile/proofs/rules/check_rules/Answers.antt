@@ -1,5 +1,5 @@
 use Rattle.std.proofs.Common.{◌≡◌, rules, subst}
-use Rattle.valid.specs.Modules.{IsTyped}
+use Rattle.verified.specs.Modules.{IsTyped}
 use Rattle.profile_rules.specs.declared.fault.ProfileFault.TheVariants as fault
 use Rattle.profile_rules.specs.declared.fault.ProfileRule.TheVariants.{P10, P11}
 use Rattle.verified.specs.Compute.{IsComputeNumber}

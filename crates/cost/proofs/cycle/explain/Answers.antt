@@ -1,5 +1,5 @@
 use Rattle.std.proofs.Common.{length, reverse, refl, subst, sym, ap, ◌∙◌}
-use Rattle.units.specs.Cycles.{AreDistinct, IsCycle, LeastFirst}
+use Rattle.verified.specs.Cycles.{AreDistinct, IsCycle, LeastFirst}
 use Rattle.cost.specs.inside.Stops.{AreFresh, Leaves}
 use Rattle.cost.proofs.Cycles.{turned_cycle, written_back}
 use Rattle.cost.proofs.Distinct.{distinct_reverse, distinct_turned}

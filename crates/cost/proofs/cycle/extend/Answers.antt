@@ -1,7 +1,7 @@
 use Rattle.std.proofs.Common.{◌≡◌, is_ok, subst, sym}
 use Rattle.std.specs.List.{AllByRecursion}
 use Rattle.cost.specs.declared.table.Mark.TheVariants.{Unseen}
-use Rattle.units.specs.Cycles.{AreDistinct}
+use Rattle.verified.specs.Cycles.{AreDistinct}
 use Rattle.cost.specs.Marks.{mark_at}
 use Rattle.cost.specs.inside.Stops.{AreFresh}
 use Rattle.cost.proofs.Distinct.{distinct_on, pushed, unseen_on}

@@ -1,4 +1,4 @@
-use Rattle.units.specs.Calls.{callees}
+use Rattle.verified.specs.Calls.{callees}
 use Rattle.cost.specs.Marks.{rank_at}
 use Rattle.cost.proofs.Cycles.{no_cycle}
 use Rattle.cost.proofs.laws.ranks_exclude_cycles.Goals as goal

@@ -1,5 +1,5 @@
 use Rattle.std.proofs.Common.{◌≡◌, max, drop}
-use Rattle.units.specs.Heights.{most}
+use Rattle.verified.specs.CallHeights.{most}
 use Rattle.cost.specs.Marks.{rank_at}
 use Rattle.cost.proofs.walk.greatest_rank.Given as goal
 

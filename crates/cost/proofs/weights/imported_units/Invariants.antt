@@ -1,5 +1,5 @@
 use Rattle.std.proofs.Common.{◌≡◌, ◌++◌, drop}
-use Rattle.units.specs.Weights.{imported_units}
+use Rattle.verified.specs.Weights.{imported_units}
 use Rattle.cost.proofs.weights.imported_units.Given as goal
 
 abbrev pub invariant-loop-import : goal.invariant-loop-import

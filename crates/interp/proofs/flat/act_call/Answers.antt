@@ -1,5 +1,5 @@
 use Rattle.std.proofs.Common.{◌≡◌, ℕ, Some, slice_get, sym, ◌∙◌, subst}
-use Rattle.flat_code.specs.declared.body.FlatInstr.TheVariants as flat
+use Rattle.verified.specs.declared.body.FlatInstr.TheVariants as flat
 use Rattle.interp.specs.inside.OperandStack.{operand_stack}
 use Rattle.interp.specs.inside.Straight.{GoesBeside}
 use Rattle.interp.proofs.Passing.{host_goes_beside, host_sends_beside}

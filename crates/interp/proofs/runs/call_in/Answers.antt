@@ -1,6 +1,6 @@
 use Rattle.std.proofs.Common.{◌∙◌, subst}
 use Rattle.wasm_ast.specs.declared.module.Module.{Module}
-use Rattle.flat_code.specs.View.{code_of}
+use Rattle.verified.specs.View.{code_of}
 use Rattle.interp.specs.inside.Begun.{IsReset, Sends}
 use Rattle.interp.specs.inside.Place.{at, hosted, state_of}
 use Rattle.interp.proofs.Resetting.{begins_reset}

@@ -1,7 +1,7 @@
 use Rattle.std.proofs.Common.{◌≡◌, List, ◌+◌, ◌-◌, map, drop, length, reverse, sym, ap, ◌∙◌, arith}
 use Rattle.wasm_ast.specs.declared.types.Value.{Value}
 use Rattle.wasm_ast.specs.declared.types.Value.TheVariants.{I64}
-use Rattle.flat_code.specs.View.{code_of}
+use Rattle.verified.specs.View.{code_of}
 use Rattle.interp.specs.inside.OperandStack.{operand_stack}
 use Rattle.interp.specs.inside.Split.{Below, free_of}
 use Rattle.interp.proofs.Lent.{IsLent, back_lower, back_cells, back_here, back_under, given_back, lent, lent_cells, lent_here, lent_long}

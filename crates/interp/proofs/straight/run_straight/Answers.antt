@@ -1,8 +1,8 @@
 use Rattle.std.proofs.Common.{◌≡◌, ℕ, ◌+◌, length, map, refl, sym, ◌∙◌, subst, arith, rules}
 use Rattle.wasm_ast.specs.declared.types.Value.TheVariants.{I64}
 use Rattle.wasm_ast.specs.Code.{Code}
-use Rattle.flat_code.specs.Plains.{plain_of}
-use Rattle.flat_code.specs.View.{code_of, then_code}
+use Rattle.verified.specs.Plains.{plain_of}
+use Rattle.verified.specs.View.{code_of, then_code}
 use Rattle.interp.specs.inside.Flat.{FlatDid}
 use Rattle.interp.specs.inside.OperandStack.{operand_stack}
 use Rattle.interp.specs.inside.Straight.{Passes, SendsAmid, spot}

@@ -1,5 +1,5 @@
 use Rattle.std.proofs.Common.{◌≡◌, ◌≤◌, length}
-use Rattle.flat_code.specs.View.{code_of}
+use Rattle.verified.specs.View.{code_of}
 use Rattle.interp.specs.inside.Kept.{count_kept}
 use Rattle.interp.specs.inside.Straight.{Passes}
 use Rattle.interp.specs.inside.Walk.{max_count}

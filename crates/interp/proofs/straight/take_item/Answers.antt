@@ -1,9 +1,9 @@
 use Rattle.std.proofs.Common.{rules, ◌≡◌, ap, ◌∙◌}
 use Rattle.wasm_ast.specs.Code.{Code}
 use Rattle.wasm_ast.specs.Code as code
-use Rattle.flat_code.specs.declared.body.FlatInstr.{FlatInstr}
-use Rattle.flat_code.specs.declared.body.FlatInstr.TheVariants as flat
-use Rattle.flat_code.specs.View.{code_of, then_code}
+use Rattle.verified.specs.declared.body.FlatInstr.{FlatInstr}
+use Rattle.verified.specs.declared.body.FlatInstr.TheVariants as flat
+use Rattle.verified.specs.View.{code_of, then_code}
 use Rattle.interp.proofs.Items.{goes_in}
 use Rattle.interp.proofs.straight.take_item.Goals as goal
 

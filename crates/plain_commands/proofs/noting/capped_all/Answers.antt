@@ -1,6 +1,6 @@
 use Rattle.std.proofs.Common.{◌∷◌, [], ◌++◌, ◌∙◌, ap₂, sym}
 use Rattle.std.proofs.lemmas.List.{map_more, take_all}
-use Rattle.run_tally.specs.Tally.{capped}
+use Rattle.run_report.specs.Tally.{capped}
 use Rattle.plain_commands.proofs.noting.capped_all.Goals as goal
 
 pub loop-number-init : goal.loop-number-init

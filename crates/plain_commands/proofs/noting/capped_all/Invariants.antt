@@ -1,5 +1,5 @@
 use Rattle.std.proofs.Common.{◌≡◌, map, take}
-use Rattle.run_tally.specs.Tally.{capped}
+use Rattle.run_report.specs.Tally.{capped}
 use Rattle.plain_commands.proofs.noting.capped_all.Given as goal
 
 abbrev pub invariant-loop-number : goal.invariant-loop-number

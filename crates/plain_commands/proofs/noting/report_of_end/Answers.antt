@@ -1,7 +1,7 @@
 use Rattle.std.proofs.Common.{◌∙◌, ap, map, refl, subst}
 use Rattle.wasm_ast.specs.declared.module.Module.{Module}
 use Rattle.verified.specs.Facts.{IsSizeOfCompute}
-use Rattle.run_tally.specs.Tally.{capped}
+use Rattle.run_report.specs.Tally.{capped}
 use Rattle.plain_commands.specs.Notes.{settings_in}
 use Rattle.plain_commands.proofs.noting.report_of_end.Goals as goal
 

@@ -1,7 +1,7 @@
 use Rattle.std.proofs.Common.{◌≡◌, ◌++◌, map, drop, take}
 use Rattle.std.specs.Prelude.{slice_get}
 use Rattle.wasm_ast.specs.declared.module.Function.{Function}
-use Rattle.valid.specs.Spaces.{imported, function_import}
+use Rattle.verified.specs.Spaces.{imported, function_import}
 use Rattle.verified.specs.Arities.{type_arity}
 use Rattle.profile_rules.proofs.arity.arity_table.Given as goal
 

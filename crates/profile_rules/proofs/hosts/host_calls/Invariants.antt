@@ -2,7 +2,7 @@ use Rattle.std.proofs.Common.{◌≡◌, ◌++◌, Some, map, drop}
 use Rattle.std.specs.Prelude.{filter}
 use Rattle.std.specs.List.{AllByRecursion}
 use Rattle.wasm_ast.specs.Limits.{is_function}
-use Rattle.host_calls.specs.Imports.{call_of}
+use Rattle.verified.specs.Imports.{call_of}
 use Rattle.verified.specs.Hosts.{IsHostImport}
 use Rattle.profile_rules.proofs.hosts.host_calls.Given as goal
 

@@ -1,7 +1,7 @@
 use Rattle.std.proofs.Common.{◌≡◌, ◌++◌, map, drop}
 use Rattle.std.specs.Prelude.{filter}
 use Rattle.wasm_ast.specs.Limits.{is_function}
-use Rattle.host_calls.specs.Imports.{call_of}
+use Rattle.verified.specs.Imports.{call_of}
 use Rattle.profile_rules.proofs.hosts.host_table.Given as goal
 
 abbrev pub invariant-loop-import : goal.invariant-loop-import

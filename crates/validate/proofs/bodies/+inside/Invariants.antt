@@ -1,6 +1,6 @@
 use Rattle.std.proofs.Common.{◌≡◌, ◌++◌, ◌∷◌, [], drop}
 use Rattle.wasm_ast.specs.View.{code_of}
-use Rattle.valid.specs.Instructions.{with_label}
+use Rattle.verified.specs.Instructions.{with_label}
 use Rattle.validate.specs.inside.Stack.{bottom}
 use Rattle.validate.specs.inside.Steps.{run}
 use Rattle.validate.specs.inside.Answers.{stack_of, context_of}

@@ -1,5 +1,5 @@
 use Rattle.std.proofs.Common.{◌≡◌, ◌<◌, ◌++◌, ◌∷◌, [], Bool, true, false, not, map, take, drop, length, refl, sym, ap, ◌∙◌, subst, arith, suc}
-use Rattle.valid.specs.Modules.{name_of_export, AreDistinct}
+use Rattle.verified.specs.Modules.{name_of_export, AreDistinct}
 use Rattle.validate.proofs.Distinct.{is_among, AreDistinct-push, twice, names_more, names_split, has_name, seen_push}
 use Rattle.validate.proofs.exports.have_distinct_names.Goals as goal
 

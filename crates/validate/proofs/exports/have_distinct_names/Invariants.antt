@@ -1,5 +1,5 @@
 use Rattle.std.proofs.Common.{◌≡◌, ℕ, List, map, take}
-use Rattle.valid.specs.Modules.{name_of_export, AreDistinct}
+use Rattle.verified.specs.Modules.{name_of_export, AreDistinct}
 use Rattle.validate.proofs.Distinct.{is_among, has_name}
 use Rattle.validate.proofs.exports.have_distinct_names.Given as goal
 

@@ -1,5 +1,5 @@
 use Rattle.std.proofs.Common.{◌≡◌, sym, ap, ◌∙◌}
-use Rattle.valid.specs.Spaces.{first_type}
+use Rattle.verified.specs.Spaces.{first_type}
 use Rattle.validate.proofs.Verdict.{settled}
 use Rattle.validate.proofs.functions.check_function.Goals as goal
 

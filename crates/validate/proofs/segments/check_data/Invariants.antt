@@ -1,6 +1,6 @@
 use Rattle.std.proofs.Common.{take}
 use Rattle.std.specs.List.{AllByRecursion}
-use Rattle.valid.specs.Modules.{DataTyped}
+use Rattle.verified.specs.Modules.{DataTyped}
 use Rattle.validate.proofs.segments.check_data.Given as goal
 
 abbrev pub invariant-loop-segment : goal.invariant-loop-segment

@@ -1,6 +1,6 @@
 use Rattle.std.proofs.Common.{take}
 use Rattle.std.specs.List.{AllByRecursion}
-use Rattle.valid.specs.Modules.{ElementTyped}
+use Rattle.verified.specs.Modules.{ElementTyped}
 use Rattle.validate.proofs.segments.check_elements.Given as goal
 
 abbrev pub invariant-loop-element : goal.invariant-loop-element

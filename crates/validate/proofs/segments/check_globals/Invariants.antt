@@ -1,6 +1,6 @@
 use Rattle.std.proofs.Common.{take}
 use Rattle.std.specs.List.{AllByRecursion}
-use Rattle.valid.specs.Modules.{GlobalTyped}
+use Rattle.verified.specs.Modules.{GlobalTyped}
 use Rattle.validate.proofs.segments.check_globals.Given as goal
 
 abbrev pub invariant-loop-global : goal.invariant-loop-global

@@ -1,6 +1,6 @@
 use Rattle.std.proofs.Common.{refl, rules}
 use Rattle.wasm_ast.specs.Limits.{IsWithinLimits}
-use Rattle.valid.specs.Modules.{IsTyped}
+use Rattle.verified.specs.Modules.{IsTyped}
 use Rattle.validate.specs.inside.Findings.{Denies}
 use Rattle.validate.proofs.Whole.{settled, outer_denied}
 use Rattle.validate.proofs.validation.check_module.Goals as goal

@@ -2,8 +2,8 @@ use Rattle.std.proofs.Common.{◌≡◌, ◌+◌, ◌≤◌, map, vec_len, vec_c
 use Rattle.std.specs.Vec.Iter.{into_iter_items, into_iter_len}
 use Rattle.hub_ends.specs.Hub.{AreNewPasses, channels_of}
 use Rattle.worker_threads.specs.Threads.{AreOfGate, AreSpawned}
-use Rattle.hub_ends.specs.Verdicts.{sends_on, told_on}
-use Rattle.worker_threads.specs.inside.Joins.{AreLinked, AreUntold}
+use Rattle.hub_ends.specs.Verdicts.{AreUntold, sends_on, told_on}
+use Rattle.worker_threads.specs.inside.Joins.{AreLinked}
 use Rattle.worker_threads.proofs.spawning.spawn_workers.Given as goal
 
 abbrev pub invariant-loop-pass : goal.invariant-loop-pass

@@ -1,6 +1,6 @@
 use Rattle.std.proofs.Common.{◌≡◌, ap, ◌∙◌}
 use Rattle.wasm_ast.specs.declared.module.Module.{Module as AnyModule}
-use Rattle.units.specs.Weights.{imported_units, units_at, call_units}
+use Rattle.verified.specs.Weights.{imported_units, units_at, call_units}
 use Rattle.cost.proofs.Weighing.{call_counts}
 use Rattle.cost.proofs.weights.Weights.call.Goals as goal
 

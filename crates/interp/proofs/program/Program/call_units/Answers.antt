@@ -1,5 +1,5 @@
 use Rattle.std.proofs.Common.{ap, ◌∙◌}
-use Rattle.units.specs.Weights.{host_units}
+use Rattle.verified.specs.Weights.{host_units}
 use Rattle.interp.proofs.Weighing.{call_counts}
 use Rattle.interp.proofs.program.Program.call_units.Goals as goal
 

@@ -1,6 +1,6 @@
 use Rattle.std.proofs.Common.{length, reverse, ap, ◌∙◌, subst}
 use Rattle.wasm_ast.specs.declared.plain.Branch.TheVariants as branch
-use Rattle.flat_code.specs.View.{code_of}
+use Rattle.verified.specs.View.{code_of}
 use Rattle.interp.specs.inside.Cells.{cell_branch}
 use Rattle.interp.specs.inside.Going.{goes_on}
 use Rattle.interp.specs.inside.Meaning.{Ordered, standing_of}

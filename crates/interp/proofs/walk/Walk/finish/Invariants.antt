@@ -1,5 +1,5 @@
 use Rattle.std.proofs.Common.{◌≡◌}
-use Rattle.flat_code.specs.View.{code_of}
+use Rattle.verified.specs.View.{code_of}
 use Rattle.interp.specs.Machine.{Machine}
 use Rattle.interp.specs.inside.Place.{at, hosted}
 use Rattle.interp.specs.inside.Walk.{EndsWithin, Follows, left_of, max_count}

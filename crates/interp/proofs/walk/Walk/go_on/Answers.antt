@@ -1,5 +1,5 @@
 use Rattle.std.proofs.Common.{◌≡◌, length, reverse, sym, ap, ◌∙◌, subst, arith}
-use Rattle.flat_code.specs.View.{code_of}
+use Rattle.verified.specs.View.{code_of}
 use Rattle.interp.specs.inside.Meaning.{entries_of, standing_of}
 use Rattle.interp.specs.inside.Place.{at, hosted}
 use Rattle.interp.specs.inside.Straight.{amid, spot}

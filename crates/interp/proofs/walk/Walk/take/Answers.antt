@@ -1,7 +1,7 @@
 use Rattle.std.proofs.Common.{sym, ap, ◌∙◌}
-use Rattle.flat_code.specs.declared.body.FlatInstr.{FlatInstr}
-use Rattle.flat_code.specs.View.{code_of, then_code}
-use Rattle.flat_code.proofs.Codes.{others_plain}
+use Rattle.verified.specs.declared.body.FlatInstr.{FlatInstr}
+use Rattle.verified.specs.View.{code_of, then_code}
+use Rattle.verified.proofs.Codes.{others_plain}
 use Rattle.interp.specs.inside.Straight.{is_straight}
 use Rattle.interp.proofs.Passing.{no_host_call, plain_goes}
 use Rattle.interp.proofs.walk.Walk.take.Goals as goal

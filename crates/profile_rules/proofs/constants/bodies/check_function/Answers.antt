@@ -1,5 +1,5 @@
 use Rattle.std.proofs.Common.{◌≡◌, sym, ap, ◌∙◌}
-use Rattle.valid.specs.Spaces.{first_type}
+use Rattle.verified.specs.Spaces.{first_type}
 use Rattle.profile_rules.proofs.KnownVerdict.{settled}
 use Rattle.profile_rules.proofs.constants.bodies.check_function.Goals as goal
 

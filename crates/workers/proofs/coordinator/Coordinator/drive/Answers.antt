@@ -1,7 +1,7 @@
 use Rattle.std.proofs.Common.{Some, subst, sym}
 use Rattle.workers.specs.Coordinator.{IsSameOn}
-use Rattle.workers.proofs.Ending.{calm_driven, ended_over, keeps_first, over_opened, unspent_opened, where_mapped}
-use Rattle.workers.proofs.Moving.{left_none}
+use Rattle.event_loop.proofs.Ending.{calm_driven, ended_over, keeps_first, over_opened, unspent_opened, where_mapped}
+use Rattle.event_loop.proofs.Moving.{left_none}
 use Rattle.hub_ends.specs.Hub.{handed, received}
 use Rattle.workers.proofs.coordinator.Coordinator.drive.Goals as goal
 

@@ -1,2 +1,0 @@
--- Definitions that mirror the code, for its proofs.
-pub mod Mirrors

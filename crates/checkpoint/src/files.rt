@@ -4,12 +4,11 @@ ghost use Rattle.std.specs.Prelude.{◌≡◌, ◌≤◌, None, IfOk, IfSome};
 ghost use Rattle.checkpoint.specs.Checkpoint.{seal_of};
 ghost use Rattle.checkpoint.specs.Files.{IsOfCheckpoint, IsOfCheckpointAt, IsSealedAs};
 
+use crate::device::Device;
 use crate::listing::supersteps_in;
-use crate::replacing::replace;
 use crate::{CheckpointFault, Keep, KeepFault, read};
 use std::alloc::{AllocError, Global};
-use std::fs::{File, OpenFile};
-use std::io::Read;
+use std::fs::File;
 use std::rt::Files;
 use std::{fs, io};
 
@@ -139,24 +138,26 @@ impl FileKeep {
         path_in(self.alloc, self.directory.as_str(), superstep, ending)
     }
 
-    fn write<R: Files>(&self, rt: &R, superstep: u32, bytes: &[u8]) -> io::Result<()> {
+    fn write<R: Device>(&self, rt: &R, superstep: u32, bytes: &[u8]) -> io::Result<()> {
         let part = self.path(superstep, "part")?;
         let whole = self.path(superstep, "bin")?;
-        let mut file = File::create(rt, part.as_str())?;
-        replace(rt, &mut file, part.as_str(), whole.as_str(), bytes)
+        rt.write_whole(part.as_str(), whole.as_str(), bytes)
     }
 
-    // Reads the file of the last good save.
-    fn read<R: Files>(&self, rt: &R, saved: &Saved) -> io::Result<Vec<u8>>
+    // Reads the file of the last good save, which has to have its length and its seal.
+    fn read<R: Device>(&self, rt: &R, saved: &Saved) -> io::Result<Vec<u8>>
         ensures { IfOk result (λ bytes. IsSealedAs saved.now bytes.items) }
     {
         let whole = self.path(saved.superstep, "bin")?;
-        let mut file = fs::open(rt, whole.as_str())?;
-        read_saved(self.alloc, &mut file, saved)
+        let bytes = rt.read_whole(self.alloc, whole.as_str(), saved.length)?;
+        if seal_of(&bytes) != saved.seal.as_slice() {
+            return Err(io::Error::from(io::ErrorKind::InvalidData));
+        }
+        Ok(bytes)
     }
 
     // Removes the file of the last good save if it is of another superstep. A file that cannot be removed stays.
-    fn remove_last<R: Files>(&self, rt: &R, superstep: u32) {
+    fn remove_last<R: Device>(&self, rt: &R, superstep: u32) {
         let Some(saved) = &self.saved else {
             return;
         };
@@ -164,7 +165,7 @@ impl FileKeep {
             return;
         }
         if let Ok(path) = self.path(saved.superstep, "bin") {
-            let _ = fs::remove_file(rt, path.as_str());
+            rt.remove(path.as_str());
         }
     }
 }
@@ -242,21 +243,6 @@ fn seal_of(bytes: &[u8]) -> &[u8]
     &bytes[bytes.len().saturating_sub(32)..]
 }
 
-// Reads a whole file, which has to have the length and the seal of the save. Nothing is read past that length.
-fn read_saved<F: Read + OpenFile>(alloc: Global, file: &mut F, saved: &Saved) -> io::Result<Vec<u8>>
-    ensures { IfOk result (λ bytes. IsSealedAs saved.now bytes.items) }
-{
-    if file.metadata()?.len() != saved.length as u64 {
-        return Err(io::Error::from(io::ErrorKind::InvalidData));
-    }
-    let mut bytes = vec![in alloc; 0; saved.length]?;
-    file.read_exact(&mut bytes)?;
-    if seal_of(&bytes) != saved.seal.as_slice() {
-        return Err(io::Error::from(io::ErrorKind::InvalidData));
-    }
-    Ok(bytes)
-}
-
 impl Keep for FileKeep {
     ghost use Rattle.std.specs.Prelude.{false, ℕ, List, Some, OnErr, OnOk};
     ghost use Rattle.checkpoint.specs.Keep.{HasCause, IsKeptOrNone};
@@ -270,7 +256,7 @@ impl Keep for FileKeep {
 
     ghost faults = { failures_of };
 
-    fn save<R: Files + AllocGlobal>(
+    fn save<R: Device + AllocGlobal>(
         &mut self,
         rt: &R,
         superstep: u32,
@@ -302,7 +288,7 @@ impl Keep for FileKeep {
         }
     }
 
-    fn load<R: Files + AllocGlobal>(
+    fn load<R: Device + AllocGlobal>(
         &mut self,
         rt: &R,
         _superstep: u32,

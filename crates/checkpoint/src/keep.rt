@@ -3,7 +3,7 @@
 ghost use Rattle.std.specs.Prelude.{◌≡◌, ℕ, List, Bool, true, Option, Some, IfOk, OnErr, OnOk};
 ghost use Rattle.checkpoint.specs.Keep.{HasCause, IsKeptOrNone, Only};
 
-use std::rt::Files;
+use crate::device::Device;
 use thiserror::Error;
 
 /// The reason why a state was not saved or loaded.
@@ -34,7 +34,7 @@ pub trait Keep {
     /// Saves these bytes in place of everything that was saved before.
     ///
     /// A failed save leaves the last good one, or none if that one has the same superstep.
-    fn save<R: Files + AllocGlobal>(
+    fn save<R: Device + AllocGlobal>(
         &mut self,
         rt: &R,
         superstep: u32,
@@ -52,7 +52,11 @@ pub trait Keep {
         ensures cause { HasCause (faults self.old) (faults self.new) result };
 
     /// Loads the bytes of the last good save, which has to be of this superstep.
-    fn load<R: Files + AllocGlobal>(&mut self, rt: &R, superstep: u32) -> Result<Vec<u8>, KeepFault>
+    fn load<R: Device + AllocGlobal>(
+        &mut self,
+        rt: &R,
+        superstep: u32,
+    ) -> Result<Vec<u8>, KeepFault>
         requires { saved self.old ≡ Some superstep }
         ensures honest { honest self.new ≡ honest self.old }
         ensures saved { saved self.new ≡ saved self.old }

@@ -2,6 +2,7 @@
 //! replaced as a whole; and the file `job.json` beside them, which says of which job they are.
 #![tactic(auto)]
 
+mod device;
 mod digest;
 mod fault;
 mod files;
@@ -17,6 +18,7 @@ mod text;
 mod vertices;
 mod writing;
 
+pub use device::Device;
 pub use fault::CheckpointFault;
 pub use files::FileKeep;
 pub use job_id::{JobId, digest_of};

@@ -2,9 +2,9 @@
 
 ghost use Rattle.std.specs.Prelude.{◌≡◌, None};
 
+use crate::device::Device;
 use crate::keep::{Keep, KeepFault};
 use std::alloc::Global;
-use std::rt::Files;
 
 // The last save: its superstep and its bytes.
 #[derive(Drop)]
@@ -49,7 +49,7 @@ impl Keep for MemoryKeep {
 
     ghost faults = { λ _. 0 };
 
-    fn save<R: Files + AllocGlobal>(
+    fn save<R: Device + AllocGlobal>(
         &mut self,
         _rt: &R,
         superstep: u32,
@@ -75,7 +75,7 @@ impl Keep for MemoryKeep {
         }
     }
 
-    fn load<R: Files + AllocGlobal>(
+    fn load<R: Device + AllocGlobal>(
         &mut self,
         _rt: &R,
         _superstep: u32,

@@ -7,10 +7,10 @@ use crate::{
 };
 use anyhow::Result;
 use bounded_profile::ProfileFault;
-use conformance_cases::show_texts;
+use checkpoint::Device;
+use conformance_cases::{CaseFiles, show_texts};
 use cost::CostFault;
 use std::alloc::{AllocError, Global};
-use std::rt::Files;
 use std::thread::Threads;
 use validate::ValidFault;
 use wasm_ast::Module;
@@ -61,7 +61,7 @@ const FILES: [&str; 35] = [
 ];
 
 /// Shows the cases of all files.
-pub fn show(rt: &(impl Files + Print + AllocGlobal + Threads + Sync)) -> Result<()> {
+pub fn show(rt: &(impl CaseFiles + Device + Print + AllocGlobal + Threads + Sync)) -> Result<()> {
     for file in FILES {
         show_file(rt, file)?;
     }
@@ -69,7 +69,7 @@ pub fn show(rt: &(impl Files + Print + AllocGlobal + Threads + Sync)) -> Result<
 }
 
 fn show_file(
-    rt: &(impl Files + Print + AllocGlobal + Threads + Sync),
+    rt: &(impl CaseFiles + Device + Print + AllocGlobal + Threads + Sync),
     file: &'static str,
 ) -> Result<()> {
     match file {

@@ -15,13 +15,11 @@ pub mod sweep;
 
 use crate::modules::{decoded, module_of, printed, spelling};
 use anyhow::Result;
-use conformance_cases::{is_case, named, spelled};
+use conformance_cases::{CaseFiles, is_case, named, spelled};
 use damage::tell_damaged;
 use sized::sized_bytes;
 use sources::CommandFault;
 use std::alloc::{AllocError, Global};
-use std::fs;
-use std::rt::Files;
 use wasm_ast::Module;
 
 const FILES: [&str; 6] = [
@@ -64,15 +62,15 @@ impl<'a> Frame<'a> {
     }
 }
 
-pub fn show(rt: &(impl Files + Print + AllocGlobal)) -> Result<()> {
+pub fn show(rt: &(impl CaseFiles + Print + AllocGlobal)) -> Result<()> {
     for file in FILES {
         show_file(rt, file)?;
     }
     Ok(())
 }
 
-fn show_file(rt: &(impl Files + Print + AllocGlobal), file: &str) -> Result<()> {
-    let text = fs::read_to_string(rt, file)?;
+fn show_file(rt: &(impl CaseFiles + Print + AllocGlobal), file: &str) -> Result<()> {
+    let text = rt.text_of(file)?;
     for part in text.as_str().split("\n= ") {
         show_part(rt, part)?;
     }

@@ -12,12 +12,10 @@ pub mod generated;
 use crate::modules::valid_of;
 use anyhow::Result;
 use call_lines::Input;
-use conformance_cases::show_texts;
+use conformance_cases::{CaseFiles, show_texts};
 use forms::tell_both;
 use sources::CommandFault;
 use std::alloc::{AllocError, Global};
-use std::fs;
-use std::rt::Files;
 use verified::CallInput;
 
 // The files of the cases whose frame is `modules/calls.wat`.
@@ -72,14 +70,14 @@ impl<'a> Case<'a> {
     }
 }
 
-pub fn show(rt: &(impl Files + Print + AllocGlobal)) -> Result<()> {
-    let vertex = fs::read_to_string(rt, "interp/calls-vertex.txt")?;
+pub fn show(rt: &(impl CaseFiles + Print + AllocGlobal)) -> Result<()> {
+    let vertex = rt.text_of("interp/calls-vertex.txt")?;
     show_in_frame(rt, vertex.as_str())?;
     show_file(rt, "interp/calls-modules.txt", "□", vertex.as_str())
 }
 
-fn show_in_frame(rt: &(impl Files + Print + AllocGlobal), vertex: &str) -> Result<()> {
-    let frame = fs::read_to_string(rt, "modules/calls.wat")?;
+fn show_in_frame(rt: &(impl CaseFiles + Print + AllocGlobal), vertex: &str) -> Result<()> {
+    let frame = rt.text_of("modules/calls.wat")?;
     for file in FILES {
         show_file(rt, file, frame.as_str(), vertex)?;
     }
@@ -87,7 +85,7 @@ fn show_in_frame(rt: &(impl Files + Print + AllocGlobal), vertex: &str) -> Resul
 }
 
 fn show_file(
-    rt: &(impl Files + Print + AllocGlobal),
+    rt: &(impl CaseFiles + Print + AllocGlobal),
     file: &str,
     frame: &str,
     vertex: &str,

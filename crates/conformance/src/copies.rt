@@ -3,18 +3,16 @@
 
 use crate::modules::assembled;
 use anyhow::Result;
-use conformance_cases::show_texts;
+use conformance_cases::{CaseFiles, show_texts};
 use std::alloc::{AllocError, Global};
-use std::fs;
-use std::rt::Files;
 use wasm_ast::Module;
 
-pub fn show(rt: &(impl Files + Print + AllocGlobal)) -> Result<()> {
-    let whole = fs::read_to_string(rt, "modules/whole.wat")?;
+pub fn show(rt: &(impl CaseFiles + Print + AllocGlobal)) -> Result<()> {
+    let whole = rt.text_of("modules/whole.wat")?;
     show_changes(rt, whole.as_str())
 }
 
-fn show_changes(rt: &(impl Files + Print + AllocGlobal), whole: &str) -> Result<()> {
+fn show_changes(rt: &(impl CaseFiles + Print + AllocGlobal), whole: &str) -> Result<()> {
     show_texts(
         rt,
         "wasm_ast/copies.txt",

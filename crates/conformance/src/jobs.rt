@@ -8,15 +8,14 @@ mod by_hand;
 
 use anyhow::Result;
 use by_hand::tell_first_superstep;
-use conformance_cases::{fault_told, job_in, named, show_cases};
+use conformance_cases::{CaseFiles, fault_told, job_in, named, show_cases};
 use plain_run::one_machine;
 use std::alloc::{AllocError, Global};
-use std::rt::Files;
 use std::thread::Threads;
 use superstep::{EndReason, Job, JobEnd};
 
 /// Shows the cases of jobs.
-pub fn show(rt: &(impl Files + Print + AllocGlobal + Threads + Sync)) -> Result<()> {
+pub fn show(rt: &(impl CaseFiles + Print + AllocGlobal + Threads + Sync)) -> Result<()> {
     show_cases(
         rt,
         "superstep/jobs.txt",
@@ -24,7 +23,7 @@ pub fn show(rt: &(impl Files + Print + AllocGlobal + Threads + Sync)) -> Result<
     )
 }
 
-fn answer(rt: &(impl Files + AllocGlobal + Threads + Sync), case: &str) -> Result<String> {
+fn answer(rt: &(impl CaseFiles + AllocGlobal + Threads + Sync), case: &str) -> Result<String> {
     match job_in(rt, case)? {
         Ok(job) => Ok(told(rt, rt.alloc(), &job, case.contains(" copied; "))?),
         Err(fault) => Ok(fault_told(rt.alloc(), fault)?),

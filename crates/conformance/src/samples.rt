@@ -4,15 +4,14 @@
 use crate::binary::sweep::{ALL, EVERYWHERE, Places, SOME, swept};
 use crate::modules::{assembled, module_of, printed, spelling};
 use anyhow::{Result, bail};
+use conformance_cases::CaseFiles;
 use std::alloc::{AllocError, Global};
-use std::fs;
-use std::rt::Files;
 use wasm_ast::Module;
 
 /// Prints what becomes of a file's module, damaged at these places. A file whose name ends in `.wat` is text, any other is
 /// binary.
 pub fn show_damaged(
-    rt: &(impl Files + Print + AllocGlobal),
+    rt: &(impl CaseFiles + Print + AllocGlobal),
     file: &str,
     places: Places,
 ) -> Result<()> {
@@ -23,11 +22,11 @@ pub fn show_damaged(
     Ok(())
 }
 
-fn bytes_of(rt: &(impl Files + AllocGlobal), file: &str) -> Result<Vec<u8>> {
+fn bytes_of(rt: &(impl CaseFiles + AllocGlobal), file: &str) -> Result<Vec<u8>> {
     if !file.ends_with(".wat") {
-        return Ok(fs::read(rt, file)?);
+        return rt.bytes_of(file);
     }
-    let text = fs::read_to_string(rt, file)?;
+    let text = rt.text_of(file)?;
     match module_of(rt.alloc(), text.as_str()) {
         Ok(module) => spelled(rt.alloc(), &module),
         Err(_) => bail!("{file} is no module"),

@@ -3,17 +3,15 @@
 //! FILE OTHERS` writes other bytes to a file before the load.
 
 use anyhow::Result;
-use checkpoint::{FileKeep, Keep, MemoryKeep};
-use conformance_cases::{bytes, named, show_cases};
+use checkpoint::{Device, FileKeep, Keep, MemoryKeep};
+use conformance_cases::{CaseFiles, bytes, named, show_cases};
 use std::alloc::AllocError;
-use std::fs;
-use std::rt::Files;
 
-pub fn show(rt: &(impl Files + Print + AllocGlobal)) -> Result<()> {
+pub fn show(rt: &(impl CaseFiles + Device + Print + AllocGlobal)) -> Result<()> {
     show_cases(rt, "checkpoint/keeps.txt", |_, case| answer(rt, case))
 }
 
-fn answer(rt: &(impl Files + AllocGlobal), case: &str) -> Result<String> {
+fn answer(rt: &(impl CaseFiles + Device + AllocGlobal), case: &str) -> Result<String> {
     let (place, steps) = named(case).1.split_once("; ").unwrap_or((case, ""));
     if place == "memory" {
         Ok(told(rt, &mut MemoryKeep::new(rt.alloc()), steps)?)
@@ -22,7 +20,7 @@ fn answer(rt: &(impl Files + AllocGlobal), case: &str) -> Result<String> {
     }
 }
 
-fn told<R: Files + AllocGlobal, K: Keep>(
+fn told<R: CaseFiles + Device + AllocGlobal, K: Keep>(
     rt: &R,
     keep: &mut K,
     steps: &str,
@@ -32,7 +30,7 @@ fn told<R: Files + AllocGlobal, K: Keep>(
     Ok(text)
 }
 
-fn tell<R: Files + AllocGlobal, K: Keep>(
+fn tell<R: CaseFiles + Device + AllocGlobal, K: Keep>(
     rt: &R,
     keep: &mut K,
     steps: &str,
@@ -48,7 +46,11 @@ fn tell<R: Files + AllocGlobal, K: Keep>(
 }
 
 // Saves the bytes of a step, writes the other bytes, and loads.
-fn kept<R: Files + AllocGlobal, K: Keep>(rt: &R, keep: &mut K, step: &str) -> Result<Vec<u8>> {
+fn kept<R: CaseFiles + Device + AllocGlobal, K: Keep>(
+    rt: &R,
+    keep: &mut K,
+    step: &str,
+) -> Result<Vec<u8>> {
     let (saved, written) = step.split_once(" by ").unwrap_or((step, ""));
     let (superstep, spelling) = saved.split_once(' ').unwrap_or((saved, ""));
     let superstep = superstep.parse::<u32>()?;
@@ -57,9 +59,9 @@ fn kept<R: Files + AllocGlobal, K: Keep>(rt: &R, keep: &mut K, step: &str) -> Re
     Ok(keep.load(rt, superstep)?)
 }
 
-fn write_others(rt: &(impl Files + AllocGlobal), written: &str) -> Result<()> {
+fn write_others(rt: &(impl CaseFiles + AllocGlobal), written: &str) -> Result<()> {
     if let Some((file, spelling)) = written.split_once(' ') {
-        fs::write(rt, file, &bytes(rt.alloc(), spelling)?)?;
+        rt.put(file, &bytes(rt.alloc(), spelling)?)?;
     }
     Ok(())
 }

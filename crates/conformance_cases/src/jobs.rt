@@ -1,19 +1,18 @@
 //! Jobs, as cases spell them.
 
+use crate::case_files::CaseFiles;
 use crate::spelling::spelled;
 use anyhow::{Result, bail};
 use graph::Graph;
 use sources::{Source, load};
 use std::alloc::{AllocError, Global};
-use std::fs;
 use std::num::ParseIntError;
-use std::rt::Files;
 use superstep::{Job, JobFault, Settings};
 use verified::Verified;
 
 /// Makes the job of `PARTS WORKERS EVERY LIMIT LEASE; MODULE; GRAPH`, or returns the setting that is out of its range.
 /// MODULE is a file. GRAPH is a file, or the text of a graph.
-pub fn job_in(rt: &(impl Files + AllocGlobal), case: &str) -> Result<Result<Job, JobFault>> {
+pub fn job_in(rt: &(impl CaseFiles + AllocGlobal), case: &str) -> Result<Result<Job, JobFault>> {
     let (settings, rest) = case.split_once("; ").unwrap_or((case, ""));
     let (module, graph) = rest.split_once("; ").unwrap_or((rest, ""));
     let settings = settings_of(settings)?;
@@ -21,7 +20,7 @@ pub fn job_in(rt: &(impl Files + AllocGlobal), case: &str) -> Result<Result<Job,
 }
 
 fn job_over(
-    rt: &(impl Files + AllocGlobal),
+    rt: &(impl CaseFiles + AllocGlobal),
     module: &str,
     graph: Graph,
     settings: Settings,
@@ -47,22 +46,22 @@ fn number_of(word: Option<&str>) -> Result<u32, ParseIntError> {
     word.unwrap_or("").parse::<u32>()
 }
 
-fn graph_in(rt: &(impl Files + AllocGlobal), graph: &str) -> Result<Graph> {
+fn graph_in(rt: &(impl CaseFiles + AllocGlobal), graph: &str) -> Result<Graph> {
     let text = text_in(rt, graph)?;
     Ok(Graph::read(rt.alloc(), text.as_str())?)
 }
 
 // Reads the text of a file, or spells out the text itself.
-fn text_in(rt: &(impl Files + AllocGlobal), graph: &str) -> Result<String> {
+fn text_in(rt: &(impl CaseFiles + AllocGlobal), graph: &str) -> Result<String> {
     if graph.ends_with(".txt") {
-        Ok(fs::read_to_string(rt, graph)?)
+        rt.text_of(graph)
     } else {
         Ok(spelled(rt.alloc(), graph)?)
     }
 }
 
-fn verified_in(rt: &(impl Files + AllocGlobal), path: &str) -> Result<Verified> {
-    let source = Source::Text(fs::read_to_string(rt, path)?);
+fn verified_in(rt: &(impl CaseFiles + AllocGlobal), path: &str) -> Result<Verified> {
+    let source = Source::Text(rt.text_of(path)?);
     match load(rt.alloc(), &source) {
         Ok(verified) => Ok(verified),
         Err(_) => bail!("no module of the profile is in {path}"),

@@ -1,20 +1,19 @@
 //! Files of cases, and a line for each.
 
+use crate::case_files::CaseFiles;
 use crate::spelling::{is_case, named, spelled};
 use anyhow::Result;
 use std::alloc::{AllocError, Global};
-use std::fs;
-use std::rt::Files;
 
 /// Prints a line for each case of a file: its name, and the answer for the whole line.
-pub fn show_cases<R: Files + Print + AllocGlobal, F: Fn(Global, &str) -> Result<String>>(
+pub fn show_cases<R: CaseFiles + Print + AllocGlobal, F: Fn(Global, &str) -> Result<String>>(
     rt: &R,
     path: &str,
     answer: F,
 ) -> Result<()>
     requires { F.IsAlwaysCallable answer }
 {
-    let text = fs::read_to_string(rt, path)?;
+    let text = rt.text_of(path)?;
     show_lines(rt, text.as_str(), &answer)
 }
 
@@ -37,20 +36,19 @@ fn show_lines<R: Print + AllocGlobal, F: Fn(Global, &str) -> Result<String>>(
 /// as it is spelled, in the frame of the last line `within FRAME`. A text or a frame that ends in `.wat` is a file, whose
 /// content is used. The file begins with a comment.
 pub fn show_texts<
-    R: Files + Print + AllocGlobal,
+    R: CaseFiles + Print + AllocGlobal,
     F: Fn(Global, &str) -> Result<String, AllocError>,
 >(rt: &R, path: &str, answer: F) -> Result<()>
     requires { F.IsAlwaysCallable answer }
 {
-    let text = fs::read_to_string(rt, path)?;
+    let text = rt.text_of(path)?;
     show_parts(rt, text.as_str(), &answer)
 }
 
-fn show_parts<R: Files + Print + AllocGlobal, F: Fn(Global, &str) -> Result<String, AllocError>>(
-    rt: &R,
-    text: &str,
-    answer: &F,
-) -> Result<()>
+fn show_parts<
+    R: CaseFiles + Print + AllocGlobal,
+    F: Fn(Global, &str) -> Result<String, AllocError>,
+>(rt: &R, text: &str, answer: &F) -> Result<()>
     requires { F.IsAlwaysCallable answer.now }
 {
     for part in text.split("\nwithin ") {
@@ -60,7 +58,7 @@ fn show_parts<R: Files + Print + AllocGlobal, F: Fn(Global, &str) -> Result<Stri
 }
 
 // Shows the lines after a frame in it, or after a comment in no frame.
-fn show_part<R: Files + Print + AllocGlobal, F: Fn(Global, &str) -> Result<String, AllocError>>(
+fn show_part<R: CaseFiles + Print + AllocGlobal, F: Fn(Global, &str) -> Result<String, AllocError>>(
     rt: &R,
     part: &str,
     answer: &F,
@@ -72,12 +70,10 @@ fn show_part<R: Files + Print + AllocGlobal, F: Fn(Global, &str) -> Result<Strin
     show_in_frame(rt, frame.as_str(), lines, answer)
 }
 
-fn show_in_frame<R: Files + Print + AllocGlobal, F: Fn(Global, &str) -> Result<String, AllocError>>(
-    rt: &R,
-    frame: &str,
-    lines: &str,
-    answer: &F,
-) -> Result<()>
+fn show_in_frame<
+    R: CaseFiles + Print + AllocGlobal,
+    F: Fn(Global, &str) -> Result<String, AllocError>,
+>(rt: &R, frame: &str, lines: &str, answer: &F) -> Result<()>
     requires { F.IsAlwaysCallable answer.now }
 {
     for line in lines.lines() {
@@ -88,7 +84,7 @@ fn show_in_frame<R: Files + Print + AllocGlobal, F: Fn(Global, &str) -> Result<S
     Ok(())
 }
 
-fn show_text<R: Files + Print + AllocGlobal, F: Fn(Global, &str) -> Result<String, AllocError>>(
+fn show_text<R: CaseFiles + Print + AllocGlobal, F: Fn(Global, &str) -> Result<String, AllocError>>(
     rt: &R,
     frame: &str,
     line: &str,
@@ -101,14 +97,14 @@ fn show_text<R: Files + Print + AllocGlobal, F: Fn(Global, &str) -> Result<Strin
     show_case(rt, name, answer(rt.alloc(), whole.as_str())?)
 }
 
-fn whole(rt: &(impl Files + AllocGlobal), frame: &str, case: &str) -> Result<String> {
+fn whole(rt: &(impl CaseFiles + AllocGlobal), frame: &str, case: &str) -> Result<String> {
     let text = text_of(rt, case)?;
     Ok(framed(rt.alloc(), frame, text.as_str())?)
 }
 
-fn text_of(rt: &(impl Files + AllocGlobal), text: &str) -> Result<String> {
+fn text_of(rt: &(impl CaseFiles + AllocGlobal), text: &str) -> Result<String> {
     if text.ends_with(".wat") {
-        Ok(fs::read_to_string(rt, text)?)
+        rt.text_of(text)
     } else {
         Ok(String::from_str(rt.alloc(), text)?)
     }

@@ -11,6 +11,7 @@
 
 pub mod lent_files;
 
+use checkpoint::Device;
 use clap::error::ErrorKind;
 use command_line::options;
 use console::command;
@@ -82,7 +83,7 @@ fn asked_by(case: &str) -> Asked<'_> {
 
 /// Writes the answer to a case.
 pub fn tell(
-    rt: &(impl Files + AllocGlobal + Threads + Wait + Sync),
+    rt: &(impl Files + Device + AllocGlobal + Threads + Wait + Sync),
     case: &str,
     files: &mut LentFiles,
     text: &mut String,
@@ -99,7 +100,7 @@ pub fn tell(
 
 // Empties a file, executes a command, and shows the file.
 fn tell_kept(
-    rt: &(impl Files + AllocGlobal + Threads + Wait + Sync),
+    rt: &(impl Files + Device + AllocGlobal + Threads + Wait + Sync),
     line: &str,
     file: &str,
     files: &mut LentFiles,
@@ -124,7 +125,7 @@ fn words_of(alloc: Global, line: &str) -> Result<Vec<&str>, AllocError> {
 
 // Executes a command. Shows the status, the answer and the files that were written.
 fn tell_answer(
-    rt: &(impl Files + AllocGlobal + Threads + Wait + Sync),
+    rt: &(impl Files + Device + AllocGlobal + Threads + Wait + Sync),
     line: &str,
     files: &mut LentFiles,
     text: &mut String,
@@ -165,7 +166,7 @@ fn tell_status(
 // Executes a command with a writer that has room for so many bytes. Shows the status, or the fault and the bytes that the
 // writer took.
 fn tell_front(
-    rt: &(impl Files + AllocGlobal + Threads + Wait + Sync),
+    rt: &(impl Files + Device + AllocGlobal + Threads + Wait + Sync),
     line: &str,
     room: usize,
     files: &mut LentFiles,
@@ -209,7 +210,7 @@ enum Fate {
 
 // Executes a command.
 fn done<W: Write>(
-    rt: &(impl Files + AllocGlobal + Threads + Wait + Sync),
+    rt: &(impl Files + Device + AllocGlobal + Threads + Wait + Sync),
     line: &str,
     files: &mut LentFiles,
     out: &mut W,
@@ -220,7 +221,7 @@ fn done<W: Write>(
 }
 
 fn done_by<W: Write>(
-    rt: &(impl Files + AllocGlobal + Threads + Wait + Sync),
+    rt: &(impl Files + Device + AllocGlobal + Threads + Wait + Sync),
     words: &[&str],
     files: &mut LentFiles,
     out: &mut W,
@@ -235,7 +236,7 @@ fn done_by<W: Write>(
 }
 
 fn served<W: Write>(
-    rt: &(impl Files + AllocGlobal + Threads + Wait + Sync),
+    rt: &(impl Files + Device + AllocGlobal + Threads + Wait + Sync),
     files: &mut LentFiles,
     out: &mut W,
 ) -> Fate {
@@ -247,7 +248,7 @@ fn served<W: Write>(
 }
 
 fn carried_out<W: Write>(
-    rt: &(impl Files + AllocGlobal + Threads + Wait + Sync),
+    rt: &(impl Files + Device + AllocGlobal + Threads + Wait + Sync),
     request: Request<'_>,
     explains: bool,
     files: &mut LentFiles,
@@ -264,7 +265,7 @@ fn carried_out<W: Write>(
 }
 
 fn tell_bounds(
-    rt: &(impl Files + AllocGlobal + Threads + Wait + Sync),
+    rt: &(impl Files + Device + AllocGlobal + Threads + Wait + Sync),
     body: &str,
     files: &mut LentFiles,
     text: &mut String,

@@ -8,8 +8,9 @@ mod simulations;
 mod threads;
 
 use anyhow::Result;
+use checkpoint::Device;
 use commands::lent_files::{LentFiles, lend_files};
-use conformance_cases::{is_case, named, one_line};
+use conformance_cases::{CaseFiles, is_case, named, one_line};
 use std::alloc::AllocError;
 use std::fs;
 use std::rt::Files;
@@ -20,7 +21,9 @@ fn main(rt: HostRuntime) -> Result<()> {
     show(&rt)
 }
 
-fn show(rt: &(impl Files + Print + AllocGlobal + Threads + Wait + Sync)) -> Result<()> {
+fn show(
+    rt: &(impl Files + CaseFiles + Device + Print + AllocGlobal + Threads + Wait + Sync),
+) -> Result<()> {
     simulations::show(rt)?;
     threads::show(rt)?;
     let mut files = LentFiles::new(rt.alloc());
@@ -35,7 +38,7 @@ enum Cases {
 }
 
 fn show_over(
-    rt: &(impl Files + Print + AllocGlobal + Threads + Wait + Sync),
+    rt: &(impl Files + CaseFiles + Device + Print + AllocGlobal + Threads + Wait + Sync),
     files: &mut LentFiles,
 ) -> Result<()> {
     lend_files(rt, files)?;
@@ -44,7 +47,7 @@ fn show_over(
 }
 
 fn show_file(
-    rt: &(impl Files + Print + AllocGlobal + Threads + Wait + Sync),
+    rt: &(impl Files + CaseFiles + Device + Print + AllocGlobal + Threads + Wait + Sync),
     path: &str,
     cases: Cases,
     files: &mut LentFiles,
@@ -54,7 +57,7 @@ fn show_file(
 }
 
 fn show_lines(
-    rt: &(impl Files + Print + AllocGlobal + Threads + Wait + Sync),
+    rt: &(impl Files + CaseFiles + Device + Print + AllocGlobal + Threads + Wait + Sync),
     text: &str,
     cases: Cases,
     files: &mut LentFiles,
@@ -68,7 +71,7 @@ fn show_lines(
 }
 
 fn show_line(
-    rt: &(impl Files + Print + AllocGlobal + Threads + Wait + Sync),
+    rt: &(impl Files + CaseFiles + Device + Print + AllocGlobal + Threads + Wait + Sync),
     line: &str,
     cases: Cases,
     files: &mut LentFiles,
@@ -88,7 +91,7 @@ fn name_of(line: &str, cases: Cases) -> &str {
 
 // Returns the answer to a case on one line.
 fn answer(
-    rt: &(impl Files + AllocGlobal + Threads + Wait + Sync),
+    rt: &(impl Files + CaseFiles + Device + AllocGlobal + Threads + Wait + Sync),
     line: &str,
     cases: Cases,
     files: &mut LentFiles,
@@ -101,7 +104,7 @@ fn answer(
 }
 
 fn tell(
-    rt: &(impl Files + AllocGlobal + Threads + Wait + Sync),
+    rt: &(impl Files + CaseFiles + Device + AllocGlobal + Threads + Wait + Sync),
     line: &str,
     cases: Cases,
     files: &mut LentFiles,

@@ -13,11 +13,12 @@ mod lines;
 
 use crate::commands::lent_files::{LentFiles, spelled_bytes};
 use crate::threads::gates::{Plan, PlannedGate};
+use checkpoint::Device;
 use lines::{Given, Limits, NO_LIMITS, Taken};
+use plain_session::serve_on_one_machine;
 use run_views::{Loss, LossGate};
-use session::{ServeFault, serve_on_one_machine};
+use session::ServeFault;
 use std::alloc::AllocError;
-use std::rt::Files;
 use std::str;
 use std::sync::Wait;
 use std::thread::Threads;
@@ -26,7 +27,7 @@ use workers::{Gate, NoLoss};
 
 /// Writes the answer to a case.
 pub fn tell(
-    rt: &(impl Wait + Threads + Sync + Files + AllocGlobal),
+    rt: &(impl Wait + Threads + Sync + Device + AllocGlobal),
     case: &str,
     files: &mut LentFiles,
     text: &mut String,
@@ -37,7 +38,7 @@ pub fn tell(
 }
 
 fn tell_served(
-    rt: &(impl Wait + Threads + Sync + Files + AllocGlobal),
+    rt: &(impl Wait + Threads + Sync + Device + AllocGlobal),
     way: &str,
     lines: &[u8],
     files: &mut LentFiles,
@@ -55,7 +56,7 @@ fn tell_served(
 }
 
 fn tell_in_threads<G: Gate + Sync>(
-    rt: &(impl Wait + Threads + Sync + Files + AllocGlobal),
+    rt: &(impl Wait + Threads + Sync + Device + AllocGlobal),
     lines: &[u8],
     files: &mut LentFiles,
     gate: &G,
@@ -69,7 +70,7 @@ fn tell_in_threads<G: Gate + Sync>(
 }
 
 fn tell_held(
-    rt: &(impl Wait + Threads + Sync + Files + AllocGlobal),
+    rt: &(impl Wait + Threads + Sync + Device + AllocGlobal),
     lines: &[u8],
     files: &mut LentFiles,
     text: &mut String,

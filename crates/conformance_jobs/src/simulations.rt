@@ -19,13 +19,15 @@ pub mod faulty_keep;
 pub mod sweeps;
 
 use anyhow::Result;
-use conformance_cases::{bytes, fault_told, job_in, named, one_line, show_cases, spelled};
+use checkpoint::Device;
+use conformance_cases::{
+    CaseFiles, bytes, fault_told, job_in, named, one_line, show_cases, spelled,
+};
 use doubles::doubled;
 use faulty_keep::{FaultyKeep, Wrong};
 use plain_commands::{steps_of, trace_text};
 use rollback::{Step, simulate};
 use std::alloc::{AllocError, Global};
-use std::rt::Files;
 use std::thread::Threads;
 use superstep::Job;
 use sweeps::{drawn, losses};
@@ -33,7 +35,7 @@ use sweeps::{drawn, losses};
 // The answer to a case with a number that is none.
 const NO_NUMBER: &str = "no number";
 
-pub fn show(rt: &(impl Files + Print + AllocGlobal + Threads + Sync)) -> Result<()> {
+pub fn show(rt: &(impl CaseFiles + Device + Print + AllocGlobal + Threads + Sync)) -> Result<()> {
     show_cases(
         rt,
         "rollback/simulations.txt",
@@ -42,7 +44,7 @@ pub fn show(rt: &(impl Files + Print + AllocGlobal + Threads + Sync)) -> Result<
 }
 
 fn answer(
-    rt: &(impl Files + AllocGlobal + Threads + Sync),
+    rt: &(impl CaseFiles + Device + AllocGlobal + Threads + Sync),
     case: &str,
 ) -> Result<String, AllocError> {
     let lines = lines_of(rt, case)?;
@@ -57,7 +59,7 @@ fn parts_of(case: &str) -> (&str, &str, &str) {
 }
 
 fn lines_of(
-    rt: &(impl Files + AllocGlobal + Threads + Sync),
+    rt: &(impl CaseFiles + Device + AllocGlobal + Threads + Sync),
     case: &str,
 ) -> Result<String, AllocError> {
     let alloc = rt.alloc();
@@ -69,7 +71,7 @@ fn lines_of(
     }
 }
 
-fn lines_over<R: Files + AllocGlobal + Threads + Sync>(
+fn lines_over<R: Device + AllocGlobal + Threads + Sync>(
     rt: &R,
     alloc: Global,
     keep: &str,
@@ -83,7 +85,7 @@ fn lines_over<R: Files + AllocGlobal + Threads + Sync>(
     }
 }
 
-fn lines_by<R: Files + AllocGlobal + Threads + Sync>(
+fn lines_by<R: Device + AllocGlobal + Threads + Sync>(
     rt: &R,
     alloc: Global,
     keep: &str,
@@ -121,7 +123,7 @@ fn wrong_of(alloc: Global, word: &str, rest: &str) -> Result<Option<Wrong>, Allo
     })
 }
 
-fn simulated<R: Files + AllocGlobal + Threads + Sync>(
+fn simulated<R: Device + AllocGlobal + Threads + Sync>(
     rt: &R,
     alloc: Global,
     job: &Job,
@@ -132,7 +134,7 @@ fn simulated<R: Files + AllocGlobal + Threads + Sync>(
     simulated_with(rt, alloc, job, &mut keep, steps)
 }
 
-fn simulated_with<R: Files + AllocGlobal + Threads + Sync>(
+fn simulated_with<R: Device + AllocGlobal + Threads + Sync>(
     rt: &R,
     alloc: Global,
     job: &Job,

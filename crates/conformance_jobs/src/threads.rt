@@ -20,14 +20,13 @@ pub mod gates;
 use crate::simulations::faulty_keep::{FaultyKeep, Wrong};
 use crate::simulations::sweeps::are_alike;
 use anyhow::Result;
-use checkpoint::{Keep, MemoryKeep};
-use conformance_cases::{fault_told, job_in, named, show_cases};
+use checkpoint::{Device, Keep, MemoryKeep};
+use conformance_cases::{CaseFiles, fault_told, job_in, named, show_cases};
 use gates::{LateGate, Plan, PlannedGate, WatchedGate};
 use plain_run::one_machine;
 use rollback::Report;
 use run_views::{Loss, LossGate};
 use std::alloc::{AllocError, Global};
-use std::rt::Files;
 use std::sync::Wait;
 use std::thread::Threads;
 use superstep::{Job, JobEnd, JobFault};
@@ -36,7 +35,9 @@ use workers::{Gate, NoLoss, run_in_threads};
 // How many calls of a device fail in turn.
 const CALLS: u64 = 4;
 
-pub fn show<R: Files + Print + AllocGlobal + Threads + Wait + Sync>(rt: &R) -> Result<()> {
+pub fn show<R: CaseFiles + Device + Print + AllocGlobal + Threads + Wait + Sync>(
+    rt: &R,
+) -> Result<()> {
     show_cases(
         rt,
         "workers/threads.txt",
@@ -44,7 +45,7 @@ pub fn show<R: Files + Print + AllocGlobal + Threads + Wait + Sync>(rt: &R) -> R
     )
 }
 
-fn answer<R: Files + AllocGlobal + Threads + Wait + Sync>(
+fn answer<R: CaseFiles + Device + AllocGlobal + Threads + Wait + Sync>(
     rt: &R,
     case: &str,
 ) -> Result<String, AllocError> {
@@ -124,7 +125,7 @@ impl End {
     }
 }
 
-fn ran<R: Files + AllocGlobal + Threads + Wait + Sync>(
+fn ran<R: Device + AllocGlobal + Threads + Wait + Sync>(
     rt: &R,
     alloc: Global,
     gate: &str,
@@ -174,7 +175,7 @@ fn asked_by(words: &str) -> Asked<'_> {
     }
 }
 
-fn ran_beside<R: Files + AllocGlobal + Threads + Wait + Sync>(
+fn ran_beside<R: Device + AllocGlobal + Threads + Wait + Sync>(
     rt: &R,
     alloc: Global,
     words: &str,
@@ -195,7 +196,7 @@ fn ran_beside<R: Files + AllocGlobal + Threads + Wait + Sync>(
     }
 }
 
-fn driven<R: Files + AllocGlobal + Threads + Wait + Sync>(
+fn driven<R: Device + AllocGlobal + Threads + Wait + Sync>(
     rt: &R,
     alloc: Global,
     job: &Job,
@@ -205,7 +206,7 @@ fn driven<R: Files + AllocGlobal + Threads + Wait + Sync>(
 }
 
 // Runs a job whose states are in this Keep.
-fn end_with<K: Keep + Drop, G: Gate + Sync, R: Files + AllocGlobal + Threads + Wait + Sync>(
+fn end_with<K: Keep + Drop, G: Gate + Sync, R: Device + AllocGlobal + Threads + Wait + Sync>(
     rt: &R,
     alloc: Global,
     job: &Job,
@@ -218,7 +219,7 @@ fn end_with<K: Keep + Drop, G: Gate + Sync, R: Files + AllocGlobal + Threads + W
 }
 
 // Runs a job whose states are in memory.
-fn end_of<G: Gate + Sync, R: Files + AllocGlobal + Threads + Wait + Sync>(
+fn end_of<G: Gate + Sync, R: Device + AllocGlobal + Threads + Wait + Sync>(
     rt: &R,
     alloc: Global,
     job: &Job,
@@ -229,7 +230,7 @@ fn end_of<G: Gate + Sync, R: Files + AllocGlobal + Threads + Wait + Sync>(
 }
 
 // Runs a job whose worker is lost as the words say.
-fn ended_by<R: Files + AllocGlobal + Threads + Wait + Sync>(
+fn ended_by<R: Device + AllocGlobal + Threads + Wait + Sync>(
     rt: &R,
     alloc: Global,
     job: &Job,
@@ -250,7 +251,7 @@ fn gate_of(words: &str) -> LossGate {
     LossGate::new(Loss::read(loss), again == "again")
 }
 
-fn repeated<R: Files + AllocGlobal + Threads + Wait + Sync>(
+fn repeated<R: Device + AllocGlobal + Threads + Wait + Sync>(
     rt: &R,
     alloc: Global,
     job: &Job,
@@ -266,7 +267,7 @@ fn repeated<R: Files + AllocGlobal + Threads + Wait + Sync>(
     format!(in alloc; "{alike} of {times} alike")
 }
 
-fn held<R: Files + AllocGlobal + Threads + Wait + Sync>(
+fn held<R: Device + AllocGlobal + Threads + Wait + Sync>(
     rt: &R,
     alloc: Global,
     job: &Job,
@@ -278,7 +279,7 @@ fn held<R: Files + AllocGlobal + Threads + Wait + Sync>(
 }
 
 // Shows whether a lost worker has come back.
-fn watched<R: Files + AllocGlobal + Threads + Wait + Sync>(
+fn watched<R: Device + AllocGlobal + Threads + Wait + Sync>(
     rt: &R,
     alloc: Global,
     job: &Job,
@@ -299,7 +300,7 @@ fn came_word(has_come_back: bool) -> &'static str {
 }
 
 // Shows whether a worker has come back that was lost by its lease and then by its gate.
-fn late<R: Files + AllocGlobal + Threads + Wait + Sync>(
+fn late<R: Device + AllocGlobal + Threads + Wait + Sync>(
     rt: &R,
     alloc: Global,
     job: &Job,
@@ -311,7 +312,7 @@ fn late<R: Files + AllocGlobal + Threads + Wait + Sync>(
 }
 
 // Shows whether a job ends alike, with no save missed, or without workers.
-fn ticked<R: Files + AllocGlobal + Threads + Wait + Sync>(
+fn ticked<R: Device + AllocGlobal + Threads + Wait + Sync>(
     rt: &R,
     alloc: Global,
     job: &Job,
@@ -326,7 +327,7 @@ fn ticked<R: Files + AllocGlobal + Threads + Wait + Sync>(
     String::from_str(alloc, word)
 }
 
-fn led<R: Files + AllocGlobal + Threads + Wait + Sync>(
+fn led<R: Device + AllocGlobal + Threads + Wait + Sync>(
     rt: &R,
     alloc: Global,
     job: &Job,
@@ -339,7 +340,7 @@ fn led<R: Files + AllocGlobal + Threads + Wait + Sync>(
 }
 
 // Loses the worker that takes a part in a superstep, for each part in each superstep.
-fn lost_in_turn<R: Files + AllocGlobal + Threads + Wait + Sync>(
+fn lost_in_turn<R: Device + AllocGlobal + Threads + Wait + Sync>(
     rt: &R,
     alloc: Global,
     job: &Job,
@@ -350,7 +351,7 @@ fn lost_in_turn<R: Files + AllocGlobal + Threads + Wait + Sync>(
     Ok(text)
 }
 
-fn tell_losses<R: Files + AllocGlobal + Threads + Wait + Sync>(
+fn tell_losses<R: Device + AllocGlobal + Threads + Wait + Sync>(
     rt: &R,
     alloc: Global,
     job: &Job,
@@ -367,7 +368,7 @@ fn tell_losses<R: Files + AllocGlobal + Threads + Wait + Sync>(
 }
 
 // Counts the devices failing at one call with which a job ends alike.
-fn failing<R: Files + AllocGlobal + Threads + Wait + Sync>(
+fn failing<R: Device + AllocGlobal + Threads + Wait + Sync>(
     rt: &R,
     alloc: Global,
     job: &Job,

@@ -11,7 +11,7 @@ use Rattle.requests.specs.declared.request.RunRequest.{RunRequest}
 use Rattle.sources.specs.declared.fault.CommandFault.{CommandFault}
 use Rattle.sources.specs.declared.fault.CommandFault.TheVariants as command
 use Rattle.sources.specs.Disk.{Disk}
-use Rattle.sources.specs.Modules.{is_text_path}
+use Rattle.wat_asm.specs.Paths.{is_text_path}
 use Rattle.call_lines.specs.OutputLines.{IfText, line}
 use Rattle.sources.specs.Refusal.{fault_text, status_of}
 use Rattle.sources.specs.Source.{RefusesLoad, RefusesModule}

@@ -8,7 +8,7 @@ ghost use Rattle.plain_commands.specs.Notes.{NotesEnd, NotesFault, NotesOnly, Ha
 ghost use Rattle.rollback.specs.Saving.{HasLeft};
 ghost use Rattle.console.specs.inside.Answering.{AreLinesOfAnswer, IsFaultOfAnswer};
 
-use checkpoint::Keep;
+use checkpoint::{Device, Keep};
 use plain_commands::{RunNotes, ended_text};
 use rollback::Report;
 use run_views::{RunGate, View, warn_of_missed};
@@ -22,7 +22,7 @@ use workers::{resume_in_threads, run_in_threads};
 /// What a job prints that goes on where an earlier run of it has left off, before this superstep of the Keep's last save: the lines
 /// that `run` prints.
 pub fn resume<'a, K: Keep + Drop, V: View + Sync, F: Files>(
-    rt: &(impl Wait + Threads + Sync + std::rt::Files + AllocGlobal),
+    rt: &(impl Wait + Threads + Sync + Device + AllocGlobal),
     alloc: Global,
     job: &Job,
     keep: K,
@@ -69,7 +69,7 @@ pub fn resume<'a, K: Keep + Drop, V: View + Sync, F: Files>(
 ///
 /// Where the gate watches the job, what it was and did is noted, however it ended.
 pub fn run<'a, K: Keep + Drop, V: View + Sync, F: Files>(
-    rt: &(impl Wait + Threads + Sync + std::rt::Files + AllocGlobal),
+    rt: &(impl Wait + Threads + Sync + Device + AllocGlobal),
     alloc: Global,
     job: &Job,
     keep: K,

@@ -12,10 +12,9 @@ ghost use Rattle.hub_ends.specs.Hub.{HasByes, IsSameHub, IsStopped, IsUnused, ha
 ghost use Rattle.channels.specs.Orders.{at, tasks_in};
 
 use channels::Closed;
-use checkpoint::Keep;
+use checkpoint::{Device, Keep};
 use hub_ends::{CoordinatorEnds, Message, VerdictSender};
 use rollback::{Answer, Book, Event, JobStatus, Report};
-use std::rt::Files;
 use std::sync::Wait;
 use std::thread::Threads;
 use superstep::{JobFault, Origin};
@@ -189,7 +188,7 @@ fn offer_free<J: Origin, R: Wait>(
 
 // Takes one message, and gives it to the book if it is an event. Returns who may be free then, and the verdict that is
 // due if the event is a loss.
-fn take_one<J: Origin, K: Keep, R: Wait + Threads + Sync + Files + AllocGlobal>(
+fn take_one<J: Origin, K: Keep, R: Wait + Threads + Sync + Device + AllocGlobal>(
     rt: &R,
     ends: &mut CoordinatorEnds<J>,
     book: &mut Book<J>,
@@ -254,7 +253,7 @@ fn offer_or_stop<J: Origin, R: Wait>(
 
 // Runs the job to its end: sends tasks, takes messages, and tells workers that listen of their losses. Then stops all,
 // and takes messages until every sender has said bye.
-fn run_out<J: Origin, K: Keep, R: Wait + Threads + Sync + Files + AllocGlobal>(
+fn run_out<J: Origin, K: Keep, R: Wait + Threads + Sync + Device + AllocGlobal>(
     rt: &R,
     ends: &mut CoordinatorEnds<J>,
     book: &mut Book<J>,
@@ -296,7 +295,7 @@ fn run_out<J: Origin, K: Keep, R: Wait + Threads + Sync + Files + AllocGlobal>(
 
 /// Drives a job to its end, stops all, waits for every bye, and returns the report. It tells each worker that listens, the
 /// first ones by their numbers, which of its losses were counted. If a channel is closed, it stops all and returns `Closed`.
-pub fn drive<J: Origin, K: Keep, R: Wait + Threads + Sync + Files + AllocGlobal>(
+pub fn drive<J: Origin, K: Keep, R: Wait + Threads + Sync + Device + AllocGlobal>(
     rt: &R,
     ends: &mut CoordinatorEnds<J>,
     mut book: Book<J>,

@@ -12,7 +12,7 @@ ghost use Rattle.plain_commands.specs.Causes.{IsNoStepsAt, IsUnreplayed};
 use crate::ended::{push_ended, push_numbered};
 use crate::opening::job_of;
 use crate::steps::steps_of;
-use checkpoint::MemoryKeep;
+use checkpoint::{Device, MemoryKeep};
 use requests::JobRequest;
 use rollback::{Answer, Outcome, Report, Step, StepAnswer, Trace, simulate};
 use sources::{CommandFault, Files, read_text};
@@ -22,7 +22,7 @@ use superstep::Job;
 
 /// Replays the job of the module in one file over the graph in another, by the steps in a third.
 pub fn replay_files<'a, F: Files>(
-    rt: &(impl Threads + Sync + std::rt::Files + AllocGlobal),
+    rt: &(impl Threads + Sync + Device + AllocGlobal),
     alloc: Global,
     asked: JobRequest<'a>,
     steps: &'a str,
@@ -58,7 +58,7 @@ fn read_steps<'a, F: Files>(
 // The line of a step is `idle`, `handed PART`, `taken`, `advanced S`, `rolledback S`, `stale` or `ended`. If the job has
 // ended, the lines of `run` follow, then `epoch E missed M restarts R`, and `spent W U` for each worker. Otherwise `open
 // S` follows. A job that ends with a fault has no lines.
-fn replay<'a, R: Threads + Sync + std::rt::Files + AllocGlobal>(
+fn replay<'a, R: Threads + Sync + Device + AllocGlobal>(
     rt: &R,
     alloc: Global,
     job: &Job,

@@ -11,6 +11,7 @@ mod progress_line;
 use crate::failure_recorder::FailureRecorder;
 use crate::program::execute;
 use crate::progress_line::ProgressLine;
+use checkpoint::Device;
 use clap::error::ErrorKind;
 use command_line::options;
 use requests::Options;
@@ -37,7 +38,17 @@ fn main(rt: HostRuntime) -> ExitCode {
 // * 3: a job that ended with a fault;
 // * 4: a file, standard input or standard output that cannot be read or written, or a session that ran out of memory.
 fn run(
-    rt: &(impl Clock + Env + Input + Files + Print + Eprint + AllocGlobal + Threads + Wait + Sync),
+    rt: &(impl Clock
+        + Env
+        + Input
+        + Files
+        + Device
+        + Print
+        + Eprint
+        + AllocGlobal
+        + Threads
+        + Wait
+        + Sync),
     is_terminal: bool,
 ) -> io::Result<u8> {
     match env::args(rt) {
@@ -55,7 +66,16 @@ fn run(
 
 // Does what the words ask for; the first is the program's name. Standard error is a terminal or is not.
 fn read_and_execute(
-    rt: &(impl Clock + Input + Files + Print + Eprint + AllocGlobal + Threads + Wait + Sync),
+    rt: &(impl Clock
+        + Input
+        + Files
+        + Device
+        + Print
+        + Eprint
+        + AllocGlobal
+        + Threads
+        + Wait
+        + Sync),
     words: &[String],
     is_terminal: bool,
 ) -> io::Result<u8> {
@@ -76,7 +96,16 @@ fn refuse_words(rt: &(impl Print + Eprint), error: &clap::Error) -> io::Result<u
 
 // Does what the options ask for, with the system's files and streams.
 fn execute_asked(
-    rt: &(impl Clock + Input + Files + Print + Eprint + AllocGlobal + Threads + Wait + Sync),
+    rt: &(impl Clock
+        + Input
+        + Files
+        + Device
+        + Print
+        + Eprint
+        + AllocGlobal
+        + Threads
+        + Wait
+        + Sync),
     options: Options<'_>,
     is_terminal: bool,
 ) -> u8 {

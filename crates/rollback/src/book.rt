@@ -20,13 +20,12 @@ use crate::recovery::{hold, hold_opened, put_back};
 use crate::replies::{advanced_reply, ended_reply, rolled_reply};
 use crate::report::{Report, Status, report_of};
 use crate::saving::save_if_due;
-use checkpoint::Keep;
+use checkpoint::{Device, Keep};
 use control::{Answer, Control, Out};
 use events::Event;
 use std::alloc::{AllocError, Global};
 use std::marker::Model;
 use std::mem;
-use std::rt::Files;
 use std::thread::Threads;
 use superstep::{Done, Job, JobFault, Origin, Place, State, Task, VertexState, first_state};
 
@@ -100,7 +99,7 @@ fn ids_of_job(alloc: Global, job: &Job) -> Result<Vec<u64>, AllocError>
     ids_of(alloc, &vertices)
 }
 
-fn resume_book<'a, J: Origin, K: Keep, R: Files + AllocGlobal>(
+fn resume_book<'a, J: Origin, K: Keep, R: Device + AllocGlobal>(
     rt: &R,
     alloc: Global,
     job: &'a Job,
@@ -159,7 +158,7 @@ impl<'a, J: Origin> Book<'a, J> {
     ///
     /// It asks that the superstep is the Keep's last and below the limit. The only refusal is that there is no memory, to `Open`
     /// it.
-    pub fn resume<K: Keep, R: Files + AllocGlobal>(
+    pub fn resume<K: Keep, R: Device + AllocGlobal>(
         rt: &R,
         alloc: Global,
         job: &'a Job,
@@ -249,7 +248,7 @@ impl<'a, J: Origin> Book<'a, J> {
     }
 
     // Closes the superstep, of which all parts are done.
-    fn close<K: Keep, R: Threads + Sync + Files + AllocGlobal>(
+    fn close<K: Keep, R: Threads + Sync + Device + AllocGlobal>(
         &mut self,
         rt: &R,
         keep: &mut K,
@@ -277,7 +276,7 @@ impl<'a, J: Origin> Book<'a, J> {
     }
 
     // Counts a result of a worker that exists, or leaves it out.
-    fn count_done<K: Keep, R: Threads + Sync + Files + AllocGlobal>(
+    fn count_done<K: Keep, R: Threads + Sync + Device + AllocGlobal>(
         &mut self,
         rt: &R,
         worker: usize,
@@ -308,7 +307,7 @@ impl<'a, J: Origin> Book<'a, J> {
         }
     }
 
-    fn on_done<K: Keep, R: Threads + Sync + Files + AllocGlobal>(
+    fn on_done<K: Keep, R: Threads + Sync + Device + AllocGlobal>(
         &mut self,
         rt: &R,
         worker: usize,
@@ -365,7 +364,7 @@ impl<'a, J: Origin> Book<'a, J> {
         Ok(Answer::Taken)
     }
 
-    fn on_lost<K: Keep, R: Threads + Sync + Files + AllocGlobal>(
+    fn on_lost<K: Keep, R: Threads + Sync + Device + AllocGlobal>(
         &mut self,
         rt: &R,
         worker: usize,
@@ -395,7 +394,7 @@ impl<'a, J: Origin> Book<'a, J> {
         rolled_reply(&self.control)
     }
 
-    fn on_tick<K: Keep, R: Threads + Sync + Files + AllocGlobal>(
+    fn on_tick<K: Keep, R: Threads + Sync + Device + AllocGlobal>(
         &mut self,
         rt: &R,
         keep: &mut K,
@@ -457,7 +456,7 @@ impl<'a, J: Origin> Book<'a, J> {
     /// It allocates only when it closes a superstep or rolls back. The faults are `NoWorkers`, and `OutOfMemory` of
     /// `Merge`, `Save`, `Load`, `Slice` or the place of a `Failed`. A fault ends the job, and each later event returns
     /// it again.
-    pub fn accept<K: Keep, R: Threads + Sync + Files + AllocGlobal>(
+    pub fn accept<K: Keep, R: Threads + Sync + Device + AllocGlobal>(
         &mut self,
         rt: &R,
         event: Event<J>,

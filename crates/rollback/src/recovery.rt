@@ -12,10 +12,9 @@ ghost use Rattle.rollback.specs.inside.Recovery.{IsFirst, IsHeldOf, StandsBack, 
 use crate::job_data::JobData;
 use crate::parts::Parts;
 use crate::saving::load;
-use checkpoint::{Keep, a_checkpoint_is_of_one_state};
+use checkpoint::{Device, Keep, a_checkpoint_is_of_one_state};
 use control::{Control, JobStatus};
 use std::alloc::{AllocError, Global};
-use std::rt::Files;
 use superstep::{Job, Origin, Place, State, first_state};
 
 /// Turns a state into the book's data: its parts if the job goes on, and all of it otherwise.
@@ -76,7 +75,7 @@ pub fn hold_opened<J: Origin>(
 }
 
 /// Makes the data after a loss: of the last saved state, or of superstep 0 if there is none or it cannot be loaded.
-pub fn put_back<J: Origin, K: Keep, R: Files + AllocGlobal>(
+pub fn put_back<J: Origin, K: Keep, R: Device + AllocGlobal>(
     rt: &R,
     alloc: Global,
     job: &Job,

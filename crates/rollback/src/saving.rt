@@ -8,14 +8,13 @@ ghost use Rattle.control.specs.Machine.{is_saved_now};
 ghost use Rattle.control.specs.declared.job_status.DeviceResult.{DeviceResult};
 ghost use Rattle.rollback.specs.inside.Loading.{HasIds, IsLoaded, IsNotOf};
 
-use checkpoint::{CheckpointFault, Keep, KeepFault, read, write};
+use checkpoint::{CheckpointFault, Device, Keep, KeepFault, read, write};
 use control::{Control, DeviceResult};
 use std::alloc::{AllocError, Global};
-use std::rt::Files;
 use superstep::{State, VertexState};
 
 // Saves a state, and returns how it went.
-fn save<K: Keep, R: Files + AllocGlobal>(
+fn save<K: Keep, R: Device + AllocGlobal>(
     rt: &R,
     alloc: Global,
     keep: &mut K,
@@ -36,7 +35,7 @@ fn save<K: Keep, R: Files + AllocGlobal>(
 }
 
 /// Saves the state of the new superstep, if a save is due.
-pub fn save_if_due<K: Keep, R: Files + AllocGlobal>(
+pub fn save_if_due<K: Keep, R: Device + AllocGlobal>(
     rt: &R,
     alloc: Global,
     control: &mut Control,
@@ -98,7 +97,7 @@ fn read_state(
 
 /// Loads the last saved state, which is of this superstep and has these ids. `None`: the device failed, or the bytes
 /// are not the checkpoint of such a state.
-pub fn load<K: Keep, R: Files + AllocGlobal>(
+pub fn load<K: Keep, R: Device + AllocGlobal>(
     rt: &R,
     alloc: Global,
     keep: &mut K,

@@ -18,14 +18,13 @@ ghost use Rattle.rollback.specs.declared.simulation.Step.TheVariants.{Join, Take
 
 use crate::book::Book;
 use crate::report::Report;
-use checkpoint::Keep;
+use checkpoint::{Device, Keep};
 use control::{Answer, JobStatus};
 use events::Event;
 use interp::{Scratch, calls_are_a_function, calls_end};
 use std::alloc::{AllocError, Global};
 use std::marker::Brand;
 use std::mem;
-use std::rt::Files;
 use std::thread::Threads;
 use superstep::{Job, JobFault, Origin, Place, Task, run_task};
 
@@ -97,7 +96,7 @@ fn done_by<J: Origin>(runner: &mut TaskRunner, worker: u32, task: Task<J>) -> Ev
 }
 
 // Gives the book an event, and returns the step's answer.
-fn tell<J: Origin, K: Keep, R: Threads + Sync + Files + AllocGlobal>(
+fn tell<J: Origin, K: Keep, R: Threads + Sync + Device + AllocGlobal>(
     rt: &R,
     book: &mut Book<J>,
     keep: &mut K,
@@ -172,7 +171,7 @@ fn take<J: Origin>(book: &mut Book<J>, held: &mut [Option<Task<J>>], worker: u32
     StepAnswer::Handed(part)
 }
 
-fn work<J: Origin, K: Keep, R: Threads + Sync + Files + AllocGlobal>(
+fn work<J: Origin, K: Keep, R: Threads + Sync + Device + AllocGlobal>(
     rt: &R,
     runner: &mut TaskRunner,
     book: &mut Book<J>,
@@ -208,7 +207,7 @@ fn work<J: Origin, K: Keep, R: Threads + Sync + Files + AllocGlobal>(
     tell(rt, book, keep, event)
 }
 
-fn join<J: Origin, K: Keep, R: Threads + Sync + Files + AllocGlobal>(
+fn join<J: Origin, K: Keep, R: Threads + Sync + Device + AllocGlobal>(
     rt: &R,
     book: &mut Book<J>,
     held: &mut [Option<Task<J>>],
@@ -228,7 +227,7 @@ fn join<J: Origin, K: Keep, R: Threads + Sync + Files + AllocGlobal>(
     tell(rt, book, keep, Event::Joined(worker))
 }
 
-fn step_of<J: Origin, K: Keep, R: Threads + Sync + Files + AllocGlobal>(
+fn step_of<J: Origin, K: Keep, R: Threads + Sync + Device + AllocGlobal>(
     rt: &R,
     runner: &mut TaskRunner,
     book: &mut Book<J>,
@@ -257,7 +256,7 @@ fn step_of<J: Origin, K: Keep, R: Threads + Sync + Files + AllocGlobal>(
 }
 
 // Runs the steps, one after another, and writes down each answer.
-fn run<J: Origin, K: Keep, R: Threads + Sync + Files + AllocGlobal>(
+fn run<J: Origin, K: Keep, R: Threads + Sync + Device + AllocGlobal>(
     rt: &R,
     runner: &mut TaskRunner,
     book: &mut Book<J>,
@@ -308,7 +307,7 @@ fn empty_hands<J: Origin>(alloc: Global, workers: u32) -> Result<Vec<Option<Task
 }
 
 // Runs the steps, before which no worker holds a task, and returns the answers.
-fn answers_to<J: Origin, K: Keep, R: Threads + Sync + Files + AllocGlobal>(
+fn answers_to<J: Origin, K: Keep, R: Threads + Sync + Device + AllocGlobal>(
     rt: &R,
     runner: &mut TaskRunner,
     book: &mut Book<J>,
@@ -332,7 +331,7 @@ fn answers_to<J: Origin, K: Keep, R: Threads + Sync + Files + AllocGlobal>(
 }
 
 // Simulates the job whose tasks the runner does.
-fn simulate_by<J: Origin, K: Keep, R: Threads + Sync + Files + AllocGlobal>(
+fn simulate_by<J: Origin, K: Keep, R: Threads + Sync + Device + AllocGlobal>(
     rt: &R,
     runner: &mut TaskRunner,
     keep: &mut K,
@@ -353,7 +352,7 @@ fn simulate_by<J: Origin, K: Keep, R: Threads + Sync + Files + AllocGlobal>(
 }
 
 // Does the same for a job that a type names.
-fn simulate_as<J: Origin, K: Keep, R: Threads + Sync + Files + AllocGlobal>(
+fn simulate_as<J: Origin, K: Keep, R: Threads + Sync + Device + AllocGlobal>(
     rt: &R,
     alloc: Global,
     job: &Job,
@@ -392,7 +391,7 @@ fn calls_stay_within(job: &Job)
 ///
 /// An `Err` is the fault that ended the job: `NoWorkers`, or `OutOfMemory` with its place. The place is `Open` or
 /// `Call` before the first step, and `Report` for the report. The Keep is then as saves and loads left it.
-pub fn simulate<K: Keep, R: Threads + Sync + Files + AllocGlobal>(
+pub fn simulate<K: Keep, R: Threads + Sync + Device + AllocGlobal>(
     rt: &R,
     alloc: Global,
     job: &Job,

@@ -8,7 +8,8 @@ use Rattle.sources.specs.declared.fault.CommandFault.{CommandFault}
 use Rattle.sources.specs.Disk.{Disk, Stays}
 use Rattle.sources.specs.Source.{RefusesLoad}
 use Rattle.sources.specs.Jobs.{IsGraphIn}
-use Rattle.sources.specs.Modules.{Loads, is_text_path}
+use Rattle.sources.specs.Modules.{Loads}
+use Rattle.wat_asm.specs.Paths.{is_text_path}
 use Rattle.sources.specs.Reading.{IsRefusedAt}
 use Rattle.sources.proofs.Disks.{holds_before, no_graph_before, unread_before}
 use Rattle.session_lines.specs.Commands.{Asked, add_module, add_graph, add_job, run, status, values, drop, quit, unknown, is_quit}

@@ -5,13 +5,11 @@
 mod held_job;
 mod laws;
 mod maps;
-mod on_one_machine;
 mod reading;
 mod runner;
 mod serving;
 mod sessions;
 
 pub use laws::same_values;
-pub use on_one_machine::serve_on_one_machine;
-pub use runner::{PlainRunner, Runner};
+pub use runner::Runner;
 pub use serving::{ServeFault, serve};

@@ -1,8 +1,8 @@
 //! The ways of running the jobs of a session.
 
-ghost use Rattle.std.specs.Prelude.{◌≡◌, IfOk};
+ghost use Rattle.std.specs.Prelude.{IfOk};
 ghost use Rattle.superstep.specs.Ending.{IsEndOf};
-ghost use Rattle.session.specs.Runs.{Runs, EndsAs, plain};
+ghost use Rattle.session.specs.Runs.{Runs};
 
 use rollback::Report;
 use superstep::{Job, JobFault};
@@ -20,29 +20,4 @@ pub trait Runner {
         requires { can_run self.now }
         ensures end { (runs self.now).may_end job.now result }
         ensures answer { IfOk result (λ report. IsEndOf job.now report.ended) };
-}
-
-/// The runner of jobs on this machine, by a function that runs a job so. No worker is lost, and no state is saved.
-#[derive(Drop)]
-pub struct PlainRunner<F> {
-    run_job: F,
-}
-
-impl<F> PlainRunner<F> {
-    /// Makes a runner of a function that runs a job on this machine.
-    pub fn new(run_job: F) -> PlainRunner<F>
-        ensures { result.run_job ≡ run_job }
-    {
-        PlainRunner { run_job }
-    }
-}
-
-impl<F: Fn(&Job) -> Result<Report, JobFault>> Runner for PlainRunner<F> {
-    ghost runs = { λ _. plain };
-
-    ghost can_run = { λ runner. EndsAs plain F.Fn runner.run_job };
-
-    fn run(&self, job: &Job) -> Result<Report, JobFault> {
-        (self.run_job)(job)
-    }
 }

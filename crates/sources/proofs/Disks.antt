@@ -7,7 +7,8 @@ use Rattle.sources.specs.declared.fault.CommandFault.{CommandFault}
 use Rattle.sources.specs.declared.fault.CommandFault.TheVariants as command
 use Rattle.sources.specs.declared.file_contents.Source.{Source}
 use Rattle.sources.specs.Disk.{Disk, HoldsAt, Stays, Tries, Writes}
-use Rattle.sources.specs.Modules.{IsModuleAt, MeansBy, is_text_path}
+use Rattle.sources.specs.Modules.{IsModuleAt, MeansBy}
+use Rattle.wat_asm.specs.Paths.{is_text_path}
 use Rattle.sources.specs.Source.{RefusesModule, content, is_text}
 use Rattle.sources.specs.Jobs.{RefusesGraph}
 use Rattle.sources.specs.Reading.{HoldsSource, IsNoBinary, IsNoFile, IsNoGraphAt, IsNoSource, IsRefusedAt, IsUnread, IsUnwritable}

@@ -1,18 +1,14 @@
 -- The module that a file means, by its path and its content.
-use Rattle.std.specs.Prelude.{◌≡◌, ℕ, nat_eq, Bool, true, false, List, codes}
-use Rattle.std.specs.List.{ends_with}
+use Rattle.std.specs.Prelude.{◌≡◌, ℕ, Bool, true, false, List}
 use Rattle.wasm_ast.specs.declared.module.Module.{Module}
 use Rattle.wasm_ast.specs.Limits.{IsWithinLimits}
 use Rattle.wasm_ast.specs.Representable.{IsRepresentable}
 use Rattle.wasm_decode.specs.Grammar.{Spells}
 use Rattle.wat_syntax.specs.Layout.{layout}
+use Rattle.wat_asm.specs.Paths.{is_text_path}
 use Rattle.verified.specs.Modules.{IsTyped}
 use Rattle.verified.specs.Profile.{IsBounded}
 use Rattle.sources.specs.Disk.{Disk, HoldsAt}
-
--- if the path of a module's file ends in `.wat`, it is text; any other file is binary
-abbrev pub is_text_path : List ℕ → Bool
-is_text_path path = ends_with nat_eq path (codes ".wat")
 
 -- the text is what `print` writes of this module, which is within the limits and such as a program can hold
 pub record IsLayoutOf (m : Module) (text : List ℕ) : Type 0 where

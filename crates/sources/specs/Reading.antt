@@ -8,7 +8,8 @@ use Rattle.sources.specs.declared.fault.CommandFault.{CommandFault}
 use Rattle.sources.specs.declared.fault.CommandFault.TheVariants as command
 use Rattle.sources.specs.declared.file_contents.Source.{Source}
 use Rattle.sources.specs.Disk.{Disk, HoldsAt}
-use Rattle.sources.specs.Modules.{Loads, is_text_path}
+use Rattle.sources.specs.Modules.{Loads}
+use Rattle.wat_asm.specs.Paths.{is_text_path}
 use Rattle.sources.specs.Source.{RefusesModule, content, is_text}
 use Rattle.sources.specs.Jobs.{IsGraphIn, RefusesGraph}
 

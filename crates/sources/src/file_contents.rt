@@ -2,7 +2,7 @@
 
 ghost use Rattle.std.specs.Prelude.{◌≡◌, Some, OnErr, OnOk, IfErr, MatchResult, false, string_bytes, take, true};
 ghost use Rattle.sources.specs.Disk.{HoldsAt, Stays, Tries, Writes};
-ghost use Rattle.sources.specs.Modules.{is_text_path};
+ghost use Rattle.wat_asm.specs.Paths.{is_text_path};
 ghost use Rattle.sources.specs.Reading.{HoldsSource, IsNoBinary, IsNoSource, IsUnread, IsUnwritable};
 
 use crate::fault::CommandFault;
@@ -10,6 +10,7 @@ use crate::files::{FileFault, Files};
 use std::alloc::Global;
 use wasm_ast::MAX_MODULE_BYTES;
 use wasm_decode::{DecodeFault, DecodeRule};
+use wat_asm::is_text_path;
 
 /// The content of a module's file.
 #[derive(Drop)]
@@ -80,14 +81,6 @@ fn read_front<'a, F: Files>(
             FileFault::Device => CommandFault::Unread(path),
             FileFault::OutOfMemory => CommandFault::OutOfMemory,
         })
-}
-
-/// Returns whether the path ends in `.wat`: then the file of a module is text.
-#[tactic(auto, using(std::proofs::lemmas::Str::Pattern::ends_text))]
-pub fn is_text_path(path: &str) -> bool
-    ensures { result ≡ is_text_path path.now }
-{
-    path.ends_with(".wat")
 }
 
 /// Reads a file as text. It has to be in UTF-8.

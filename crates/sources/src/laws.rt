@@ -2,7 +2,8 @@
 
 ghost use Rattle.std.specs.Prelude.{◌≡◌, true, false, List, ℕ};
 ghost use Rattle.wasm_ast.specs.declared.module.Module.{Module as AnyModule};
-ghost use Rattle.sources.specs.Modules.{IsLayoutOf, IsModuleOf, is_text_path};
+ghost use Rattle.sources.specs.Modules.{IsLayoutOf, IsModuleOf};
+ghost use Rattle.wat_asm.specs.Paths.{is_text_path};
 
 use wasm_decode::spells_one_module;
 

@@ -11,7 +11,7 @@ mod refusal;
 mod system;
 
 pub use fault::{CommandFault, status_of};
-pub use file_contents::{Source, is_text_path, read_bytes, read_source, read_text, write};
+pub use file_contents::{Source, read_bytes, read_source, read_text, write};
 pub use files::{FileFault, Files, SystemFiles};
 pub use laws::means_one_module;
 pub use modules::{load, module_of};

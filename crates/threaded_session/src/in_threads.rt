@@ -7,7 +7,7 @@ ghost use Rattle.session.specs.Runs.{EndsAs};
 ghost use Rattle.session.specs.Serving.{Serves};
 ghost use Rattle.threaded_session.specs.Runs.{IsThreadedEnd, threaded};
 
-use checkpoint::{MemoryKeep, a_memory_keep_loads_nothing_else};
+use checkpoint::{Device, MemoryKeep, a_memory_keep_loads_nothing_else};
 use rollback::Report;
 use session::{Runner, ServeFault, serve};
 use sources::Files;
@@ -47,7 +47,7 @@ impl<F: Fn(&Job) -> Result<Report, JobFault>> Runner for JobRunner<F> {
 /// Serves a session as `serve` does. Each job runs in threads. States are kept in memory, where no save fails, and workers are lost as the
 /// gate says. A run fails as `run_in_threads` does.
 pub fn serve_in_threads<R: Read, W: Write, F: Files, G: Gate + Sync>(
-    rt: &(impl Wait + Threads + Sync + std::rt::Files + AllocGlobal),
+    rt: &(impl Wait + Threads + Sync + Device + AllocGlobal),
     alloc: Global,
     reader: &mut R,
     writer: &mut W,
@@ -64,7 +64,7 @@ pub fn serve_in_threads<R: Read, W: Write, F: Files, G: Gate + Sync>(
     serve(rt, alloc, reader, writer, files, &JobRunner::new(run))
 }
 
-fn run_with_threads<G: Gate + Sync, R: Wait + Threads + Sync + std::rt::Files + AllocGlobal>(
+fn run_with_threads<G: Gate + Sync, R: Wait + Threads + Sync + Device + AllocGlobal>(
     rt: &R,
     alloc: Global,
     job: &Job,

@@ -2,8 +2,10 @@
 #![tactic(auto)]
 
 mod assembling;
+mod paths;
 mod printing;
 
 pub use assembling::assemble;
+pub use paths::is_text_path;
 pub use printing::print;
 pub use wat_syntax::{Keyword, Position, TextFault};

@@ -8,11 +8,10 @@ ghost use Rattle.event_loop.specs.JobAnswers.{HasSpent, IsCalmReport, IsDriveFau
 ghost use Rattle.hub_ends.specs.Messages.{sender_of};
 ghost use Rattle.channels.specs.declared.order.Order.TheVariants.{Do};
 
-use checkpoint::Keep;
+use checkpoint::{Device, Keep};
 use event_loop::drive;
 use hub_ends::{CoordinatorEnds, Message, TickReceipt, WorkerReceipt};
 use rollback::{Book, Report};
-use std::rt::Files;
 use std::sync::Wait;
 use std::thread::Threads;
 use superstep::{JobFault, Origin, Task};
@@ -144,7 +143,7 @@ impl<J: Origin> Coordinator<J> {
     /// The hub and the book have to be unused and of this job, and the Keep like the one that the hub was opened with.
     /// At the start, and after each event, it sends tasks to workers that may be free. If a channel is closed, it stops
     /// all and returns `Closed`.
-    pub fn drive<K: Keep, R: Wait + Threads + Sync + Files + AllocGlobal>(
+    pub fn drive<K: Keep, R: Wait + Threads + Sync + Device + AllocGlobal>(
         &mut self,
         rt: &R,
         book: Book<J>,

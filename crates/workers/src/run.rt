@@ -16,12 +16,11 @@ ghost use Rattle.event_loop.specs.inside.EventLoop.{IsUnspent};
 ghost use Rattle.worker_threads.specs.inside.Joins.{AreLinked};
 
 use crate::coordinator::Coordinator;
-use checkpoint::Keep;
+use checkpoint::{Device, Keep};
 use event_loop::drive;
 use hub_ends::{CoordinatorEnds, TickPass, VerdictSender, WorkerPass};
 use rollback::{Book, Report};
 use std::alloc::Global;
-use std::rt::Files;
 use std::sync::Wait;
 use std::thread;
 use std::thread::Threads;
@@ -41,7 +40,7 @@ fn was_driven(answer: &Result<Report, JobFault>) -> bool
 
 // Drives the job to its end, joins all threads, and compares their receipts. Workers that wait for a verdict hear at the
 // latest at its end that none comes.
-fn drive_all<J: Origin, K: Keep, R: Wait + Threads + Sync + Files + AllocGlobal>(
+fn drive_all<J: Origin, K: Keep, R: Wait + Threads + Sync + Device + AllocGlobal>(
     rt: &R,
     ends: &mut CoordinatorEnds<J>,
     spawned: HubThreads<J>,
@@ -92,7 +91,7 @@ fn run_spawned<
     J: Origin + Send + Sync,
     K: Keep + Drop,
     G: Gate + Sync,
-    R: Wait + Threads + Sync + Files + AllocGlobal,
+    R: Wait + Threads + Sync + Device + AllocGlobal,
 >(
     rt: &R,
     alloc: Global,
@@ -180,7 +179,7 @@ pub fn run_job<
     J: Origin + Send + Sync,
     K: Keep + Drop,
     G: Gate + Sync,
-    R: Wait + Threads + Sync + Files + AllocGlobal,
+    R: Wait + Threads + Sync + Device + AllocGlobal,
 >(
     rt: &R,
     alloc: Global,
@@ -251,7 +250,7 @@ pub fn resume_job<
     J: Origin + Send + Sync,
     K: Keep + Drop,
     G: Gate + Sync,
-    R: Wait + Threads + Sync + Files + AllocGlobal,
+    R: Wait + Threads + Sync + Device + AllocGlobal,
 >(
     rt: &R,
     alloc: Global,

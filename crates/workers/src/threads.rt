@@ -10,11 +10,10 @@ ghost use Rattle.event_loop.specs.JobAnswers.{IsCalmReport, IsKeptRun, IsKeptRun
 
 use crate::hub::Hub;
 use crate::run::{resume_job, run_job};
-use checkpoint::Keep;
+use checkpoint::{Device, Keep};
 use rollback::Report;
 use std::alloc::Global;
 use std::marker::Brand;
-use std::rt::Files;
 use std::sync::Wait;
 use std::thread::Threads;
 use superstep::{Job, JobFault, Origin};
@@ -25,7 +24,7 @@ fn run_as<
     J: Origin + Send + Sync,
     K: Keep + Drop,
     G: Gate + Sync,
-    R: Wait + Threads + Sync + Files + AllocGlobal,
+    R: Wait + Threads + Sync + Device + AllocGlobal,
 >(rt: &R, alloc: Global, job: &Job, keep: K, gate: &G) -> Result<Report, JobFault>
     requires job { J.work ≡ job.now }
     requires honest { J.honest ≡ trusts (K.honest keep) }
@@ -54,7 +53,7 @@ fn run_as<
 pub fn run_in_threads<
     K: Keep + Drop,
     G: Gate + Sync,
-    R: Wait + Threads + Sync + Files + AllocGlobal,
+    R: Wait + Threads + Sync + Device + AllocGlobal,
 >(rt: &R, alloc: Global, job: &Job, keep: K, gate: &G) -> Result<Report, JobFault>
     ensures answer { IfOk result (λ report. trusts (K.honest keep) report.epoch ≡ true
         → IsEndOf job.now report.ended) }
@@ -81,7 +80,7 @@ fn resume_as<
     J: Origin + Send + Sync,
     K: Keep + Drop,
     G: Gate + Sync,
-    R: Wait + Threads + Sync + Files + AllocGlobal,
+    R: Wait + Threads + Sync + Device + AllocGlobal,
 >(rt: &R, alloc: Global, job: &Job, keep: K, gate: &G, superstep: u32) -> Result<Report, JobFault>
     requires job { J.work ≡ job.now }
     requires honest { J.honest ≡ (λ _. K.honest keep) }
@@ -121,7 +120,7 @@ fn resume_as<
 pub fn resume_in_threads<
     K: Keep + Drop,
     G: Gate + Sync,
-    R: Wait + Threads + Sync + Files + AllocGlobal,
+    R: Wait + Threads + Sync + Device + AllocGlobal,
 >(rt: &R, alloc: Global, job: &Job, keep: K, gate: &G, superstep: u32) -> Result<Report, JobFault>
     requires early { superstep < job.now.settings.limit }
     requires saved { K.saved keep ≡ Some superstep }

@@ -5,19 +5,17 @@ use super::forms::is_alike;
 use crate::modules::{line_of, verified_of};
 use anyhow::Result;
 use call_lines::Input;
-use conformance_cases::show_texts;
+use conformance_cases::{CaseFiles, show_texts};
 use interp::Scratch;
 use std::alloc::{AllocError, Global};
-use std::fs;
-use std::rt::Files;
 use verified::{CallInput, Verified};
 
-pub fn show(rt: &(impl Files + Print + AllocGlobal)) -> Result<()> {
+pub fn show(rt: &(impl CaseFiles + Print + AllocGlobal)) -> Result<()> {
     let input = read_input(rt)?;
     show_programs(rt, &input.call_input())
 }
 
-fn show_programs(rt: &(impl Files + Print + AllocGlobal), input: &CallInput) -> Result<()> {
+fn show_programs(rt: &(impl CaseFiles + Print + AllocGlobal), input: &CallInput) -> Result<()> {
     show_texts(
         rt,
         "interp/alike.txt",
@@ -26,8 +24,8 @@ fn show_programs(rt: &(impl Files + Print + AllocGlobal), input: &CallInput) -> 
 }
 
 /// Reads the input, which has all messages and edges.
-pub fn read_input(rt: &(impl Files + AllocGlobal)) -> Result<Input> {
-    let lines = fs::read_to_string(rt, "interp/alike-input.txt")?;
+pub fn read_input(rt: &(impl CaseFiles + AllocGlobal)) -> Result<Input> {
+    let lines = rt.text_of("interp/alike-input.txt")?;
     Ok(Input::read(rt.alloc(), lines.as_str())?)
 }
 

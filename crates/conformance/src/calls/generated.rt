@@ -13,11 +13,10 @@ use super::alike::{read_input, shortened};
 use super::forms::is_alike;
 use crate::modules::verified_of;
 use anyhow::Result;
-use conformance_cases::show_texts;
+use conformance_cases::{CaseFiles, show_texts};
 use interp::Scratch;
 use modules::module_text;
 use std::alloc::{AllocError, Global};
-use std::rt::Files;
 use verified::{CallInput, Verified};
 
 // The numbers of messages and of edges of each input.
@@ -32,12 +31,12 @@ struct Tally {
     others: String,
 }
 
-pub fn show(rt: &(impl Files + Print + AllocGlobal)) -> Result<()> {
+pub fn show(rt: &(impl CaseFiles + Print + AllocGlobal)) -> Result<()> {
     let input = read_input(rt)?;
     show_ranges(rt, &input.call_input())
 }
 
-fn show_ranges(rt: &(impl Files + Print + AllocGlobal), input: &CallInput) -> Result<()> {
+fn show_ranges(rt: &(impl CaseFiles + Print + AllocGlobal), input: &CallInput) -> Result<()> {
     show_texts(
         rt,
         "interp/generated.txt",

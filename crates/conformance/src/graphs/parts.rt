@@ -5,18 +5,16 @@ ghost use Rattle.std.specs.Prelude.{◌<◌, IfSome};
 
 use super::tell_vertices;
 use anyhow::Result;
-use conformance_cases::show_cases;
+use conformance_cases::{CaseFiles, show_cases};
 use graph::{Graph, Part, join, part_of, split};
 use std::alloc::{AllocError, Global};
-use std::fs;
-use std::rt::Files;
 
 /// Shows the cases of parts.
-pub fn show(rt: &(impl Files + Print + AllocGlobal)) -> Result<()> {
+pub fn show(rt: &(impl CaseFiles + Print + AllocGlobal)) -> Result<()> {
     show_cases(rt, "graph/parts.txt", |_, case| answer(rt, case))
 }
 
-fn answer(rt: &(impl Files + AllocGlobal), case: &str) -> Result<String> {
+fn answer(rt: &(impl CaseFiles + AllocGlobal), case: &str) -> Result<String> {
     if let Some((id, parts)) = case.split_once(" among ") {
         return Ok(part_told(rt.alloc(), id, parts)?);
     }
@@ -35,8 +33,8 @@ fn part_told(alloc: Global, id: &str, parts: &str) -> Result<String, AllocError>
     }
 }
 
-fn read(rt: &(impl Files + AllocGlobal), path: &str) -> Result<Graph> {
-    let text = fs::read_to_string(rt, path)?;
+fn read(rt: &(impl CaseFiles + AllocGlobal), path: &str) -> Result<Graph> {
+    let text = rt.text_of(path)?;
     Ok(Graph::read(rt.alloc(), &text)?)
 }
 

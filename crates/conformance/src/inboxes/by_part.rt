@@ -7,14 +7,13 @@ ghost use Rattle.inbox.specs.Merging.{all_of, are_one};
 
 use super::{are_distinct, are_rising, ids_in, letters_in, tell_inboxes};
 use anyhow::Result;
-use conformance_cases::show_texts;
+use conformance_cases::{CaseFiles, show_texts};
 use inbox::{Inbox, Letter, merge_parts};
 use std::alloc::{AllocError, Global};
-use std::rt::Files;
 use std::thread::Threads;
 
 /// Shows the cases of inboxes of parts.
-pub fn show(rt: &(impl Files + Print + AllocGlobal + Threads + Sync)) -> Result<()> {
+pub fn show(rt: &(impl CaseFiles + Print + AllocGlobal + Threads + Sync)) -> Result<()> {
     show_texts(
         rt,
         "inbox/inboxes-by-part.txt",

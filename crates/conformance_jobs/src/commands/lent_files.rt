@@ -3,10 +3,10 @@
 ghost use Rattle.sources.specs.Disk.{unknown};
 
 use anyhow::{Result, bail};
-use conformance_cases::{bytes, is_case, spelled};
+use conformance_cases::{CaseFiles, bytes, is_case, spelled};
 use sources::{FileFault, Files};
 use std::alloc::{AllocError, Global};
-use std::{fmt, fs, str};
+use std::{fmt, str};
 
 /// A file with its name.
 #[derive(Drop)]
@@ -146,13 +146,13 @@ impl Files for LentFiles {
 
 /// Lends the files that `console/command-files.txt` names. `NAME at FILE` has the content of that file of `data/`. `NAME as
 /// OTHER` has the content of an earlier file. `NAME text TEXT` and `NAME bytes BYTES` have the content that is spelled.
-pub fn lend_files(rt: &(impl std::rt::Files + AllocGlobal), files: &mut LentFiles) -> Result<()> {
-    let text = fs::read_to_string(rt, "console/command-files.txt")?;
+pub fn lend_files(rt: &(impl CaseFiles + AllocGlobal), files: &mut LentFiles) -> Result<()> {
+    let text = rt.text_of("console/command-files.txt")?;
     lend_lines(rt, text.as_str(), files)
 }
 
 fn lend_lines(
-    rt: &(impl std::rt::Files + AllocGlobal),
+    rt: &(impl CaseFiles + AllocGlobal),
     text: &str,
     files: &mut LentFiles,
 ) -> Result<()> {
@@ -164,11 +164,7 @@ fn lend_lines(
     Ok(())
 }
 
-fn lend_line(
-    rt: &(impl std::rt::Files + AllocGlobal),
-    line: &str,
-    files: &mut LentFiles,
-) -> Result<()> {
+fn lend_line(rt: &(impl CaseFiles + AllocGlobal), line: &str, files: &mut LentFiles) -> Result<()> {
     let (name, spelling) = line.split_once(' ').unwrap_or((line, ""));
     let bytes = content(rt, spelling, files)?;
     files.lend(name, &bytes)?;
@@ -176,13 +172,13 @@ fn lend_line(
 }
 
 fn content(
-    rt: &(impl std::rt::Files + AllocGlobal),
+    rt: &(impl CaseFiles + AllocGlobal),
     spelling: &str,
     files: &LentFiles,
 ) -> Result<Vec<u8>> {
     let (kind, rest) = spelling.split_once(' ').unwrap_or((spelling, ""));
     Ok(match kind {
-        "at" => fs::read(rt, rest)?,
+        "at" => rt.bytes_of(rest)?,
         "as" => match files.bytes_of(rest) {
             Some(bytes) => Vec::from_slice(rt.alloc(), bytes)?,
             None => bail!("no file {rest} is lent"),

@@ -3,7 +3,7 @@
 ghost use Rattle.std.specs.Prelude.{◌≡◌, false};
 ghost use Rattle.rollback.specs.Saving.{KeepsFor};
 
-use checkpoint::{Keep, MemoryKeep};
+use checkpoint::{Device, Keep, MemoryKeep};
 use conformance_cases::fault_told;
 use interp::Scratch;
 use plain_commands::trace_text;
@@ -11,7 +11,6 @@ use rollback::{Answer, Book, Event, JobStatus, Outcome, Report, Step, StepAnswer
 use std::alloc::{AllocError, Global};
 use std::marker::Brand;
 use std::mem;
-use std::rt::Files;
 use std::thread::Threads;
 use superstep::{Done, Job, Origin, Task, run_task};
 
@@ -34,7 +33,7 @@ struct Sent<J: Origin> {
 }
 
 /// Runs a job over these works and losses. A copy of each result comes right after it, and another one after the next loss.
-pub fn doubled<R: Files + AllocGlobal + Threads + Sync>(
+pub fn doubled<R: Device + AllocGlobal + Threads + Sync>(
     rt: &R,
     alloc: Global,
     job: &Job,
@@ -44,7 +43,7 @@ pub fn doubled<R: Files + AllocGlobal + Threads + Sync>(
 }
 
 // Runs it for a job that a type names, whose Keep is not trusted.
-fn doubled_as<J: Origin, K: Keep, R: Files + AllocGlobal + Threads + Sync>(
+fn doubled_as<J: Origin, K: Keep, R: Device + AllocGlobal + Threads + Sync>(
     rt: &R,
     alloc: Global,
     job: &Job,
@@ -61,7 +60,7 @@ fn doubled_as<J: Origin, K: Keep, R: Files + AllocGlobal + Threads + Sync>(
 }
 
 // Runs it over the open book.
-fn doubled_in<J: Origin, K: Keep, R: Files + AllocGlobal + Threads + Sync>(
+fn doubled_in<J: Origin, K: Keep, R: Device + AllocGlobal + Threads + Sync>(
     rt: &R,
     alloc: Global,
     job: &Job,
@@ -80,7 +79,7 @@ fn doubled_in<J: Origin, K: Keep, R: Files + AllocGlobal + Threads + Sync>(
 }
 
 // Returns the answers to the steps.
-fn answers_of<J: Origin, K: Keep, R: Files + AllocGlobal + Threads + Sync>(
+fn answers_of<J: Origin, K: Keep, R: Device + AllocGlobal + Threads + Sync>(
     rt: &R,
     alloc: Global,
     job: &Job,
@@ -109,7 +108,7 @@ fn answers_of<J: Origin, K: Keep, R: Files + AllocGlobal + Threads + Sync>(
     }
 }
 
-fn go_over<J: Origin, K: Keep, R: Files + AllocGlobal + Threads + Sync>(
+fn go_over<J: Origin, K: Keep, R: Device + AllocGlobal + Threads + Sync>(
     rt: &R,
     hand: &mut Hand<J>,
     book: &mut Book<J>,
@@ -132,7 +131,7 @@ fn go_over<J: Origin, K: Keep, R: Files + AllocGlobal + Threads + Sync>(
 }
 
 // Does the worker's next task. Its result comes twice, and one more copy is left.
-fn work<J: Origin, K: Keep, R: Files + AllocGlobal + Threads + Sync>(
+fn work<J: Origin, K: Keep, R: Device + AllocGlobal + Threads + Sync>(
     rt: &R,
     hand: &mut Hand<J>,
     book: &mut Book<J>,
@@ -157,7 +156,7 @@ fn work<J: Origin, K: Keep, R: Files + AllocGlobal + Threads + Sync>(
 }
 
 // Loses the worker. Then the copies that are left come.
-fn lose<J: Origin, K: Keep, R: Files + AllocGlobal + Threads + Sync>(
+fn lose<J: Origin, K: Keep, R: Device + AllocGlobal + Threads + Sync>(
     rt: &R,
     hand: &mut Hand<J>,
     book: &mut Book<J>,
@@ -218,7 +217,7 @@ fn push_copies<J: Origin>(
 }
 
 // Brings the next result.
-fn bring<J: Origin, K: Keep, R: Files + AllocGlobal + Threads + Sync>(
+fn bring<J: Origin, K: Keep, R: Device + AllocGlobal + Threads + Sync>(
     rt: &R,
     hand: &mut Hand<J>,
     book: &mut Book<J>,
@@ -240,7 +239,7 @@ fn bring<J: Origin, K: Keep, R: Files + AllocGlobal + Threads + Sync>(
 }
 
 // Notes the answer to an event. A fault is the end.
-fn tell<J: Origin, K: Keep, R: Files + AllocGlobal + Threads + Sync>(
+fn tell<J: Origin, K: Keep, R: Device + AllocGlobal + Threads + Sync>(
     rt: &R,
     answers: &mut Vec<StepAnswer>,
     book: &mut Book<J>,

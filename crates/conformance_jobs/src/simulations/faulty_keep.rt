@@ -3,9 +3,8 @@
 ghost use Rattle.std.specs.Prelude.{◌≡◌, ◌≤◌, true};
 ghost use Rattle.checkpoint.specs.Keep.{HasFailed};
 
-use checkpoint::{Keep, KeepFault, MemoryKeep};
+use checkpoint::{Device, Keep, KeepFault, MemoryKeep};
 use std::alloc::{AllocError, Global};
-use std::rt::Files;
 
 /// What is wrong with a Keep.
 #[derive(Drop)]
@@ -95,7 +94,7 @@ impl Keep for FaultyKeep {
 
     ghost faults = { λ keep. keep.failures };
 
-    fn save<R: Files + AllocGlobal>(
+    fn save<R: Device + AllocGlobal>(
         &mut self,
         rt: &R,
         superstep: u32,
@@ -114,7 +113,7 @@ impl Keep for FaultyKeep {
         }
     }
 
-    fn load<R: Files + AllocGlobal>(
+    fn load<R: Device + AllocGlobal>(
         &mut self,
         rt: &R,
         superstep: u32,

@@ -1,10 +1,9 @@
 //! Many lists of steps of one job.
 
-use checkpoint::MemoryKeep;
+use checkpoint::{Device, MemoryKeep};
 use plain_run::one_machine;
 use rollback::{Outcome, Step, simulate};
 use std::alloc::{AllocError, Global};
-use std::rt::Files;
 use std::thread::Threads;
 use superstep::{EndReason, Job, JobEnd, JobFault};
 
@@ -54,7 +53,7 @@ impl Tally {
 }
 
 /// Loses worker 0 or 1 before each of the steps; then the other works as long as it takes.
-pub fn losses<R: Files + AllocGlobal + Threads + Sync>(
+pub fn losses<R: Device + AllocGlobal + Threads + Sync>(
     rt: &R,
     alloc: Global,
     job: &Job,
@@ -64,7 +63,7 @@ pub fn losses<R: Files + AllocGlobal + Threads + Sync>(
     losses_beside(rt, alloc, job, steps, &plain)
 }
 
-fn losses_beside<R: Files + AllocGlobal + Threads + Sync>(
+fn losses_beside<R: Device + AllocGlobal + Threads + Sync>(
     rt: &R,
     alloc: Global,
     job: &Job,
@@ -95,7 +94,7 @@ fn lose(steps: &mut Vec<Step>, worker: u32) -> Result<(), AllocError> {
 }
 
 // Returns where the steps lead, compared with the run on one machine.
-fn way_of<R: Files + AllocGlobal + Threads + Sync>(
+fn way_of<R: Device + AllocGlobal + Threads + Sync>(
     rt: &R,
     alloc: Global,
     job: &Job,
@@ -133,7 +132,7 @@ fn have_finished(ended: &JobEnd) -> bool {
 }
 
 /// Draws lists of steps by a fixed seed.
-pub fn drawn<R: Files + AllocGlobal + Threads + Sync>(
+pub fn drawn<R: Device + AllocGlobal + Threads + Sync>(
     rt: &R,
     alloc: Global,
     job: &Job,
@@ -143,7 +142,7 @@ pub fn drawn<R: Files + AllocGlobal + Threads + Sync>(
     drawn_beside(rt, alloc, job, lists, &plain)
 }
 
-fn drawn_beside<R: Files + AllocGlobal + Threads + Sync>(
+fn drawn_beside<R: Device + AllocGlobal + Threads + Sync>(
     rt: &R,
     alloc: Global,
     job: &Job,

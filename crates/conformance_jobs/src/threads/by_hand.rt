@@ -3,18 +3,17 @@
 ghost use Rattle.std.specs.Prelude.{◌≡◌, ◌<◌};
 ghost use Rattle.workers.specs.Coordinator.{staff};
 
-use checkpoint::MemoryKeep;
+use checkpoint::{Device, MemoryKeep};
 use rollback::{Book, Event, Report};
 use std::alloc::Global;
 use std::marker::Brand;
-use std::rt::Files;
 use std::sync::Wait;
 use std::thread::Threads;
 use superstep::{Job, JobFault, Origin, Place};
 use workers::{Coordinator, Hub, Message, WorkerPass};
 
 /// Drives the coordinator of a job with no vertices. The worker and the ticker have said bye before.
-pub fn driven<R: Wait + Threads + Sync + Files + AllocGlobal>(
+pub fn driven<R: Wait + Threads + Sync + Device + AllocGlobal>(
     rt: &R,
     alloc: Global,
     job: &Job,
@@ -22,7 +21,7 @@ pub fn driven<R: Wait + Threads + Sync + Files + AllocGlobal>(
     driven_as::<Brand, R>(rt, alloc, job)
 }
 
-fn driven_as<J: Origin, R: Wait + Threads + Sync + Files + AllocGlobal>(
+fn driven_as<J: Origin, R: Wait + Threads + Sync + Device + AllocGlobal>(
     rt: &R,
     alloc: Global,
     job: &Job,
@@ -52,7 +51,7 @@ fn driven_as<J: Origin, R: Wait + Threads + Sync + Files + AllocGlobal>(
 
 /// Returns what becomes of the first task of the only worker, in words: it is offered and taken, the worker fails, is
 /// stopped, and says bye.
-pub fn led<R: Wait + Threads + Sync + Files + AllocGlobal>(
+pub fn led<R: Wait + Threads + Sync + Device + AllocGlobal>(
     rt: &R,
     alloc: Global,
     job: &Job,
@@ -62,7 +61,7 @@ pub fn led<R: Wait + Threads + Sync + Files + AllocGlobal>(
 }
 
 #[tactic(auto, using(crate::proofs::Led::staffed))]
-fn led_as<J: Origin, R: Wait + Threads + Sync + Files + AllocGlobal>(
+fn led_as<J: Origin, R: Wait + Threads + Sync + Device + AllocGlobal>(
     rt: &R,
     alloc: Global,
     job: &Job,

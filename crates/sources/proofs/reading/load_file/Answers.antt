@@ -1,6 +1,7 @@
 use Rattle.std.proofs.Common.{inl, subst}
 use Rattle.sources.specs.Source.{RefusesLoad, content}
-use Rattle.sources.specs.Modules.{Loads, is_text_path}
+use Rattle.sources.specs.Modules.{Loads}
+use Rattle.wat_asm.specs.Paths.{is_text_path}
 use Rattle.sources.proofs.Faults.{is_fault, told_both}
 use Rattle.sources.proofs.Disks.{no_source, refused_at}
 use Rattle.sources.proofs.reading.load_file.Goals as goal

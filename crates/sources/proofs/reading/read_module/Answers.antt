@@ -1,4 +1,4 @@
-use Rattle.sources.specs.Modules.{is_text_path}
+use Rattle.wat_asm.specs.Paths.{is_text_path}
 use Rattle.sources.specs.Source.{RefusesModule}
 use Rattle.sources.proofs.Faults.{MatchResult-along, is_fault}
 use Rattle.sources.proofs.Disks.{module_at, no_source, refused_at}

@@ -1,19 +1,45 @@
 //! Serving a session whose jobs run on this machine.
 
+ghost use Rattle.std.specs.Prelude.{◌≡◌};
 ghost use Rattle.sources.specs.Disk.{Stays};
 ghost use Rattle.session.specs.Maps.{nothing};
-ghost use Rattle.session.specs.Runs.{IsPlainEnd, plain};
+ghost use Rattle.session.specs.Runs.{EndsAs};
 ghost use Rattle.session.specs.Serving.{Serves};
+ghost use Rattle.plain_session.specs.Runs.{IsPlainEnd, plain};
 
-use crate::runner::PlainRunner;
-use crate::serving::{ServeFault, serve};
 use plain_run::one_machine;
 use rollback::Report;
+use session::{Runner, ServeFault, serve};
 use sources::Files;
 use std::alloc::Global;
 use std::io::{Read, Write};
 use std::thread::Threads;
 use superstep::{Job, JobFault, Place};
+
+/// The runner of jobs on this machine, by a function that runs a job so. No worker is lost, and no state is saved.
+#[derive(Drop)]
+pub struct PlainRunner<F> {
+    run_job: F,
+}
+
+impl<F> PlainRunner<F> {
+    /// Makes a runner of a function that runs a job on this machine.
+    pub fn new(run_job: F) -> PlainRunner<F>
+        ensures { result.run_job ≡ run_job }
+    {
+        PlainRunner { run_job }
+    }
+}
+
+impl<F: Fn(&Job) -> Result<Report, JobFault>> Runner for PlainRunner<F> {
+    ghost runs = { λ _. plain };
+
+    ghost can_run = { λ runner. EndsAs plain F.Fn runner.run_job };
+
+    fn run(&self, job: &Job) -> Result<Report, JobFault> {
+        (self.run_job)(job)
+    }
+}
 
 /// Serves a session as `serve` does. Each job runs on this machine, superstep after superstep. It waits for nobody.
 ///

@@ -1,0 +1,2 @@
+-- The definition to read, behind those of `wat_syntax`: which files have a module as text.
+pub mod Paths
